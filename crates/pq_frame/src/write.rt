@@ -1,0 +1,24 @@
+//! Writing a frame.
+ghost use Rattle.std.specs.Prelude.{◌≡◌, length, IfOk};
+ghost use Rattle.pq_frame.specs.Written.{written};
+
+use crate::Memory;
+use std::alloc::Global;
+
+/// The frame of a body: `Content-Length: N`, an empty line and the body, where N is the body's
+/// length in bytes (LSP 3.17, "Base Protocol").
+///
+/// A body of at most 16,777,216 bytes is what a `FrameReader` reads from its frame
+/// (`written_reads`); to the frame of a longer one a `FrameReader` answers `TooLong`. Answers
+/// `Memory` alone, where memory was refused.
+#[tactic(auto, unfolding(crate::specs::Written::written))]
+pub fn frame(alloc: Global, body: &[u8]) -> Result<Vec<u8>, Memory>
+    ensures { IfOk result (λ bytes. bytes.items ≡ written body.now) }
+{
+    let len = body.len();
+    let header = format!(in alloc; "Content-Length: {len}\r\n\r\n")?;
+    let mut bytes = Vec::with_capacity(alloc, header.len())?;
+    bytes.extend_from_slice(header.as_bytes())?;
+    bytes.extend_from_slice(body)?;
+    Ok(bytes)
+}
