@@ -1,0 +1,5 @@
+pub mod Last
+pub mod Histories
+pub mod FileTests
+pub mod EntryLemmas
+pub mod Soundness

@@ -1,0 +1,112 @@
+//! What is kept of all files that were ever set.
+ghost use Rattle.std.specs.Prelude.{◌≡◌, ◌≢◌, [], length, slice_get, slice_set, string_bytes, MatchOption, IfOk, IfErr, OnErr, if◌then◌else◌, is_some, Some};
+ghost use Rattle.std.specs.Option.{option_map, option_copied};
+ghost use Rattle.pq_inputs.specs.Sources.{File};
+ghost use Rattle.pq_inputs.specs.Kept.{Entry, lookup, entry_in, with_entry};
+
+use crate::durability::Durability;
+use crate::fault::Memory;
+use crate::record::Record;
+use pq_names::Names;
+use std::alloc::Global;
+use std::marker::Model;
+
+// The files that were ever set, by their names. Contracts see them in the order in which they were first set.
+#[derive(Drop)]
+pub(crate) struct Files {
+    names: Names,
+    records: Vec<Record>,
+}
+
+impl Model for Files {
+    ghost use Rattle.std.specs.Prelude.{◌≡◌, length};
+    ghost use Rattle.pq_inputs.specs.Kept.{Entries, side_by_side};
+
+    ghost Value = { Entries };
+
+    ghost view = { λ f. side_by_side f.names f.records.items };
+
+    ghost invariant = { λ f. length f.names ≡ length f.records.items };
+}
+
+impl Files {
+    // No files.
+    pub(crate) fn new(alloc: Global) -> Files
+        ensures { result ≡ [] }
+    {
+        Files {
+            names: Names::new(alloc),
+            records: Vec::new(alloc),
+        }
+    }
+
+    // How many files there are.
+    pub(crate) fn len(&self) -> usize
+        ensures { result ≡ length self.now }
+    {
+        self.records.len()
+    }
+
+    // The record of a file, or None where it was never set.
+    pub(crate) fn get(&self, name: &str) -> Option<&Record>
+        ensures { option_copied result ≡ lookup self.now name.now }
+    {
+        match self.names.find(name) {
+            Some(id) => Some(&self.records[id.number() as usize]),
+            None => None,
+        }
+    }
+
+    // The revision of the last change of a file, or 0.
+    pub(crate) fn changed(&self, name: &str) -> u64
+        ensures { result ≡ (entry_in self.now name.now).changed }
+    {
+        match self.get(name) {
+            Some(record) => record.changed(),
+            None => 0,
+        }
+    }
+
+    // The place of the file of a name, which becomes one of the files where it was never set.
+    pub(crate) fn place(&mut self, name: &str) -> Result<usize, Memory>
+        ensures place { IfOk result (λ place. slice_get self.new place ≡ Some (name.now, entry_in self.old name.now)) }
+        ensures entries { IfOk result (λ place. (entry : Entry) → slice_set self.new place (name.now, entry) ≡ with_entry self.old name.now entry) }
+        ensures refused { OnErr result (self.new ≡ self.old) }
+    {
+        if let Some(id) = self.names.find(name) {
+            return Ok(id.number() as usize);
+        }
+        self.records.reserve(1)?;
+        let Ok(id) = self.names.intern(name) else {
+            return Err(Memory);
+        };
+        self.records.push_reserved(Record::blank());
+        Ok(id.number() as usize)
+    }
+
+    // Writes the text and durability of a file at a revision. The durability before is answered where the file changed.
+    // Without memory the text comes back, and the files are as they were.
+    pub(crate) fn write(
+        &mut self,
+        name: &str,
+        text: Option<String>,
+        durability: Durability,
+        revision: u64,
+    ) -> Result<Option<Durability>, Option<String>>
+        ensures written { IfOk result (λ before.
+            self.new ≡ with_entry self.old name.now (record {
+              file = record { text = option_map string_bytes text; durability = durability };
+              changed = if is_some before then revision else (entry_in self.old name.now).changed;
+            })) }
+        ensures differs { let old = (entry_in self.old name.now).file in
+            let new : File = record { text = option_map string_bytes text; durability = durability } in
+            IfOk result (λ before. MatchOption before (old ≡ new) (λ d. (d ≡ old.durability) × (old ≢ new))) }
+        ensures refused { OnErr result (self.new ≡ self.old) }
+        ensures back { IfErr result (λ back. back ≡ text) }
+    {
+        match self.place(name) {
+            Ok(place) => Ok(self.records[place].write(text, durability, revision)),
+            Err(_refused) => Err(text),
+        }
+    }
+}

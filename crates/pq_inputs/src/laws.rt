@@ -1,0 +1,13 @@
+//! Laws of the definitions, as functions that do nothing.
+ghost use Rattle.std.specs.Prelude.{◌≡◌, ℕ, List};
+ghost use Rattle.pq_inputs.specs.declared.durability.Durability.{Durability};
+ghost use Rattle.pq_inputs.specs.Sources.{Sources};
+ghost use Rattle.pq_inputs.specs.Changes.{IsLastChange, IsLastChangeOf};
+
+/// In a history a file has one last change, and so have the files of a durability or more.
+pub fn one_last_change()
+    ensures file { (history : List Sources) (name : List ℕ) (a b : ℕ) →
+        IsLastChange history name a → IsLastChange history name b → a ≡ b }
+    ensures durability { (history : List Sources) (durability : Durability) (a b : ℕ) →
+        IsLastChangeOf history durability a → IsLastChangeOf history durability b → a ≡ b }
+{}

@@ -1,0 +1,17 @@
+pub mod Answering
+pub mod Columns
+pub mod EscapeLemmas
+pub mod Fronts
+pub mod Indexed
+pub mod LineFacts
+pub mod LineLen
+pub mod NumberEnds
+pub mod OnePiece
+pub mod Pieces
+pub mod Positions
+pub mod Readings
+pub mod RunLemmas
+pub mod StringEnds
+pub mod StringSteps
+pub mod UnitLemmas
+pub mod ValueSteps

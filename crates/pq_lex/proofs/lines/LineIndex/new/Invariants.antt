@@ -1,0 +1,10 @@
+use Rattle.std.proofs.Common.{◌≡◌, ◌≤◌, ◌-◌, ◌+◌, List, [], ◌∷◌, ◌++◌, map, length, true}
+use Rattle.pq_lex.specs.Kept.{marks_of}
+use Rattle.pq_lex.specs.Lines.{mark, starts_line, starts_to}
+use Rattle.pq_lex.proofs.lines.LineIndex.new.Given as goal
+
+abbrev pub invariant-loop-lines : goal.invariant-loop-lines
+invariant-loop-lines l = record { within : l.start ≤ length l.text; begins : starts_line l.text l.start ≡ true; made : marks_of l.lines.items ++ mark l.text l.start ∷ [] ≡ map (mark l.text) (starts_to l.text l.start) }
+
+abbrev pub decreases-loop-lines : goal.decreases-loop-lines
+decreases-loop-lines l = length l.text + 1 - l.start

@@ -1,0 +1,41 @@
+use Rattle.std.proofs.Common.{◌≡◌, ◌+◌, ◌-◌, ◌*◌, ◌<◌, ◌≤◌, List, ℕ, length, get_or, min, sum, refl, sym, ◌∙◌, ap, subst, arith}
+use Rattle.pq_lex.specs.Kept.{starts_of}
+use Rattle.pq_lex.specs.Lines.{kept_column}
+use Rattle.pq_lex.proofs.Indexed.{some_line, first_start}
+use Rattle.pq_lex.proofs.Answering.{bounds, position_exact}
+use Rattle.pq_lex.proofs.lines.LineIndex.position.Goals as goal
+
+pub line_of-number-requires-clause-some : goal.line_of-number-requires-clause-some
+line_of-number-requires-clause-some c = subst (λ ls. 0 < length ls) (sym c.deref.ensures.value) (some_line _ _ c.self.invariant.is)
+
+pub line_of-number-requires-clause-first : goal.line_of-number-requires-clause-first
+line_of-number-requires-clause-first c = subst (λ ls. get_or (starts_of ls) 0 0 ≤ c.args.offset) (sym c.deref.ensures.value) (first_start _ _ c.self.invariant.is c.args.offset)
+
+pub overflow_sub-at : goal.overflow_sub-at
+overflow_sub-at c =
+    let h = subst (λ ls. c.line_of-number.result < length ls) c.deref.ensures.value c.line_of-number.ensures.within in
+    let b = bounds _ _ c.self.invariant.is c.line_of-number.result c.index-line.result.now h c.index-line.ensures in
+    let low = subst (λ ls. get_or (starts_of ls) c.line_of-number.result 0 ≤ c.args.offset) c.deref.ensures.value c.line_of-number.ensures.before in
+    omega (arith, c.min.ensures, b.at, b.ordered, low)
+
+pub column-requires-clause-within : goal.column-requires-clause-within
+column-requires-clause-within c some =
+    let h = subst (λ ls. c.line_of-number.result < length ls) c.deref.ensures.value c.line_of-number.ensures.within in
+    let b = bounds _ _ c.self.invariant.is c.line_of-number.result c.index-line.result.now h c.index-line.ensures in
+    let full = b.full (subst (λ u. 0 < length u) c.deref-2.ensures.value some) in
+    omega (arith, c.min.ensures, full, ap length c.deref-2.ensures.value)
+
+pub column-requires-clause-small : goal.column-requires-clause-small
+column-requires-clause-small c =
+    let h = subst (λ ls. c.line_of-number.result < length ls) c.deref.ensures.value c.line_of-number.ensures.within in
+    let b = bounds _ _ c.self.invariant.is c.line_of-number.result c.index-line.result.now h c.index-line.ensures in
+    omega (arith, b.small, c.self.invariant.small, ap sum c.deref-2.ensures.value)
+
+pub returns : goal.returns
+returns c text e le =
+    let are = c.self.view_is ∙ e in
+    let h = subst (λ ls. c.line_of-number.result < length ls) c.deref.ensures.value c.line_of-number.ensures.within in
+    position_exact c.self.inside.lines.items text are c.line_of-number.result c.index-line.result.now h c.index-line.ensures c.args.offset c.column.result le
+    (subst (λ ls. get_or (starts_of ls) c.line_of-number.result 0 ≤ c.args.offset) c.deref.ensures.value c.line_of-number.ensures.before)
+    (subst (λ ls. c.line_of-number.result + 1 < length ls → c.args.offset < get_or (starts_of ls) (c.line_of-number.result + 1) 0) c.deref.ensures.value c.line_of-number.ensures.last)
+    (c.column.ensures ∙ ap (λ u. kept_column u (c.min.result - c.index-line.result.now.start)) c.deref-2.ensures.value ∙ ap (λ m. kept_column c.index-line.result.now.units.items (m - c.index-line.result.now.start)) c.min.ensures)

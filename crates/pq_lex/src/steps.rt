@@ -1,0 +1,103 @@
+//! What stands at a place of a text: a separator, a token or a fault.
+ghost use Rattle.std.specs.Prelude.{◌≡◌, ◌≤◌, ◌<◌, length};
+ghost use Rattle.pq_lex.specs.Tokens.{runs_on, closes};
+ghost use Rattle.pq_lex.specs.Scan.{close_at, number_step, slash_step, other_step, step_at};
+
+use crate::bytes::{Class, Set, byte_at, class_of, in_set, run_end};
+use crate::numbers::{float_end, integer_end};
+use crate::strings::text_step;
+use crate::token::{Code, Kind, Span, Step};
+
+/// A number up to its end, unless a letter, digit or `_` stands behind it.
+fn number_step(kind: Kind, bytes: &[u8], from: usize, end: usize) -> Step
+    ensures { result ≡ number_step kind bytes.now from end }
+{
+    let is_number = matches!(kind, Kind::Integer | Kind::Float);
+    if is_number && in_set(Set::Words, byte_at(bytes, end)) {
+        Step::Stop(Span { start: from, end }, Code::NumberRunsOn)
+    } else {
+        Step::Take(kind, end)
+    }
+}
+
+/// Whether `*/` stands at a place.
+#[inline]
+fn closes(bytes: &[u8], at: usize) -> bool
+    requires { at < length bytes.now }
+    ensures { result ≡ closes bytes.now at }
+{
+    bytes[at] == b'*' && byte_at(bytes, at + 1) == b'/'
+}
+
+/// The place of the first `*/` from `from` on, or the end.
+fn close_at(bytes: &[u8], from: usize) -> usize
+    requires { from ≤ length bytes.now }
+    ensures { result ≡ close_at bytes.now from }
+{
+    let mut at = from;
+    while at < bytes.len() && !closes(bytes, at) {
+        at += 1;
+    }
+    at
+}
+
+/// What stands at a slash.
+fn slash_step(bytes: &[u8], from: usize) -> Step
+    requires { from < length bytes.now }
+    ensures { result ≡ slash_step bytes.now from }
+{
+    match byte_at(bytes, from + 1) {
+        b'/' => Step::Pass(run_end(Set::Lines, bytes, from + 2)),
+        b'*' => {
+            let close = close_at(bytes, from + 2);
+            if close < bytes.len() {
+                Step::Pass(close + 2)
+            } else {
+                Step::Stop(
+                    Span {
+                        start: from,
+                        end: from + 2,
+                    },
+                    Code::UnclosedComment,
+                )
+            }
+        }
+        _ => Step::Take(Kind::Symbol, from + 1),
+    }
+}
+
+/// What stands at a byte that begins no token.
+fn other_step(bytes: &[u8], from: usize) -> Step
+    requires { from < length bytes.now }
+    ensures { result ≡ other_step bytes.now from }
+{
+    if from == 0 && bytes.starts_with(b"\xEF\xBB\xBF") {
+        return Step::Pass(3);
+    }
+    let end = run_end(Set::Tails, bytes, from + 1);
+    Step::Stop(Span { start: from, end }, Code::OtherCharacter)
+}
+
+/// What stands at a place: the longest piece there, or the fault.
+#[tactic(auto, unfolding(crate::specs::Scan::step_at))]
+pub fn step_at(bytes: &[u8], from: usize) -> Step
+    requires { from < length bytes.now }
+    ensures { result ≡ step_at bytes.now from }
+{
+    match class_of(bytes[from]) {
+        Class::Letter => Step::Take(Kind::Identifier, run_end(Set::Words, bytes, from + 1)),
+        Class::Digit => match float_end(bytes, from) {
+            Some(end) => number_step(Kind::Float, bytes, from, end),
+            None => number_step(Kind::Integer, bytes, from, integer_end(bytes, from)),
+        },
+        Class::Space => Step::Pass(run_end(Set::Spaces, bytes, from + 1)),
+        Class::Quote => text_step(bytes, from),
+        Class::Point => match float_end(bytes, from) {
+            Some(end) => number_step(Kind::Float, bytes, from, end),
+            None => Step::Take(Kind::Symbol, from + 1),
+        },
+        Class::Slash => slash_step(bytes, from),
+        Class::Mark => Step::Take(Kind::Symbol, from + 1),
+        Class::Other => other_step(bytes, from),
+    }
+}

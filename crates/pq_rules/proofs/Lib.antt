@@ -1,0 +1,11 @@
+pub mod Glue
+pub mod Closing
+pub mod Steps
+pub mod Stack
+pub mod Weight
+pub mod Keeping
+pub mod RingEntries
+pub mod Turning
+pub mod Order
+pub mod NameCuts
+pub mod Finding

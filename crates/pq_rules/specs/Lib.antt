@@ -1,0 +1,17 @@
+pub mod Turns
+pub mod Value
+pub mod Laws
+pub mod Found
+pub mod Search
+pub mod Settled
+pub mod Rings
+pub mod One
+pub mod Rule
+pub mod Lists
+pub mod Fits
+pub mod Names
+pub mod SumQueries
+pub mod SumFalls
+pub mod Sums
+pub mod SumsLaws
+pub mod SumsExact

@@ -1,0 +1,10 @@
+pub mod UriLemmas
+pub mod ReplyLemmas
+pub mod Known
+pub mod Total
+pub mod EditLemmas
+pub mod OutputLemmas
+pub mod TakeLemmas
+pub mod MemoryLemmas
+pub mod FrontLemmas
+pub mod ScriptLemmas

@@ -1,0 +1,47 @@
+-- Prefixes of texts, and paths whose escapes are bytes of UTF-8.
+use Rattle.std.proofs.Common.{◌≡◌, refl, sym, ◌∙◌, ap, subst, ℕ, List, [], ◌∷◌, length, drop, true, false, ◌==◌, Bor, Option, Some, None, option_map, MatchOption, IfSome, arith, lit<, ◌≢◌}
+use Rattle.std.specs.Str.{IsUtf8, IsCharBoundary}
+use Rattle.std.specs.Str.Pattern.{FindsTextPrefix, FindsCharPrefix, StripsPrefix, CutsPrefixes, IsTrimStartMatches}
+use Rattle.std.proofs.lemmas.Str.{len_utf8_ascii, is_utf8-from_IsUtf8, IsUtf8-from_is_utf8}
+use Rattle.std.proofs.lemmas.Str.Pattern.{starts_text, drop_at_char, strip_prefix_char}
+use Rattle.std.proofs.lemmas.Bool.{cond-true, cond-false, eqb-true, false_from_ne_true}
+use Rattle.percent_encoding.specs.Percent.{percent_decode}
+use Rattle.pq_session.specs.Uri.{behind, without_slashes, text_of}
+
+-- what `strip_prefix` says
+pub behind_is : (front text : List ℕ) (r : Option (Bor (List ℕ))) → MatchOption r (FindsTextPrefix front text None) (λ x. StripsPrefix (FindsTextPrefix front) text x.now) → option_map (λ rest. rest.now) r ≡ behind front text
+behind_is front text None h = sym (cond-false _ _ _ (sym (starts_text false front text h)))
+behind_is front text (Some x) h =
+    let boundary = subst (λ k. IsCharBoundary text k) (sym h.1.0) h.1.2 in
+    let starts = starts_text true front text (h.0, h.1, boundary) in
+    let rest : x.now ≡ drop (length front) text = h.2 ∙ ap (λ k. drop k text) h.1.0 in
+    ap Some rest ∙ sym (cond-true _ _ _ (sym starts))
+
+cuts_kept : (s ns r : List ℕ) → CutsPrefixes (FindsCharPrefix 47) s ns r → without_slashes r ≡ without_slashes s
+cuts_kept s [] r h = ap without_slashes h
+cuts_kept s (n ∷ ns) r h =
+    let m = h.0 in
+    let split : m ≡ 47 ∷ drop n m = drop_at_char 47 m 0 n h.2 (lit< tt) in
+    let one : without_slashes m ≡ without_slashes (drop n m) = ap without_slashes split in
+    ap without_slashes h.3 ∙ sym one ∙ cuts_kept s ns m h.1
+
+kept_whole : (r : List ℕ) → ((rest : List ℕ) → r ≢ 47 ∷ rest) → without_slashes r ≡ r
+kept_whole [] h = refl
+kept_whole (b ∷ rest) h = cond-false (b == 47) _ _ (false_from_ne_true _ (λ e. h rest (ap (λ x. x ∷ rest) (eqb-true b 47 e))))
+
+trimmed_whole : (r : List ℕ) (o : Option ℕ) → FindsCharPrefix 47 r o → IfSome o (λ n. n ≡ 0) → (rest : List ℕ) → r ≢ 47 ∷ rest
+trimmed_whole r None h zero = strip_prefix_char 47 r None h (lit< tt)
+trimmed_whole r (Some n) h zero = let width = len_utf8_ascii 47 (lit< tt) in let bad : ⊥ = omega (arith, h.ends, zero, width) in absurd bad
+
+-- what `trim_start_matches` says
+pub trimmed_is : (s r : List ℕ) → IsTrimStartMatches (FindsCharPrefix 47) s r → r ≡ without_slashes s
+trimmed_is s r h = sym (kept_whole r (trimmed_whole r h.1.0 h.1.1 h.1.2)) ∙ cuts_kept s h.0.0 r h.0.1
+
+-- what `decode_utf8` says
+pub text_is : (path bytes text : List ℕ) → bytes ≡ percent_decode path → IsUtf8 bytes → text ≡ bytes → Some text ≡ text_of path
+text_is path bytes text is utf8 same =
+    ap Some (same ∙ is) ∙ sym (cond-true _ _ _ (is_utf8-from_IsUtf8 _ (subst IsUtf8 is utf8)))
+
+pub no_text : (path bytes : List ℕ) → bytes ≡ percent_decode path → ¬ (IsUtf8 bytes) → None ≡ text_of path
+no_text path bytes is bad =
+    sym (cond-false _ _ _ (false_from_ne_true _ (λ e. bad (subst IsUtf8 (sym is) (IsUtf8-from_is_utf8 _ e)))))

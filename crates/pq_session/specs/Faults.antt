@@ -1,0 +1,12 @@
+-- The fault of a script whose input has a fault.
+use Rattle.pq_frame.specs.declared.fault.FrameFault.{FrameFault}
+use Rattle.pq_frame.specs.declared.fault.FrameFault.TheVariants as frame
+use Rattle.pq_session.specs.declared.fault.ScriptFault.{ScriptFault}
+use Rattle.pq_session.specs.declared.fault.ScriptFault.TheVariants.{Frame, Memory}
+
+abbrev pub fault_of : FrameFault → ScriptFault
+fault_of frame.Memory = Memory
+fault_of frame.HeaderTooLong = Frame frame.HeaderTooLong
+fault_of frame.NoLength = Frame frame.NoLength
+fault_of frame.BadLength = Frame frame.BadLength
+fault_of frame.TooLong = Frame frame.TooLong

@@ -1,0 +1,12 @@
+pub mod Counts
+pub mod Uri
+pub mod Session
+pub mod Reply
+pub mod Compile
+pub mod Told
+pub mod Served
+pub mod Output
+pub mod Bodies
+pub mod Script
+pub mod Steps
+pub mod Faults

@@ -1,0 +1,96 @@
+//! Readers and writers that count their calls: so that a fault of a device is told only where a call failed.
+ghost use Rattle.std.specs.Prelude.{◌≡◌, ◌+◌, ◌<◌, ◌≤◌, ℕ, length, IfOk};
+ghost use Rattle.std.specs.Io.{ReadsAtMost, WritesAtMost};
+ghost use Rattle.std.specs.Io.KnownBytes.{Keeps, ReadConsumes, WriteAppends};
+ghost use Rattle.pq_session.specs.Counts.{one_more, failed_after_read, failed_after_write, failed_after_flush, inner_of, reads_of, failed_of};
+
+use std::io;
+use std::io::{Read, Write};
+
+/// A reader or a writer whose reads and failed calls are counted, each from 0; a count stays at its last value.
+///
+/// A write that takes no bytes counts as a failed call.
+#[derive(Drop)]
+pub struct Counted<T> {
+    inner: T,
+    reads: u64,
+    failed: u64,
+}
+
+impl<T> Counted<T> {
+    /// A reader or a writer of which no call was made.
+    pub fn new(inner: T) -> Counted<T>
+        ensures inner { inner_of result ≡ inner }
+        ensures reads { reads_of result ≡ 0 }
+        ensures failed { failed_of result ≡ 0 }
+    {
+        Counted {
+            inner,
+            reads: 0,
+            failed: 0,
+        }
+    }
+
+    /// How many reads were made.
+    pub fn reads(&self) -> u64
+        ensures { result ≡ reads_of self.now }
+    {
+        self.reads
+    }
+
+    /// How many calls failed.
+    pub fn failed(&self) -> u64
+        ensures { result ≡ failed_of self.now }
+    {
+        self.failed
+    }
+}
+
+impl<R: Read> Read for Counted<R> {
+    ghost remaining = { λ c. R.remaining c.inner };
+
+    fn read(&mut self, buf: &mut [u8]) -> io::Result<usize>
+        ensures bound { ReadsAtMost result buf.new }
+        ensures bytes { ReadConsumes (R.remaining (inner_of self.old)) (R.remaining (inner_of self.new)) result buf.new }
+        ensures reads { reads_of self.new ≡ one_more (reads_of self.old) }
+        ensures failed { failed_of self.new ≡ failed_after_read (failed_of self.old) result }
+    {
+        self.reads = self.reads.saturating_add(1);
+        let result = self.inner.read(buf);
+        if result.is_err() {
+            self.failed = self.failed.saturating_add(1);
+        }
+        result
+    }
+}
+
+impl<W: Write> Write for Counted<W> {
+    ghost contents = { λ c. W.contents c.inner };
+
+    fn write(&mut self, buf: &[u8]) -> io::Result<usize>
+        ensures bound { WritesAtMost result buf.now }
+        ensures bytes { WriteAppends (W.contents (inner_of self.old)) (W.contents (inner_of self.new)) result buf.now }
+        ensures failed { failed_of self.new ≡ failed_after_write (failed_of self.old) result }
+    {
+        let result = self.inner.write(buf);
+        let has_failed = match &result {
+            Ok(count) => *count == 0,
+            Err(_) => true,
+        };
+        if has_failed {
+            self.failed = self.failed.saturating_add(1);
+        }
+        result
+    }
+
+    fn flush(&mut self) -> io::Result<()>
+        ensures bytes { Keeps (W.contents (inner_of self.old)) (W.contents (inner_of self.new)) }
+        ensures failed { failed_of self.new ≡ failed_after_flush (failed_of self.old) result }
+    {
+        let result = self.inner.flush();
+        if result.is_err() {
+            self.failed = self.failed.saturating_add(1);
+        }
+        result
+    }
+}

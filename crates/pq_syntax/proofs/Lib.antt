@@ -1,0 +1,15 @@
+pub mod Sound
+pub mod Complete
+pub mod Place
+pub mod Decided
+pub mod Runs
+pub mod Parts
+pub mod Loops
+pub mod Deeper
+pub mod Steps
+pub mod Entries
+pub mod Messages
+pub mod Files
+pub mod Clearness
+pub mod OnePlace
+pub mod Meaning

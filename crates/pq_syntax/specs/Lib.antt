@@ -1,0 +1,13 @@
+pub mod Rule
+pub mod Machine
+pub mod Clear
+pub mod Decide
+pub mod Takes
+pub mod Loop
+pub mod Words
+pub mod Grammar
+pub mod Tree
+pub mod Steps
+pub mod Reading
+pub mod FaultPlace
+pub mod Parsed

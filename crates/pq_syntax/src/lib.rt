@@ -1,0 +1,20 @@
+//! The grammar of proto3: the sentences of its tokens, their trees, and the place of a text's first fault.
+//! The grammar stands as data in `specs/Grammar`, the trees in `specs/Tree`, the fault place in `specs/FaultPlace`;
+//! the parser is a recursive descent that is proved to be exactly that.
+#![tactic(auto)]
+
+mod answer;
+mod failure;
+mod fault;
+mod laws;
+mod parser;
+mod terminal;
+#[cfg(test)]
+mod tests;
+mod tree;
+
+pub use answer::parse;
+pub use fault::{Code, Parsed};
+pub use laws::{one_fault, one_tree};
+pub use std::alloc::AllocError as Memory;
+pub use tree::{File, Name, Node, Number, Statement, Text};

@@ -1,0 +1,117 @@
+//! The tree of a file: the flat list of its statements in text order.
+
+ghost use Rattle.std.proofs.Common.{rules};
+ghost use Rattle.std.specs.Cmp.Rules.{comparing};
+ghost use Rattle.std.specs.Prelude.{◌≡◌, string_bytes};
+ghost use Rattle.std.specs.Str.{bytes_eq};
+
+use pq_lex::Span;
+use std::marker::Model;
+
+/// A text that contracts see as its bytes.
+#[derive(Debug, Drop)]
+pub struct Text {
+    text: String,
+}
+
+impl Model for Text {
+    ghost use Rattle.std.specs.Prelude.{List, ℕ, string_bytes};
+
+    ghost Value = { List ℕ };
+
+    ghost view = { λ t. string_bytes t.text };
+}
+
+impl Text {
+    pub(crate) fn new(text: String) -> Text
+        ensures { result ≡ string_bytes text }
+    {
+        Text { text }
+    }
+
+    pub fn as_str(&self) -> &str
+        ensures { result.now ≡ self.now }
+    {
+        self.text.as_str()
+    }
+}
+
+impl PartialEq for Text {
+    ghost eq = { bytes_eq };
+
+    ghost laws = { Prim.search (comparing, rules) };
+
+    fn eq(&self, other: &Text) -> bool {
+        self.as_str() == other.as_str()
+    }
+}
+
+impl Eq for Text {
+    ghost laws = { Prim.search (comparing, rules) };
+}
+
+/// A name as it is written, and where.
+#[derive(Debug, Drop, PartialEq, Eq)]
+pub struct Name {
+    pub text: Text,
+    pub span: Span,
+}
+
+/// An integer and where it is written. It has no value past 64 bits.
+#[derive(Clone, Copy, Debug, PartialEq, Eq)]
+pub struct Number {
+    pub value: Option<u64>,
+    pub span: Span,
+}
+
+/// What a statement says (proto3 language specification, "Message definition").
+#[derive(Debug, Drop, PartialEq, Eq)]
+pub enum Statement {
+    Message {
+        name: Name,
+    },
+    Field {
+        kind: Name,
+        name: Name,
+        number: Number,
+    },
+}
+
+/// A statement of a file.
+#[derive(Debug, Drop, PartialEq, Eq)]
+pub struct Node {
+    /// The number of statements that it stands in.
+    pub depth: u8,
+    /// The whole statement, from its first token to its `;` or `}`.
+    pub span: Span,
+    pub statement: Statement,
+}
+
+/// The statements of a file in text order, each before those that it holds; empty statements are none.
+#[derive(Debug, Drop)]
+pub struct File {
+    nodes: Vec<Node>,
+}
+
+impl Model for File {
+    ghost use Rattle.std.specs.Prelude.{List};
+    ghost use Rattle.pq_syntax.specs.declared.tree.Node.{Node};
+
+    ghost Value = { List Node };
+
+    ghost view = { λ f. f.nodes.items };
+}
+
+impl File {
+    pub(crate) fn new(nodes: Vec<Node>) -> File
+        ensures { result ≡ nodes.items }
+    {
+        File { nodes }
+    }
+
+    pub fn nodes(&self) -> &[Node]
+        ensures { result.now ≡ self.now }
+    {
+        self.nodes.as_slice()
+    }
+}
