@@ -1,15 +1,15 @@
 -- What an index answers, and how it is made.
-use Rattle.std.proofs.Common.{◌≡◌, ◌⊎◌, inl, inr, ℕ, zero, suc, ◌+◌, ◌-◌, ◌*◌, ◌^◌, ◌<◌, ◌≤◌, ◌==◌, ◌&&◌, Bool, true, false, cond, List, [], ◌∷◌, ◌++◌, length, map, min, sum, take, drop, get_or, slice_range, Option, Some, None, refl, sym, ◌∙◌, ap, subst, arith, length-append, length-drop}
+use Rattle.std.proofs.Common.{◌≡◌, ℕ, ◌+◌, ◌-◌, ◌*◌, ◌<◌, ◌≤◌, ◌==◌, ◌&&◌, Bool, true, false, cond, List, [], ◌∷◌, ◌++◌, length, map, min, sum, get_or, slice_range, refl, sym, ◌∙◌, ap, subst, arith}
 use Rattle.std.proofs.lemmas.List.{map-append}
 use Rattle.std.proofs.lemmas.Bool.{both_ways, eq-eqb, eqb-true}
 use Rattle.pq_lex.specs.declared.lines.Line.{Line}
 use Rattle.pq_lex.specs.declared.position.Position.{Position}
 use Rattle.pq_lex.specs.Kept.{mark_of, marks_of, starts_of}
-use Rattle.pq_lex.specs.Lines.{starts_line, line_number, line_start, line_end, end_of_line, starts_to, character_start, units_of, units, position_of, IsBefore, IsOffset, is_ascii, units_kept, LineMark, mark, lines_of, column_of, kept_column, IsByte}
+use Rattle.pq_lex.specs.Lines.{starts_line, line_number, line_start, end_of_line, starts_to, character_start, units_of, units, position_of, IsBefore, is_ascii, units_kept, mark, lines_of, kept_column, IsByte}
 use Rattle.pq_lex.proofs.LineFacts.{end_within, last_line, next_line}
-use Rattle.pq_lex.proofs.Positions.{at_line, found_line, line_facts, start_below}
+use Rattle.pq_lex.proofs.Positions.{at_line, found_line, line_facts}
 use Rattle.pq_lex.proofs.Columns.{end_starts, line_length, row_length, kept_sum, kept_length, kept_plain, kept_wide, ascii_byte}
-use Rattle.pq_lex.proofs.Indexed.{starts_are, count_is, Fields, fields, column_at, offset_is}
+use Rattle.pq_lex.proofs.Indexed.{starts_are, count_is, fields, column_at, offset_is}
 
 abbrev place : ℕ → ℕ → Position
 place line character = record { line = line; character = character }

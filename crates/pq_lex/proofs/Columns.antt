@@ -1,13 +1,12 @@
 -- The columns of a line's bytes, and what an index keeps of a line.
-use Rattle.std.proofs.Common.{◌≡◌, ◌⊎◌, inl, inr, ℕ, zero, suc, ◌+◌, ◌-◌, ◌*◌, ◌^◌, ◌<◌, ◌≤◌, ◌==◌, ◌&&◌, ◌||◌, Bool, true, false, cond, List, [], ◌∷◌, ◌++◌, length, map, min, sum, take, drop, get_or, slice_range, nat_lt, Option, Some, None, refl, sym, ◌∙◌, ap, subst, arith, add-one, length-append, length-drop, length-take}
+use Rattle.std.proofs.Common.{◌≡◌, inl, inr, ℕ, zero, suc, ◌+◌, ◌-◌, ◌*◌, ◌<◌, ◌≤◌, ◌==◌, ◌&&◌, Bool, true, false, cond, List, [], ◌∷◌, length, map, min, sum, take, drop, get_or, slice_range, nat_lt, refl, sym, ◌∙◌, ap, subst, arith, length-drop, length-take}
 use Rattle.std.specs.List.{list_all}
 use Rattle.std.proofs.lemmas.List.{get_or-drop, get_or-take, get_or-map, length-map, take-take, take-map}
 use Rattle.std.proofs.lemmas.List.Sums.{sum_by-cons}
-use Rattle.std.proofs.lemmas.Bool.{both_ways, cases_order, lt-ltb, le-ltb, eqb-true, eq-eqb}
+use Rattle.std.proofs.lemmas.Bool.{both_ways, cases_order}
 use Rattle.std.proofs.lemmas.Bool.Decides.{nat_tests}
-use native.Mathlib.Numerals.{unary_clauses}
 use Rattle.pq_lex.specs.Classes.{is_continuation}
-use Rattle.pq_lex.specs.Lines.{line_len, end_of_line, character_start, units_of, units, is_ascii, units_kept, floor, column_of, kept_column, IsByte}
+use Rattle.pq_lex.specs.Lines.{end_of_line, character_start, units_of, units, is_ascii, units_kept, floor, column_of, kept_column, IsByte}
 use Rattle.pq_lex.proofs.LineLen.{is_break}
 use Rattle.pq_lex.proofs.LineFacts.{bool_cases, break_at}
 use Rattle.pq_lex.proofs.UnitLemmas.{floor_stop, floor_zero, floor_on}

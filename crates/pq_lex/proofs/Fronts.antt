@@ -1,20 +1,16 @@
 -- Which sorts of pieces a byte may begin, and how long the pieces of each sort are.
-use Rattle.std.proofs.Common.{◌≡◌, ◌⊎◌, inl, inr, ℕ, zero, suc, ◌+◌, ◌-◌, ◌<◌, ◌≤◌, ◌==◌, ◌&&◌, ◌||◌, Bool, true, false, not, cond, List, length, get_or, Option, Some, None, refl, sym, ◌∙◌, ap, subst, arith, nat_lt, nat_le}
-use Rattle.std.proofs.lemmas.Bool.{both_ways, cases_order, cases_lt, cases_Bool, true≢false, eqb-true, eqb-false, eq-eqb, ne_eqb, lt-ltb, le-ltb, ltb-true, ltb-false, and_parts, and_from, and_cases, or_cases, cond-true, cond-false, cond_both}
+use Rattle.std.proofs.Common.{◌≡◌, ◌⊎◌, inl, inr, ℕ, ◌+◌, ◌<◌, ◌==◌, Bool, true, false, List, refl, sym, ap, subst, arith}
+use Rattle.std.proofs.lemmas.Bool.{cases_order, eqb-true, and_parts, or_cases, cond_both}
 use Rattle.std.proofs.lemmas.Bool.Decides.{nat_tests}
 use Rattle.pq_lex.specs.declared.bytes.Class.{Class}
 use Rattle.pq_lex.specs.declared.bytes.Class.TheVariants.{Letter, Digit, Space, Quote, Point, Slash, Mark, Other}
-use Rattle.pq_lex.specs.declared.bytes.Set.{Set}
-use Rattle.pq_lex.specs.declared.bytes.Set.TheVariants.{Spaces, Words, Digits, Octals, Hexes, Lines, Tails}
-use Rattle.pq_lex.specs.declared.token.Kind.{Kind}
+use Rattle.pq_lex.specs.declared.bytes.Set.TheVariants.{Digits}
 use Rattle.pq_lex.specs.declared.token.Kind.TheVariants.{Identifier, Integer, Float, Text, Symbol}
 use Rattle.pq_lex.specs.declared.token.Piece.{Piece}
 use Rattle.pq_lex.specs.declared.token.Piece.TheVariants.{Separator, Lexeme}
-use Rattle.pq_lex.specs.Classes.{byte, at, class_of, in_set, is_between, is_letter, is_digit, is_space, is_quote, is_mark}
-use Rattle.pq_lex.specs.Runs.{run_end, Run}
-use Rattle.pq_lex.specs.Tokens.{opens, closes, ClosesFirst, IsSeparator, order_mark, blanks, line_comment, comment, IsIdentifier, is_x, IsInteger, decimal, octal, hexadecimal, is_e, is_sign, behind_sign, IsExponent, IsFloat, pointed, raised, IsText, IsSymbol, Spells}
-use Rattle.pq_lex.specs.Scan.{integer_end, exponent_end, raised_to, float_end, float_end_at, pointed_end}
-use Rattle.pq_lex.proofs.RunLemmas.{run_is, run_most, run_one, run_low, run_high, run_stop, run_all}
+use Rattle.pq_lex.specs.Classes.{byte, at, class_of, is_letter, is_digit, is_space, is_quote, is_mark}
+use Rattle.pq_lex.specs.Runs.{Run}
+use Rattle.pq_lex.specs.Tokens.{IsSeparator, order_mark, blanks, line_comment, comment, IsInteger, decimal, octal, hexadecimal, IsFloat, pointed, raised, Spells}
 
 -- classes of single bytes
 class_47 : (b : ℕ) → b ≡ 47 → class_of b ≡ Slash

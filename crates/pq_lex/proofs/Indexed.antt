@@ -1,15 +1,15 @@
 -- What a line of an index says of the text, and what it answers.
-use Rattle.std.proofs.Common.{◌≡◌, ◌⊎◌, inl, inr, ℕ, zero, suc, ◌+◌, ◌-◌, ◌*◌, ◌^◌, ◌<◌, ◌≤◌, ◌==◌, Bool, true, false, cond, List, [], ◌∷◌, ◌++◌, length, map, min, sum, take, drop, get_or, slice_range, Option, Some, None, refl, sym, ◌∙◌, ap, subst, arith, length-append, length-drop}
+use Rattle.std.proofs.Common.{◌≡◌, inl, inr, ℕ, ◌+◌, ◌-◌, ◌<◌, ◌≤◌, true, false, List, [], ◌∷◌, length, map, min, sum, take, get_or, slice_range, refl, sym, ◌∙◌, ap, subst, arith}
 use Rattle.std.proofs.lemmas.List.{get_or-map, length-map}
-use Rattle.std.proofs.lemmas.Bool.{both_ways, cases_order}
+use Rattle.std.proofs.lemmas.Bool.{cases_order}
 use Rattle.pq_lex.specs.declared.lines.Line.{Line}
 use Rattle.pq_lex.specs.declared.position.Position.{Position}
 use Rattle.pq_lex.specs.Classes.{is_continuation}
 use Rattle.pq_lex.specs.Kept.{mark_of, marks_of, starts_of}
-use Rattle.pq_lex.specs.Lines.{starts_line, line_number, line_start, line_end, end_of_line, starts_to, character_start, units_of, units, position_of, IsBefore, IsOffset, is_ascii, units_kept, LineMark, mark, lines_of, column_of, kept_column, floor, IsByte, IsIndexed}
+use Rattle.pq_lex.specs.Lines.{starts_line, line_number, line_start, line_end, end_of_line, starts_to, character_start, units_of, units, position_of, IsBefore, units_kept, mark, lines_of, kept_column, floor, IsByte}
 use Rattle.pq_lex.proofs.LineFacts.{bool_cases, end_within, same_start, same_number}
-use Rattle.pq_lex.proofs.Positions.{at_line, found_line, line_facts, start_below}
-use Rattle.pq_lex.proofs.Columns.{end_starts, starts_character, line_length, row_length, unit_at, floor_is, column_is, kept_is, kept_sum, kept_length, ascii_byte, continuation_unit}
+use Rattle.pq_lex.proofs.Positions.{at_line, line_facts, start_below}
+use Rattle.pq_lex.proofs.Columns.{end_starts, starts_character, line_length, row_length, unit_at, floor_is, column_is, kept_is, continuation_unit}
 use Rattle.pq_lex.proofs.UnitLemmas.{floor_stop}
 
 mark_start : (text : List ℕ) (xs : List ℕ) → map (λ m. m.start) (map (mark text) xs) ≡ xs

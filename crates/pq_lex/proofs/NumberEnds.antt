@@ -1,16 +1,15 @@
 -- The computed ends of numbers are those of the longest.
-use Rattle.std.proofs.Common.{◌≡◌, ◌⊎◌, inl, inr, ℕ, zero, suc, ◌+◌, ◌-◌, ◌<◌, ◌≤◌, ◌==◌, ◌&&◌, ◌||◌, Bool, true, false, not, cond, List, length, get_or, Option, Some, None, refl, sym, ◌∙◌, ap, subst, arith, nat_lt, nat_le}
-use Rattle.std.proofs.lemmas.Bool.{both_ways, cases_order, cases_lt, cases_Bool, true≢false, eqb-true, eqb-false, eq-eqb, ne_eqb, lt-ltb, le-ltb, ltb-true, ltb-false, and_parts, and_from, and_cases, and_right, or_cases, cond-true, cond-false, cond_both}
+use Rattle.std.proofs.Common.{◌≡◌, ◌⊎◌, inl, inr, ℕ, ◌+◌, ◌<◌, ◌≤◌, ◌==◌, ◌&&◌, true, false, cond, List, length, Some, None, refl, sym, ◌∙◌, ap, subst, arith, nat_lt}
+use Rattle.std.proofs.lemmas.Bool.{both_ways, cases_lt, cases_Bool, eqb-true, eq-eqb, ne_eqb, lt-ltb, le-ltb, ltb-true, and_parts, and_right, or_cases, cond_both}
 use Rattle.std.proofs.lemmas.Bool.Decides.{nat_tests}
 use Rattle.std.proofs.lemmas.List.{get_or_past}
-use Rattle.pq_lex.specs.declared.bytes.Set.{Set}
-use Rattle.pq_lex.specs.declared.bytes.Set.TheVariants.{Spaces, Words, Digits, Octals, Hexes, Lines, Tails}
+use Rattle.pq_lex.specs.declared.bytes.Set.TheVariants.{Digits, Octals, Hexes}
 use Rattle.pq_lex.specs.declared.bytes.Class.TheVariants.{Digit}
-use Rattle.pq_lex.specs.Classes.{byte, at, class_of, in_set, is_between, is_letter, is_digit, is_space, is_quote, is_mark}
+use Rattle.pq_lex.specs.Classes.{byte, at, in_set}
 use Rattle.pq_lex.specs.Runs.{run_end, Run}
 use Rattle.pq_lex.specs.Tokens.{is_x, IsInteger, decimal, octal, hexadecimal, is_e, is_sign, behind_sign, IsExponent, IsFloat, pointed, raised}
-use Rattle.pq_lex.specs.Scan.{integer_end, exponent_end, raised_to, float_end, float_end_at, pointed_end}
-use Rattle.pq_lex.proofs.RunLemmas.{run_is, run_most, run_one, run_low, run_high, run_stop, run_all}
+use Rattle.pq_lex.specs.Scan.{integer_end, exponent_end, float_end, float_end_at, pointed_end}
+use Rattle.pq_lex.proofs.RunLemmas.{run_is, run_most, run_one}
 use Rattle.pq_lex.proofs.Fronts.{digit_class}
 
 -- a byte that is not 0 stands in the text

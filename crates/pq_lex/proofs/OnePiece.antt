@@ -1,22 +1,21 @@
 -- One thing stands at each place: one longest piece, or one fault.
-use Rattle.std.proofs.Common.{◌≡◌, ◌⊎◌, inl, inr, ℕ, zero, suc, ◌+◌, ◌<◌, ◌≤◌, ◌==◌, ◌&&◌, Bool, true, false, List, length, refl, sym, ◌∙◌, ap, subst, arith}
+use Rattle.std.proofs.Common.{◌≡◌, ◌⊎◌, inl, inr, ℕ, ◌+◌, ◌<◌, ◌≤◌, ◌==◌, true, false, List, length, refl, sym, ◌∙◌, ap, subst, arith}
 use Rattle.std.proofs.lemmas.Bool.{both_ways, cases_order, eqb-true, and_parts}
 use Rattle.pq_lex.specs.declared.bytes.Class.{Class}
 use Rattle.pq_lex.specs.declared.bytes.Class.TheVariants.{Letter, Digit, Space, Quote, Point, Slash, Mark, Other}
 use Rattle.pq_lex.specs.declared.bytes.Set.TheVariants.{Tails}
 use Rattle.pq_lex.specs.declared.token.Kind.{Kind}
-use Rattle.pq_lex.specs.declared.token.Kind.TheVariants.{Identifier, Integer, Float, Text, Symbol}
+use Rattle.pq_lex.specs.declared.token.Kind.TheVariants.{Integer, Float, Symbol}
 use Rattle.pq_lex.specs.declared.token.Piece.{Piece}
 use Rattle.pq_lex.specs.declared.token.Piece.TheVariants.{Separator, Lexeme}
 use Rattle.pq_lex.specs.declared.token.Span.{Span}
 use Rattle.pq_lex.specs.declared.token.Code.{Code}
-use Rattle.pq_lex.specs.declared.token.Code.TheVariants.{UnclosedComment, NumberRunsOn, OtherCharacter}
 use Rattle.pq_lex.specs.declared.token.Step.{Step}
 use Rattle.pq_lex.specs.declared.token.Step.TheVariants.{Pass, Take, Stop}
-use Rattle.pq_lex.specs.Classes.{byte, at, class_of, in_set, is_quote}
+use Rattle.pq_lex.specs.Classes.{byte, at, class_of, is_quote}
 use Rattle.pq_lex.specs.Runs.{run_end}
-use Rattle.pq_lex.specs.Scan.{text_step, step_at}
-use Rattle.pq_lex.specs.Tokens.{span, opens, IsSeparator, order_mark, blanks, line_comment, comment, IsSymbol, Spells, IsLongest, runs_on, TextFault, IsCharacter, IsFault, of_comment, of_text, of_other}
+use Rattle.pq_lex.specs.Scan.{step_at}
+use Rattle.pq_lex.specs.Tokens.{span, opens, IsSeparator, order_mark, blanks, line_comment, comment, Spells, IsLongest, runs_on, IsCharacter, IsFault, of_comment, of_text, of_other}
 use Rattle.pq_lex.proofs.RunLemmas.{run_one}
 use Rattle.pq_lex.proofs.Fronts.{class_space, of_class, only_letter, only_space, only_other, only_quote, only_mark, either_digit, either_point, either_slash}
 use Rattle.pq_lex.proofs.NumberEnds.{float_longer}

@@ -1,27 +1,27 @@
 -- What stands at each place: the computed step is what the relations say.
-use Rattle.std.proofs.Common.{◌≡◌, ◌⊎◌, inl, inr, ℕ, zero, suc, ◌+◌, ◌-◌, ◌<◌, ◌≤◌, ◌==◌, ◌&&◌, ◌||◌, Bool, true, false, not, cond, List, length, get_or, Option, Some, None, refl, sym, ◌∙◌, ap, subst, arith, nat_lt, nat_le}
-use Rattle.std.proofs.lemmas.Bool.{both_ways, cases_order, cases_lt, cases_Bool, eqb-true, eq-eqb, ne_eqb, lt-ltb, le-ltb, ltb-true, ltb-false, and_parts, and_from, and_left, and_right, cond_both}
+use Rattle.std.proofs.Common.{◌≡◌, ◌⊎◌, inl, inr, ℕ, ◌+◌, ◌<◌, ◌≤◌, ◌==◌, true, false, cond, List, length, Option, Some, None, refl, sym, ◌∙◌, ap, subst, arith, nat_lt}
+use Rattle.std.proofs.lemmas.Bool.{both_ways, cases_lt, eqb-true, eq-eqb, ne_eqb, ltb-true, ltb-false, and_parts, and_from, and_left, and_right, cond_both}
 use Rattle.std.proofs.lemmas.List.{get_or_past}
 use Rattle.pq_lex.specs.declared.bytes.Class.{Class}
 use Rattle.pq_lex.specs.declared.bytes.Class.TheVariants.{Letter, Digit, Space, Quote, Point, Slash, Mark, Other}
-use Rattle.pq_lex.specs.declared.bytes.Set.TheVariants.{Spaces, Words, Digits, Octals, Hexes, Lines, Tails}
+use Rattle.pq_lex.specs.declared.bytes.Set.TheVariants.{Spaces, Words, Lines, Tails}
 use Rattle.pq_lex.specs.declared.token.Kind.{Kind}
 use Rattle.pq_lex.specs.declared.token.Kind.TheVariants.{Identifier, Integer, Float, Text, Symbol}
 use Rattle.pq_lex.specs.declared.token.Piece.{Piece}
 use Rattle.pq_lex.specs.declared.token.Piece.TheVariants.{Separator, Lexeme}
 use Rattle.pq_lex.specs.declared.token.Span.{Span}
 use Rattle.pq_lex.specs.declared.token.Code.{Code}
-use Rattle.pq_lex.specs.declared.token.Code.TheVariants.{UnclosedComment, UnclosedString, BadEscape, NumberRunsOn, OtherCharacter}
+use Rattle.pq_lex.specs.declared.token.Code.TheVariants.{UnclosedComment, NumberRunsOn, OtherCharacter}
 use Rattle.pq_lex.specs.declared.token.Step.{Step}
 use Rattle.pq_lex.specs.declared.token.Step.TheVariants.{Pass, Take, Stop}
-use Rattle.pq_lex.specs.Classes.{byte, at, class_of, in_set, is_space, is_quote}
-use Rattle.pq_lex.specs.Runs.{run_end, Run}
-use Rattle.pq_lex.specs.Tokens.{span, opens, closes, ClosesFirst, IsSeparator, order_mark, blanks, line_comment, comment, IsIdentifier, IsInteger, decimal, octal, hexadecimal, IsExponent, IsFloat, pointed, raised, Quoted, IsText, IsSymbol, Spells, IsLongest, HasNone, runs_on, TextFault, IsCharacter, IsFault, of_comment, of_text, of_other}
+use Rattle.pq_lex.specs.Classes.{byte, at, class_of, in_set, is_space}
+use Rattle.pq_lex.specs.Runs.{run_end}
+use Rattle.pq_lex.specs.Tokens.{span, opens, closes, ClosesFirst, IsSeparator, order_mark, blanks, line_comment, comment, IsInteger, decimal, octal, hexadecimal, IsExponent, IsFloat, pointed, raised, IsSymbol, Spells, IsLongest, HasNone, runs_on, IsFault, of_comment, of_text, of_other}
 use Rattle.pq_lex.specs.Scan.{integer_end, float_end, close_at, text_step, number_step, digit_step, point_step, comment_step, slash_step, is_order_mark, other_step, step_of, step_at}
-use Rattle.pq_lex.proofs.RunLemmas.{run_is, run_most, run_high, run_stop, close_low, close_none, close_here}
+use Rattle.pq_lex.proofs.RunLemmas.{run_is, run_most, run_stop, close_low, close_none, close_here}
 use Rattle.pq_lex.proofs.Fronts.{space_class, class_space, quote_class, point_class, slash_class, other_class, of_class, only_letter, only_space, only_other, only_quote, only_mark, either_digit, either_point, either_slash}
 use Rattle.pq_lex.proofs.NumberEnds.{inside, inside_at, exponent_most, integer_is, integer_most, float_is, float_most, float_longer}
-use Rattle.pq_lex.proofs.StringEnds.{Ends, ends_at, fails_at, text_ends, quoted_is, fault_is, quoted_within}
+use Rattle.pq_lex.proofs.StringEnds.{Ends, ends_at, fails_at, text_ends, quoted_is, quoted_within}
 
 -- a number that runs on
 pub record Overruns (text : List ℕ) (i : ℕ) (at : Span) (code : Code) : Type 0 where

@@ -1,16 +1,9 @@
 -- Lines by number, and the columns of their bytes.
-use Rattle.std.proofs.Common.{◌≡◌, ◌⊎◌, inl, inr, ℕ, zero, suc, ◌+◌, ◌-◌, ◌*◌, ◌<◌, ◌≤◌, ◌==◌, ◌&&◌, ◌||◌, Bool, true, false, cond, List, [], ◌∷◌, ◌++◌, length, map, min, sum, take, drop, get_or, slice_range, nat_lt, Option, Some, None, refl, sym, ◌∙◌, ap, subst, arith, add-one, length-append, length-drop, append_assoc}
-use Rattle.std.specs.List.{list_all}
-use Rattle.std.proofs.lemmas.List.{append-nil, get_or-drop, get_or-take, get_or-map, take-take, take-map}
-use Rattle.std.proofs.lemmas.List.Sums.{sum_by-cons, sum_by-take-le}
-use Rattle.std.proofs.lemmas.Bool.{both_ways, cases_order, lt-ltb, le-ltb}
-use Rattle.std.proofs.lemmas.Bool.Decides.{nat_tests}
-use Rattle.pq_lex.specs.declared.position.Position.{Position}
-use Rattle.pq_lex.specs.Classes.{is_continuation}
-use Rattle.pq_lex.specs.Lines.{starts_line, line_number, line_start, line_len, line_end, end_of_line, starts_to, character_start, units_of, units, position_of, IsBefore, IsOffset, is_ascii, units_kept, mark, lines_of, floor, column_of, kept_column, IsByte}
-use Rattle.pq_lex.proofs.LineLen.{is_break, len_within}
-use Rattle.pq_lex.proofs.LineFacts.{bool_cases, end_within, break_at, same_start, same_number}
-use Rattle.pq_lex.proofs.UnitLemmas.{sum_take_le, floor_stop, floor_zero}
+use Rattle.std.proofs.Common.{◌≡◌, ◌⊎◌, inl, inr, ℕ, zero, suc, ◌+◌, ◌-◌, ◌<◌, ◌≤◌, true, false, List, [], ◌∷◌, ◌++◌, length, get_or, refl, sym, ◌∙◌, ap, subst, arith, length-append, append_assoc}
+use Rattle.std.proofs.lemmas.List.{append-nil}
+use Rattle.std.proofs.lemmas.Bool.{cases_order}
+use Rattle.pq_lex.specs.Lines.{starts_line, line_number, line_start, starts_to}
+use Rattle.pq_lex.proofs.LineFacts.{bool_cases}
 
 get_left : (xs ys : List ℕ) (i : ℕ) → i < length xs → get_or (xs ++ ys) i 0 ≡ get_or xs i 0
 get_left [] ys i h = absurd (omega (arith, h))

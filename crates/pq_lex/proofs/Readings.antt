@@ -1,5 +1,5 @@
 -- The computed reading is a lexing, and the only one.
-use Rattle.std.proofs.Common.{◌≡◌, ◌⊎◌, inl, inr, ℕ, zero, suc, ◌+◌, ◌<◌, ◌≤◌, Bool, true, false, List, [], ◌∷◌, ◌++◌, length, Option, Some, None, refl, sym, ◌∙◌, ap, subst, arith, append_assoc}
+use Rattle.std.proofs.Common.{◌≡◌, ◌⊎◌, inl, inr, ℕ, zero, suc, ◌+◌, ◌<◌, ◌≤◌, List, [], ◌∷◌, ◌++◌, length, Option, Some, None, refl, sym, ◌∙◌, ap, subst, arith, append_assoc}
 use Rattle.std.proofs.lemmas.Bool.{cases_lt, lt-ltb, le-ltb}
 use Rattle.std.proofs.lemmas.List.{append-nil}
 use Rattle.pq_lex.specs.declared.token.Kind.{Kind}
@@ -12,7 +12,7 @@ use Rattle.pq_lex.specs.declared.token.Step.{Step}
 use Rattle.pq_lex.specs.declared.token.Step.TheVariants.{Pass, Take, Stop}
 use Rattle.pq_lex.specs.Scan.{step_at}
 use Rattle.pq_lex.specs.Reading.{Reading, behind, reading_from, tokens_of, Sofar}
-use Rattle.pq_lex.specs.Tokens.{span, IsLongest, runs_on, Lexes, ends, passes, takes, overruns, stops}
+use Rattle.pq_lex.specs.Tokens.{span, Lexes, ends, passes, takes, overruns, stops}
 use Rattle.pq_lex.proofs.Pieces.{Stands, Fails, Overruns, within, step_stands}
 use Rattle.pq_lex.proofs.OnePiece.{step_is}
 

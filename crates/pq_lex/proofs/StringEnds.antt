@@ -1,7 +1,6 @@
 -- The computed rest of a string is what the relations say, and they say nothing else.
-use Rattle.std.proofs.Common.{◌≡◌, ◌⊎◌, inl, inr, ℕ, zero, suc, ◌+◌, ◌-◌, ◌<◌, ◌≤◌, ◌==◌, ◌&&◌, ◌||◌, Bool, true, false, not, List, length, get_or, Option, Some, None, refl, sym, ◌∙◌, ap, subst, arith}
+use Rattle.std.proofs.Common.{◌≡◌, ◌⊎◌, inl, inr, ℕ, zero, suc, ◌+◌, ◌<◌, ◌≤◌, ◌==◌, ◌||◌, true, false, List, length, Option, Some, None, refl, sym, ◌∙◌, ap, arith}
 use Rattle.std.proofs.lemmas.Bool.{both_ways, cases_lt, cases_Bool, eqb-true, eq-eqb, ne_eqb, or_cases, or_left, or_right, not_from_true, not-false}
-use Rattle.std.proofs.lemmas.List.{get_or_past}
 use Rattle.pq_lex.specs.declared.token.Kind.TheVariants.{Text}
 use Rattle.pq_lex.specs.declared.token.Span.{Span}
 use Rattle.pq_lex.specs.declared.token.Code.{Code}
@@ -15,7 +14,7 @@ use Rattle.pq_lex.specs.Scan.{text_step}
 use Rattle.pq_lex.specs.Tokens.{span, is_plain, Quoted, closed, plain, escaped, TextFault, opened_only, bad, plain_first, escaped_first}
 use Rattle.pq_lex.proofs.EscapeLemmas.{escape_further}
 use Rattle.pq_lex.proofs.NumberEnds.{inside, inside_at}
-use Rattle.pq_lex.proofs.StringSteps.{Goes, plain_no_quote, plain_no_backslash, closes_here, bad_here, open_here, escape_goes, plain_goes, escape_next, plain_next, open_at_end}
+use Rattle.pq_lex.proofs.StringSteps.{closes_here, bad_here, open_here, escape_goes, plain_goes, escape_next, plain_next, open_at_end}
 
 -- what a string's rest is: a token, or a fault
 pub data Ends (text : List ℕ) (quote start i : ℕ) (s : Step) : Type 0 where

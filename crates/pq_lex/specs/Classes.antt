@@ -1,6 +1,6 @@
 -- The classes of bytes: what a byte may begin, and the sets whose bytes follow one another.
 -- (proto3 language specification, "Letters and digits"; RFC 3629 for the bytes behind a character's first.)
-use Rattle.std.specs.Prelude.{ℕ, Bool, true, false, not, ◌==◌, ◌&&◌, ◌||◌, cond, List, slice_index, nat_le}
+use Rattle.std.specs.Prelude.{ℕ, Bool, not, ◌==◌, ◌&&◌, ◌||◌, cond, List, slice_index, nat_le}
 use Rattle.pq_lex.specs.declared.bytes.Class.{Class}
 use Rattle.pq_lex.specs.declared.bytes.Class.TheVariants.{Letter, Digit, Space, Quote, Point, Slash, Mark, Other}
 use Rattle.pq_lex.specs.declared.bytes.Set.{Set}

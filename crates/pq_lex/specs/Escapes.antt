@@ -1,6 +1,6 @@
 -- The escapes in a string: how far the one at a backslash goes, and what it stands for.
 -- (proto3 language specification, "String literals"; RFC 3629 for UTF-8, RFC 2781 for pairs of surrogates.)
-use Rattle.std.specs.Prelude.{ℕ, ◌+◌, ◌-◌, ◌*◌, ◌^◌, Bool, ◌==◌, ◌&&◌, ◌||◌, not, cond, List, [], ◌∷◌, take, drop, nat_lt, nat_le, min, Option, Some, None, option_and_then}
+use Rattle.std.specs.Prelude.{ℕ, ◌+◌, ◌-◌, ◌*◌, ◌^◌, Bool, ◌==◌, ◌&&◌, ◌||◌, not, cond, List, [], ◌∷◌, take, drop, nat_lt, nat_le, min, Option, Some, None}
 use Rattle.std.specs.Str.Parse.{digits_value}
 use Rattle.std.specs.Char.{encode_utf8}
 use Rattle.pq_lex.specs.declared.bytes.Set.{Set}

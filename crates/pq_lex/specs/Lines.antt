@@ -1,6 +1,6 @@
 -- Lines and columns of a text's offsets (Language Server Protocol 3.17, "Position" and "Text Documents"):
 -- lines end at LF, CR LF or CR, and columns count the UTF-16 units of the text's UTF-8.
-use Rattle.std.specs.Prelude.{◌≡◌, ℕ, zero, suc, ◌+◌, ◌^◌, ◌≤◌, ◌==◌, Bool, true, false, not, ◌&&◌, ◌||◌, cond, List, [], ◌∷◌, ◌++◌, length, drop, map, min, sum, slice_index, slice_range, take, nat_lt, ◌<◌, Option, Some, None}
+use Rattle.std.specs.Prelude.{◌≡◌, ℕ, zero, suc, ◌+◌, ◌^◌, ◌≤◌, ◌==◌, Bool, true, not, ◌&&◌, ◌||◌, cond, List, [], ◌∷◌, ◌++◌, length, drop, map, min, sum, slice_index, slice_range, take, nat_lt, ◌<◌, Option, Some, None}
 use Rattle.std.specs.List.{list_all}
 use Rattle.pq_lex.specs.declared.position.Position.{Position}
 use Rattle.pq_lex.specs.Classes.{is_continuation}

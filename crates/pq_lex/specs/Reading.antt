@@ -5,7 +5,6 @@ use Rattle.pq_lex.specs.declared.token.Lexed.{Lexed}
 use Rattle.pq_lex.specs.declared.token.Span.{Span}
 use Rattle.pq_lex.specs.declared.token.Code.{Code}
 use Rattle.pq_lex.specs.declared.token.Token.{Token}
-use Rattle.pq_lex.specs.declared.token.Step.{Step}
 use Rattle.pq_lex.specs.declared.token.Step.TheVariants.{Pass, Take, Stop}
 use Rattle.pq_lex.specs.Scan.{step_at}
 use Rattle.pq_lex.specs.Tokens.{span, Lexes}

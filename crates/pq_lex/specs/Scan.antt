@@ -1,12 +1,10 @@
 -- Where the pieces end, computed: a middle term between the code and `Tokens`, whose relations are the meaning.
-use Rattle.std.specs.Prelude.{ℕ, zero, suc, ◌+◌, ◌-◌, Bool, ◌==◌, ◌&&◌, ◌||◌, cond, List, length, nat_lt, Option, Some, None}
+use Rattle.std.specs.Prelude.{ℕ, zero, suc, ◌+◌, ◌-◌, Bool, ◌==◌, ◌&&◌, cond, List, length, nat_lt, Option, Some, None}
 use Rattle.pq_lex.specs.declared.bytes.Class.{Class}
 use Rattle.pq_lex.specs.declared.bytes.Class.TheVariants.{Letter, Digit, Space, Quote, Point, Slash, Mark, Other}
 use Rattle.pq_lex.specs.declared.bytes.Set.TheVariants.{Spaces, Words, Digits, Octals, Hexes, Lines, Tails}
-use Rattle.pq_lex.specs.declared.escapes.Escape.{Escape}
 use Rattle.pq_lex.specs.declared.token.Kind.{Kind}
 use Rattle.pq_lex.specs.declared.token.Kind.TheVariants.{Identifier, Integer, Float, Text, Symbol}
-use Rattle.pq_lex.specs.declared.token.Code.{Code}
 use Rattle.pq_lex.specs.declared.token.Code.TheVariants.{UnclosedComment, UnclosedString, BadEscape, NumberRunsOn, OtherCharacter}
 use Rattle.pq_lex.specs.declared.token.Step.{Step}
 use Rattle.pq_lex.specs.declared.token.Step.TheVariants.{Pass, Take, Stop}

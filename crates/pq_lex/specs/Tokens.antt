@@ -1,7 +1,6 @@
 -- The tokens of a text: which bytes are a piece, that the longest piece is taken, and what stands where none is.
 -- (proto3 language specification, "Lexical elements"; comments as in "Comments".)
 use Rattle.std.specs.Prelude.{◌≡◌, ℕ, ◌+◌, ◌<◌, ◌≤◌, ◌==◌, ◌&&◌, ◌||◌, Bool, true, false, not, cond, List, [], ◌∷◌, length, Option, Some, None, ◌⊎◌}
-use Rattle.pq_lex.specs.declared.bytes.Class.{Class}
 use Rattle.pq_lex.specs.declared.bytes.Class.TheVariants.{Letter, Digit, Point, Slash, Mark}
 use Rattle.pq_lex.specs.declared.bytes.Set.TheVariants.{Spaces, Words, Digits, Octals, Hexes, Lines, Tails}
 use Rattle.pq_lex.specs.declared.escapes.Escape.{Escape}

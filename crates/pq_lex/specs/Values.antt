@@ -1,7 +1,6 @@
 -- What the spelling of a token says: the number of an integer, the bytes of a string.
 -- (proto3 language specification, "Integer literals", "String literals".)
-use Rattle.std.specs.Prelude.{ℕ, zero, suc, ◌+◌, ◌-◌, ◌^◌, ◌==◌, ◌&&◌, cond, List, [], ◌∷◌, ◌++◌, length, slice_range, nat_lt, nat_le, Option, Some, None}
-use Rattle.pq_lex.specs.declared.escapes.Escape.{Escape}
+use Rattle.std.specs.Prelude.{ℕ, zero, suc, ◌==◌, ◌&&◌, cond, List, [], ◌∷◌, ◌++◌, length, slice_range, nat_le, Option, Some, None}
 use Rattle.pq_lex.specs.declared.token.Span.{Span}
 use Rattle.pq_lex.specs.Classes.{byte}
 use Rattle.pq_lex.specs.Escapes.{number, in_64_bits, escape_at, meaning_bytes}

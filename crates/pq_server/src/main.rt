@@ -4,6 +4,8 @@
 
 mod command;
 mod status;
+#[cfg(test)]
+mod tests;
 
 use command::refusal;
 use status::{COMMAND_LINE_FAULT, run_script};

@@ -19,7 +19,9 @@ pub enum Code {
 /// The tree of a text, or its first fault.
 #[derive(Debug, Drop)]
 pub enum Parsed {
+    /// The whole text is a file of the grammar.
     Tree(File),
+    /// The first fault of the text, and the only one: nothing is read behind it.
     Fault {
         /// The token at fault, the lexical fault, or the empty span at the text's end.
         span: Span,

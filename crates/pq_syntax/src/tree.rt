@@ -8,7 +8,7 @@ ghost use Rattle.std.specs.Str.{bytes_eq};
 use pq_lex::Span;
 use std::marker::Model;
 
-/// A text that contracts see as its bytes.
+/// A text of a tree. Contracts see its bytes, so that two texts are the same exactly where they compare as equal.
 #[derive(Debug, Drop)]
 pub struct Text {
     text: String,
@@ -29,6 +29,7 @@ impl Text {
         Text { text }
     }
 
+    /// The text.
     pub fn as_str(&self) -> &str
         ensures { result.now ≡ self.now }
     {
@@ -50,7 +51,7 @@ impl Eq for Text {
     ghost laws = { Prim.search (comparing, rules) };
 }
 
-/// A name as it is written, and where.
+/// A name as it is written, and where: a word of ASCII, which is its own text.
 #[derive(Debug, Drop, PartialEq, Eq)]
 pub struct Name {
     pub text: Text,
@@ -67,9 +68,11 @@ pub struct Number {
 /// What a statement says (proto3 language specification, "Message definition").
 #[derive(Debug, Drop, PartialEq, Eq)]
 pub enum Statement {
+    /// A message. The statements of its body follow it, one deeper.
     Message {
         name: Name,
     },
+    /// A field of a message: the name of its scalar type, its own name and its number.
     Field {
         kind: Name,
         name: Name,
@@ -87,7 +90,10 @@ pub struct Node {
     pub statement: Statement,
 }
 
-/// The statements of a file in text order, each before those that it holds; empty statements are none.
+/// The tree of a file: its statements in text order, each before those that it holds, with the number of statements that
+/// it stands in. What a statement stands in is the last one before it that is less deep. Empty statements are none.
+///
+/// The tree has the names, and not the text: a change in a comment that moves nothing leaves an equal tree.
 #[derive(Debug, Drop)]
 pub struct File {
     nodes: Vec<Node>,
@@ -109,6 +115,7 @@ impl File {
         File { nodes }
     }
 
+    /// The statements, in text order.
     pub fn nodes(&self) -> &[Node]
         ensures { result.now ≡ self.now }
     {

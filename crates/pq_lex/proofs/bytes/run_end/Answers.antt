@@ -1,5 +1,4 @@
-use Rattle.std.proofs.Common.{◌≡◌, ◌∙◌, sym, arith}
-use Rattle.pq_lex.specs.Runs.{Run}
+use Rattle.std.proofs.Common.{◌∙◌, sym, arith}
 use Rattle.pq_lex.proofs.RunLemmas.{run_one}
 use Rattle.pq_lex.proofs.bytes.run_end.Goals as goal
 

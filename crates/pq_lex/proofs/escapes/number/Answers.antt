@@ -1,4 +1,4 @@
-use Rattle.std.proofs.Common.{◌≡◌, ◌∙◌, sym, ap, arith, true, false}
+use Rattle.std.proofs.Common.{◌∙◌, sym}
 use Rattle.pq_lex.specs.Escapes.{number}
 use Rattle.pq_lex.proofs.EscapeLemmas.{none_more, some_more, all_read, in_range}
 use Rattle.pq_lex.proofs.escapes.number.Goals as goal

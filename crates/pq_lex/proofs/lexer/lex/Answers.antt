@@ -1,7 +1,6 @@
-use Rattle.std.proofs.Common.{◌≡◌, ◌<◌, ◌≤◌, refl, sym, ap, ◌∙◌, subst, arith, length, is_ok, Some, None}
+use Rattle.std.proofs.Common.{sym, ap, ◌∙◌, arith, length, is_ok, Some, None}
 use Rattle.std.proofs.ResultArms.{chosen}
 use Rattle.pq_lex.specs.declared.token.Step.TheVariants.{Pass, Take, Stop}
-use Rattle.pq_lex.specs.Reading.{Sofar}
 use Rattle.pq_lex.proofs.Readings.{stands_at, finish, fault, pass_on, take_on, further_pass, further_take, only}
 use Rattle.pq_lex.proofs.lexer.lex.Goals as goal
 

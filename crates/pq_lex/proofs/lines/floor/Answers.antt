@@ -1,4 +1,4 @@
-use Rattle.std.proofs.Common.{◌≡◌, ◌∙◌, sym, refl, arith}
+use Rattle.std.proofs.Common.{◌∙◌, sym, arith}
 use Rattle.pq_lex.proofs.UnitLemmas.{floor_none, floor_on, floor_stop}
 use Rattle.pq_lex.proofs.lines.floor.Goals as goal
 

@@ -1,4 +1,4 @@
-use Rattle.std.proofs.Common.{◌≡◌, inl, inr, refl, sym, arith, length}
+use Rattle.std.proofs.Common.{inl, inr, arith}
 use Rattle.pq_lex.proofs.LineLen.{plain_byte, break_byte, len_on, len_stop, len_end}
 use Rattle.pq_lex.proofs.lines.line_len.Goals as goal
 

@@ -1,4 +1,4 @@
-use Rattle.std.proofs.Common.{◌≡◌, ◌∙◌, sym, arith}
+use Rattle.std.proofs.Common.{◌∙◌, sym, arith}
 use Rattle.pq_lex.proofs.RunLemmas.{close_one}
 use Rattle.pq_lex.proofs.steps.close_at.Goals as goal
 

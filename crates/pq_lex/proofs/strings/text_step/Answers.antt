@@ -1,4 +1,4 @@
-use Rattle.std.proofs.Common.{◌≡◌, ◌∙◌, sym, ap, arith, length, refl, get_or, ◌==◌}
+use Rattle.std.proofs.Common.{◌∙◌, sym, arith, length, refl, get_or}
 use Rattle.std.proofs.lemmas.Bool.{eq-eqb, ne_eqb}
 use Rattle.pq_lex.proofs.EscapeLemmas.{escape_further}
 use Rattle.pq_lex.proofs.StringSteps.{closes_here, bad_here, open_here, escape_goes, plain_goes, open_at_end}

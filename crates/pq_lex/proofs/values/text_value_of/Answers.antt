@@ -1,8 +1,6 @@
-use Rattle.std.proofs.Common.{◌≡◌, ◌<◌, ◌≤◌, ◌++◌, refl, sym, ap, ◌∙◌, subst, arith, length, is_ok, Some, None, ℕ, get_or}
+use Rattle.std.proofs.Common.{sym, ap, ◌∙◌, arith, length, is_ok, ℕ, get_or}
 use Rattle.std.proofs.ResultArms.{chosen}
-use Rattle.pq_lex.specs.Escapes.{meaning_bytes}
 use Rattle.pq_lex.specs.Tokens.{is_plain}
-use Rattle.pq_lex.specs.Values.{value_from}
 use Rattle.pq_lex.proofs.EscapeLemmas.{escape_further}
 use Rattle.pq_lex.proofs.ValueSteps.{escape_adds, plain_adds, no_escape, no_more, value_end, value_begins, adds_on, all_added}
 use Rattle.pq_lex.proofs.values.text_value_of.Goals as goal

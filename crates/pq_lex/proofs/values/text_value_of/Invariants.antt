@@ -1,4 +1,4 @@
-use Rattle.std.proofs.Common.{◌≡◌, ◌≤◌, ◌<◌, ◌+◌, ◌-◌, ◌++◌, ℕ, length, get_or}
+use Rattle.std.proofs.Common.{◌≡◌, ◌≤◌, ◌+◌, ◌-◌, ◌++◌, ℕ, length}
 use Rattle.pq_lex.specs.Values.{value_from, text_value_of}
 use Rattle.pq_lex.proofs.values.text_value_of.Given as goal
 

@@ -1,6 +1,6 @@
-use Rattle.std.proofs.Common.{◌≡◌, ◌+◌, ◌-◌, ◌*◌, ◌<◌, ◌≤◌, ◌==◌, ◌&&◌, cond, List, ℕ, [], ◌∷◌, ◌++◌, map, length, get_or, refl, sym, ◌∙◌, ap, subst, arith}
+use Rattle.std.proofs.Common.{◌≡◌, ◌+◌, ◌<◌, ◌≤◌, ◌==◌, ◌&&◌, cond, [], ◌∷◌, ◌++◌, length, get_or, ◌∙◌, ap, subst, arith}
 use Rattle.pq_lex.specs.Kept.{mark_of, marks_of}
-use Rattle.pq_lex.specs.Lines.{mark, starts_to, lines_of, end_of_line}
+use Rattle.pq_lex.specs.Lines.{mark, end_of_line}
 use Rattle.pq_lex.proofs.LineFacts.{end_within}
 use Rattle.pq_lex.proofs.Answering.{pushed, whole_text, one_more_line, first_line, text_starts}
 use Rattle.pq_lex.proofs.lines.LineIndex.new.Goals as goal

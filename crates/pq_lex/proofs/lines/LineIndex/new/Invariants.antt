@@ -1,4 +1,4 @@
-use Rattle.std.proofs.Common.{◌≡◌, ◌≤◌, ◌-◌, ◌+◌, List, [], ◌∷◌, ◌++◌, map, length, true}
+use Rattle.std.proofs.Common.{◌≡◌, ◌≤◌, ◌-◌, ◌+◌, [], ◌∷◌, ◌++◌, map, length, true}
 use Rattle.pq_lex.specs.Kept.{marks_of}
 use Rattle.pq_lex.specs.Lines.{mark, starts_line, starts_to}
 use Rattle.pq_lex.proofs.lines.LineIndex.new.Given as goal

@@ -1,4 +1,4 @@
-use Rattle.std.proofs.Common.{◌≡◌, ◌+◌, ◌-◌, ◌*◌, ◌<◌, ◌≤◌, List, ℕ, length, get_or, min, sum, refl, sym, ◌∙◌, ap, subst, arith}
+use Rattle.std.proofs.Common.{◌+◌, ◌-◌, ◌<◌, ◌≤◌, length, get_or, sum, sym, ◌∙◌, ap, subst, arith}
 use Rattle.pq_lex.specs.Kept.{starts_of}
 use Rattle.pq_lex.specs.Lines.{kept_column}
 use Rattle.pq_lex.proofs.Indexed.{some_line, first_start}
