@@ -1,5 +1,6 @@
 pub mod Answering
 pub mod Columns
+pub mod ComingBack
 pub mod EscapeLemmas
 pub mod Fronts
 pub mod Indexed
@@ -11,6 +12,7 @@ pub mod Pieces
 pub mod Positions
 pub mod Readings
 pub mod RunLemmas
+pub mod SameLines
 pub mod StringEnds
 pub mod StringSteps
 pub mod UnitLemmas

@@ -2,6 +2,9 @@
 -- lines end at LF, CR LF or CR, and columns count the UTF-16 units of the text's UTF-8.
 use Rattle.std.specs.Prelude.{◌≡◌, ℕ, zero, suc, ◌+◌, ◌^◌, ◌≤◌, ◌==◌, Bool, true, not, ◌&&◌, ◌||◌, cond, List, [], ◌∷◌, ◌++◌, length, drop, map, min, sum, slice_index, slice_range, take, nat_lt, ◌<◌, Option, Some, None}
 use Rattle.std.specs.List.{list_all}
+use Rattle.std.specs.Ordering.{eq_of_both, on}
+use Rattle.std.specs.Cmp.{IsEquivalence, and_equiv, nat_eq_equiv, on_equiv}
+use Rattle.std.specs.Cmp.Lexicographic.{lists_equiv, nat_list_eq_equiv, pointwise}
 use Rattle.pq_lex.specs.declared.position.Position.{Position}
 use Rattle.pq_lex.specs.Classes.{is_continuation}
 
@@ -86,6 +89,16 @@ starts_to text (suc i) = cond (starts_line text (suc i)) (starts_to text i ++ su
 
 abbrev pub lines_of : List ℕ → List LineMark
 lines_of text = map (mark text) (starts_to text (length text))
+
+-- whether two marks are the same, and whether two lists of them are
+abbrev pub same_mark : LineMark → LineMark → Bool
+same_mark = eq_of_both (on (λ m. m.start) ◌==◌) (eq_of_both (on (λ m. m.end) ◌==◌) (on (λ m. m.units) (pointwise ◌==◌)))
+
+abbrev pub same_lines : List LineMark → List LineMark → Bool
+same_lines = pointwise same_mark
+
+pub same_lines_equiv : IsEquivalence same_lines
+same_lines_equiv = lists_equiv (and_equiv (on_equiv (λ m. m.start) nat_eq_equiv) (and_equiv (on_equiv (λ m. m.end) nat_eq_equiv) (on_equiv (λ m. m.units) nat_list_eq_equiv)))
 
 -- the lines of some text
 pub record IsIndexed (lines : List LineMark) : Type 0 where

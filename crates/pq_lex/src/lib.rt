@@ -15,7 +15,7 @@ mod strings;
 mod token;
 mod values;
 
-pub use laws::{each_text, one_lexing};
+pub use laws::{each_text, equal_indexes, offset_comes_back, one_lexing, one_offset};
 pub use lexer::lex;
 pub use lines::LineIndex;
 pub use position::Position;

@@ -1,6 +1,7 @@
 //! From offsets to positions and back, without the text.
-ghost use Rattle.std.specs.Prelude.{◌≡◌, ℕ, ◌+◌, ◌*◌, ◌<◌, ◌≤◌, ◌==◌, ◌&&◌, [], ◌^◌, cond, length, List, map, drop, slice_index, slice_range, sum, take, IfOk};
-ghost use Rattle.pq_lex.specs.Lines.{IsByte, IsOffset, floor, is_ascii, kept_column, line_len, lines_of, mark, position_of, units_kept, units_of};
+ghost use Rattle.std.specs.Prelude.{◌≡◌, ℕ, true, ◌+◌, ◌*◌, ◌<◌, ◌≤◌, ◌==◌, ◌&&◌, [], ◌^◌, cond, length, List, map, drop, slice_index, slice_range, sum, take, IfOk};
+ghost use Rattle.std.specs.Cmp.{partial_equiv_from_equiv};
+ghost use Rattle.pq_lex.specs.Lines.{IsByte, IsOffset, floor, is_ascii, kept_column, line_len, lines_of, mark, position_of, same_lines, same_lines_equiv, units_kept, units_of};
 ghost use Rattle.pq_lex.specs.Kept.{mark_of, starts_of};
 
 use crate::Memory;
@@ -9,7 +10,7 @@ use std::alloc::Global;
 use std::marker::Model;
 
 /// A line of a text, in byte offsets, its end before its terminator.
-#[derive(Drop)]
+#[derive(Drop, PartialEq, Eq)]
 struct Line {
     start: usize,
     end: usize,
@@ -34,6 +35,26 @@ impl Model for LineIndex {
     ghost view = { λ i. marks_of i.lines.items };
 
     ghost invariant = { λ i. IsIndexed (marks_of i.lines.items) };
+}
+
+/// Two indexes are equal exactly where they keep the same lines: each starts and ends at the same byte, and
+/// its characters have the same UTF-16 units.
+impl PartialEq for LineIndex {
+    ghost eq = { same_lines };
+
+    ghost laws = { partial_equiv_from_equiv same_lines_equiv };
+
+    fn eq(&self, other: &LineIndex) -> bool
+        ensures is { result ≡ same_lines self.now other.now }
+        ensures equal_are_same { result ≡ true → self.now ≡ other.now }
+        ensures same_are_equal { self.now ≡ other.now → result ≡ true }
+    {
+        self.lines == other.lines
+    }
+}
+
+impl Eq for LineIndex {
+    ghost laws = { same_lines_equiv };
 }
 
 /// How many bytes stand before the first terminator.
@@ -172,7 +193,8 @@ fn byte_at(units: &[u8], column: usize) -> usize
 }
 
 impl LineIndex {
-    /// The lines of a text, in one pass over it.
+    /// The lines of a text. Its bytes are read a fixed number of times each: once to find their line's end,
+    /// and at most twice to keep the line's units. An error is want of memory alone.
     pub fn new(alloc: Global, text: &str) -> Result<LineIndex, Memory>
         ensures { IfOk result (λ i. i ≡ lines_of text.now) }
     {

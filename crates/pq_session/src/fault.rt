@@ -24,7 +24,7 @@ pub enum ScriptFault {
     /// A write or a flush failed. What was written is a front of an output.
     #[error("a write failed")]
     Write,
-    /// There was no memory outside of a reply. What was written is a front of an output.
+    /// There was no memory outside of a reply to a query. What was written is a front of an output.
     #[error("out of memory")]
     Memory,
 }
