@@ -1,4 +1,4 @@
-//! The table of names on a worked row.
+//! The table of names, by example.
 use crate::Names;
 use std::test::Fail;
 
