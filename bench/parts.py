@@ -3,7 +3,7 @@
 
 The program of each part is a few lines of Rattle in a text file beside this script. It is put into a scratch
 repository with a copy of the crates that it stands on, proved and built there by `rt`, and run on texts that this
-script makes, at n and at 2n bytes. Each run is made with k and with 2k rounds; the difference is the time of k rounds
+script makes, at n and at 2n bytes. Each run is made with k and with 3k rounds; the difference is the time of 2k rounds
 without the process's start. Printed are MB/s at 2n and the ratio of the times at n and 2n: 2 is linear, 2.2 the most.
 
 usage: bench/parts.py [lexing ..] [--runs N]
@@ -43,15 +43,20 @@ def built(folder, part):
     return program
 
 
-def seconds(program, path, rounds, runs):
-    best = None
-    for _ in range(runs):
-        with open(path, "rb") as source:
-            start = time.perf_counter()
-            subprocess.run([program, str(rounds)], stdin=source, stdout=subprocess.DEVNULL, check=True)
-            took = time.perf_counter() - start
-        best = took if best is None else min(best, took)
-    return best
+def seconds(program, path, rounds):
+    with open(path, "rb") as source:
+        start = time.perf_counter()
+        subprocess.run([program, str(rounds)], stdin=source, stdout=subprocess.DEVNULL, check=True)
+        return time.perf_counter() - start
+
+
+def round_times(program, paths, runs):
+    """The time of one round on each text: best times, which take turns, so that a slow while of the machine meets all."""
+    rounds = [40_000_000 // os.path.getsize(path) for path in paths]
+    best = [min(times) for times in zip(*[
+        [seconds(program, path, many * times) for path, many in zip(paths, rounds) for times in (1, 3)]
+        for _ in range(runs)])]
+    return [(best[2 * i + 1] - best[2 * i]) / (2 * many) for i, many in enumerate(rounds)]
 
 
 def texts(size):
@@ -64,7 +69,7 @@ def texts(size):
 def main():
     words = argparse.ArgumentParser()
     words.add_argument("parts", nargs="*", default=sorted(PARTS))
-    words.add_argument("--runs", type=int, default=5)
+    words.add_argument("--runs", type=int, default=9)
     words = words.parse_args()
     worst = 0.0
     with tempfile.TemporaryDirectory() as folder:
@@ -74,15 +79,12 @@ def main():
             program = built(home, part)
             small, large = texts(500_000), texts(1_000_000)
             for (title, one), (_, two) in zip(small, large):
-                times = []
+                paths = []
                 for text in (one, two):
-                    path = os.path.join(folder, "text")
-                    with open(path, "w") as sink:
+                    paths.append(os.path.join(folder, str(len(text))))
+                    with open(paths[-1], "w") as sink:
                         sink.write(text)
-                    rounds = 40_000_000 // len(text)
-                    once = seconds(program, path, rounds, words.runs)
-                    twice = seconds(program, path, 2 * rounds, words.runs)
-                    times.append((twice - once) / rounds)
+                times = round_times(program, paths, words.runs)
                 ratio = times[1] / times[0]
                 worst = max(worst, ratio)
                 print("%-8s %-28s %8.1f MB/s   ratio %.2f" % (part, title, len(two) / times[1] / 1e6, ratio), flush=True)

@@ -78,23 +78,25 @@ def long_bodies(n):
     return FIRST + frame(body) * n + LAST
 
 
-def timed(program, path, runs):
-    best = None
-    for _ in range(runs):
-        with open(path, "rb") as source, tempfile.TemporaryFile() as sink:
-            start = time.perf_counter()
-            status = subprocess.run([program, "script"], stdin=source, stdout=sink).returncode
-            took = time.perf_counter() - start
-            if status != 0:
-                sys.exit("%s ended with status %d on %s" % (program, status, path))
-        best = took if best is None else min(best, took)
-    return best
+def run(program, path):
+    with open(path, "rb") as source, tempfile.TemporaryFile() as sink:
+        start = time.perf_counter()
+        status = subprocess.run([program, "script"], stdin=source, stdout=sink).returncode
+        took = time.perf_counter() - start
+    if status != 0:
+        sys.exit("%s ended with status %d on %s" % (program, status, path))
+    return took
+
+
+def timed(program, paths, runs):
+    """The best time on each file. The files take turns, so that a slow while of the machine meets them all."""
+    return [min(times) for times in zip(*[[run(program, path) for path in paths] for _ in range(runs)])]
 
 
 def main():
     words = argparse.ArgumentParser()
     words.add_argument("--program", default=PROGRAM)
-    words.add_argument("--runs", type=int, default=3)
+    words.add_argument("--runs", type=int, default=9)
     words.add_argument("--quick", action="store_true", help="a tenth of the input, to see that it runs")
     words = words.parse_args()
     sessions = [("texts of 1 MB, opened and diagnosed", big_texts, 40, "texts"),
@@ -103,15 +105,15 @@ def main():
                 ("bodies of 16 MiB", long_bodies, 8, "bodies")]
     worst = 0.0
     with tempfile.TemporaryDirectory() as folder:
-        path = os.path.join(folder, "session")
         for title, make, n, unit in sessions:
             n = max(1, n // 10) if words.quick else n
-            times = []
+            paths = []
             for count in (n, 2 * n):
                 data = make(count)
-                with open(path, "wb") as sink:
+                paths.append(os.path.join(folder, str(count)))
+                with open(paths[-1], "wb") as sink:
                     sink.write(data)
-                times.append(timed(words.program, path, words.runs))
+            times = timed(words.program, paths, words.runs)
             ratio = times[1] / times[0]
             worst = max(worst, ratio)
             print("%-38s %8.1f MB/s %10.0f %s/s   %.2f s at n, %.2f s at 2n, ratio %.2f"
