@@ -8,3 +8,5 @@ pub mod TakeLemmas
 pub mod MemoryLemmas
 pub mod FrontLemmas
 pub mod ScriptLemmas
+pub mod GatherLemmas
+pub mod PlaceLemmas

@@ -2,6 +2,8 @@ pub mod Counts
 pub mod Uri
 pub mod Session
 pub mod Reply
+pub mod Findings
+pub mod InOrder
 pub mod Compile
 pub mod Told
 pub mod Served

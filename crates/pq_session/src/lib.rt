@@ -1,6 +1,7 @@
 //! A session of the language server: what each message of a client means, the texts of the replies, and the script that
 //! serves one client from a reader to a writer. What is written for some bytes is said by `specs/Output` and `specs/Script`;
-//! `specs/Session` says what a message means, `specs/Told` what may be told to it, `specs/Compile` a file's diagnostics.
+//! `specs/Session` says what a message means, `specs/Told` what may be told to it, `specs/Compile` a file's diagnostics, and
+//! `specs/Findings` what is told of its tree.
 #![tactic(auto)]
 
 mod bodies;
@@ -8,6 +9,7 @@ mod compile;
 mod counted;
 mod diagnostics;
 mod fault;
+mod findings;
 mod items;
 mod laws;
 mod methods;
@@ -24,12 +26,14 @@ mod uris;
 
 pub use counted::Counted;
 pub use fault::ScriptFault;
-pub use laws::{each_output, stops_at_a_front};
+pub use laws::{each_output, findings_in_order, stops_at_a_front};
 pub use run::{MAX_READS, script};
 pub use std::alloc::AllocError as Memory;
 
 #[cfg(test)]
 mod device_tests;
+#[cfg(test)]
+mod finding_tests;
 #[cfg(test)]
 mod message_tests;
 #[cfg(test)]

@@ -5,20 +5,20 @@ use pq_inputs::InputFault;
 use std::alloc::Global;
 use std::test::Fail;
 
-const INITIALIZE: &str = r#"{"id":0,"jsonrpc":"2.0","method":"initialize","params":{}}"#;
+pub(crate) const INITIALIZE: &str = r#"{"id":0,"jsonrpc":"2.0","method":"initialize","params":{}}"#;
 
-const DIAGNOSTIC: &str =
+pub(crate) const DIAGNOSTIC: &str =
     r#"{"id":1,"jsonrpc":"2.0","method":"textDocument/diagnostic","params":{"textDocument":{"uri":"file:///a.proto"}}}"#;
 
 const SHUTDOWN: &str = r#"{"id":2,"jsonrpc":"2.0","method":"shutdown"}"#;
 
 const EXIT: &str = r#"{"jsonrpc":"2.0","method":"exit"}"#;
 
-const INITIALIZED: &str =
+pub(crate) const INITIALIZED: &str =
     r#"{"id":0,"jsonrpc":"2.0","result":{"capabilities":{"definitionProvider":true,"diagnosticProvider":{"interFileDependencies":true,"workspaceDiagnostics":false},"documentSymbolProvider":true,"positionEncoding":"utf-16","textDocumentSync":{"change":1,"openClose":true}},"serverInfo":{"name":"pq_server"}}}"#;
 
 /// The frames of bodies, one after the other.
-fn frames(alloc: Global, bodies: &[&str]) -> Result<Vec<u8>, Memory> {
+pub(crate) fn frames(alloc: Global, bodies: &[&str]) -> Result<Vec<u8>, Memory> {
     let mut bytes = Vec::new(alloc);
     for body in bodies {
         bytes.extend_from_slice(&frame(alloc, body.as_bytes())?)?;
@@ -27,14 +27,14 @@ fn frames(alloc: Global, bodies: &[&str]) -> Result<Vec<u8>, Memory> {
 }
 
 /// A notice that opens `a.proto` with a text, which stands there as JSON writes it.
-fn open(alloc: Global, text: &str) -> Result<String, Memory> {
+pub(crate) fn open(alloc: Global, text: &str) -> Result<String, Memory> {
     format!(in alloc;
         r#"{{"jsonrpc":"2.0","method":"textDocument/didOpen","params":{{"textDocument":{{"uri":"file:///a.proto","text":"{text}"}}}}}}"#
     )
 }
 
 /// Runs a script: what it writes, and what it answers.
-fn run(alloc: Global, input: &[u8]) -> (Vec<u8>, Result<u8, ScriptFault>) {
+pub(crate) fn run(alloc: Global, input: &[u8]) -> (Vec<u8>, Result<u8, ScriptFault>) {
     let mut output = Vec::new(alloc);
     let mut reader = Counted::new(input);
     let mut writer = Counted::new(&mut output);

@@ -6,7 +6,7 @@ use Rattle.pq_syntax.specs.Rule.Rule.{Many}
 use Rattle.pq_syntax.specs.Rule.Parse.{Nil, Pair}
 use Rattle.pq_syntax.specs.Takes.{Takes, Stops, starts_at}
 use Rattle.pq_syntax.specs.Loop.{Loop, list_of}
-use Rattle.pq_syntax.proofs.Parts.{takes_more, takes_stop, stops_item, stops_more}
+use Rattle.pq_syntax.proofs.Rules.{takes_more, takes_stop, stops_item, stops_more}
 
 module _ {A W X : Type 0} {accepts : A → W → Bool} {r : Rule A} {view : Parse W → List X} where
   pub loop_begins : (start : List W) → Loop accepts r view start start []

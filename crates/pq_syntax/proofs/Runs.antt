@@ -131,3 +131,17 @@ module _ {A W : Type 0} (accepts : A → W → Bool) where
   unfolding run
   run_none a k [] h e = none_end (skips a) (all_skip k) (void a) (voids k) e
   run_none a k (w ∷ ws) h e = go_is (Or a Empty ∷ k) w ws ∙ none_go (length (w ∷ ws)) (starts accepts a w) (skips a) (cond (starts accepts a w) (after accepts a k w) (after accepts Empty k w)) (pop accepts k w) (λ k'. run accepts k' ws) (void a) (λ ps. built accepts (Or a Empty) w ps) (push accepts k w) h e ∙ ap (on_ok (λ ps. Right Nil ∷ ps)) (sym (go_is k w ws))
+
+  -- a rule that stands for no word alone
+  empty_end : (z : Bool) (vs : Readings) → cond z (Ok (Nil ∷ vs)) (Err 0) ≡ on_ok (λ ps. Nil ∷ ps) (cond z (Ok vs) (Err 0))
+  empty_end true vs = refl
+  empty_end false vs = refl
+
+  empty_go : {K : Type 0} (n : ℕ) (o : Option K) (r : K → Result Readings ℕ) (h : Readings → Readings) → go n (λ ps. Nil ∷ h ps) r o ≡ on_ok (λ ps. Nil ∷ ps) (go n h r o)
+  empty_go n None r h = refl
+  empty_go n (Some k) r h = on_twice (λ ps. Nil ∷ ps) h (r k)
+
+  pub run_empty : (k : List (Rule A)) (ws : List W) → run accepts (Empty ∷ k) ws ≡ on_ok (λ ps. Nil ∷ ps) (run accepts k ws)
+  unfolding run
+  run_empty k [] = empty_end (all_skip k) (voids k)
+  run_empty k (w ∷ ws) = go_is (Empty ∷ k) w ws ∙ empty_go (length (w ∷ ws)) (pop accepts k w) (λ k'. run accepts k' ws) (push accepts k w) ∙ ap (on_ok (λ ps. Nil ∷ ps)) (sym (go_is k w ws))

@@ -1,19 +1,22 @@
 -- What the answers of the parser's functions cite: one token, and rules one after the other.
-use Rattle.std.proofs.Common.{◌≡◌, ℕ, ◌-◌, ◌<◌, suc, List, [], ◌∷◌, sym, ◌∙◌, true, false, subst, length, take, drop, sub-one, arith}
-use Rattle.std.proofs.lemmas.List.{length-map}
+use Rattle.std.proofs.Common.{◌≡◌, ℕ, ◌-◌, ◌<◌, suc, List, [], ◌∷◌, ◌++◌, ap, append_assoc, refl, sym, ◌∙◌, true, false, subst, length, take, drop, sub-one, arith}
+use Rattle.std.proofs.lemmas.List.{length-map, append-nil}
 use Rattle.std.proofs.Math.Seq.{take-length}
-use Rattle.std.specs.Prelude.{slice_index_or}
+use Rattle.std.specs.Prelude.{slice_index_or, Option, Some, None, IfSome, IfNone}
 use Rattle.pq_lex.specs.declared.token.Token.{Token}
 use Rattle.pq_syntax.specs.Rule.{Rule, Parse}
-use Rattle.pq_syntax.specs.Rule.Rule.{One, Then}
-use Rattle.pq_syntax.specs.Takes.{Stops, starts_at}
+use Rattle.pq_syntax.specs.Rule.Rule.{One, Empty, Then, Or, Many}
+use Rattle.pq_syntax.specs.Takes.{Takes, Stops, starts_at}
+use Rattle.pq_syntax.specs.Rule.Parse.{Left, Right}
+use Rattle.pq_syntax.specs.Machine.{skips}
+use Rattle.pq_syntax.specs.Loop.{list_of}
+use Rattle.pq_syntax.proofs.Loops.{loop_begins, loop_goes, loop_ends, loop_fails}
 use Rattle.pq_syntax.specs.Words.{Word, word, words, accepts}
-use Rattle.pq_syntax.specs.Steps.{TakesToken, Passes, Adds, Fails}
+use Rattle.pq_syntax.specs.Steps.{TakesToken, Passes, Reads, Adds, Begins, Ends, Adding, Fails, FailsWithin}
 use Rattle.pq_syntax.specs.declared.failure.Failure.{Failure}
 use Rattle.pq_syntax.specs.declared.failure.Failure.TheVariants.{Memory, Fault}
 use Rattle.pq_syntax.specs.declared.terminal.Terminal.{Terminal}
-use Rattle.pq_syntax.specs.declared.tree.Node.{Node}
-use Rattle.pq_syntax.proofs.Parts.{takes_one, stops_one, stops_first, stops_then}
+use Rattle.pq_syntax.proofs.Rules.{takes_one, takes_left, takes_right, takes_none, stops_one, stops_first, stops_then, stops_left, stops_right, starts_left, starts_right, starts_neither}
 
 pub token_first : (text : List ℕ) (c : Terminal) (ts : List Token) (d : Token) → starts_at accepts (One c) (words text ts) ≡ true → TakesToken text c ts (take (length ts - 1) (drop 1 ts)) (slice_index_or ts 0 d)
 token_first text c [] d e = cc
@@ -24,6 +27,13 @@ token_first text c (t ∷ ts) d e =
 pub passes_first : (text : List ℕ) (c : Terminal) (ts : List Token) → starts_at accepts (One c) (words text ts) ≡ true → Passes text (One c) ts (take (length ts - 1) (drop 1 ts))
 passes_first text c [] e = cc
 passes_first text c (t ∷ ts) e = let r = token_first text c (t ∷ ts) t e in record { parse = _; takes = r.takes }
+
+-- a token that may stand there
+pub passes_present : (text : List ℕ) (c : Terminal) (ts : List Token) → starts_at accepts (One c) (words text ts) ≡ true → Passes text (Or (One c) Empty) ts (take (length ts - 1) (drop 1 ts))
+passes_present text c ts h = let p = passes_first text c ts h in record { parse = Left p.parse; takes = takes_left h p.takes }
+
+pub passes_absent : (text : List ℕ) (c : Terminal) (ts : List Token) → starts_at accepts (One c) (words text ts) ≡ false → Passes text (Or (One c) Empty) ts ts
+passes_absent text c ts h = record { parse = _; takes = takes_none h refl }
 
 pub nonempty : (text : List ℕ) (c : Terminal) (ts : List Token) → starts_at accepts (One c) (words text ts) ≡ true → 0 < length ts
 nonempty text c [] e = cc
@@ -44,5 +54,46 @@ fails_token s f = record { stops = λ n h. stops_then s.takes (f.stops n h) }
 pub fails_then : {text : List ℕ} {a b : Rule Terminal} {x y : List Token} {e : Failure} → Passes text a x y → Fails text b y e → Fails text (Then a b) x e
 fails_then s f = record { stops = λ n h. stops_then s.takes (f.stops n h) }
 
-pub fails_added : {text : List ℕ} {a b : Rule Terminal} {view : Parse Word → List Node} {x y : List Token} {old new : List Node} {e : Failure} → Adds text a view x y old new → Fails text b y e → Fails text (Then a b) x e
+pub fails_added : {X : Type 0} {text : List ℕ} {a b : Rule Terminal} {view : Parse Word → List X} {x y : List Token} {old new : List X} {e : Failure} → Adds text a view x y old new → Fails text b y e → Fails text (Then a b) x e
 fails_added s f = record { stops = λ n h. stops_then s.takes (f.stops n h) }
+
+pub fails_read : {X : Type 0} {text : List ℕ} {a b : Rule Terminal} {view : Parse Word → X} {x y : List Token} {v : X} {e : Failure} → Reads text a view x y v → Fails text b y e → Fails text (Then a b) x e
+fails_read s f = record { stops = λ n h. stops_then s.takes (f.stops n h) }
+
+-- one of two alternatives, by which begins
+pub fails_left : {text : List ℕ} {a b : Rule Terminal} {x : List Token} {e : Failure} → starts_at accepts a (words text x) ≡ true → Fails text a x e → Fails text (Or a b) x e
+fails_left h f = record { stops = λ n e. stops_left h (f.stops n e) }
+
+pub fails_right : {text : List ℕ} {a b : Rule Terminal} {x : List Token} {e : Failure} → starts_at accepts a (words text x) ≡ false → skips a ≡ false → Fails text b x e → Fails text (Or a b) x e
+fails_right h k f = record { stops = λ n e. stops_right h k (f.stops n e) }
+
+-- a list item by item, whose items are read by a function of their own
+module _ {X : Type 0} {text : List ℕ} {r : Rule Terminal} {view : Parse Word → List X} where
+  pub adding_begins : (tokens : List Token) (old : List X) → Adding text r view tokens tokens old old
+  adding_begins tokens old = record { items = []; loop = loop_begins (words text tokens); is = sym (append-nil old) }
+
+  pub adding_goes : {tokens rest after : List Token} {old new newer : List X} → Adding text r view tokens rest old new → Begins text r view rest after new newer → Adding text r view tokens after old newer
+  adding_goes {old = old} l b = record {
+    items = _;
+    loop = loop_goes l.loop b.starts b.adds.takes;
+    is = b.adds.is ∙ ap (λ x. x ++ view b.adds.parse) l.is ∙ append_assoc old l.items (view b.adds.parse);
+  }
+
+  pub adding_ends : {tokens rest : List Token} {old new : List X} → Adding text r view tokens rest old new → starts_at accepts r (words text rest) ≡ false → Adds text (Many r) (list_of view) tokens rest old new
+  adding_ends {old = old} l h = let e = loop_ends l.loop h in record { parse = e.0; takes = e.1; is = l.is ∙ ap (λ x. old ++ x) e.2 }
+
+  pub adding_fails : {tokens rest : List Token} {old new : List X} {e : Failure} → Adding text r view tokens rest old new → FailsWithin text r rest e → Fails text (Many r) tokens e
+  adding_fails l f = record { stops = λ n h. loop_fails l.loop (f.starts n h) (f.fails.stops n h) }
+
+-- what a clause says of an answer with a value, and of one without
+pub some_of : {A : Type 0} (P : A → Type 0) (o : Option A) (x : A) → o ≡ Some x → IfSome o P → P x
+some_of P (Some y) x e p = let same : y ≡ x = cc in subst P same p
+some_of P None x e p = cc
+
+pub none_of : {A : Type 0} {P : Type 0} (o : Option A) → o ≡ None → IfNone o P → P
+none_of (Some y) e p = cc
+none_of None e p = p
+
+-- where the list ends, its last call has added nothing
+pub adding_stops : {X : Type 0} {text : List ℕ} {r : Rule Terminal} {view : Parse Word → List X} {tokens rest : List Token} {old mid new : List X} → Adding text r view tokens rest old mid → Ends text r rest mid new → Adds text (Many r) (list_of view) tokens rest old new
+adding_stops {text} {r} {view} {tokens} {rest} {old} l e = subst (λ x. Adds text (Many r) (list_of view) tokens rest old x) (sym e.is) (adding_ends l e.starts)

@@ -2,10 +2,12 @@ pub mod Rule
 pub mod Machine
 pub mod Clear
 pub mod Decide
+pub mod Leaves
 pub mod Takes
 pub mod Loop
 pub mod Words
 pub mod Grammar
+pub mod Parts
 pub mod Tree
 pub mod Steps
 pub mod Reading

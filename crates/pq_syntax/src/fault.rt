@@ -10,6 +10,8 @@ pub enum Code {
     Lexical(pq_lex::Code),
     /// The text does not begin by `syntax`, or its version is a string of another value.
     OnlyProto3,
+    /// No sentence of the grammar goes on with this token, but one would if messages and brackets could stand deeper than 64.
+    TooDeep,
     /// No sentence of the grammar goes on with this token.
     UnexpectedToken,
     /// The text ends before a sentence is whole.

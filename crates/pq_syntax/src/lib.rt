@@ -8,13 +8,16 @@ mod failure;
 mod fault;
 mod laws;
 mod parser;
+mod parts;
 mod terminal;
-#[cfg(test)]
-mod tests;
 mod tree;
 
 pub use answer::parse;
 pub use fault::{Code, Parsed};
 pub use laws::{one_fault, one_tree};
+pub use parts::{
+    Constant, ConstantKind, Items, MethodType, Name, NamePart, Number, Range, RangeEnd, Setting,
+    Strings, Text,
+};
 pub use std::alloc::AllocError as Memory;
-pub use tree::{File, Name, Node, Number, Statement, Text};
+pub use tree::{File, ImportKind, Label, Node, Statement};

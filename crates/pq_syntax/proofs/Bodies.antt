@@ -1,0 +1,51 @@
+-- A statement with a body: its node stands before those of its body, and is given its span at last.
+use Rattle.std.proofs.Common.{◌≡◌, ℕ, List, [], ◌∷◌, ◌++◌, length, refl, sym, ap, ◌∙◌, append_assoc}
+use Rattle.pq_lex.specs.declared.token.Span.{Span}
+use Rattle.pq_lex.specs.declared.token.Token.{Token}
+use Rattle.pq_syntax.specs.Rule.{Rule, Parse}
+use Rattle.pq_syntax.specs.Rule.Rule.{One, Then, Many}
+use Rattle.pq_syntax.specs.Rule.Parse.{Leaf, Pair}
+use Rattle.pq_syntax.specs.Grammar.{head, bodied}
+use Rattle.pq_syntax.specs.Leaves.{leaves}
+use Rattle.pq_syntax.specs.Loop.{list_of}
+use Rattle.pq_syntax.specs.Parts.{head_name, span_across}
+use Rattle.pq_syntax.specs.Steps.{TakesToken, Reads, Adds}
+use Rattle.pq_syntax.specs.Tree.{body_nodes, spanning}
+use Rattle.pq_syntax.specs.Words.{Word, word, words}
+use Rattle.pq_syntax.specs.declared.parts.Name.{Name}
+use Rattle.pq_syntax.specs.declared.terminal.Terminal.{Terminal}
+use Rattle.pq_syntax.specs.declared.terminal.Terminal.TheVariants.{CloseBrace}
+use Rattle.pq_syntax.specs.declared.tree.Node.{Node}
+use Rattle.pq_syntax.specs.declared.tree.Statement.{Statement}
+use Rattle.pq_syntax.proofs.Rules.{takes_then}
+
+-- the node that is pushed, whose span is that of the words in front of what is left
+abbrev pub Pushed : List ℕ → ℕ → List Token → List Token → Statement → List Node → List Node → Type 0
+Pushed text depth tokens rest statement old new = (t : List ℕ) (ws : List Word) → words t tokens ≡ ws ++ words t rest → new ≡ old ++ record { depth = depth; span = span_across ws; statement = statement } ∷ []
+
+-- the node behind so many is given this span
+abbrev pub Spanned : ℕ → Span → List Node → List Node → Type 0
+Spanned index span old new = (before after : List Node) (n : Node) → old ≡ before ++ n ∷ after → length before ≡ index → new ≡ before ++ spanning n span ∷ after
+
+-- the span is that of the words in front of what is left
+abbrev pub Across : List Token → List Token → Span → Type 0
+Across tokens rest span = (t : List ℕ) (ws : List Word) → words t tokens ≡ ws ++ words t rest → span ≡ span_across ws
+
+-- a node that stands in front of others, with its span at last
+pub spanned : (text : List ℕ) (tokens opened left : List Token) (depth : ℕ) (old pushed mid new more : List Node) (span : Span) (p q : Parse Word) (index : ℕ) (s : Statement) → words text tokens ≡ leaves p ++ words text opened → Pushed text depth tokens opened s old pushed → mid ≡ pushed ++ more → words text tokens ≡ leaves q ++ words text left → Across tokens left span → index ≡ length old → Spanned index span mid new → new ≡ old ++ record { depth = depth; span = span_across (leaves q); statement = s } ∷ more
+spanned text tokens opened left depth old pushed mid new more span p q index s r push m e across i set =
+    let first : Node = record { depth = depth; span = span_across (leaves p); statement = s } in
+    let there : mid ≡ old ++ first ∷ more = m ∙ ap (λ x. x ++ more) (push text (leaves p) r) ∙ append_assoc old (first ∷ []) more in
+    set old more first there (sym i) ∙ ap (λ (x : Span). old ++ record { depth = depth; span = x; statement = s } ∷ more) (across text (leaves q) e)
+
+-- a statement with a body: what is cited in this order is its head, the index of its node, the node pushed, the body, the closing
+-- brace, the span and the node given it
+pub body_adds : {text : List ℕ} {tokens opened rest left : List Token} {old pushed mid new : List Node} {keyword : Terminal} {item : Rule Terminal} {name : Name} {t : Token} (depth : ℕ) (view : Parse Word → List Node) (statement : Name → Statement) (index : ℕ) (span : Span) → Reads text (head keyword) head_name tokens opened name → index ≡ length old → Pushed text depth tokens opened (statement name) old pushed → Adds text (Many item) (list_of view) opened rest pushed mid → TakesToken text CloseBrace rest left t → Across tokens left span → Spanned index span mid new → Adds text (bodied keyword item) (body_nodes depth statement view) tokens left old new
+body_adds {text} {tokens} {opened} {rest} {left} {old} {pushed} {mid} {new} {name = name} {t = t} depth view statement index span h i push body close across set =
+    let all = takes_then h.takes (takes_then body.takes close.takes) in
+    let whole : Parse Word = Pair h.parse (Pair body.parse (Leaf (word text t))) in
+    record {
+      parse = whole;
+      takes = all;
+      is = spanned text tokens opened left depth old pushed mid new (list_of view body.parse) span h.parse whole index (statement name) h.takes.read push body.is all.read across i set ∙ ap (λ n. old ++ record { depth = depth; span = span_across (leaves whole); statement = statement n } ∷ list_of view body.parse) h.is;
+    }

@@ -1,0 +1,93 @@
+-- Statements of messages: an extend block, and whether a message or another statement begins.
+use Rattle.std.proofs.Common.{◌≡◌, ℕ, zero, suc, ◌+◌, true, false, List, [], ◌∷◌, ◌++◌, Bor, Result, Ok, Err, sym, ap, ◌∙◌, subst, add-one}
+use Rattle.std.specs.Prelude.{Option, Some, None, IfOk, IfErr, IfSome, IfNone}
+use Rattle.pq_lex.specs.declared.token.Token.{Token}
+use Rattle.pq_syntax.specs.Rule.{Rule, Parse}
+use Rattle.pq_syntax.specs.Rule.Rule.{One}
+use Rattle.pq_syntax.specs.Rule.Parse.{Leaf, Pair}
+use Rattle.pq_syntax.specs.Grammar.{type', block, extend, statement, item, message}
+use Rattle.pq_syntax.specs.Leaves.{leaves}
+use Rattle.pq_syntax.specs.Loop.{list_of}
+use Rattle.pq_syntax.specs.Parts.{name_of, span_across}
+use Rattle.pq_syntax.specs.Steps.{TakesToken, Passes, Reads, Adds, Begins, Ends, Fails, FailsWithin}
+use Rattle.pq_syntax.specs.Takes.{starts_at}
+use Rattle.pq_syntax.specs.Tree.{extend_nodes, statement_nodes, item_nodes, message_nodes}
+use Rattle.pq_syntax.specs.Words.{Word, word, words, accepts}
+use Rattle.pq_syntax.specs.declared.failure.Failure.{Failure}
+use Rattle.pq_syntax.specs.declared.parts.Name.{Name}
+use Rattle.pq_syntax.specs.declared.terminal.Terminal.{Terminal}
+use Rattle.pq_syntax.specs.declared.terminal.Terminal.TheVariants.{ExtendWord, MessageWord}
+use Rattle.pq_syntax.specs.declared.tree.Node.{Node}
+use Rattle.pq_syntax.specs.declared.tree.Statement.TheVariants.{Extend}
+use Rattle.pq_syntax.proofs.Bodies.{Pushed}
+use Rattle.pq_syntax.proofs.Choices.{begins_phrase, past_phrase, within_phrase, fails_past_phrase, ends_past_phrase}
+use Rattle.pq_syntax.proofs.Rules.{takes_then}
+
+-- an extend block: what is cited in this order is its keyword, its type, its block and the node pushed
+pub extend_adds : {text : List ℕ} {tokens kind body left : List Token} {old new : List Node} {t : Token} {name : Name} (depth n : ℕ) → TakesToken text ExtendWord tokens kind t → Reads text type' name_of kind body name → Passes text (block n) body left → Pushed text depth tokens left (Extend name) old new → Adds text (extend n) (extend_nodes depth) tokens left old new
+extend_adds {text} {old = old} {t = t} depth n keyword type_name block' push =
+    let all = takes_then keyword.takes (takes_then type_name.takes block'.takes) in
+    let whole : Parse Word = Pair (Leaf (word text t)) (Pair type_name.parse block'.parse) in
+    record {
+      parse = whole;
+      takes = all;
+      is = push text (leaves whole) all.read ∙ ap (λ (x : Name). old ++ record { depth = depth; span = span_across (leaves whole); statement = Extend x } ∷ []) type_name.is;
+    }
+
+-- at these tokens no message begins: what is said of a statement is so of an item
+pub record IsOther (text : List ℕ) (n levels : ℕ) (tokens : List Token) : Type 0 where
+  pub begins : (depth : ℕ) (left : List Token) (old new : List Node) → Begins text (statement n) (statement_nodes depth) tokens left old new → Begins text (item n levels) (item_nodes levels depth) tokens left old new
+  pub ends : (old new : List Node) → Ends text (statement n) tokens old new → Ends text (item n levels) tokens old new
+  pub within : (e : Failure) → FailsWithin text (statement n) tokens e → FailsWithin text (item n levels) tokens e
+
+module _ (text : List ℕ) (n : ℕ) (tokens : List Token) where
+  other_at_zero : IsOther text n zero tokens
+  unfolding item item_nodes
+  other_at_zero = record { begins = λ depth left old new b. b; ends = λ old new e. e; within = λ e f. f }
+
+  other_at_more : (less : ℕ) → starts_at accepts (One MessageWord) (words text tokens) ≡ false → IsOther text n (suc less) tokens
+  unfolding item item_nodes
+  other_at_more less h = record { begins = λ depth left old new b. past_phrase h b; ends = λ old new e. ends_past_phrase h e; within = λ e f. fails_past_phrase h f }
+
+  message_begins : (less depth : ℕ) (left : List Token) (old new : List Node) → starts_at accepts (One MessageWord) (words text tokens) ≡ true → Adds text (message n less) (message_nodes less depth) tokens left old new → Begins text (item n (suc less)) (item_nodes (suc less) depth) tokens left old new
+  unfolding item item_nodes
+  message_begins less depth left old new h a = begins_phrase h a
+
+  message_within : (less : ℕ) (e : Failure) → starts_at accepts (One MessageWord) (words text tokens) ≡ true → Fails text (message n less) tokens e → FailsWithin text (item n (suc less)) tokens e
+  unfolding item
+  message_within less e h f = within_phrase h f
+
+  -- the same at any number of levels
+  module _ (levels : ℕ) where
+    pub other_lowest : levels ≡ zero → IsOther text n levels tokens
+    other_lowest lowest = subst (λ k. IsOther text n k tokens) (sym lowest) other_at_zero
+
+    module _ {less : ℕ} (one_more : levels ≡ suc less) where
+      pub other_deeper : starts_at accepts (One MessageWord) (words text tokens) ≡ false → IsOther text n levels tokens
+      other_deeper h = subst (λ k. IsOther text n k tokens) (sym one_more) (other_at_more less h)
+
+      pub begins_message : {depth : ℕ} {left : List Token} {old new : List Node} → starts_at accepts (One MessageWord) (words text tokens) ≡ true → Adds text (message n less) (message_nodes less depth) tokens left old new → Begins text (item n levels) (item_nodes levels depth) tokens left old new
+      begins_message {depth} {left} {old} {new} h a = subst (λ k. Begins text (item n k) (item_nodes k depth) tokens left old new) (sym one_more) (message_begins less depth left old new h a)
+
+      pub within_message : {e : Failure} → starts_at accepts (One MessageWord) (words text tokens) ≡ true → Fails text (message n less) tokens e → FailsWithin text (item n levels) tokens e
+      within_message {e} h f = subst (λ k. FailsWithin text (item n k) tokens e) (sym one_more) (message_within less e h f)
+
+-- what is said of the answer of a statement's function, as said of an item's
+module _ {text : List ℕ} {n levels : ℕ} {tokens : List Token} (other : IsOther text n levels tokens) where
+  pub other_taken : (depth : ℕ) (old new : List Node) (r : Result (Option (Bor (List Token))) Failure) → IfOk r (λ found. IfSome found (λ rest. Begins text (statement n) (statement_nodes depth) tokens rest.now old new)) → IfOk r (λ found. IfSome found (λ rest. Begins text (item n levels) (item_nodes levels depth) tokens rest.now old new))
+  other_taken depth old new (Ok (Some rest)) h = other.begins depth rest.now old new h
+  other_taken depth old new (Ok None) h = h
+  other_taken depth old new (Err e) h = h
+
+  pub other_none : (old new : List Node) (r : Result (Option (Bor (List Token))) Failure) → IfOk r (λ found. IfNone found (Ends text (statement n) tokens old new)) → IfOk r (λ found. IfNone found (Ends text (item n levels) tokens old new))
+  other_none old new (Ok (Some rest)) h = h
+  other_none old new (Ok None) h = other.ends old new h
+  other_none old new (Err e) h = h
+
+  pub other_fault : (r : Result (Option (Bor (List Token))) Failure) → IfErr r (λ e. FailsWithin text (statement n) tokens e) → IfErr r (λ e. FailsWithin text (item n levels) tokens e)
+  other_fault (Ok found) h = h
+  other_fault (Err e) h = other.within e h
+
+-- what stands in a message stands one statement deeper
+pub items_deeper : {text : List ℕ} {r : Rule Terminal} {tokens left : List Token} {old new : List Node} (levels depth : ℕ) → Adds text r (list_of (item_nodes levels (depth + 1))) tokens left old new → Adds text r (list_of (item_nodes levels (suc depth))) tokens left old new
+items_deeper {text} {r} {tokens} {left} {old} {new} levels depth a = subst (λ d. Adds text r (list_of (item_nodes levels d)) tokens left old new) (add-one depth) a

@@ -1,0 +1,85 @@
+-- The types of a method, what ends it, and its node.
+use Rattle.std.proofs.Common.{◌≡◌, ℕ, ◌+◌, ◌<◌, suc, subst, add-one, List, [], ◌∷◌, ◌++◌, length, true, false, refl, sym, ap, ◌∙◌, arith}
+use Rattle.std.proofs.lemmas.List.{append-nil, length-append}
+use Rattle.pq_lex.specs.declared.token.Span.{Span}
+use Rattle.pq_lex.specs.declared.token.Token.{Token}
+use Rattle.pq_syntax.specs.Rule.{Rule, Parse}
+use Rattle.pq_syntax.specs.Rule.Rule.{One, Then, Many}
+use Rattle.pq_syntax.specs.Rule.Parse.{Leaf, Pair, Left, Right}
+use Rattle.pq_syntax.specs.Grammar.{type', type_from, streamed, in_parentheses, method, method_end, method_item}
+use Rattle.pq_syntax.specs.Leaves.{leaves}
+use Rattle.pq_syntax.specs.Loop.{list_of}
+use Rattle.pq_syntax.specs.Parts.{name_of, method_type_of, enclosed_type_of, span_across}
+use Rattle.pq_syntax.specs.Steps.{TakesToken, Reads, Adds}
+use Rattle.pq_syntax.specs.Takes.{Takes, starts_at}
+use Rattle.pq_syntax.specs.Tree.{method_nodes, method_end_nodes, method_item_nodes}
+use Rattle.pq_syntax.specs.Words.{Word, word, words, accepts}
+use Rattle.pq_syntax.specs.declared.parts.MethodType.{MethodType}
+use Rattle.pq_syntax.specs.declared.parts.Name.{Name}
+use Rattle.pq_syntax.specs.declared.terminal.Terminal.{Terminal}
+use Rattle.pq_syntax.specs.declared.terminal.Terminal.TheVariants.{StreamWord, MethodTypeName, MethodWord, AnyName, ReturnsWord, OpenBrace, CloseBrace, Semicolon}
+use Rattle.pq_syntax.specs.declared.tree.Node.{Node}
+use Rattle.pq_syntax.specs.declared.tree.Statement.{Statement}
+use Rattle.pq_syntax.specs.declared.tree.Statement.TheVariants.{Method}
+use Rattle.pq_syntax.proofs.Bodies.{Pushed, Spanned, Across, spanned}
+use Rattle.pq_syntax.proofs.Choices.{starts_word}
+use Rattle.pq_syntax.proofs.Rules.{takes_then, takes_left, takes_right}
+
+-- a type behind the keyword
+pub reads_stream : {text : List ℕ} {tokens rest left : List Token} {t : Token} {name : Name} → starts_at accepts (One StreamWord) (words text tokens) ≡ true → TakesToken text StreamWord tokens rest t → Reads text type' name_of rest left name → Reads text streamed method_type_of tokens left (record { is_stream = true; type_name = name })
+reads_stream {text} {tokens} h s r = record {
+  parse = Left (Pair (Leaf (word text _)) r.parse);
+  takes = takes_left (starts_word text StreamWord type' tokens true h) (takes_then s.takes r.takes);
+  is = ap (λ (n : Name). record { is_stream = true; type_name = n }) r.is;
+}
+
+-- and one without it
+pub reads_plain : {text : List ℕ} {tokens left : List Token} {name : Name} → starts_at accepts (One StreamWord) (words text tokens) ≡ false → Reads text (type_from MethodTypeName) name_of tokens left name → Reads text streamed method_type_of tokens left (record { is_stream = false; type_name = name })
+reads_plain {text} {tokens} h r = record {
+  parse = Right r.parse;
+  takes = takes_right (starts_word text StreamWord type' tokens false h) refl r.takes;
+  is = ap (λ (n : Name). record { is_stream = false; type_name = n }) r.is;
+}
+
+-- a method ends by its statements in braces
+pub ends_braced : {text : List ℕ} {tokens opened rest left : List Token} {old new : List Node} {s t : Token} (brackets depth : ℕ) → starts_at accepts (One OpenBrace) (words text tokens) ≡ true → TakesToken text OpenBrace tokens opened s → Adds text (Many (method_item brackets)) (list_of (method_item_nodes depth)) opened rest old new → TakesToken text CloseBrace rest left t → Adds text (method_end brackets) (method_end_nodes depth) tokens left old new
+ends_braced {text} {tokens} brackets depth h open' body close' = record {
+  parse = Left (Pair (Leaf (word text _)) (Pair body.parse (Leaf (word text _))));
+  takes = takes_left (starts_word text OpenBrace (Then (Many (method_item brackets)) (One CloseBrace)) tokens true h) (takes_then open'.takes (takes_then body.takes close'.takes));
+  is = body.is;
+}
+
+-- or by a semicolon
+pub ends_plain : {text : List ℕ} {tokens left : List Token} {old : List Node} {t : Token} (brackets depth : ℕ) → starts_at accepts (One OpenBrace) (words text tokens) ≡ false → TakesToken text Semicolon tokens left t → Adds text (method_end brackets) (method_end_nodes depth) tokens left old old
+ends_plain {text} {tokens} {old = old} brackets depth h s = record {
+  parse = Right (Leaf (word text _));
+  takes = takes_right (starts_word text OpenBrace (Then (Many (method_item brackets)) (One CloseBrace)) tokens false h) refl s.takes;
+  is = sym (append-nil old);
+}
+
+-- what stands one deeper, counted as the code counts it
+pub one_deeper : {text : List ℕ} {r : Rule Terminal} {tokens left : List Token} {old new : List Node} (view : ℕ → Parse Word → List Node) (depth : ℕ) → Adds text r (view (depth + 1)) tokens left old new → Adds text r (view (suc depth)) tokens left old new
+one_deeper {text} {r} {tokens} {left} {old} {new} view depth a = subst (λ n. Adds text r (view n) tokens left old new) (add-one depth) a
+
+-- the node that is pushed stands among those that its body adds to
+pub index_within : {text : List ℕ} {opened left : List Token} {front body : Rule Terminal} {view : Parse Word → List Node} {p : Parse Word} {pushed new : List Node} {index : ℕ} (tokens : List Token) (old : List Node) (depth : ℕ) (s : Statement) → Takes accepts front (words text tokens) (words text opened) p → index ≡ length old → Pushed text depth tokens opened s old pushed → Adds text body view opened left pushed new → index < length new
+index_within {text} {view = view} {p = p} tokens old depth s front i push body =
+    let first : Node = record { depth = depth; span = span_across (leaves p); statement = s } in
+    let outer = length-append (old ++ first ∷ []) (view body.parse) in
+    let inner = length-append old (first ∷ []) in
+    rw (i, body.is, push text (leaves p) front.read) (omega (arith, outer, inner))
+
+-- a method: what is cited in this order is its name and its two types with the words in front of them, the index of its node, the
+-- node pushed, what ends it, the span and the node given it
+pub method_adds : {text : List ℕ} {tokens named typed returned answered opened left : List Token} {old pushed mid new : List Node} {name : Name} {input output : MethodType} {s t : Token} (brackets depth index : ℕ) (span : Span) → TakesToken text MethodWord tokens named s → Reads text (One AnyName) name_of named typed name → Reads text in_parentheses enclosed_type_of typed returned input → TakesToken text ReturnsWord returned answered t → Reads text in_parentheses enclosed_type_of answered opened output → index ≡ length old → Pushed text depth tokens opened (Method name input output) old pushed → Adds text (method_end brackets) (method_end_nodes (suc depth)) opened left pushed mid → Across tokens left span → Spanned index span mid new → Adds text (method brackets) (method_nodes depth) tokens left old new
+method_adds {text} {tokens} {named} {typed} {returned} {answered} {opened} {left} {old} {pushed} {mid} {new} {name} {input} {output} {s} {t} brackets depth index span k n a r b i push end across set =
+    let front = takes_then k.takes (takes_then n.takes (takes_then a.takes (takes_then r.takes b.takes))) in
+    let all = takes_then k.takes (takes_then n.takes (takes_then a.takes (takes_then r.takes (takes_then b.takes end.takes)))) in
+    let first : Parse Word = Pair (Leaf (word text s)) (Pair n.parse (Pair a.parse (Pair (Leaf (word text t)) b.parse))) in
+    let whole : Parse Word = Pair (Leaf (word text s)) (Pair n.parse (Pair a.parse (Pair (Leaf (word text t)) (Pair b.parse end.parse)))) in
+    let node : Name → MethodType → MethodType → List Node = λ x y z. old ++ record { depth = depth; span = span_across (leaves whole); statement = Method x y z } ∷ method_end_nodes (suc depth) end.parse in
+    record {
+      parse = whole;
+      takes = all;
+      is = spanned text tokens opened left depth old pushed mid new (method_end_nodes (suc depth) end.parse) span first whole index (Method name input output) front.read push end.is all.read across i set ∙ ap (λ x. node x input output) n.is ∙ ap (λ y. node (name_of n.parse) y output) a.is ∙ ap (λ z. node (name_of n.parse) (enclosed_type_of a.parse) z) b.is;
+    }

@@ -1,0 +1,27 @@
+use Rattle.std.proofs.Common.{arith}
+use Rattle.std.proofs.lemmas.Result.{err_from_is_err_and}
+use Rattle.pq_syntax.proofs.Steps.{adding_begins, adding_fails, adding_goes, adding_stops, none_of, some_of}
+use Rattle.pq_syntax.proofs.parser.files.parse_file_items.Goals as goal
+
+pub loop-after-init : goal.loop-after-init
+loop-after-init c = record { goes = adding_begins _ _; within = omega arith }
+
+pub returns-in_err-after-clause-fault : goal.returns-in_err-after-clause-fault
+returns-in_err-after-clause-fault c =
+    let p = err_from_is_err_and c.from_residual.result c.from_residual.ensures.1 in
+    rw (p.1, p.2) (adding_fails c.loop-after.invariant.goes c.in_err-after.ensures.fault)
+
+pub loop-after-smaller : goal.loop-after-smaller
+loop-after-smaller c = some_of _ _ _ c.in-Some.is c.in_ok-after.ensures.shorter
+
+pub loop-after-preserved : goal.loop-after-preserved
+loop-after-preserved c = record {
+  goes = adding_goes c.loop-after.invariant.goes (some_of _ _ _ c.in-Some.is c.in_ok-after.ensures.taken);
+  within = let s = some_of _ _ _ c.in-Some.is c.in_ok-after.ensures.shorter in omega (arith, c.loop-after.invariant.within, s);
+}
+
+pub returns-in-None-clause-taken : goal.returns-in-None-clause-taken
+returns-in-None-clause-taken c = adding_stops c.loop-after.invariant.goes (none_of _ c.in-None.is c.in_ok-after.ensures.none)
+
+pub returns-in-None-clause-within : goal.returns-in-None-clause-within
+returns-in-None-clause-within c = c.loop-after.invariant.within
