@@ -19,6 +19,20 @@ fn meaning(code: &str) -> (&'static str, u32) {
     }
 }
 
+/// Whether a diagnostic request for a text answers these items.
+fn answers(alloc: Global, text: &str, items: &str) -> Result<bool, Memory> {
+    let reply = format!(in alloc;
+        r#"{{"id":1,"jsonrpc":"2.0","result":{{"items":[{items}],"kind":"full","resultId":"1"}}}}"#
+    )?;
+    let text = open(alloc, text)?;
+    let (output, result) = run(
+        alloc,
+        &frames(alloc, &[INITIALIZE, text.as_str(), DIAGNOSTIC])?,
+    );
+    let all = frames(alloc, &[INITIALIZED, reply.as_str()])?;
+    Ok(result == Ok(1) && output.as_slice() == all.as_slice())
+}
+
 /// Whether a diagnostic request for a text answers these findings, in this order.
 fn tells(alloc: Global, text: &str, wanted: &[(&str, u32, u32)]) -> Result<bool, Memory> {
     let mut items = String::new(alloc);
@@ -32,16 +46,7 @@ fn tells(alloc: Global, text: &str, wanted: &[(&str, u32, u32)]) -> Result<bool,
             r#"{{"code":"{code}","message":"{message}","range":{{"end":{{"character":{end},"line":0}},"start":{{"character":{start},"line":0}}}},"severity":{severity},"source":"proto"}}"#
         )?;
     }
-    let reply = format!(in alloc;
-        r#"{{"id":1,"jsonrpc":"2.0","result":{{"items":[{items}],"kind":"full","resultId":"1"}}}}"#
-    )?;
-    let text = open(alloc, text)?;
-    let (output, result) = run(
-        alloc,
-        &frames(alloc, &[INITIALIZE, text.as_str(), DIAGNOSTIC])?,
-    );
-    let all = frames(alloc, &[INITIALIZED, reply.as_str()])?;
-    Ok(result == Ok(1) && output.as_slice() == all.as_slice())
+    answers(alloc, text, items.as_str())
 }
 
 /// The same of a text behind the statement of its syntax, which is 19 characters long.
@@ -71,6 +76,16 @@ fn the_numbers_of_fields(rt: HostRuntime) -> Result<(), Fail> {
     let map = "message M { map<int32, string> m = 0; }";
     assert!(rt; finds(alloc, map, &[("P120", 54, 55)])?);
     assert!(rt; finds(alloc, "enum E { A = 0; }", &[])?);
+    Ok(())
+}
+
+#[test]
+fn the_numbers_of_fields_at_their_columns(rt: HostRuntime) -> Result<(), Fail> {
+    let text =
+        r#"syntax = \"proto3\";\nmessage M {\nint32 a=0;\nint32 b=1;\nint32 c=18999;\nint32 d=19000;\nint32 e=19999;\nint32 f=20000;\nint32 g=536870911;\nint32 h=536870912;\n}"#;
+    let items =
+        r#"{"code":"P120","message":"field number must be from 1 to 536870911","range":{"end":{"character":9,"line":2},"start":{"character":8,"line":2}},"severity":1,"source":"proto"},{"code":"P121","message":"field numbers 19000 to 19999 are reserved","range":{"end":{"character":13,"line":5},"start":{"character":8,"line":5}},"severity":1,"source":"proto"},{"code":"P121","message":"field numbers 19000 to 19999 are reserved","range":{"end":{"character":13,"line":6},"start":{"character":8,"line":6}},"severity":1,"source":"proto"},{"code":"P120","message":"field number must be from 1 to 536870911","range":{"end":{"character":17,"line":9},"start":{"character":8,"line":9}},"severity":1,"source":"proto"}"#;
+    assert!(rt; answers(rt.alloc(), text, items)?);
     Ok(())
 }
 
@@ -117,6 +132,24 @@ fn nesting_past_the_limit(rt: HostRuntime) -> Result<(), Fail> {
     assert!(rt; finds(alloc, messages(alloc, 64)?.as_str(), &[])?);
     // The 65th keyword stands behind the syntax and 64 times 12 characters.
     assert!(rt; finds(alloc, messages(alloc, 65)?.as_str(), &[("P011", 787, 794)])?);
+    Ok(())
+}
+
+/// An option whose value is so many braces within one another.
+fn braces(alloc: Global, depth: usize) -> Result<String, Memory> {
+    let mut text = String::from_str(alloc, "option x = ")?;
+    text.push_str("{".repeat(alloc, depth)?.as_str())?;
+    text.push_str("}".repeat(alloc, depth)?.as_str())?;
+    text.push_str(";")?;
+    Ok(text)
+}
+
+#[test]
+fn brackets_past_the_limit(rt: HostRuntime) -> Result<(), Fail> {
+    let alloc = rt.alloc();
+    // The first brace stands behind the syntax and 11 characters.
+    assert!(rt; finds(alloc, braces(alloc, 64)?.as_str(), &[("P020", 30, 158)])?);
+    assert!(rt; finds(alloc, braces(alloc, 65)?.as_str(), &[("P011", 94, 95)])?);
     Ok(())
 }
 

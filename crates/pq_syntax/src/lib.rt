@@ -21,3 +21,6 @@ pub use parts::{
 };
 pub use std::alloc::AllocError as Memory;
 pub use tree::{File, ImportKind, Label, Node, Statement};
+
+#[cfg(test)]
+mod tests;
