@@ -13,7 +13,7 @@ at_identifier Float h = cc
 at_identifier Text h = cc
 at_identifier Symbol h = cc
 
-pub at_integer : (k : Kind) → is_integer k ≡ true → k ≡ Integer
+at_integer : (k : Kind) → is_integer k ≡ true → k ≡ Integer
 at_integer Identifier h = cc
 at_integer Integer h = refl
 at_integer Float h = cc

@@ -1,17 +1,18 @@
 -- A statement with a body: its node stands before those of its body, and is given its span at last.
-use Rattle.std.proofs.Common.{◌≡◌, ℕ, List, [], ◌∷◌, ◌++◌, length, refl, sym, ap, ◌∙◌, append_assoc}
+use Rattle.std.proofs.Common.{◌≡◌, ℕ, suc, ◌+◌, ◌<◌, List, [], ◌∷◌, ◌++◌, length, sym, ap, ◌∙◌, subst, add-one, arith, length-append, append_assoc}
 use Rattle.pq_lex.specs.declared.token.Span.{Span}
 use Rattle.pq_lex.specs.declared.token.Token.{Token}
 use Rattle.pq_syntax.specs.Rule.{Rule, Parse}
-use Rattle.pq_syntax.specs.Rule.Rule.{One, Then, Many}
+use Rattle.pq_syntax.specs.Rule.Rule.{Many}
 use Rattle.pq_syntax.specs.Rule.Parse.{Leaf, Pair}
 use Rattle.pq_syntax.specs.Grammar.{head, bodied}
 use Rattle.pq_syntax.specs.Leaves.{leaves}
 use Rattle.pq_syntax.specs.Loop.{list_of}
 use Rattle.pq_syntax.specs.Parts.{head_name, span_across}
 use Rattle.pq_syntax.specs.Steps.{TakesToken, Reads, Adds}
+use Rattle.pq_syntax.specs.Takes.{Takes}
 use Rattle.pq_syntax.specs.Tree.{body_nodes, spanning}
-use Rattle.pq_syntax.specs.Words.{Word, word, words}
+use Rattle.pq_syntax.specs.Words.{Word, word, words, accepts}
 use Rattle.pq_syntax.specs.declared.parts.Name.{Name}
 use Rattle.pq_syntax.specs.declared.terminal.Terminal.{Terminal}
 use Rattle.pq_syntax.specs.declared.terminal.Terminal.TheVariants.{CloseBrace}
@@ -49,3 +50,15 @@ body_adds {text} {tokens} {opened} {rest} {left} {old} {pushed} {mid} {new} {nam
       takes = all;
       is = spanned text tokens opened left depth old pushed mid new (list_of view body.parse) span h.parse whole index (statement name) h.takes.read push body.is all.read across i set ∙ ap (λ n. old ++ record { depth = depth; span = span_across (leaves whole); statement = statement n } ∷ list_of view body.parse) h.is;
     }
+
+-- what stands in a body stands one deeper, counted as the code counts it
+pub one_deeper : {text : List ℕ} {r : Rule Terminal} {tokens left : List Token} {old new : List Node} (view : ℕ → Parse Word → List Node) (depth : ℕ) → Adds text r (view (depth + 1)) tokens left old new → Adds text r (view (suc depth)) tokens left old new
+one_deeper {text} {r} {tokens} {left} {old} {new} view depth a = subst (λ n. Adds text r (view n) tokens left old new) (add-one depth) a
+
+-- the node that is pushed stands among those that its body adds to
+pub index_within : {text : List ℕ} {opened left : List Token} {front body : Rule Terminal} {view : Parse Word → List Node} {p : Parse Word} {pushed new : List Node} {index : ℕ} (tokens : List Token) (old : List Node) (depth : ℕ) (s : Statement) → Takes accepts front (words text tokens) (words text opened) p → index ≡ length old → Pushed text depth tokens opened s old pushed → Adds text body view opened left pushed new → index < length new
+index_within {text} {view = view} {p = p} tokens old depth s front i push body =
+    let first : Node = record { depth = depth; span = span_across (leaves p); statement = s } in
+    let outer = length-append (old ++ first ∷ []) (view body.parse) in
+    let inner = length-append old (first ∷ []) in
+    rw (i, body.is, push text (leaves p) front.read) (omega (arith, outer, inner))

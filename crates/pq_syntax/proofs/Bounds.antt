@@ -18,7 +18,7 @@ use Rattle.pq_syntax.specs.declared.parts.RangeEnd.{RangeEnd}
 use Rattle.pq_syntax.specs.declared.parts.RangeEnd.TheVariants.{Alone, To, Max}
 use Rattle.pq_syntax.specs.declared.terminal.Terminal.TheVariants.{Comma, Minus, WholeNumber, ToWord, MaxWord}
 use Rattle.pq_syntax.proofs.Bodies.{Across}
-use Rattle.pq_syntax.proofs.Choices.{starts_word}
+use Rattle.pq_syntax.proofs.Choices.{by_word, chooses_first, chosen_fails, starts_word}
 use Rattle.pq_syntax.proofs.Rules.{takes_then, takes_left, takes_right, takes_none, takes_empty, starts_then}
 use Rattle.pq_syntax.proofs.Steps.{fails_first, fails_then, fails_token, fails_left, fails_right}
 
@@ -140,17 +140,17 @@ module _ {text : List ℕ} {tokens rest : List Token} {s : Token} (signs : Bool)
   }
 
   pub end_fails_at_bound : {e : Failure} → starts_at accepts (One ToWord) (words text tokens) ≡ true → TakesToken text ToWord tokens rest s → starts_at accepts (ranges signs) (words text rest) ≡ true → Fails text (bound signs) rest e → Fails text (range_end signs) tokens e
-  end_fails_at_bound h to b f = fails_left (starts_word text ToWord (Or (bound signs) (One MaxWord)) tokens true h) (fails_token to (fails_left (sym (ranges_start text signs rest) ∙ b) f))
+  end_fails_at_bound h to b f = chosen_fails (chooses_first by_word h) (fails_token to (fails_left (sym (ranges_start text signs rest) ∙ b) f))
 
   pub end_fails_at_max : {e : Failure} → starts_at accepts (One ToWord) (words text tokens) ≡ true → TakesToken text ToWord tokens rest s → starts_at accepts (ranges signs) (words text rest) ≡ false → Fails text (One MaxWord) rest e → Fails text (range_end signs) tokens e
-  end_fails_at_max h to b f = fails_left (starts_word text ToWord (Or (bound signs) (One MaxWord)) tokens true h) (fails_token to (fails_right (sym (ranges_start text signs rest) ∙ b) (bound_skips_not signs) f))
+  end_fails_at_max h to b f = chosen_fails (chooses_first by_word h) (fails_token to (fails_right (sym (ranges_start text signs rest) ∙ b) (bound_skips_not signs) f))
 
 -- a range that is a number alone
 pub ends_alone : (text : List ℕ) (signs : Bool) (tokens : List Token) → starts_at accepts (One ToWord) (words text tokens) ≡ false → Reads text (range_end signs) end_of_range tokens tokens Alone
 ends_alone text signs tokens h = record { parse = Right Nil; takes = takes_none (starts_word text ToWord (Or (bound signs) (One MaxWord)) tokens false h) refl; is = refl }
 
 pub end_fails_at_to : (text : List ℕ) (signs : Bool) (tokens : List Token) (e : Failure) → starts_at accepts (One ToWord) (words text tokens) ≡ true → Fails text (One ToWord) tokens e → Fails text (range_end signs) tokens e
-end_fails_at_to text signs tokens e h f = fails_left (starts_word text ToWord (Or (bound signs) (One MaxWord)) tokens true h) (fails_first f)
+end_fails_at_to text signs tokens e h f = chosen_fails (chooses_first by_word h) (fails_first f)
 
 -- a range from its two parts
 pub range_reads : {text : List ℕ} {tokens rest left : List Token} {n : Number} {last : RangeEnd} {span : Span} (signs : Bool) → Reads text (bound signs) bound_of tokens rest n → Reads text (range_end signs) end_of_range rest left last → Across tokens left span → Reads text (range signs) range_of tokens left (record { first = n; last = last; span = span })

@@ -1,5 +1,5 @@
--- Which of two alternatives begins: what the functions that read one item of a body cite.
-use Rattle.std.proofs.Common.{◌≡◌, ℕ, Bool, true, false, List, [], ◌++◌, refl, sym, ◌∙◌}
+-- Which alternative of a rule begins or is taken, by one look at what begins it.
+use Rattle.std.proofs.Common.{◌≡◌, ℕ, Bool, true, false, ◌&&◌, List, ◌++◌, refl, sym, ap, ◌∙◌}
 use Rattle.std.proofs.lemmas.List.{append-nil}
 use Rattle.pq_lex.specs.declared.token.Token.{Token}
 use Rattle.pq_syntax.specs.Rule.{Rule, Parse}
@@ -7,14 +7,20 @@ use Rattle.pq_syntax.specs.Rule.Rule.{One, Then, Or}
 use Rattle.pq_syntax.specs.Rule.Parse.{Left, Right}
 use Rattle.pq_syntax.specs.Machine.{skips}
 use Rattle.pq_syntax.specs.Grammar.{type_from}
-use Rattle.pq_syntax.specs.Takes.{starts_at}
+use Rattle.pq_syntax.specs.Takes.{Takes, starts_at}
 use Rattle.pq_syntax.specs.Words.{Word, words, accepts}
-use Rattle.pq_syntax.specs.Steps.{TakesToken, Adds, Begins, Ends, Fails, FailsWithin}
-use Rattle.pq_syntax.specs.Tree.{either, no_nodes}
+use Rattle.pq_syntax.specs.Steps.{TakesToken, Passes, PassesFrom, Reads, Adds, Begins, Ends, Fails, FailsWithin}
+use Rattle.pq_syntax.specs.Tree.{no_nodes}
 use Rattle.pq_syntax.specs.declared.failure.Failure.{Failure}
 use Rattle.pq_syntax.specs.declared.terminal.Terminal.{Terminal}
 use Rattle.pq_syntax.specs.declared.tree.Node.{Node}
-use Rattle.pq_syntax.proofs.Rules.{takes_left, takes_right, stops_left, stops_right, starts_left, starts_right, starts_neither, starts_then}
+use Rattle.pq_syntax.proofs.Rules.{takes_left, takes_right, starts_left, starts_right, starts_neither, starts_then}
+use Rattle.pq_syntax.proofs.Steps.{fails_left, fails_right}
+
+-- a begins where its lead does and nowhere else, and never stands for nothing
+pub record Led (a lead : Rule Terminal) : Type 0 where
+  pub starts : (text : List ℕ) (tokens : List Token) (t : Bool) → starts_at accepts lead (words text tokens) ≡ t → starts_at accepts a (words text tokens) ≡ t
+  pub stands : skips a ≡ false
 
 -- a rule that goes on behind a token begins where the token stands
 pub starts_word : (text : List ℕ) (c : Terminal) (more : Rule Terminal) (tokens : List Token) (t : Bool) → starts_at accepts (One c) (words text tokens) ≡ t → starts_at accepts (Then (One c) more) (words text tokens) ≡ t
@@ -24,91 +30,98 @@ starts_word text c more tokens t h = starts_then accepts (One c) more (words tex
 pub starts_phrase : (text : List ℕ) (c : Terminal) (more further : Rule Terminal) (tokens : List Token) (t : Bool) → starts_at accepts (One c) (words text tokens) ≡ t → starts_at accepts (Then (Then (One c) more) further) (words text tokens) ≡ t
 starts_phrase text c more further tokens t h = starts_then accepts (Then (One c) more) further (words text tokens) t refl (starts_word text c more tokens t h)
 
--- a rule that begins, and one that does not
-pub begins : {text : List ℕ} {r : Rule Terminal} {view : Parse Word → List Node} {tokens left : List Token} {old new : List Node} → starts_at accepts r (words text tokens) ≡ true → Adds text r view tokens left old new → Begins text r view tokens left old new
-begins h a = record { starts = h; adds = a }
+-- a token alone, what begins by a token, by what begins by one, by another rule, and by a type
+pub by_token : {c : Terminal} → Led (One c) (One c)
+by_token = record { starts = λ text tokens t h. h; stands = refl }
 
-pub fails_within : {text : List ℕ} {r : Rule Terminal} {tokens : List Token} {e : Failure} → starts_at accepts r (words text tokens) ≡ true → Fails text r tokens e → FailsWithin text r tokens e
-fails_within h f = record { starts = λ n e. h; fails = f }
+pub by_word : {c : Terminal} {more : Rule Terminal} → Led (Then (One c) more) (One c)
+by_word {c} {more} = record { starts = λ text tokens t h. starts_word text c more tokens t h; stands = refl }
 
-pub ends : {text : List ℕ} {r : Rule Terminal} {tokens : List Token} {old new : List Node} → starts_at accepts r (words text tokens) ≡ false → new ≡ old → Ends text r tokens old new
-ends h e = record { starts = h; is = e }
+pub by_phrase : {c : Terminal} {more further : Rule Terminal} → Led (Then (Then (One c) more) further) (One c)
+by_phrase {c} {more} {further} = record { starts = λ text tokens t h. starts_phrase text c more further tokens t h; stands = refl }
 
--- an empty statement
-pub begins_empty : {text : List ℕ} {c : Terminal} {tokens left : List Token} {t : Token} {old new : List Node} → starts_at accepts (One c) (words text tokens) ≡ true → TakesToken text c tokens left t → new ≡ old → Begins text (One c) no_nodes tokens left old new
-begins_empty {old = old} h s e = record { starts = h; adds = record { parse = _; takes = s.takes; is = e ∙ sym (append-nil old) } }
+pub by_first : {a more : Rule Terminal} → skips a ≡ false → Led (Then a more) a
+by_first {a} {more} n = record { starts = λ text tokens t h. starts_then accepts a more (words text tokens) t n h; stands = ap (λ b. b && skips more) n }
 
--- it stands for nothing
-pub adds_empty : {text : List ℕ} {c : Terminal} {tokens left : List Token} {t : Token} {old new : List Node} → TakesToken text c tokens left t → new ≡ old → Adds text (One c) no_nodes tokens left old new
-adds_empty {old = old} s e = record { parse = _; takes = s.takes; is = e ∙ sym (append-nil old) }
+pub by_type : {c : Terminal} {more : Rule Terminal} → Led (Then (type_from c) more) (type_from c)
+by_type = by_first refl
 
-module _ {text : List ℕ} {a b : Rule Terminal} {tokens : List Token} where
-  pub begins_first : {va vb : Parse Word → List Node} {left : List Token} {old new : List Node} → starts_at accepts a (words text tokens) ≡ true → Adds text a va tokens left old new → Begins text (Or a b) (either va vb) tokens left old new
-  begins_first h r = record { starts = starts_left accepts a b (words text tokens) h; adds = record { parse = Left r.parse; takes = takes_left h r.takes; is = r.is } }
+-- at the tokens r stands for its alternative a, whose parse it holds so
+pub record Chooses (text : List ℕ) (r a : Rule Terminal) (x : List Token) (within : Parse Word → Parse Word) : Type 0 where
+  pub starts : starts_at accepts a (words text x) ≡ true → starts_at accepts r (words text x) ≡ true
+  pub takes : (y : List Word) (p : Parse Word) → Takes accepts a (words text x) y p → Takes accepts r (words text x) y (within p)
+  pub fails : (e : Failure) → Fails text a x e → Fails text r x e
 
-  pub begins_second : {va vb : Parse Word → List Node} {left : List Token} {old new : List Node} → starts_at accepts a (words text tokens) ≡ false → skips a ≡ false → Begins text b vb tokens left old new → Begins text (Or a b) (either va vb) tokens left old new
-  begins_second h k r = record { starts = starts_right accepts a b (words text tokens) r.starts; adds = record { parse = Right r.adds.parse; takes = takes_right h k r.adds.takes; is = r.adds.is } }
+-- the same, where a begins at the tokens
+pub record Enters (text : List ℕ) (r a : Rule Terminal) (x : List Token) (within : Parse Word → Parse Word) : Type 0 where
+  pub chooses : Chooses text r a x within
+  pub starts : starts_at accepts a (words text x) ≡ true
 
-  pub within_first : {e : Failure} → starts_at accepts a (words text tokens) ≡ true → Fails text a tokens e → FailsWithin text (Or a b) tokens e
-  within_first h f = record { starts = λ n e. starts_left accepts a b (words text tokens) h; fails = record { stops = λ n e. stops_left h (f.stops n e) } }
+module _ {text : List ℕ} {x : List Token} where
+  pub chooses_itself : {a : Rule Terminal} → Chooses text a a x (λ p. p)
+  chooses_itself = record { starts = λ h. h; takes = λ y p t. t; fails = λ e f. f }
 
-  pub within_second : {e : Failure} → starts_at accepts a (words text tokens) ≡ false → skips a ≡ false → FailsWithin text b tokens e → FailsWithin text (Or a b) tokens e
-  within_second h k f = record { starts = λ n e. starts_right accepts a b (words text tokens) (f.starts n e); fails = record { stops = λ n e. stops_right h k (f.fails.stops n e) } }
+  pub chooses_first : {a b lead : Rule Terminal} → Led a lead → starts_at accepts lead (words text x) ≡ true → Chooses text (Or a b) a x (λ p. Left p)
+  chooses_first {a} {b} l h = record {
+    starts = λ e. starts_left accepts a b (words text x) e;
+    takes = λ y p t. takes_left (l.starts text x true h) t;
+    fails = λ e f. fails_left (l.starts text x true h) f;
+  }
 
-  pub ends_both : {old new : List Node} → starts_at accepts a (words text tokens) ≡ false → Ends text b tokens old new → Ends text (Or a b) tokens old new
-  ends_both h e = record { starts = starts_neither accepts a b (words text tokens) h e.starts; is = e.is }
+  pub chooses_past : {a b c lead : Rule Terminal} {within : Parse Word → Parse Word} → Led a lead → starts_at accepts lead (words text x) ≡ false → Chooses text b c x within → Chooses text (Or a b) c x (λ p. Right (within p))
+  chooses_past {a} {b} l h n = record {
+    starts = λ e. starts_right accepts a b (words text x) (n.starts e);
+    takes = λ y p t. takes_right (l.starts text x false h) l.stands (n.takes y p t);
+    fails = λ e f. fails_right (l.starts text x false h) l.stands (n.fails e f);
+  }
 
--- a statement that begins by a word of its own, as the first of two alternatives
-module _ {text : List ℕ} {c : Terminal} {more b : Rule Terminal} {tokens : List Token} where
-  pub begins_word : {va vb : Parse Word → List Node} {left : List Token} {old new : List Node} → starts_at accepts (One c) (words text tokens) ≡ true → Adds text (Then (One c) more) va tokens left old new → Begins text (Or (Then (One c) more) b) (either va vb) tokens left old new
-  begins_word h r = begins_first (starts_word text c more tokens true h) r
+  pub enters_itself : {a lead : Rule Terminal} → Led a lead → starts_at accepts lead (words text x) ≡ true → Enters text a a x (λ p. p)
+  enters_itself l h = record { chooses = chooses_itself; starts = l.starts text x true h }
 
-  pub past_word : {va vb : Parse Word → List Node} {left : List Token} {old new : List Node} → starts_at accepts (One c) (words text tokens) ≡ false → Begins text b vb tokens left old new → Begins text (Or (Then (One c) more) b) (either va vb) tokens left old new
-  past_word h r = begins_second (starts_word text c more tokens false h) refl r
+  pub enters_first : {a b lead : Rule Terminal} → Led a lead → starts_at accepts lead (words text x) ≡ true → Enters text (Or a b) a x (λ p. Left p)
+  enters_first l h = record { chooses = chooses_first l h; starts = l.starts text x true h }
 
-  pub within_word : {e : Failure} → starts_at accepts (One c) (words text tokens) ≡ true → Fails text (Then (One c) more) tokens e → FailsWithin text (Or (Then (One c) more) b) tokens e
-  within_word h f = within_first (starts_word text c more tokens true h) f
+  pub enters_past : {a b c lead : Rule Terminal} {within : Parse Word → Parse Word} → Led a lead → starts_at accepts lead (words text x) ≡ false → Enters text b c x within → Enters text (Or a b) c x (λ p. Right (within p))
+  enters_past l h n = record { chooses = chooses_past l h n.chooses; starts = n.starts }
 
-  pub fails_past_word : {e : Failure} → starts_at accepts (One c) (words text tokens) ≡ false → FailsWithin text b tokens e → FailsWithin text (Or (Then (One c) more) b) tokens e
-  fails_past_word h f = within_second (starts_word text c more tokens false h) refl f
+  -- where no alternative begins, the rule does not
+  pub ends_itself : {X : Type 0} {a lead : Rule Terminal} {old : List X} → Led a lead → starts_at accepts lead (words text x) ≡ false → Ends text a x old old
+  ends_itself l h = record { starts = l.starts text x false h; is = refl }
 
-  pub ends_past_word : {old new : List Node} → starts_at accepts (One c) (words text tokens) ≡ false → Ends text b tokens old new → Ends text (Or (Then (One c) more) b) tokens old new
-  ends_past_word h e = ends_both (starts_word text c more tokens false h) e
+  pub ends_past : {X : Type 0} {a b lead : Rule Terminal} {old new : List X} → Led a lead → starts_at accepts lead (words text x) ≡ false → Ends text b x old new → Ends text (Or a b) x old new
+  ends_past {a = a} {b} l h e = record { starts = starts_neither accepts a b (words text x) (l.starts text x false h) e.starts; is = e.is }
 
--- a statement with a body, as the first of two alternatives
-module _ {text : List ℕ} {c : Terminal} {more further b : Rule Terminal} {tokens : List Token} where
-  pub begins_phrase : {va vb : Parse Word → List Node} {left : List Token} {old new : List Node} → starts_at accepts (One c) (words text tokens) ≡ true → Adds text (Then (Then (One c) more) further) va tokens left old new → Begins text (Or (Then (Then (One c) more) further) b) (either va vb) tokens left old new
-  begins_phrase h r = begins_first (starts_phrase text c more further tokens true h) r
+  -- what is said of the alternative, as said of the rule
+  module _ {r a : Rule Terminal} {within : Parse Word → Parse Word} where
+    pub chosen_passes : {y : List Token} → Chooses text r a x within → Passes text a x y → Passes text r x y
+    chosen_passes {y} n p = record { parse = within p.parse; takes = n.takes (words text y) p.parse p.takes }
 
-  pub past_phrase : {va vb : Parse Word → List Node} {left : List Token} {old new : List Node} → starts_at accepts (One c) (words text tokens) ≡ false → Begins text b vb tokens left old new → Begins text (Or (Then (Then (One c) more) further) b) (either va vb) tokens left old new
-  past_phrase h r = begins_second (starts_phrase text c more further tokens false h) refl r
+    pub chosen_fails : {e : Failure} → Chooses text r a x within → Fails text a x e → Fails text r x e
+    chosen_fails {e} n f = n.fails e f
 
-  pub within_phrase : {e : Failure} → starts_at accepts (One c) (words text tokens) ≡ true → Fails text (Then (Then (One c) more) further) tokens e → FailsWithin text (Or (Then (Then (One c) more) further) b) tokens e
-  within_phrase h f = within_first (starts_phrase text c more further tokens true h) f
+    pub chosen_within : {e : Failure} → Chooses text r a x within → FailsWithin text a x e → FailsWithin text r x e
+    chosen_within {e} n f = record { starts = λ k h. n.starts (f.starts k h); fails = n.fails e f.fails }
 
-  pub fails_past_phrase : {e : Failure} → starts_at accepts (One c) (words text tokens) ≡ false → FailsWithin text b tokens e → FailsWithin text (Or (Then (Then (One c) more) further) b) tokens e
-  fails_past_phrase h f = within_second (starts_phrase text c more further tokens false h) refl f
+    -- an alternative of which every parse is read as the same
+    pub chosen_reads : {X : Type 0} {y : List Token} {view : Parse Word → X} {v : X} → Chooses text r a x within → Passes text a x y → ((p : Parse Word) → v ≡ view (within p)) → Reads text r view x y v
+    chosen_reads {y = y} n p same = record { parse = _; takes = n.takes (words text y) p.parse p.takes; is = same p.parse }
 
-  pub ends_past_phrase : {old new : List Node} → starts_at accepts (One c) (words text tokens) ≡ false → Ends text b tokens old new → Ends text (Or (Then (Then (One c) more) further) b) tokens old new
-  ends_past_phrase h e = ends_both (starts_phrase text c more further tokens false h) e
+    -- one whose parse stands for the same in the rule
+    pub chosen_begins : {X : Type 0} {y : List Token} {view whole : Parse Word → List X} {old new : List X} → Chooses text r a x within → Begins text a view x y old new → ((p : Parse Word) → view p ≡ whole (within p)) → Begins text r whole x y old new
+    chosen_begins {y = y} {old = old} n b same = record {
+      starts = n.starts b.starts;
+      adds = record { parse = within b.adds.parse; takes = n.takes (words text y) b.adds.parse b.adds.takes; is = b.adds.is ∙ ap (λ l. old ++ l) (same b.adds.parse) };
+    }
 
--- a token alone, as the first of two alternatives
-module _ {text : List ℕ} {c : Terminal} {b : Rule Terminal} {tokens : List Token} where
-  pub past_token : {va vb : Parse Word → List Node} {left : List Token} {old new : List Node} → starts_at accepts (One c) (words text tokens) ≡ false → Begins text b vb tokens left old new → Begins text (Or (One c) b) (either va vb) tokens left old new
-  past_token h r = begins_second h refl r
+    pub entered_passes : {y : List Token} → Enters text r a x within → Passes text a x y → PassesFrom text r x y
+    entered_passes n p = record { starts = n.chooses.starts n.starts; passes = chosen_passes n.chooses p }
 
-  pub fails_past_token : {e : Failure} → starts_at accepts (One c) (words text tokens) ≡ false → FailsWithin text b tokens e → FailsWithin text (Or (One c) b) tokens e
-  fails_past_token h f = within_second h refl f
+    pub entered_fails : {e : Failure} → Enters text r a x within → Fails text a x e → FailsWithin text r x e
+    entered_fails n f = chosen_within n.chooses (record { starts = λ k h. n.starts; fails = f })
 
--- a field that begins by its type, as the last alternative
-pub begins_type : {text : List ℕ} {t : Terminal} {more : Rule Terminal} {tokens left : List Token} {view : Parse Word → List Node} {old new : List Node} → starts_at accepts (type_from t) (words text tokens) ≡ true → Adds text (Then (type_from t) more) view tokens left old new → Begins text (Then (type_from t) more) view tokens left old new
-begins_type {text} {t} {more} {tokens} h r = begins (starts_then accepts (type_from t) more (words text tokens) true refl h) r
+    pub entered_adds : {X : Type 0} {y : List Token} {view whole : Parse Word → List X} {old new : List X} → Enters text r a x within → Adds text a view x y old new → ((p : Parse Word) → view p ≡ whole (within p)) → Begins text r whole x y old new
+    entered_adds n b same = chosen_begins n.chooses (record { starts = n.starts; adds = b }) same
 
-pub within_type : {text : List ℕ} {t : Terminal} {more : Rule Terminal} {tokens : List Token} {e : Failure} → starts_at accepts (type_from t) (words text tokens) ≡ true → Fails text (Then (type_from t) more) tokens e → FailsWithin text (Then (type_from t) more) tokens e
-within_type {text} {t} {more} {tokens} h f = fails_within (starts_then accepts (type_from t) more (words text tokens) true refl h) f
-
-pub ends_type : {text : List ℕ} {t : Terminal} {more : Rule Terminal} {tokens : List Token} {old new : List Node} → starts_at accepts (type_from t) (words text tokens) ≡ false → new ≡ old → Ends text (Then (type_from t) more) tokens old new
-ends_type {text} {t} {more} {tokens} h e = ends (starts_then accepts (type_from t) more (words text tokens) false refl h) e
-
-pub ends_past_token : {text : List ℕ} {c : Terminal} {b : Rule Terminal} {tokens : List Token} {old new : List Node} → starts_at accepts (One c) (words text tokens) ≡ false → Ends text b tokens old new → Ends text (Or (One c) b) tokens old new
-ends_past_token h e = ends_both h e
+-- an empty statement stands for nothing
+pub adds_empty : {text : List ℕ} {c : Terminal} {tokens left : List Token} {t : Token} {old : List Node} → TakesToken text c tokens left t → Adds text (One c) no_nodes tokens left old old
+adds_empty {old = old} s = record { parse = _; takes = s.takes; is = sym (append-nil old) }

@@ -12,7 +12,6 @@ use Rattle.pq_syntax.specs.declared.terminal.Terminal.{Terminal}
 use Rattle.pq_syntax.specs.declared.terminal.Terminal.TheVariants.{SyntaxWord, ImportWord, PackageWord, OptionWord, MessageWord, EnumWord, ServiceWord, MethodWord, ReturnsWord, StreamWord, OneofWord, MapWord, ReservedWord, ExtendWord, ToWord, MaxWord, ImportKindWord, LabelWord, KeyTypeName, NotFinite, AnyName, FieldTypeName, MemberTypeName, ValueName, MethodTypeName, WholeNumber, RealNumber, StringLiteral, Version, Semicolon, Equals, Comma, Dot, Minus, Plus, OpenBrace, CloseBrace, OpenBracket, CloseBracket, OpenParenthesis, CloseParenthesis, Less, Greater, Plain}
 use Rattle.pq_syntax.proofs.Apart.{apart, apart_sound}
 use Rattle.pq_syntax.proofs.Decided.{decided}
-pub use Rattle.pq_syntax.proofs.Apart.{at_integer}
 
 abbrev of_kind : Kind → List ℕ → Word
 of_kind k text = record { kind = k; span = record { start = 0; end = 0 }; text = text }
@@ -89,7 +88,7 @@ items_clear n (suc levels) = let b = (balanced_clear n).brace in let d = items_c
 file_is_clear : (n levels : ℕ) → is_clear apart (file n levels) [] ≡ true
 file_is_clear n levels = let b = (balanced_clear n).brace in let d = items_clear n levels in rw (b, d) (refl {a = true})
 
-pub file_clear : (n levels : ℕ) → AllClear accepts (file n levels ∷ [])
+file_clear : (n levels : ℕ) → AllClear accepts (file n levels ∷ [])
 file_clear n levels = (decided accepts apart apart_sound (file n levels) [] (λ w. false) (λ w h. cc) (file_is_clear n levels), tt)
 
 pub clear : AllClear accepts (proto_file ∷ [])

@@ -69,7 +69,7 @@ module _ {A W : Type 0} (accepts : A → W → Bool) where
   begun_empty k [] h = tt
   begun_empty k (w ∷ ws) h = h
 
-  pub begun : {k : List (Rule A)} {ws : List W} {ps : List (Parse W)} → Derives accepts k ws ps → BeginsWith k ws
+  begun : {k : List (Rule A)} {ws : List W} {ps : List (Parse W)} → Derives accepts k ws ps → BeginsWith k ws
   begun ends = tt
   begun (one {c = c} {k = k} {w = w} {ws = ws} h d) = begun_one c k w ws h
   begun (empty {k = k} {ws = ws} d) = begun_empty k ws (begun d)
@@ -103,7 +103,7 @@ module _ {A W : Type 0} (accepts : A → W → Bool) where
   un_many (stop {ps = ps} d) = inr (ps, d, refl)
   un_many (more {x = x} {xs = xs} {ps = ps} d) = inl (x ∷ xs ∷ ps, d, refl)
 
-  pub taken : (r : Rule A) (k : List (Rule A)) (w : W) (ws : List W) (l : List (Parse W)) → Clear accepts r (begins accepts k) → Derives accepts (r ∷ k) (w ∷ ws) l → Steps r k w ws l
+  taken : (r : Rule A) (k : List (Rule A)) (w : W) (ws : List W) (l : List (Parse W)) → Clear accepts r (begins accepts k) → Derives accepts (r ∷ k) (w ∷ ws) l → Steps r k w ws l
   taken (One c) k w ws l ok d = let u = un_one d in inl (u.0, u.1, u.2, u.3)
   taken Empty k w ws l ok d = let u = un_empty d in inr (refl, refl, u.0, u.1, u.2)
   taken (Then a b) k w ws l ok d =
@@ -142,7 +142,7 @@ module _ {A W : Type 0} (accepts : A → W → Bool) where
         | inr u ↦ elim (cases_Bool (starts accepts r w)) [ inl t ↦ absurd (ok.2 w t (begun u.1)) | inr t ↦ inr (t, refl, u.0, u.1, u.2) ]
       ]
 
-  pub after_clear : (r : Rule A) (k : List (Rule A)) (w : W) → Clear accepts r (begins accepts k) → AllClear accepts k → AllClear accepts (after accepts r k w)
+  after_clear : (r : Rule A) (k : List (Rule A)) (w : W) → Clear accepts r (begins accepts k) → AllClear accepts k → AllClear accepts (after accepts r k w)
   after_clear (One c) k w ok all = all
   after_clear Empty k w ok all = all
   after_clear (Then a b) k w ok all =
@@ -186,7 +186,7 @@ module _ {A W : Type 0} (accepts : A → W → Bool) where
   Nothing r k l = (skips r ≡ true) × (ps : List (Parse W)) × Derives accepts k [] ps × (l ≡ void r ∷ ps)
 
   -- at the end a rule reads nothing
-  pub nothing : (r : Rule A) (k : List (Rule A)) (l : List (Parse W)) (f : W → Bool) → Clear accepts r f → Derives accepts (r ∷ k) [] l → Nothing r k l
+  nothing : (r : Rule A) (k : List (Rule A)) (l : List (Parse W)) (f : W → Bool) → Clear accepts r f → Derives accepts (r ∷ k) [] l → Nothing r k l
   nothing (One c) k l f ok d = elim d [ ]
   nothing Empty k l f ok d = let u = un_empty d in (refl, u.0, u.1, u.2)
   nothing (Then a b) k l f ok d =

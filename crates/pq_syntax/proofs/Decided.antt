@@ -25,7 +25,7 @@ module _ {A W : Type 0} (accepts : A → W → Bool) where
   accepted_right [] ds w h = h
   accepted_right (c ∷ cs) ds w h = or_right _ _ (accepted_right cs ds w h)
 
-  pub started : (r : Rule A) (w : W) → starts accepts r w ≡ true → accepted (firsts r) w ≡ true
+  started : (r : Rule A) (w : W) → starts accepts r w ≡ true → accepted (firsts r) w ≡ true
   started (One c) w h = or_left _ _ h
   started Empty w h = h
   started (Then a b) w h = elim (or_cases (starts accepts a w) (skips a && starts accepts b w) h) [

@@ -1,4 +1,4 @@
--- Values of enums.
+-- Values of enums, from what was taken of them.
 use Rattle.std.proofs.Common.{ℕ, true, List, [], ◌∷◌, ◌++◌, ap, ◌∙◌}
 use Rattle.pq_lex.specs.declared.token.Token.{Token}
 use Rattle.pq_syntax.specs.Rule.{Parse}
@@ -19,7 +19,6 @@ use Rattle.pq_syntax.specs.declared.tree.Statement.TheVariants.{Value}
 use Rattle.pq_syntax.proofs.Bodies.{Pushed}
 use Rattle.pq_syntax.proofs.Rules.{takes_then}
 
--- the node of a value from its parts
 pub value_adds : {text : List ℕ} {tokens named equalled numbered set left : List Token} {name : Name} {number : Number} {options : List Setting} {e t : Token} {old new : List Node} (brackets depth : ℕ) → Reads text (One ValueName) name_of tokens named name → TakesToken text Equals named equalled e → Reads text (bound true) bound_of equalled numbered number → Reads text (opt (opts brackets)) settings_of numbered set options → TakesToken text Semicolon set left t → Pushed text depth tokens left (Value name number options) old new → Adds text (value brackets) (value_nodes depth) tokens left old new
 value_adds {text} {name = name} {number} {options} {e} {t} {old} brackets depth n equals b o semicolon push =
     let all = takes_then n.takes (takes_then equals.takes (takes_then b.takes (takes_then o.takes semicolon.takes))) in

@@ -26,15 +26,15 @@ use Rattle.pq_syntax.specs.declared.tree.Statement.TheVariants.{Import, Package}
 use Rattle.pq_syntax.proofs.Bodies.{Pushed}
 use Rattle.pq_syntax.proofs.Rules.{takes_then}
 
-pub package_taken : {text : List ℕ} {tokens rest closing left : List Token} {t u : Token} {name : Name} {old new : List Node} → TakesToken text PackageWord tokens rest t → Reads text full name_of rest closing name → TakesToken text Semicolon closing left u → Pushed text 0 tokens left (Package name) old new → Adds text package' package_nodes tokens left old new
-package_taken {text} {t = t} {u = u} w s c push =
+pub package_adds : {text : List ℕ} {tokens rest closing left : List Token} {t u : Token} {name : Name} {old new : List Node} → TakesToken text PackageWord tokens rest t → Reads text full name_of rest closing name → TakesToken text Semicolon closing left u → Pushed text 0 tokens left (Package name) old new → Adds text package' package_nodes tokens left old new
+package_adds {text} {t = t} {u = u} w s c push =
     let all = takes_then w.takes (takes_then s.takes c.takes) in
     let whole : Parse Word = Pair (Leaf (word text t)) (Pair s.parse (Leaf (word text u))) in
     let n = push text (leaves whole) all.read in
     record { parse = whole; takes = all; is = rw (n, s.is) refl }
 
-pub import_taken : {text : List ℕ} {tokens rest named closing left : List Token} {t u : Token} {kind : ImportKind} {strings : Strings} {old new : List Node} → TakesToken text ImportWord tokens rest t → Reads text (opt (One ImportKindWord)) import_kind_of rest named kind → Reads text strs strings_of named closing strings → TakesToken text Semicolon closing left u → Pushed text 0 tokens left (Import kind strings) old new → Adds text import' import_nodes tokens left old new
-import_taken {text} {t = t} {u = u} w k s c push =
+pub import_adds : {text : List ℕ} {tokens rest named closing left : List Token} {t u : Token} {kind : ImportKind} {strings : Strings} {old new : List Node} → TakesToken text ImportWord tokens rest t → Reads text (opt (One ImportKindWord)) import_kind_of rest named kind → Reads text strs strings_of named closing strings → TakesToken text Semicolon closing left u → Pushed text 0 tokens left (Import kind strings) old new → Adds text import' import_nodes tokens left old new
+import_adds {text} {t = t} {u = u} w k s c push =
     let all = takes_then w.takes (takes_then k.takes (takes_then s.takes c.takes)) in
     let whole : Parse Word = Pair (Leaf (word text t)) (Pair k.parse (Pair s.parse (Leaf (word text u)))) in
     let n = push text (leaves whole) all.read in

@@ -1,4 +1,4 @@
--- A list that is read item by item: what the proofs of a parser's loops cite.
+-- A list that is read item by item: where its loop begins, goes on, ends and fails.
 use Rattle.std.proofs.Common.{◌≡◌, ℕ, Bool, true, false, List, [], ◌++◌, refl, sym, ◌∙◌, append_assoc}
 use Rattle.std.proofs.lemmas.List.{append-nil}
 use Rattle.pq_syntax.specs.Rule.{Rule, Parse}

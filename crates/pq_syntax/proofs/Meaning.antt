@@ -179,7 +179,7 @@ EachText = (t : List ℕ) → Lexes 0 t (tokens_of t).tokens (tokens_of t).fault
 abbrev pub OneLexing : Type 0
 OneLexing = (t : List ℕ) (a b : List Token) (f g : Option (Span × LexicalCode)) → Lexes 0 t a f → Lexes 0 t b g → (a ≡ b) × (f ≡ g)
 
-pub parsed_stands : EachText → (text : List ℕ) → Stands text (parsed text)
+parsed_stands : EachText → (text : List ℕ) → Stands text (parsed text)
 parsed_stands each text = answer_stands text (tokens_of text) (each text) (reading 63 63 text (tokens_of text).tokens) refl
 
 pub if_tree : {E : Type 0} (each : EachText) (text : List ℕ) (r : Result Parsed E) → IfOk r (λ p. p ≡ parsed text) → IfOk r (IfTree (IsTree text))
@@ -208,7 +208,7 @@ module _ (one : OneLexing) (each : EachText) (text : List ℕ) where
   sentence_read : (tokens : List Token) (l : List (Parse Word)) → Derives accepts (proto_file ∷ []) (words text tokens) l → reading 63 63 text tokens ≡ Ok (nodes_of 63 l)
   sentence_read tokens l d = ap (on_ok (nodes_of 63)) (read accepts (proto_file ∷ []) (words text tokens) l clear d)
 
-  pub tree_is : (nodes : List Node) → IsTree text nodes → parsed text ≡ Tree nodes
+  tree_is : (nodes : List Node) → IsTree text nodes → parsed text ≡ Tree nodes
   tree_is nodes t = from_tokens t.tokens None (Ok nodes) t.lexes (sentence_read t.tokens (t.parse ∷ []) t.derives ∙ ap (λ (ns : List Node). Ok ns) (sym t.is))
 
   place_read : (b f : List Token) → IsFaultPlace accepts (proto_file ∷ []) (words text b) (words text f) → reading 63 63 text (b ++ f) ≡ Err (length f)
@@ -216,7 +216,7 @@ module _ (one : OneLexing) (each : EachText) (text : List ℕ) where
       let all : words text (b ++ f) ≡ words text b ++ words text f = map-append (word text) b f in
       ap (on_ok (nodes_of 63)) (ap (run accepts (proto_file ∷ [])) all ∙ run_stops accepts (proto_file ∷ []) samples clear (words text b) (words text f) p) ∙ ap (λ n. Err n) (length-map f (word text))
 
-  pub fault_is : (span : Span) (code : Code) → FaultStands text span code → parsed text ≡ Fault span code
+  fault_is : (span : Span) (code : Code) → FaultStands text span code → parsed text ≡ Fault span code
   fault_is span code (syntactic b f {stop = stop} l p is) = from_tokens (b ++ f) stop (Err (length f)) l (place_read b f p) ∙ fault_split text b f stop ∙ ap at_fault (sym (fault_is_from text b f stop span code is))
   fault_is span code (lexical tokens {span = s} {code = c} l s') = from_tokens tokens (Some (s, c)) (Ok (nodes_of 63 s'.0)) l (sentence_read tokens s'.0 s'.1)
 

@@ -1,9 +1,9 @@
 -- The types of a method, what ends it, and its node.
-use Rattle.std.proofs.Common.{◌≡◌, ℕ, ◌+◌, ◌<◌, suc, subst, add-one, List, [], ◌∷◌, ◌++◌, length, true, false, refl, sym, ap, ◌∙◌, arith}
-use Rattle.std.proofs.lemmas.List.{append-nil, length-append}
+use Rattle.std.proofs.Common.{◌≡◌, ℕ, suc, List, ◌∷◌, ◌++◌, length, true, false, refl, sym, ap, ◌∙◌}
+use Rattle.std.proofs.lemmas.List.{append-nil}
 use Rattle.pq_lex.specs.declared.token.Span.{Span}
 use Rattle.pq_lex.specs.declared.token.Token.{Token}
-use Rattle.pq_syntax.specs.Rule.{Rule, Parse}
+use Rattle.pq_syntax.specs.Rule.{Parse}
 use Rattle.pq_syntax.specs.Rule.Rule.{One, Then, Many}
 use Rattle.pq_syntax.specs.Rule.Parse.{Leaf, Pair, Left, Right}
 use Rattle.pq_syntax.specs.Grammar.{type', type_from, streamed, in_parentheses, method, method_end, method_item}
@@ -11,15 +11,13 @@ use Rattle.pq_syntax.specs.Leaves.{leaves}
 use Rattle.pq_syntax.specs.Loop.{list_of}
 use Rattle.pq_syntax.specs.Parts.{name_of, method_type_of, enclosed_type_of, span_across}
 use Rattle.pq_syntax.specs.Steps.{TakesToken, Reads, Adds}
-use Rattle.pq_syntax.specs.Takes.{Takes, starts_at}
+use Rattle.pq_syntax.specs.Takes.{starts_at}
 use Rattle.pq_syntax.specs.Tree.{method_nodes, method_end_nodes, method_item_nodes}
 use Rattle.pq_syntax.specs.Words.{Word, word, words, accepts}
 use Rattle.pq_syntax.specs.declared.parts.MethodType.{MethodType}
 use Rattle.pq_syntax.specs.declared.parts.Name.{Name}
-use Rattle.pq_syntax.specs.declared.terminal.Terminal.{Terminal}
 use Rattle.pq_syntax.specs.declared.terminal.Terminal.TheVariants.{StreamWord, MethodTypeName, MethodWord, AnyName, ReturnsWord, OpenBrace, CloseBrace, Semicolon}
 use Rattle.pq_syntax.specs.declared.tree.Node.{Node}
-use Rattle.pq_syntax.specs.declared.tree.Statement.{Statement}
 use Rattle.pq_syntax.specs.declared.tree.Statement.TheVariants.{Method}
 use Rattle.pq_syntax.proofs.Bodies.{Pushed, Spanned, Across, spanned}
 use Rattle.pq_syntax.proofs.Choices.{starts_word}
@@ -56,18 +54,6 @@ ends_plain {text} {tokens} {old = old} brackets depth h s = record {
   takes = takes_right (starts_word text OpenBrace (Then (Many (method_item brackets)) (One CloseBrace)) tokens false h) refl s.takes;
   is = sym (append-nil old);
 }
-
--- what stands one deeper, counted as the code counts it
-pub one_deeper : {text : List ℕ} {r : Rule Terminal} {tokens left : List Token} {old new : List Node} (view : ℕ → Parse Word → List Node) (depth : ℕ) → Adds text r (view (depth + 1)) tokens left old new → Adds text r (view (suc depth)) tokens left old new
-one_deeper {text} {r} {tokens} {left} {old} {new} view depth a = subst (λ n. Adds text r (view n) tokens left old new) (add-one depth) a
-
--- the node that is pushed stands among those that its body adds to
-pub index_within : {text : List ℕ} {opened left : List Token} {front body : Rule Terminal} {view : Parse Word → List Node} {p : Parse Word} {pushed new : List Node} {index : ℕ} (tokens : List Token) (old : List Node) (depth : ℕ) (s : Statement) → Takes accepts front (words text tokens) (words text opened) p → index ≡ length old → Pushed text depth tokens opened s old pushed → Adds text body view opened left pushed new → index < length new
-index_within {text} {view = view} {p = p} tokens old depth s front i push body =
-    let first : Node = record { depth = depth; span = span_across (leaves p); statement = s } in
-    let outer = length-append (old ++ first ∷ []) (view body.parse) in
-    let inner = length-append old (first ∷ []) in
-    rw (i, body.is, push text (leaves p) front.read) (omega (arith, outer, inner))
 
 -- a method: what is cited in this order is its name and its two types with the words in front of them, the index of its node, the
 -- node pushed, what ends it, the span and the node given it

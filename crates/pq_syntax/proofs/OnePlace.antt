@@ -18,7 +18,7 @@ module _ {A W : Type 0} (accepts : A → W → Bool) (k : List (Rule A)) where
       p.none (m.0 ++ more.0) (subst (IsSentence accepts k) (ap (λ l. l ++ more.0) m.1 ∙ append_assoc b1 (w ∷ m.0) more.0) more.1)
 
   -- words that are a sentence have no fault place
-  pub no_place : (before from : List W) → IsFaultPlace accepts k before from → IsSentence accepts k (before ++ from) → ⊥
+  no_place : (before from : List W) → IsFaultPlace accepts k before from → IsSentence accepts k (before ++ from) → ⊥
   no_place before [] p s = p.none (subst (IsSentence accepts k) (append-nil before) s)
   no_place before (w ∷ ws) p s = p.none ws s
 

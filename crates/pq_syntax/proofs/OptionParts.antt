@@ -22,10 +22,9 @@ use Rattle.pq_syntax.specs.declared.tree.Node.{Node}
 use Rattle.pq_syntax.specs.declared.tree.Statement.TheVariants.{Option as OptionStatement}
 use Rattle.pq_syntax.specs.Tree.{option_nodes}
 use Rattle.pq_syntax.proofs.Bodies.{Across, Pushed}
-use Rattle.pq_syntax.proofs.Choices.{starts_word}
+use Rattle.pq_syntax.proofs.Choices.{by_word, chooses_first, chosen_fails, starts_word}
 use Rattle.pq_syntax.proofs.Rules.{takes_left, takes_none, takes_right, takes_then}
-use Rattle.pq_syntax.proofs.Steps.{fails_left}
-use Rattle.pq_syntax.proofs.Separated.{starts_token}
+use Rattle.pq_syntax.proofs.Steps.{starts_token}
 
 -- the text of the words in front of what is left
 abbrev pub Joined : List ℕ → List Token → List Token → List ℕ → Type 0
@@ -48,8 +47,8 @@ part_enclosed {text} {tokens} {opened} {closing} {rest} {t} {u} {name} {span} h 
     record { parse = Right whole; takes = takes_right h refl all; is = rw (n, m) refl }
 
 -- a name, and the constant that it is set to
-pub setting_taken : {text : List ℕ} (brackets : ℕ) {tokens named rest left : List Token} {t : Token} {parts : List NamePart} {value : Constant} {span : Span} → Reads text optname (listed part_of) tokens named parts → TakesToken text Equals named rest t → Reads text (constant brackets) constant_of rest left value → Across tokens left span → Reads text (optset brackets) setting_of tokens left (record { parts = parts; constant = value; span = span })
-setting_taken {text} brackets {t = t} n e k a =
+pub setting_reads : {text : List ℕ} (brackets : ℕ) {tokens named rest left : List Token} {t : Token} {parts : List NamePart} {value : Constant} {span : Span} → Reads text optname (listed part_of) tokens named parts → TakesToken text Equals named rest t → Reads text (constant brackets) constant_of rest left value → Across tokens left span → Reads text (optset brackets) setting_of tokens left (record { parts = parts; constant = value; span = span })
+setting_reads {text} brackets {t = t} n e k a =
     let all = takes_then n.takes (takes_then e.takes k.takes) in
     let whole : Parse Word = Pair n.parse (Pair (Leaf (word text t)) k.parse) in
     let m = a text (leaves whole) all.read in
@@ -72,11 +71,11 @@ settings_absent text brackets tokens h e = record { parse = Right Nil; takes = t
 
 -- a fault in options whose bracket stands there
 pub settings_fail : {text : List ℕ} (brackets : ℕ) {tokens : List Token} {e : Failure} → starts_at accepts (One OpenBracket) (words text tokens) ≡ true → Fails text (opts brackets) tokens e → Fails text (opt (opts brackets)) tokens e
-settings_fail {text} brackets {tokens} h f = fails_left (starts_word text OpenBracket (in_brackets brackets) tokens true h) f
+settings_fail {text} brackets {tokens} h f = chosen_fails (chooses_first by_word h) f
 
 -- an option statement, whose node is pushed
-pub option_taken : {text : List ℕ} (brackets : ℕ) {tokens rest closing left : List Token} {t u : Token} {setting : Setting} {old new : List Node} (depth : ℕ) → TakesToken text OptionWord tokens rest t → Reads text (optset brackets) setting_of rest closing setting → TakesToken text Semicolon closing left u → Pushed text depth tokens left (OptionStatement setting) old new → Adds text (option brackets) (option_nodes depth) tokens left old new
-option_taken {text} brackets {t = t} {u = u} {setting} depth w s c push =
+pub option_adds : {text : List ℕ} (brackets : ℕ) {tokens rest closing left : List Token} {t u : Token} {setting : Setting} {old new : List Node} (depth : ℕ) → TakesToken text OptionWord tokens rest t → Reads text (optset brackets) setting_of rest closing setting → TakesToken text Semicolon closing left u → Pushed text depth tokens left (OptionStatement setting) old new → Adds text (option brackets) (option_nodes depth) tokens left old new
+option_adds {text} brackets {t = t} {u = u} {setting} depth w s c push =
     let all = takes_then w.takes (takes_then s.takes c.takes) in
     let whole : Parse Word = Pair (Leaf (word text t)) (Pair s.parse (Leaf (word text u))) in
     let n = push text (leaves whole) all.read in

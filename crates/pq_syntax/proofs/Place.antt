@@ -46,7 +46,7 @@ module _ {A W : Type 0} (accepts : A → W → Bool) where
       let s = step accepts k w ws l ok d in
       ap (From k w ws) s.1 ∙ ap (on_ok (push accepts k w)) (read s.0 ws s.2 (pop_clear accepts k w s.0 ok s.1) s.3) ∙ ap (λ (q : List (Parse W)). Ok q) (sym s.4)
 
-  pub back : (k : List (Rule A)) (w : W) (ws : List W) (next : List (Rule A)) → AllClear accepts k → pop accepts k w ≡ Some next → IsSentence accepts k (w ∷ ws) → IsSentence accepts next ws
+  back : (k : List (Rule A)) (w : W) (ws : List W) (next : List (Rule A)) → AllClear accepts k → pop accepts k w ≡ Some next → IsSentence accepts k (w ∷ ws) → IsSentence accepts next ws
   back k w ws next ok e d =
       let s = step accepts k w ws d.0 ok d.1 in
       let is : Some s.0 ≡ Some next = sym s.1 ∙ e in

@@ -1,11 +1,10 @@
--- A rule from its parts: what the proofs of a parser cite.
+-- A rule from its parts: how it takes words, where it stops, and where it begins.
 use Rattle.std.proofs.Common.{◌≡◌, ℕ, Bool, true, false, ◌||◌, ◌&&◌, List, [], ◌∷◌, ◌++◌, length, Result, Ok, Err, refl, sym, ap, ◌∙◌, append_assoc}
 use Rattle.std.proofs.lemmas.Bool.{or_left, or_right, or_from}
 use Rattle.pq_syntax.specs.Rule.{Rule, Parse}
 use Rattle.pq_syntax.specs.Rule.Rule.{One, Empty, Then, Or, Many}
 use Rattle.pq_syntax.specs.Rule.Parse.{Leaf, Nil, Pair, Left, Right}
 use Rattle.pq_syntax.specs.Machine.{skips, starts, paired, lefted, righted, on_ok, run}
-use Rattle.pq_syntax.specs.Leaves.{leaves}
 use Rattle.pq_syntax.specs.Takes.{Takes, Stops, starts_at}
 use Rattle.pq_syntax.proofs.Runs.{on_twice, run_one, run_not, run_both, run_left, run_right, run_none, run_more, run_stop, run_empty}
 

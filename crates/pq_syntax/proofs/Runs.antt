@@ -1,4 +1,4 @@
--- How the machine goes through a rule, for the proofs of a parser.
+-- How the machine goes through a rule, whatever follows it.
 use Rattle.std.proofs.Common.{◌≡◌, ℕ, Bool, true, false, ◌&&◌, ◌||◌, cond, List, [], ◌∷◌, length, Option, Some, None, Result, Ok, Err, refl, sym, ap, ◌∙◌}
 use Rattle.pq_syntax.specs.Rule.{Rule, Parse}
 use Rattle.pq_syntax.specs.Rule.Rule.{One, Empty, Then, Or, Many}

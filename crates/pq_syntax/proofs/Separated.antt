@@ -1,4 +1,4 @@
--- Items behind a separator each: what the loops that read them cite.
+-- Items behind a separator each, as a loop reads them.
 use Rattle.std.proofs.Common.{◌≡◌, ℕ, true, false, List, [], ◌∷◌, ◌++◌, ap, ◌∙◌}
 use Rattle.pq_lex.specs.declared.token.Token.{Token}
 use Rattle.pq_syntax.specs.Rule.{Rule, Parse}
@@ -12,12 +12,8 @@ use Rattle.pq_syntax.specs.Steps.{TakesToken, Reads, Adds, Adding, Fails}
 use Rattle.pq_syntax.specs.declared.failure.Failure.{Failure}
 use Rattle.pq_syntax.specs.declared.terminal.Terminal.{Terminal}
 use Rattle.pq_syntax.proofs.Rules.{takes_then}
-use Rattle.pq_syntax.proofs.Steps.{fails_first, fails_token, adding_goes, adding_ends, adding_fails}
+use Rattle.pq_syntax.proofs.Steps.{starts_token, fails_first, fails_token, adding_goes, adding_ends, adding_fails}
 use Rattle.pq_syntax.proofs.Choices.{starts_word}
-
--- where a token of the terminal was taken, one stands
-pub starts_token : {text : List ℕ} {c : Terminal} {tokens left : List Token} {t : Token} → TakesToken text c tokens left t → starts_at accepts (One c) (words text tokens) ≡ true
-starts_token {c = c} s = ap (starts_at accepts (One c)) s.takes.read ∙ s.accepted
 
 module _ {X : Type 0} {text : List ℕ} {c : Terminal} {r : Rule Terminal} {view : Parse Word → X} {tokens rest : List Token} {old new : List X} where
   -- a further item is pushed

@@ -8,7 +8,7 @@ use Rattle.pq_syntax.specs.Rule.Derives.{ends, one, empty, both, left, right, st
 use Rattle.pq_syntax.specs.Machine.{skips, void, starts, after, built, paired, lefted, righted, pop, push, all_skip, voids}
 
 -- the second of an "or" whose first is false
-pub or_second : (x y : Bool) → (x || y) ≡ true → x ≡ false → y ≡ true
+or_second : (x y : Bool) → (x || y) ≡ true → x ≡ false → y ≡ true
 or_second true y h e = cc
 or_second false y h e = h
 
@@ -53,7 +53,7 @@ module _ {A W : Type 0} (accepts : A → W → Bool) where
   ]
 
   -- a rule that may stand for nothing
-  pub skipped : (r : Rule A) (k : List (Rule A)) (ws : List W) (ps : List (Parse W)) → skips r ≡ true → Derives accepts k ws ps → Derives accepts (r ∷ k) ws (void r ∷ ps)
+  skipped : (r : Rule A) (k : List (Rule A)) (ws : List W) (ps : List (Parse W)) → skips r ≡ true → Derives accepts k ws ps → Derives accepts (r ∷ k) ws (void r ∷ ps)
   skipped (One c) k ws ps h d = cc
   skipped Empty k ws ps h d = empty d
   skipped (Then a b) k ws ps h d =
@@ -62,7 +62,7 @@ module _ {A W : Type 0} (accepts : A → W → Bool) where
   skipped (Or a b) k ws ps h d = or_skips a b k ws ps (λ e. skipped a k ws ps e d) (λ e. skipped b k ws ps (or_second _ _ h e) d)
   skipped (Many r) k ws ps h d = stop d
 
-  pub stepped : (r : Rule A) (k : List (Rule A)) (w : W) (ws : List W) (ps : List (Parse W)) → starts accepts r w ≡ true → Derives accepts (after accepts r k w) ws ps → Derives accepts (r ∷ k) (w ∷ ws) (built accepts r w ps)
+  stepped : (r : Rule A) (k : List (Rule A)) (w : W) (ws : List W) (ps : List (Parse W)) → starts accepts r w ≡ true → Derives accepts (after accepts r k w) ws ps → Derives accepts (r ∷ k) (w ∷ ws) (built accepts r w ps)
   stepped (One c) k w ws ps h d = one h d
   stepped Empty k w ws ps h d = cc
   stepped (Then a b) k w ws ps h d =
@@ -105,7 +105,7 @@ module _ {A W : Type 0} (accepts : A → W → Bool) where
     abbrev Words : List (Rule A) → Type 0
     Words k = (ws : List W) × (ps : List (Parse W)) × Derives accepts k ws ps
 
-    pub filled : (r : Rule A) (k : List (Rule A)) → Words k → Words (r ∷ k)
+    filled : (r : Rule A) (k : List (Rule A)) → Words k → Words (r ∷ k)
     filled (One c) k rest = ((samples c).0 ∷ rest.0, Leaf (samples c).0 ∷ rest.1, one (samples c).1 rest.2)
     filled Empty k rest = (rest.0, Nil ∷ rest.1, empty rest.2)
     filled (Then a b) k rest = let all = filled a (b ∷ k) (filled b k rest) in (all.0, paired all.1, both_of a b k all.0 all.1 all.2)

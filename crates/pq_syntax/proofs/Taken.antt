@@ -1,5 +1,5 @@
 -- The tokens taken, by their words.
-use Rattle.std.proofs.Common.{◌≡◌, ℕ, zero, suc, ◌+◌, ◌-◌, ◌≤◌, ◌<◌, List, [], ◌∷◌, ◌++◌, length, take, refl, sym, ap, ◌∙◌, arith, length-append, get_or}
+use Rattle.std.proofs.Common.{◌≡◌, ℕ, ◌+◌, ◌-◌, ◌<◌, List, [], ◌∷◌, ◌++◌, length, take, refl, sym, ap, ◌∙◌, arith, length-append}
 use Rattle.std.proofs.lemmas.List.{length-map}
 use Rattle.std.specs.Prelude.{slice_index_or}
 use Rattle.pq_lex.specs.declared.token.Span.{Span}
@@ -39,8 +39,3 @@ across_some text (t ∷ ts) rest (w ∷ ws) d n i h e =
     let m = as_many text ts rest ws tail in
     let at : n ≡ length ws = omega (arith, m, i) in
     rw (at, last_end text ts rest ws d t w head tail) (ap (λ (x : Word). record { start = x.span.start; end = end_of w.span.end ws }) head)
-
--- where no more tokens stand than are left, none is taken
-pub across_none : (text : List ℕ) (tokens rest : List Token) (ws : List Word) → length tokens ≤ length rest → words text tokens ≡ ws ++ words text rest → ◌≡◌ {A = Span} (record { start = 0; end = 0 }) (span_across ws)
-across_none text tokens rest [] h e = refl
-across_none text tokens rest (w ∷ ws) h e = let m = as_many text tokens rest (w ∷ ws) e in absurd (omega (arith, m, h))

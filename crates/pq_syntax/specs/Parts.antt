@@ -1,5 +1,5 @@
 -- The parts of statements that a parse stands for.
-use Rattle.std.specs.Prelude.{ℕ, ◌==◌, Bool, true, false, ◌||◌, cond, List, [], ◌∷◌, ◌++◌, None, codes}
+use Rattle.std.specs.Prelude.{ℕ, Bool, true, false, cond, List, [], ◌∷◌, ◌++◌, None}
 use Rattle.std.specs.Str.Lossy.{utf8_lossy}
 use Rattle.pq_lex.specs.declared.token.Span.{Span}
 use Rattle.pq_lex.specs.Values.{integer_value_of, text_value_of}
@@ -7,7 +7,7 @@ use Rattle.pq_syntax.specs.Rule.{Parse}
 use Rattle.pq_syntax.specs.Rule.Parse.{Leaf, Nil, Pair, Left, Right}
 use Rattle.pq_syntax.specs.Leaves.{leaves}
 use Rattle.pq_syntax.specs.Loop.{list_of}
-use Rattle.pq_syntax.specs.Words.{Word, same}
+use Rattle.pq_syntax.specs.Words.{Word}
 use Rattle.pq_syntax.specs.declared.parts.Name.{Name}
 use Rattle.pq_syntax.specs.declared.parts.Number.{Number}
 use Rattle.pq_syntax.specs.declared.parts.Strings.{Strings}

@@ -1,5 +1,5 @@
 -- What the functions of the parser promise: how a rule takes tokens, and what it reads or adds to a list.
-use Rattle.std.specs.Prelude.{◌≡◌, ℕ, Bool, true, false, List, ◌++◌}
+use Rattle.std.specs.Prelude.{◌≡◌, ℕ, true, false, List, ◌++◌}
 use Rattle.pq_lex.specs.declared.token.Token.{Token}
 use Rattle.pq_syntax.specs.Rule.{Rule, Parse}
 use Rattle.pq_syntax.specs.Rule.Rule.{One}

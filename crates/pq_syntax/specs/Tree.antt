@@ -1,15 +1,13 @@
 -- The tree that a parse stands for: the nodes of its statements in text order. One view for each statement of the grammar;
 -- what is no parse of the statement stands for no node.
-use Rattle.std.specs.Prelude.{ℕ, zero, suc, ◌+◌, Bool, cond, List, [], ◌∷◌, ◌++◌, Option, Some, None, codes}
+use Rattle.std.specs.Prelude.{ℕ, zero, suc, cond, List, [], ◌∷◌, Option, Some, None, codes}
 use Rattle.pq_lex.specs.declared.token.Span.{Span}
 use Rattle.pq_syntax.specs.Rule.{Parse}
-use Rattle.pq_syntax.specs.Rule.Parse.{Leaf, Nil, Pair, Left, Right}
+use Rattle.pq_syntax.specs.Rule.Parse.{Leaf, Pair, Left, Right}
 use Rattle.pq_syntax.specs.Loop.{list_of}
 use Rattle.pq_syntax.specs.Words.{Word, same}
 use Rattle.pq_syntax.specs.Parts.{span_of, name_of, strings_of, number_of, bound_of, setting_of, settings_of, range_of, enclosed_type_of, head_name, entry_of, listed}
 use Rattle.pq_syntax.specs.declared.parts.Name.{Name}
-use Rattle.pq_syntax.specs.declared.parts.Number.{Number}
-use Rattle.pq_syntax.specs.declared.parts.Setting.{Setting}
 use Rattle.pq_syntax.specs.declared.parser.fields.Tail.{Tail}
 use Rattle.pq_syntax.specs.declared.tree.ImportKind.{ImportKind}
 use Rattle.pq_syntax.specs.declared.tree.ImportKind.TheVariants.{Plain, Public, Weak}

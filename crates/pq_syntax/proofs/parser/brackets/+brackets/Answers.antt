@@ -1,9 +1,9 @@
 use Rattle.std.proofs.Common.{◌≡◌, ◌-◌, suc, sym, ◌∙◌, arith}
 use Rattle.std.proofs.lemmas.Result.{err_from_is_err_and}
 use Rattle.pq_syntax.proofs.Rules.{takes_then}
-use Rattle.pq_syntax.proofs.Steps.{passes_first, adding_fails, fails_first, fails_token, fails_then}
-use Rattle.pq_syntax.proofs.Alternatives.{entered_passes, entered_fails}
-use Rattle.pq_syntax.proofs.Pairs.{passes_plain, enters_brace, enters_bracket, enters_parenthesis, none_deeper, none_nested, passing_goes, passing_ends}
+use Rattle.pq_syntax.proofs.Steps.{passes_first, passing_goes, passing_ends, adding_fails, fails_first, fails_token, fails_then}
+use Rattle.pq_syntax.proofs.Choices.{entered_passes, entered_fails}
+use Rattle.pq_syntax.proofs.Pairs.{passes_plain, enters_brace, enters_bracket, enters_parenthesis, none_deeper, none_nested}
 use Rattle.pq_syntax.proofs.parser.brackets.+brackets.Goals as goal
 
 pub skip_balanced-returns-in_err-after-clause-fault : goal.skip_balanced-returns-in_err-after-clause-fault

@@ -1,7 +1,7 @@
 use Rattle.std.proofs.Common.{[], length, ◌≤◌, ◌+◌, ◌*◌}
 use Rattle.pq_syntax.specs.Grammar.{nested}
 use Rattle.pq_syntax.specs.Steps.{Adding}
-use Rattle.pq_syntax.proofs.Pairs.{nothing}
+use Rattle.pq_syntax.proofs.Steps.{nothing}
 use Rattle.pq_syntax.proofs.parser.brackets.+brackets.Given as goal
 
 abbrev pub decreases-skip_nested : goal.decreases-skip_nested

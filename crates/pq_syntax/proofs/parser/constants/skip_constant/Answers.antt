@@ -1,6 +1,7 @@
 use Rattle.std.proofs.Common.{refl, sym, ◌∙◌}
 use Rattle.std.proofs.lemmas.Result.{IfOk-weaker, IfErr-weaker, err_from_is_err_and}
-use Rattle.pq_syntax.proofs.Alternatives.{chosen_fails, chosen_reads, token_passes}
+use Rattle.pq_syntax.proofs.Choices.{chosen_fails, chosen_reads}
+use Rattle.pq_syntax.proofs.Steps.{token_passes}
 use Rattle.pq_syntax.proofs.ConstantKinds.{chooses_name, minus_fails, minus_reads, minus_unread, plus_fails, plus_reads, plus_unread, chooses_whole, chooses_real, chooses_strings, chooses_block}
 use Rattle.pq_syntax.proofs.parser.constants.skip_constant.Goals as goal
 

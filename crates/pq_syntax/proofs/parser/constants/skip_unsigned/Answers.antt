@@ -1,6 +1,7 @@
 use Rattle.std.proofs.Common.{refl, sym, ◌∙◌}
 use Rattle.std.proofs.lemmas.Result.{err_from_is_err_and}
-use Rattle.pq_syntax.proofs.Alternatives.{chosen_fails, chosen_reads, token_passes}
+use Rattle.pq_syntax.proofs.Choices.{chosen_fails, chosen_reads}
+use Rattle.pq_syntax.proofs.Steps.{token_passes}
 use Rattle.pq_syntax.proofs.ConstantKinds.{unsigned_whole, unsigned_real, unsigned_not_finite}
 use Rattle.pq_syntax.proofs.parser.constants.skip_unsigned.Goals as goal
 

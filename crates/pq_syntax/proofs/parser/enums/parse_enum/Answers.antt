@@ -1,9 +1,9 @@
 use Rattle.std.proofs.Common.{◌∙◌, suc}
 use Rattle.std.proofs.lemmas.Result.{err_from_is_err_and}
+use Rattle.pq_syntax.specs.Loop.{list_of}
 use Rattle.pq_syntax.specs.Tree.{enum_item_nodes}
 use Rattle.pq_syntax.specs.declared.tree.Statement.TheVariants.{Enum}
-use Rattle.pq_syntax.proofs.Bodies.{body_adds}
-use Rattle.pq_syntax.proofs.BodyItems.{node_there, one_deeper}
+use Rattle.pq_syntax.proofs.Bodies.{body_adds, index_within, one_deeper}
 use Rattle.pq_syntax.proofs.Steps.{fails_first, fails_read, fails_added}
 use Rattle.pq_syntax.proofs.parser.enums.parse_enum.Goals as goal
 
@@ -23,7 +23,7 @@ returns-in_err-rest-2-clause-fault c =
     rw (p.1, p.2) (fails_read c.in_ok-name.ensures.taken (fails_added c.in_ok-rest.ensures.taken c.in_err-rest-2.ensures.fault))
 
 pub set_span-requires : goal.set_span-requires
-set_span-requires c = node_there _ _ _ c.in_ok-name.ensures.taken (c.len-index.ensures ∙ c.args.nodes.now.ok.0) c.in_ok-push_node.ensures c.in_ok-rest.ensures.taken
+set_span-requires c = index_within _ _ _ _ c.in_ok-name.ensures.taken.takes (c.len-index.ensures ∙ c.args.nodes.now.ok.0) c.in_ok-push_node.ensures c.in_ok-rest.ensures.taken
 
 pub returns-clause-taken : goal.returns-clause-taken
-returns-clause-taken c = body_adds c.args.depth (enum_item_nodes (suc c.args.depth)) (λ name. Enum name) _ _ c.in_ok-name.ensures.taken (c.len-index.ensures ∙ c.args.nodes.now.ok.0) c.in_ok-push_node.ensures (one_deeper enum_item_nodes c.args.depth c.in_ok-rest.ensures.taken) c.in_ok-rest-2.ensures.taken c.across.ensures c.set_span.ensures
+returns-clause-taken c = body_adds c.args.depth (enum_item_nodes (suc c.args.depth)) (λ name. Enum name) _ _ c.in_ok-name.ensures.taken (c.len-index.ensures ∙ c.args.nodes.now.ok.0) c.in_ok-push_node.ensures (one_deeper (λ n. list_of (enum_item_nodes n)) c.args.depth c.in_ok-rest.ensures.taken) c.in_ok-rest-2.ensures.taken c.across.ensures c.set_span.ensures

@@ -1,5 +1,5 @@
 use Rattle.std.proofs.lemmas.Result.{err_from_is_err_and}
-use Rattle.pq_syntax.proofs.FieldParts.{entry_taken}
+use Rattle.pq_syntax.proofs.FieldParts.{entry_reads}
 use Rattle.pq_syntax.proofs.Steps.{fails_first, fails_read, fails_token}
 use Rattle.pq_syntax.proofs.parser.fields.parse_entry_types.Goals as goal
 
@@ -29,4 +29,4 @@ returns-in_err-rest-3-clause-fault c =
     rw (p.1, p.2) (fails_token c.in_ok-rest.ensures.taken (fails_read c.in_ok-key.ensures.taken (fails_token c.in_ok-rest-2.ensures.taken (fails_read c.in_ok-value.ensures.taken c.in_err-rest-3.ensures.fault))))
 
 pub returns-clause-taken : goal.returns-clause-taken
-returns-clause-taken c = entry_taken c.in_ok-rest.ensures.taken c.in_ok-key.ensures.taken c.in_ok-rest-2.ensures.taken c.in_ok-value.ensures.taken c.in_ok-rest-3.ensures.taken
+returns-clause-taken c = entry_reads c.in_ok-rest.ensures.taken c.in_ok-key.ensures.taken c.in_ok-rest-2.ensures.taken c.in_ok-value.ensures.taken c.in_ok-rest-3.ensures.taken

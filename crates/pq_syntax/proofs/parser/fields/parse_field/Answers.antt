@@ -1,5 +1,5 @@
 use Rattle.std.proofs.lemmas.Result.{err_from_is_err_and}
-use Rattle.pq_syntax.proofs.FieldParts.{field_taken}
+use Rattle.pq_syntax.proofs.FieldParts.{field_adds}
 use Rattle.pq_syntax.proofs.Steps.{fails_first, fails_read}
 use Rattle.pq_syntax.proofs.parser.fields.parse_field.Goals as goal
 
@@ -14,4 +14,4 @@ returns-in_err-tail-clause-fault c =
     rw (p.1, p.2) (fails_read c.in_ok-type_name.ensures.taken c.in_err-tail.ensures.fault)
 
 pub returns-clause-taken : goal.returns-clause-taken
-returns-clause-taken c = field_taken _ _ c.in_ok-type_name.ensures.taken c.in_ok-tail.ensures.taken c.in_ok-push_node.ensures
+returns-clause-taken c = field_adds _ _ c.in_ok-type_name.ensures.taken c.in_ok-tail.ensures.taken c.in_ok-push_node.ensures

@@ -1,5 +1,5 @@
 use Rattle.std.proofs.lemmas.Result.{err_from_is_err_and}
-use Rattle.pq_syntax.proofs.FieldParts.{labelled_taken}
+use Rattle.pq_syntax.proofs.FieldParts.{labelled_adds}
 use Rattle.pq_syntax.proofs.Steps.{fails_first, fails_read, fails_token}
 use Rattle.pq_syntax.proofs.parser.fields.parse_labelled.Goals as goal
 
@@ -19,4 +19,4 @@ returns-in_err-tail-clause-fault c =
     rw (p.1, p.2) (fails_token c.in_ok-label.ensures.taken (fails_read c.in_ok-type_name.ensures.taken c.in_err-tail.ensures.fault))
 
 pub returns-clause-taken : goal.returns-clause-taken
-returns-clause-taken c = labelled_taken _ _ c.in_ok-label.ensures.taken c.in_ok-type_name.ensures.taken c.in_ok-tail.ensures.taken c.read_label.ensures c.in_ok-push_node.ensures
+returns-clause-taken c = labelled_adds _ _ c.in_ok-label.ensures.taken c.in_ok-type_name.ensures.taken c.in_ok-tail.ensures.taken c.read_label.ensures c.in_ok-push_node.ensures

@@ -1,6 +1,6 @@
 use Rattle.std.proofs.Common.{sym, ◌∙◌}
 use Rattle.std.proofs.lemmas.Result.{err_from_is_err_and}
-use Rattle.pq_syntax.proofs.FieldParts.{map_fails, map_taken, named_map_fails, named_map_taken}
+use Rattle.pq_syntax.proofs.FieldParts.{map_fails, map_adds, named_map_fails, named_map_adds}
 use Rattle.pq_syntax.proofs.Steps.{fails_first, fails_read, fails_then}
 use Rattle.pq_syntax.proofs.parser.fields.parse_mapped.Goals as goal
 
@@ -30,7 +30,7 @@ returns-in_err-tail-2-clause-fault c =
     rw (p.1, p.2) (named_map_fails _ c.in_ok-rest.ensures.taken (sym c.looks_at.ensures ∙ c.if-looks_at.false) (fails_then c.in_ok-rest-2.ensures.taken c.in_err-tail-2.ensures.fault))
 
 pub returns-then-looks_at-clause-taken : goal.returns-then-looks_at-clause-taken
-returns-then-looks_at-clause-taken c = map_taken _ _ c.in_ok-rest.ensures.taken (sym c.looks_at.ensures ∙ c.if-looks_at.true) c.in_ok-key.ensures.taken c.in_ok-tail.ensures.taken c.in_ok-push_node.ensures
+returns-then-looks_at-clause-taken c = map_adds _ _ c.in_ok-rest.ensures.taken (sym c.looks_at.ensures ∙ c.if-looks_at.true) c.in_ok-key.ensures.taken c.in_ok-tail.ensures.taken c.in_ok-push_node.ensures
 
 pub returns-clause-taken : goal.returns-clause-taken
-returns-clause-taken c = named_map_taken _ _ c.in_ok-rest.ensures.taken (sym c.looks_at.ensures ∙ c.if-looks_at.false) c.in_ok-rest-2.ensures.taken c.in_ok-type_name.ensures c.in_ok-tail-2.ensures.taken c.in_ok-push_node-2.ensures
+returns-clause-taken c = named_map_adds _ _ c.in_ok-rest.ensures.taken (sym c.looks_at.ensures ∙ c.if-looks_at.false) c.in_ok-rest-2.ensures.taken c.in_ok-type_name.ensures c.in_ok-tail-2.ensures.taken c.in_ok-push_node-2.ensures

@@ -1,5 +1,5 @@
 use Rattle.std.proofs.lemmas.Result.{err_from_is_err_and}
-use Rattle.pq_syntax.proofs.FieldParts.{tail_taken}
+use Rattle.pq_syntax.proofs.FieldParts.{tail_reads}
 use Rattle.pq_syntax.proofs.Steps.{fails_first, fails_read, fails_token}
 use Rattle.pq_syntax.proofs.parser.fields.parse_tail.Goals as goal
 
@@ -29,4 +29,4 @@ returns-in_err-rest-2-clause-fault c =
     rw (p.1, p.2) (fails_read c.in_ok-name.ensures.taken (fails_token c.in_ok-rest.ensures.taken (fails_token c.in_ok-number.ensures.taken (fails_read c.in_ok-options.ensures.taken c.in_err-rest-2.ensures.fault))))
 
 pub returns-clause-taken : goal.returns-clause-taken
-returns-clause-taken c = tail_taken _ c.in_ok-name.ensures.taken c.in_ok-rest.ensures.taken c.in_ok-number.ensures.taken c.in_ok-options.ensures.taken c.in_ok-rest-2.ensures.taken c.read_number.ensures
+returns-clause-taken c = tail_reads _ c.in_ok-name.ensures.taken c.in_ok-rest.ensures.taken c.in_ok-number.ensures.taken c.in_ok-options.ensures.taken c.in_ok-rest-2.ensures.taken c.read_number.ensures

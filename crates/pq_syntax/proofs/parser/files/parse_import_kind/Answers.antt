@@ -4,7 +4,7 @@ use Rattle.pq_syntax.specs.Tree.{import_kind_of}
 use Rattle.pq_syntax.specs.Words.{same}
 use Rattle.pq_syntax.specs.declared.terminal.Terminal.TheVariants.{ImportKindWord}
 use Rattle.pq_syntax.specs.declared.tree.ImportKind.TheVariants.{Public, Weak}
-use Rattle.pq_syntax.proofs.Spellings.{reads_absent, reads_present}
+use Rattle.pq_syntax.proofs.Steps.{reads_absent, reads_present}
 use Rattle.pq_syntax.proofs.parser.files.parse_import_kind.Goals as goal
 
 pub returns-then-not-looks_at-clause-taken : goal.returns-then-not-looks_at-clause-taken

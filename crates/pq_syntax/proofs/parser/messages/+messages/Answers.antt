@@ -1,10 +1,11 @@
 use Rattle.std.proofs.Common.{◌≡◌, ◌-◌, suc, sym, ◌∙◌, arith}
 use Rattle.std.proofs.lemmas.Result.{err_from_is_err_and}
+use Rattle.pq_syntax.specs.Loop.{list_of}
 use Rattle.pq_syntax.specs.Tree.{item_nodes}
 use Rattle.pq_syntax.specs.declared.tree.Statement.TheVariants.{Message}
-use Rattle.pq_syntax.proofs.Bodies.{body_adds}
-use Rattle.pq_syntax.proofs.MessageItems.{begins_message, items_deeper, other_deeper, other_fault, other_lowest, other_none, other_taken, within_message}
-use Rattle.pq_syntax.proofs.Steps.{adding_begins, adding_fails, adding_goes, adding_stops, none_of, some_of, fails_added, fails_first, fails_read}
+use Rattle.pq_syntax.proofs.Bodies.{body_adds, one_deeper}
+use Rattle.pq_syntax.proofs.MessageItems.{begins_message, other_deeper, other_fault, other_lowest, other_none, other_taken, within_message}
+use Rattle.pq_syntax.proofs.Steps.{adding_begins, adding_fails, adding_goes, adding_stops, fails_added, fails_first, fails_read}
 use Rattle.pq_syntax.proofs.parser.messages.+messages.Goals as goal
 
 pub parse_item-returns-then-levels-eq0-clause-taken : goal.parse_item-returns-then-levels-eq0-clause-taken
@@ -51,16 +52,16 @@ parse_items-returns-in_err-after-clause-fault t c =
     rw (p.1, p.2) (adding_fails c.loop-after.invariant.goes c.in_err-after.ensures.fault)
 
 pub parse_items-loop-after-smaller : goal.parse_items-loop-after-smaller
-parse_items-loop-after-smaller t c = some_of _ _ _ c.in-Some.is c.in_ok-after.ensures.shorter
+parse_items-loop-after-smaller t c = rw c.in-Some.is at c.in_ok-after.ensures.shorter
 
 pub parse_items-loop-after-preserved : goal.parse_items-loop-after-preserved
 parse_items-loop-after-preserved t c = record {
-  goes = adding_goes c.loop-after.invariant.goes (some_of _ _ _ c.in-Some.is c.in_ok-after.ensures.taken);
-  within = let s = some_of _ _ _ c.in-Some.is c.in_ok-after.ensures.shorter in omega (arith, c.loop-after.invariant.within, s);
+  goes = adding_goes c.loop-after.invariant.goes (rw c.in-Some.is at c.in_ok-after.ensures.taken);
+  within = let s = rw c.in-Some.is at c.in_ok-after.ensures.shorter in omega (arith, c.loop-after.invariant.within, s);
 }
 
 pub parse_items-returns-in-None-clause-taken : goal.parse_items-returns-in-None-clause-taken
-parse_items-returns-in-None-clause-taken t c = adding_stops c.loop-after.invariant.goes (none_of _ c.in-None.is c.in_ok-after.ensures.none)
+parse_items-returns-in-None-clause-taken t c = adding_stops c.loop-after.invariant.goes (rw c.in-None.is at c.in_ok-after.ensures.none)
 
 pub parse_items-returns-in-None-clause-within : goal.parse_items-returns-in-None-clause-within
 parse_items-returns-in-None-clause-within t c = c.loop-after.invariant.within
@@ -81,4 +82,4 @@ parse_message-returns-in_err-rest-2-clause-fault t c =
     rw (p.1, p.2) (fails_read c.in_ok-name.ensures.taken (fails_added c.in_ok-rest.ensures.taken c.in_err-rest-2.ensures.fault))
 
 pub parse_message-returns-clause-taken : goal.parse_message-returns-clause-taken
-parse_message-returns-clause-taken t c = body_adds _ (item_nodes _ _) (λ name. Message name) _ _ c.in_ok-name.ensures.taken (c.len-index.ensures ∙ c.args.nodes.now.ok.0) c.in_ok-push_node.ensures (items_deeper _ _ c.in_ok-rest.ensures.taken) c.in_ok-rest-2.ensures.taken c.across.ensures c.set_span.ensures
+parse_message-returns-clause-taken t c = body_adds _ (item_nodes _ _) (λ name. Message name) _ _ c.in_ok-name.ensures.taken (c.len-index.ensures ∙ c.args.nodes.now.ok.0) c.in_ok-push_node.ensures (one_deeper (λ n. list_of (item_nodes c.args.levels n)) c.args.depth c.in_ok-rest.ensures.taken) c.in_ok-rest-2.ensures.taken c.across.ensures c.set_span.ensures

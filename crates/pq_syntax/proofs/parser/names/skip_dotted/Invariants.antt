@@ -1,12 +1,13 @@
-use Rattle.std.proofs.Common.{length, ◌≤◌}
+use Rattle.std.proofs.Common.{[], length, ◌≤◌}
 use Rattle.pq_syntax.specs.Rule.Rule.{One, Then}
+use Rattle.pq_syntax.specs.Steps.{Adding}
 use Rattle.pq_syntax.specs.declared.terminal.Terminal.TheVariants.{Dot, AnyName}
-use Rattle.pq_syntax.proofs.Skipping.{Skipping}
+use Rattle.pq_syntax.proofs.Steps.{nothing}
 use Rattle.pq_syntax.proofs.parser.names.skip_dotted.Given as goal
 
 abbrev pub invariant-loop-rest : goal.invariant-loop-rest
 invariant-loop-rest l = record {
-  goes : Skipping l.text (Then (One Dot) (One AnyName)) l.tokens l.rest;
+  goes : Adding l.text (Then (One Dot) (One AnyName)) nothing l.tokens l.rest [] [];
   within : length l.rest ≤ length l.tokens;
 }
 

@@ -1,6 +1,5 @@
 use Rattle.std.proofs.lemmas.Result.{err_from_is_err_and, IfOk-weaker, IfErr-weaker}
-use Rattle.pq_syntax.proofs.Steps.{fails_first, fails_token}
-use Rattle.pq_syntax.proofs.Skipping.{passes_token}
+use Rattle.pq_syntax.proofs.Steps.{fails_first, fails_token, passes_token}
 use Rattle.pq_syntax.proofs.parser.names.skip_full.Goals as goal
 
 pub returns-in_err-rest-clause-fault : goal.returns-in_err-rest-clause-fault

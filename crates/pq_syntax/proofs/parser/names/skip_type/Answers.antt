@@ -1,6 +1,5 @@
 use Rattle.std.proofs.lemmas.Result.{IfOk-weaker, IfErr-weaker}
-use Rattle.pq_syntax.proofs.Steps.{fails_then}
-use Rattle.pq_syntax.proofs.Skipping.{passes_then}
+use Rattle.pq_syntax.proofs.Steps.{fails_then, passes_then}
 use Rattle.pq_syntax.proofs.parser.names.skip_type.Goals as goal
 
 pub returns-clause-taken : goal.returns-clause-taken

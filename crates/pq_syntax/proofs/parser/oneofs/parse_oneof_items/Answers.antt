@@ -1,7 +1,6 @@
 use Rattle.std.proofs.Common.{arith}
 use Rattle.std.proofs.lemmas.Result.{err_from_is_err_and}
-use Rattle.pq_syntax.proofs.BodyItems.{adding_ended}
-use Rattle.pq_syntax.proofs.Steps.{adding_begins, adding_goes, adding_fails}
+use Rattle.pq_syntax.proofs.Steps.{adding_begins, adding_fails, adding_goes, adding_stops}
 use Rattle.pq_syntax.proofs.parser.oneofs.parse_oneof_items.Goals as goal
 
 pub loop-after-init : goal.loop-after-init
@@ -24,7 +23,7 @@ loop-after-preserved c =
     }
 
 pub returns-clause-taken : goal.returns-clause-taken
-returns-clause-taken c = adding_ended c.loop-after.invariant.goes (rw c.in_default.is at c.in_ok-after.ensures.none)
+returns-clause-taken c = adding_stops c.loop-after.invariant.goes (rw c.in_default.is at c.in_ok-after.ensures.none)
 
 pub returns-clause-within : goal.returns-clause-within
 returns-clause-within c = c.loop-after.invariant.within

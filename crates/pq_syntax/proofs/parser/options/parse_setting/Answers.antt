@@ -1,5 +1,5 @@
 use Rattle.std.proofs.lemmas.Result.{err_from_is_err_and}
-use Rattle.pq_syntax.proofs.OptionParts.{setting_taken}
+use Rattle.pq_syntax.proofs.OptionParts.{setting_reads}
 use Rattle.pq_syntax.proofs.Steps.{fails_first, fails_read, fails_token}
 use Rattle.pq_syntax.proofs.parser.options.parse_setting.Goals as goal
 
@@ -19,4 +19,4 @@ returns-in_err-constant-clause-fault c =
     rw (p.1, p.2) (fails_read c.in_ok-parts.ensures.taken (fails_token c.in_ok-rest.ensures.taken c.in_err-constant.ensures.fault))
 
 pub returns-clause-taken : goal.returns-clause-taken
-returns-clause-taken c = setting_taken _ c.in_ok-parts.ensures.taken c.in_ok-rest.ensures.taken c.in_ok-constant.ensures.taken c.across.ensures
+returns-clause-taken c = setting_reads _ c.in_ok-parts.ensures.taken c.in_ok-rest.ensures.taken c.in_ok-constant.ensures.taken c.across.ensures

@@ -1,7 +1,8 @@
 use Rattle.std.proofs.Common.{◌∙◌}
 use Rattle.std.proofs.lemmas.Result.{err_from_is_err_and}
 use Rattle.pq_syntax.specs.Tree.{method_end_nodes}
-use Rattle.pq_syntax.proofs.Methods.{index_within, method_adds, one_deeper}
+use Rattle.pq_syntax.proofs.Bodies.{index_within, one_deeper}
+use Rattle.pq_syntax.proofs.Methods.{method_adds}
 use Rattle.pq_syntax.proofs.Rules.{takes_then}
 use Rattle.pq_syntax.proofs.Steps.{fails_first, fails_read, fails_token}
 use Rattle.pq_syntax.proofs.parser.services.parse_method.Goals as goal

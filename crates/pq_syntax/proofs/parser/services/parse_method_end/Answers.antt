@@ -1,27 +1,24 @@
 use Rattle.std.proofs.lemmas.Result.{err_from_is_err_and}
-use Rattle.std.proofs.Common.{refl, sym, ◌∙◌, true, false}
-use Rattle.pq_syntax.specs.Grammar.{method_item}
-use Rattle.pq_syntax.specs.Rule.Rule.{Many, One, Then}
-use Rattle.pq_syntax.specs.declared.terminal.Terminal.TheVariants.{CloseBrace, OpenBrace}
-use Rattle.pq_syntax.proofs.Choices.{starts_word}
+use Rattle.std.proofs.Common.{sym, ◌∙◌}
+use Rattle.pq_syntax.proofs.Choices.{by_word, chooses_first, chooses_itself, chooses_past, chosen_fails}
 use Rattle.pq_syntax.proofs.Methods.{ends_braced, ends_plain}
-use Rattle.pq_syntax.proofs.Steps.{fails_added, fails_first, fails_left, fails_right, fails_token}
+use Rattle.pq_syntax.proofs.Steps.{fails_added, fails_first, fails_token}
 use Rattle.pq_syntax.proofs.parser.services.parse_method_end.Goals as goal
 
 pub returns-in_err-rest-clause-fault : goal.returns-in_err-rest-clause-fault
 returns-in_err-rest-clause-fault c =
     let p = err_from_is_err_and c.from_residual.result c.from_residual.ensures.1 in
-    rw (p.1, p.2) (fails_left (starts_word c.args.text.now OpenBrace (Then (Many (method_item c.args.brackets)) (One CloseBrace)) c.args.tokens.now true (sym c.looks_at.ensures ∙ c.if-looks_at.true)) (fails_first c.in_err-rest.ensures.fault))
+    rw (p.1, p.2) (chosen_fails (chooses_first by_word (sym c.looks_at.ensures ∙ c.if-looks_at.true)) (fails_first c.in_err-rest.ensures.fault))
 
 pub returns-in_err-rest-2-clause-fault : goal.returns-in_err-rest-2-clause-fault
 returns-in_err-rest-2-clause-fault c =
     let p = err_from_is_err_and c.from_residual-in_err-rest-2.result c.from_residual-in_err-rest-2.ensures.1 in
-    rw (p.1, p.2) (fails_left (starts_word c.args.text.now OpenBrace (Then (Many (method_item c.args.brackets)) (One CloseBrace)) c.args.tokens.now true (sym c.looks_at.ensures ∙ c.if-looks_at.true)) (fails_token c.in_ok-rest.ensures.taken (fails_first c.in_err-rest-2.ensures.fault)))
+    rw (p.1, p.2) (chosen_fails (chooses_first by_word (sym c.looks_at.ensures ∙ c.if-looks_at.true)) (fails_token c.in_ok-rest.ensures.taken (fails_first c.in_err-rest-2.ensures.fault)))
 
 pub returns-in_err-rest-3-clause-fault : goal.returns-in_err-rest-3-clause-fault
 returns-in_err-rest-3-clause-fault c =
     let p = err_from_is_err_and c.from_residual-in_err-rest-3.result c.from_residual-in_err-rest-3.ensures.1 in
-    rw (p.1, p.2) (fails_left (starts_word c.args.text.now OpenBrace (Then (Many (method_item c.args.brackets)) (One CloseBrace)) c.args.tokens.now true (sym c.looks_at.ensures ∙ c.if-looks_at.true)) (fails_token c.in_ok-rest.ensures.taken (fails_added c.in_ok-rest-2.ensures.taken c.in_err-rest-3.ensures.fault)))
+    rw (p.1, p.2) (chosen_fails (chooses_first by_word (sym c.looks_at.ensures ∙ c.if-looks_at.true)) (fails_token c.in_ok-rest.ensures.taken (fails_added c.in_ok-rest-2.ensures.taken c.in_err-rest-3.ensures.fault)))
 
 pub returns-then-looks_at-clause-taken : goal.returns-then-looks_at-clause-taken
 returns-then-looks_at-clause-taken c = ends_braced _ _ (sym c.looks_at.ensures ∙ c.if-looks_at.true) c.in_ok-rest.ensures.taken c.in_ok-rest-2.ensures.taken c.in_ok-rest-3.ensures.taken
@@ -29,7 +26,7 @@ returns-then-looks_at-clause-taken c = ends_braced _ _ (sym c.looks_at.ensures �
 pub returns-in_err-rest-4-clause-fault : goal.returns-in_err-rest-4-clause-fault
 returns-in_err-rest-4-clause-fault c =
     let p = err_from_is_err_and c.from_residual-in_err-rest-4.result c.from_residual-in_err-rest-4.ensures.1 in
-    rw (p.1, p.2) (fails_right (starts_word c.args.text.now OpenBrace (Then (Many (method_item c.args.brackets)) (One CloseBrace)) c.args.tokens.now false (sym c.looks_at.ensures ∙ c.if-looks_at.false)) refl c.in_err-rest-4.ensures.fault)
+    rw (p.1, p.2) (chosen_fails (chooses_past by_word (sym c.looks_at.ensures ∙ c.if-looks_at.false) chooses_itself) c.in_err-rest-4.ensures.fault)
 
 pub returns-clause-taken : goal.returns-clause-taken
 returns-clause-taken c = ends_plain _ _ (sym c.looks_at.ensures ∙ c.if-looks_at.false) c.in_ok-rest-4.ensures.taken

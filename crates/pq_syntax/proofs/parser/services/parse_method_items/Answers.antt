@@ -1,6 +1,6 @@
 use Rattle.std.proofs.Common.{arith}
 use Rattle.std.proofs.lemmas.Result.{err_from_is_err_and}
-use Rattle.pq_syntax.proofs.Steps.{adding_begins, adding_fails, adding_goes, adding_stops, none_of, some_of}
+use Rattle.pq_syntax.proofs.Steps.{adding_begins, adding_fails, adding_goes, adding_stops}
 use Rattle.pq_syntax.proofs.parser.services.parse_method_items.Goals as goal
 
 pub loop-after-init : goal.loop-after-init
@@ -12,16 +12,16 @@ returns-in_err-after-clause-fault c =
     rw (p.1, p.2) (adding_fails c.loop-after.invariant.goes c.in_err-after.ensures.fault)
 
 pub loop-after-smaller : goal.loop-after-smaller
-loop-after-smaller c = some_of _ _ _ c.in-Some.is c.in_ok-after.ensures.shorter
+loop-after-smaller c = rw c.in-Some.is at c.in_ok-after.ensures.shorter
 
 pub loop-after-preserved : goal.loop-after-preserved
 loop-after-preserved c = record {
-  goes = adding_goes c.loop-after.invariant.goes (some_of _ _ _ c.in-Some.is c.in_ok-after.ensures.taken);
-  within = let s = some_of _ _ _ c.in-Some.is c.in_ok-after.ensures.shorter in omega (arith, c.loop-after.invariant.within, s);
+  goes = adding_goes c.loop-after.invariant.goes (rw c.in-Some.is at c.in_ok-after.ensures.taken);
+  within = let s = rw c.in-Some.is at c.in_ok-after.ensures.shorter in omega (arith, c.loop-after.invariant.within, s);
 }
 
 pub returns-in-None-clause-taken : goal.returns-in-None-clause-taken
-returns-in-None-clause-taken c = adding_stops c.loop-after.invariant.goes (none_of _ c.in-None.is c.in_ok-after.ensures.none)
+returns-in-None-clause-taken c = adding_stops c.loop-after.invariant.goes (rw c.in-None.is at c.in_ok-after.ensures.none)
 
 pub returns-in-None-clause-within : goal.returns-in-None-clause-within
 returns-in-None-clause-within c = c.loop-after.invariant.within

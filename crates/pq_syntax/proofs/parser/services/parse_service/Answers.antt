@@ -3,8 +3,7 @@ use Rattle.std.proofs.lemmas.Result.{err_from_is_err_and}
 use Rattle.pq_syntax.specs.Loop.{list_of}
 use Rattle.pq_syntax.specs.Tree.{service_item_nodes}
 use Rattle.pq_syntax.specs.declared.tree.Statement.TheVariants.{Service}
-use Rattle.pq_syntax.proofs.Bodies.{body_adds}
-use Rattle.pq_syntax.proofs.Methods.{one_deeper}
+use Rattle.pq_syntax.proofs.Bodies.{body_adds, one_deeper}
 use Rattle.pq_syntax.proofs.Steps.{fails_added, fails_first, fails_read}
 use Rattle.pq_syntax.proofs.parser.services.parse_service.Goals as goal
 
