@@ -3,35 +3,38 @@
 
 The program of each part is a few lines of Rattle in a text file beside this script. It is put into a scratch
 repository with a copy of the crates that it stands on, proved and built there by `rt`, and run on texts that this
-script makes, at n and at 2n bytes. Each run is made with k and with 3k rounds; the difference is the time of 2k rounds
-without the process's start. Printed are MB/s at 2n and the ratio of the times at n and 2n: 2 is linear, 2.2 the most.
+script makes, at n and at 2n bytes. Each run is made with k and with 3k rounds; the difference is the processor's time
+of 2k rounds without the process's start. Printed are MB/s at 2n and the ratio of the times at n and 2n: 2 is linear,
+2.2 the most. Lexing is measured beside parsing, which contains it.
 
-usage: bench/parts.py [lexing ..] [--runs N]
+usage: bench/parts.py [lexing parsing ..] [--runs N]
 """
 import argparse
 import os
+import resource
 import shutil
 import subprocess
 import sys
 import tempfile
-import time
 
+import files
 import sessions
 
 HERE = os.path.dirname(os.path.abspath(__file__))
 CRATES = os.path.join(HERE, "..", "crates")
-PARTS = {"lexing": ["pq_lex"]}
+PARTS = {"lexing": ["pq_lex"], "parsing": ["pq_lex", "pq_syntax"]}
 
 
 def built(folder, part):
     """The program of a part, built in the folder."""
+    os.makedirs(folder, exist_ok=True)
     with open(os.path.join(folder, "crates.txt"), "w") as lines:
         for crate in PARTS[part]:
             shutil.copytree(os.path.join(CRATES, crate), os.path.join(folder, "crates", crate), symlinks=True)
             for line in open(os.path.join(HERE, "..", "crates.txt")):
                 if line.startswith(crate + ":"):
                     lines.write(line)
-        lines.write("%s: %s\n" % (part, " ".join(PARTS[part])))
+        lines.write("%s: %s\n" % (part, PARTS[part][-1]))
     source = os.path.join(folder, "crates", part, "src")
     os.makedirs(source)
     shutil.copy(os.path.join(HERE, part + ".rt.txt"), os.path.join(source, "main.rt"))
@@ -43,11 +46,19 @@ def built(folder, part):
     return program
 
 
+def processor_time(words, source=None, status=0, said=b""):
+    """The processor's time of one process, the system's part included. Its output has to end so."""
+    before = resource.getrusage(resource.RUSAGE_CHILDREN)
+    done = subprocess.run(words, stdin=source or subprocess.DEVNULL, capture_output=True)
+    after = resource.getrusage(resource.RUSAGE_CHILDREN)
+    if done.returncode != status or not done.stdout.endswith(said):
+        sys.exit("%s ended with status %d: %s" % (" ".join(words)[:200], done.returncode, (done.stdout + done.stderr).decode()[:400]))
+    return after.ru_utime + after.ru_stime - before.ru_utime - before.ru_stime
+
+
 def seconds(program, path, rounds):
     with open(path, "rb") as source:
-        start = time.perf_counter()
-        subprocess.run([program, str(rounds)], stdin=source, stdout=subprocess.DEVNULL, check=True)
-        return time.perf_counter() - start
+        return processor_time([program, str(rounds)], source)
 
 
 def round_times(program, paths, runs):
@@ -59,25 +70,18 @@ def round_times(program, paths, runs):
     return [(best[2 * i + 1] - best[2 * i]) / (2 * many) for i, many in enumerate(rounds)]
 
 
-def texts(size):
-    """Texts of about `size` bytes, by title."""
-    plain = sessions.proto_text(size)
-    commented = plain.replace("{\n", "{\n  // What the fields below are for, in a line of words.\n", size // 300)[:size]
-    return [("messages of scalar fields", plain), ("the same with comments", commented.rsplit("\n", 1)[0] + "\n")]
-
-
 def main():
     words = argparse.ArgumentParser()
     words.add_argument("parts", nargs="*", default=sorted(PARTS))
     words.add_argument("--runs", type=int, default=9)
+    words.add_argument("--program", action="append", default=[], metavar="PART=PATH", help="a program built before")
     words = words.parse_args()
+    ready = dict(pair.split("=", 1) for pair in words.program)
     worst = 0.0
     with tempfile.TemporaryDirectory() as folder:
         for part in words.parts:
-            home = os.path.join(folder, part)
-            os.makedirs(home)
-            program = built(home, part)
-            small, large = texts(500_000), texts(1_000_000)
+            program = ready.get(part) or built(os.path.join(folder, part), part)
+            small, large = files.texts(500_000), files.texts(1_000_000)
             for (title, one), (_, two) in zip(small, large):
                 paths = []
                 for text in (one, two):
@@ -85,7 +89,7 @@ def main():
                     with open(paths[-1], "w") as sink:
                         sink.write(text)
                 times = round_times(program, paths, words.runs)
-                ratio = times[1] / times[0]
+                ratio = times[1] / times[0] * len(one) * 2 / len(two)
                 worst = max(worst, ratio)
                 print("%-8s %-28s %8.1f MB/s   ratio %.2f" % (part, title, len(two) / times[1] / 1e6, ratio), flush=True)
     print("largest ratio %.2f, wanted at most %.1f" % (worst, sessions.MOST))
