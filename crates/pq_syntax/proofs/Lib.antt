@@ -5,6 +5,7 @@ pub mod Deeper
 pub mod OnePlace
 pub mod Decided
 pub mod Apart
+pub mod Equality
 pub mod Clearness
 pub mod Meaning
 pub mod Runs
@@ -12,8 +13,10 @@ pub mod Rules
 pub mod Loops
 pub mod Steps
 pub mod Choices
+pub mod TypeFirst
 pub mod Separated
 pub mod Taken
+pub mod Spelling
 pub mod Bodies
 pub mod Pairs
 pub mod ConstantKinds

@@ -1,3 +1,4 @@
+pub mod Bytes
 pub mod Rule
 pub mod Machine
 pub mod Clear
@@ -11,5 +12,6 @@ pub mod Parts
 pub mod Tree
 pub mod Steps
 pub mod Reading
+pub mod Equal
 pub mod FaultPlace
 pub mod Parsed

@@ -1,7 +1,8 @@
 //! What holds of trees and fault places.
 
-ghost use Rattle.std.specs.Prelude.{◌≡◌, List, ℕ};
+ghost use Rattle.std.specs.Prelude.{◌≡◌, List, ℕ, true};
 ghost use Rattle.pq_lex.specs.declared.token.Span.{Span};
+ghost use Rattle.pq_syntax.specs.Equal.{same_nodes};
 ghost use Rattle.pq_syntax.specs.FaultPlace.{FaultStands, IsTree};
 ghost use Rattle.pq_syntax.specs.declared.fault.Code.{Code};
 ghost use Rattle.pq_syntax.specs.declared.tree.Node.{Node};
@@ -24,3 +25,9 @@ pub fn one_fault()
     one_lexing();
     each_text();
 }
+
+/// Equality of trees, also where a bound asks for it, holds exactly of those that contracts see as the same.
+pub fn equal_trees()
+    ensures equal_are_same { (a b : List Node) → same_nodes a b ≡ true → a ≡ b }
+    ensures same_are_equal { (a b : List Node) → a ≡ b → same_nodes a b ≡ true }
+{}

@@ -14,7 +14,7 @@ mod tree;
 
 pub use answer::parse;
 pub use fault::{Code, Parsed};
-pub use laws::{one_fault, one_tree};
+pub use laws::{equal_trees, one_fault, one_tree};
 pub use parts::{
     Constant, ConstantKind, Items, MethodType, Name, NamePart, Number, Range, RangeEnd, Setting,
     Strings, Text,

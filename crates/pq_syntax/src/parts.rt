@@ -2,39 +2,71 @@
 
 ghost use Rattle.std.proofs.Common.{rules};
 ghost use Rattle.std.specs.Cmp.Rules.{comparing};
-ghost use Rattle.std.specs.Prelude.{◌≡◌, string_bytes};
+ghost use Rattle.std.specs.Prelude.{◌≡◌, string_bytes, IfOk};
 ghost use Rattle.std.specs.Cmp.Lexicographic.{pointwise, lists_per, lists_equiv};
 ghost use Rattle.std.specs.Str.{bytes_eq};
 
+use crate::Memory;
+use arrayvec::ArrayString;
 use pq_lex::Span;
+use std::alloc::Global;
 use std::marker::Model;
+
+/// So many bytes of a text lie in the value itself: most names are no longer, and take no allocation.
+const INLINE: usize = 24;
+
+/// Where the bytes of a text are.
+#[derive(Debug, Drop)]
+enum Bytes {
+    Inline(ArrayString<INLINE>),
+    Allocated(String),
+}
 
 /// A text of a tree. Contracts see its bytes, so that two texts are the same exactly where they compare as equal.
 #[derive(Debug, Drop)]
 pub struct Text {
-    text: String,
+    bytes: Bytes,
 }
 
 impl Model for Text {
-    ghost use Rattle.std.specs.Prelude.{List, ℕ, string_bytes};
+    ghost use Rattle.std.specs.Prelude.{List, ℕ};
+    ghost use Rattle.pq_syntax.specs.Bytes.{bytes_of};
 
     ghost Value = { List ℕ };
 
-    ghost view = { λ t. string_bytes t.text };
+    ghost view = { λ t. bytes_of t.bytes };
 }
 
 impl Text {
+    /// The text of a string, which it keeps.
     pub(crate) fn new(text: String) -> Text
         ensures { result ≡ string_bytes text }
     {
-        Text { text }
+        Text {
+            bytes: Bytes::Allocated(text),
+        }
+    }
+
+    /// A copy of the text.
+    pub(crate) fn copied(alloc: Global, text: &str) -> Result<Text, Memory>
+        ensures { IfOk result (λ t. t ≡ text.now) }
+    {
+        match ArrayString::from(text) {
+            Ok(bytes) => Ok(Text {
+                bytes: Bytes::Inline(bytes),
+            }),
+            Err(_) => Ok(Text::new(String::from_str(alloc, text)?)),
+        }
     }
 
     /// The text.
     pub fn as_str(&self) -> &str
         ensures { result.now ≡ self.now }
     {
-        self.text.as_str()
+        match &self.bytes {
+            Bytes::Inline(bytes) => bytes.as_str(),
+            Bytes::Allocated(text) => text.as_str(),
+        }
     }
 }
 

@@ -70,6 +70,7 @@ pub enum Terminal {
 }
 
 /// The bytes of the span, or none where it does not lie in the text.
+#[inline(always)]
 pub fn spelling(text: &str, span: Span) -> &[u8]
     ensures { result.now ≡ spelling text.now span }
 {
@@ -82,6 +83,7 @@ pub fn spelling(text: &str, span: Span) -> &[u8]
 }
 
 /// Whether the two spellings are the same.
+#[inline(always)]
 pub fn same(left: &[u8], right: &[u8]) -> bool
     ensures { result ≡ same left.now right.now }
 {
@@ -118,19 +120,24 @@ fn is_symbol(kind: Kind) -> bool
     matches!(kind, Kind::Symbol)
 }
 
+/// The first byte tells most names apart from the keywords at once.
 fn is_message_word(spelled: &[u8]) -> bool
     ensures { result ≡ among spelled.now message_words }
 {
-    same(spelled, b"message")
-        || same(spelled, b"enum")
-        || same(spelled, b"extend")
-        || same(spelled, b"option")
-        || same(spelled, b"oneof")
-        || same(spelled, b"reserved")
-        || same(spelled, b"optional")
-        || same(spelled, b"repeated")
-        || same(spelled, b"required")
-        || same(spelled, b"map")
+    if spelled.is_empty() {
+        return false;
+    }
+    match spelled[0] {
+        b'm' => same(spelled, b"message") || same(spelled, b"map"),
+        b'e' => same(spelled, b"enum") || same(spelled, b"extend"),
+        b'o' => {
+            same(spelled, b"option") || same(spelled, b"oneof") || same(spelled, b"optional")
+        }
+        b'r' => {
+            same(spelled, b"reserved") || same(spelled, b"repeated") || same(spelled, b"required")
+        }
+        _ => false,
+    }
 }
 
 fn is_oneof_word(spelled: &[u8]) -> bool
@@ -177,6 +184,7 @@ fn is_bracket(spelled: &[u8]) -> bool
 }
 
 /// Whether the token is of the terminal; of the version `is_version` tells.
+#[inline(always)]
 pub fn accepts(text: &str, token: Token, terminal: Terminal) -> bool
     requires { is_version terminal ≡ false }
     ensures { result ≡ accepts terminal (word text.now token) }

@@ -12,6 +12,8 @@ mod trees;
 use crate::{Code, Memory, Parsed, parse};
 use pq_lex::Span;
 use std::alloc::Global;
+use std::process::Abort;
+use std::test::Fail;
 
 /// Where the fault of the text stands and which it is, or `None` where the text has a tree.
 fn fault(alloc: Global, text: &str) -> Result<Option<(usize, usize, Code)>, Memory> {
@@ -58,4 +60,26 @@ fn outcome(alloc: Global, tokens: &str, changed: usize, other: &str) -> Result<S
         }
         Some((start, end, code)) => format!(in alloc; "{code:?} {start}-{end}"),
     }
+}
+
+/// Holds the text that was found against the one that is wanted for the row.
+fn text_is(rt: &impl Abort, found: &str, want: &str, row: &str) {
+    assert_eq!(rt; found, want, "{row}");
+}
+
+/// The text has a tree; the row says which text it is.
+fn no_fault(rt: &(impl Abort + AllocGlobal), text: &str, row: &str) -> Result<(), Fail> {
+    let found = fault(rt.alloc(), text)?;
+    assert_eq!(rt; found, None, "{row} in {text}");
+    Ok(())
+}
+
+/// The table has so many rows. It is one text with a line for each: an array of rows takes far longer to prove.
+fn rows_are(rt: &impl Abort, count: usize, rows: &str) {
+    assert_eq!(rt; rows.lines().count(), count, "{rows}");
+}
+
+/// What stands before and behind the first separator of the row, which has to have one.
+fn columns<'a>(rt: &impl Abort, row: &'a str, separator: &str) -> (&'a str, &'a str) {
+    row.split_once(separator).expect(rt, row)
 }

@@ -30,6 +30,7 @@ pub struct Tail {
 }
 
 /// `ident "=" integer [ opts ] ";"`
+#[inline(always)]
 fn parse_tail<'a>(
     alloc: Global,
     text: &str,

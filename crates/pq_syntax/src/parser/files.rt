@@ -159,6 +159,9 @@ fn parse_file_items<'a>(
     }
 }
 
+/// Most statements have so many tokens or more, so that the list of the nodes seldom grows.
+const TOKENS_OF_A_STATEMENT: usize = 4;
+
 /// The statements of a file in text order, where its tokens are a sentence of the grammar in which brackets pair up so many
 /// levels deep within the outermost, and messages stand so many levels deep within the outermost.
 pub fn parse_file(
@@ -173,7 +176,7 @@ pub fn parse_file(
     ensures fault { IfErr result (λ e. IfFault e (λ n. reading brackets levels text.now tokens.now ≡ Err n)) }
 {
     let rest = parse_syntax(alloc, text, tokens)?;
-    let mut nodes = Vec::new(alloc);
+    let mut nodes = Vec::with_capacity(alloc, tokens.len() / TOKENS_OF_A_STATEMENT)?;
     let rest = parse_file_items(alloc, text, rest, brackets, levels, &mut nodes)?;
     if rest.is_empty() {
         Ok(nodes)

@@ -58,6 +58,12 @@ fn parse_statement<'a>(
     ensures none { IfOk result (λ found. IfNone found (Ends text.now (statement brackets) tokens.now nodes.old.items nodes.new.items)) }
     ensures fault { IfErr result (λ e. FailsWithin text.now (statement brackets) tokens.now e) }
 {
+    // most statements are fields, and no other statement begins as one
+    if looks_at_type(text, tokens, Terminal::FieldTypeName) {
+        let field = Terminal::FieldTypeName;
+        let rest = parse_field(alloc, text, tokens, brackets, field, depth, nodes)?;
+        return Ok(Some(rest));
+    }
     if looks_at(text, tokens, Terminal::EnumWord) {
         let rest = parse_enum(alloc, text, tokens, brackets, depth, nodes)?;
         return Ok(Some(rest));
@@ -88,11 +94,6 @@ fn parse_statement<'a>(
     }
     if looks_at(text, tokens, Terminal::Semicolon) {
         let (_, rest) = expect(text, tokens, Terminal::Semicolon)?;
-        return Ok(Some(rest));
-    }
-    if looks_at_type(text, tokens, Terminal::FieldTypeName) {
-        let field = Terminal::FieldTypeName;
-        let rest = parse_field(alloc, text, tokens, brackets, field, depth, nodes)?;
         return Ok(Some(rest));
     }
     Ok(None)

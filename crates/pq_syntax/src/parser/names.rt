@@ -113,6 +113,7 @@ pub fn parse_type<'a>(
 }
 
 /// The same, where without a dot the first name is of the terminal.
+#[inline(always)]
 pub fn parse_type_from<'a>(
     alloc: Global,
     text: &str,

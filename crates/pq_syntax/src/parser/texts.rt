@@ -64,6 +64,18 @@ fn spaced(alloc: Global, text: &str, tokens: &[Token]) -> Result<Vec<u8>, Memory
     Ok(bytes)
 }
 
+/// One token as written. A span between characters needs no look at its bytes.
+fn read_spelling(alloc: Global, text: &str, span: Span) -> Result<Text, Memory>
+    ensures { IfOk result (λ t. t ≡ utf8_lossy (spelling text.now span)) }
+{
+    let start = span.start;
+    let end = span.end;
+    if start <= end && text.is_char_boundary(start) && text.is_char_boundary(end) {
+        return Text::copied(alloc, &text[start..end]);
+    }
+    Ok(Text::new(String::from_utf8_lossy(alloc, spelling(text, span))?))
+}
+
 /// The tokens taken as written, with nothing between them.
 pub fn read_joined(
     alloc: Global,
@@ -75,7 +87,7 @@ pub fn read_joined(
 {
     let taken = taken(tokens, rest);
     if taken.len() == 1 {
-        return Ok(Text::new(String::from_utf8_lossy(alloc, spelling(text, taken[0].span))?));
+        return read_spelling(alloc, text, taken[0].span);
     }
     let bytes = joined(alloc, text, taken)?;
     Ok(Text::new(String::from_utf8_lossy(alloc, bytes.as_slice())?))

@@ -15,6 +15,7 @@ use pq_lex::Token;
 use std::alloc::Global;
 
 /// Whether the first token, if there is one, is of the terminal.
+#[inline(always)]
 pub fn looks_at(text: &str, tokens: &[Token], terminal: Terminal) -> bool
     requires { is_version terminal ≡ false }
     ensures { result ≡ starts_at accepts (One terminal) (words text.now tokens.now) }
@@ -27,6 +28,7 @@ pub fn looks_at(text: &str, tokens: &[Token], terminal: Terminal) -> bool
 }
 
 /// Takes a token of the terminal.
+#[inline(always)]
 pub fn expect<'a>(
     text: &str,
     tokens: &'a [Token],
@@ -45,6 +47,7 @@ pub fn expect<'a>(
 }
 
 /// Takes a token of the terminal where one stands there.
+#[inline(always)]
 pub fn skip_if<'a>(text: &str, tokens: &'a [Token], terminal: Terminal) -> &'a [Token]
     requires { is_version terminal ≡ false }
     ensures taken { Passes text.now (opt (One terminal)) tokens.now result.now }
@@ -58,6 +61,7 @@ pub fn skip_if<'a>(text: &str, tokens: &'a [Token], terminal: Terminal) -> &'a [
 }
 
 /// Whether a type begins there that does not begin by a keyword of its place.
+#[inline(always)]
 pub fn looks_at_type(text: &str, tokens: &[Token], terminal: Terminal) -> bool
     requires { is_version terminal ≡ false }
     ensures { result ≡ starts_at accepts (type_from terminal) (words text.now tokens.now) }

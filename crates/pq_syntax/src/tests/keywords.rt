@@ -1,66 +1,56 @@
 //! Keywords where names may stand: there they are names like any other.
 
 use super::shown::shown;
+use super::text_is;
 use crate::Memory;
 use std::alloc::Global;
+use std::process::Abort;
 use std::test::Fail;
 
 /// A text with the word wherever the grammar lets any name stand.
-fn with_word(alloc: Global, w: &str) -> Result<String, Memory> {
-    let file = format!(in alloc;
-        "syntax='proto3';package {w}.{w};option {w}.({w}.{w}).(.{w})={w}.{w};extend .{w}.{w}{{}}extend {w}{{}}"
-    )?;
-    let fields = format!(in alloc;
-        "optional {w} {w}=1[{w}={w}];repeated {w}.{w} {w}=2;.{w} {w}=3;map<string,{w}>{w}=4;map.{w} {w}=5;"
-    )?;
-    let oneof = format!(in alloc; "oneof {w}{{option {w}={w};.{w} {w}=1[{w}={w}];}}")?;
-    let lists = format!(in alloc;
-        "enum {w}{{A=0[{w}={w}];}}service {w}{{rpc {w}(.{w})returns(stream {w});rpc {w}(a.{w})returns(stream.{w});}}"
-    )?;
-    format!(in alloc; "{file}message {w}{{extend {w}{{}}{fields}{oneof}message {w}{{}}}}{lists}")
+fn with_word(alloc: Global, word: &str) -> Result<String, Memory> {
+    "syntax='proto3';package @.@;option @.(@.@).(.@)=@.@;extend .@.@{}extend @{}\
+     message @{extend @{}\
+     optional @ @=1[@=@];repeated @.@ @=2;.@ @=3;map<string,@>@=4;map.@ @=5;\
+     oneof @{option @=@;.@ @=1[@=@];}message @{}}\
+     enum @{A=0[@=@];}service @{rpc @(.@)returns(stream @);rpc @(a.@)returns(stream.@);}"
+        .replace(alloc, "@", word)
+}
+
+/// The lines of that text.
+fn shown_with_word(alloc: Global, word: &str) -> Result<String, Memory> {
+    let text = with_word(alloc, word)?;
+    shown(alloc, text.as_str())
+}
+
+/// The word is read wherever any name may stand, just as a plain name of its length.
+fn is_a_name(rt: &(impl Abort + AllocGlobal), word: &str) -> Result<(), Fail> {
+    let alloc = rt.alloc();
+    let plain = "q".repeat(alloc, word.len())?;
+    let tree = shown_with_word(alloc, plain.as_str())?;
+    assert!(rt; tree.as_str().starts_with("0 16-"), "{tree}");
+    let want = tree.as_str().replace(alloc, plain.as_str(), word)?;
+    let read = shown_with_word(alloc, word)?;
+    text_is(rt, read.as_str(), want.as_str(), word);
+    Ok(())
+}
+
+/// Each of the `count` words is a name.
+fn are_names(rt: &(impl Abort + AllocGlobal), count: usize, words: &str) -> Result<(), Fail> {
+    assert_eq!(rt; words.split_whitespace().count(), count);
+    for word in words.split_whitespace() {
+        is_a_name(rt, word)?;
+    }
+    Ok(())
 }
 
 #[test]
 fn names_like_any_other(rt: HostRuntime) -> Result<(), Fail> {
-    for word in [
-        "syntax",
-        "import",
-        "weak",
-        "public",
-        "package",
-        "option",
-        "message",
-        "enum",
-        "service",
-        "rpc",
-        "returns",
-        "stream",
-        "oneof",
-        "map",
-        "reserved",
-        "extend",
-        "to",
-        "max",
-        "optional",
-        "repeated",
-        "required",
-        "inf",
-        "nan",
-        "true",
-        "group",
-        "extensions",
-        "int32",
-        "string",
-        "proto3",
-    ] {
-        let plain = "q".repeat(rt.alloc(), word.len())?;
-        let text = with_word(rt.alloc(), plain.as_str())?;
-        let tree = shown(rt.alloc(), text.as_str())?;
-        assert!(rt; tree.as_str().starts_with("0 16-"), "{tree}");
-        let want = tree.as_str().replace(rt.alloc(), plain.as_str(), word)?;
-        let text = with_word(rt.alloc(), word)?;
-        let read = shown(rt.alloc(), text.as_str())?;
-        assert_eq!(rt; read.as_str(), want.as_str(), "{word}");
-    }
-    Ok(())
+    are_names(
+        &rt,
+        29,
+        "syntax import weak public package option message enum service rpc returns stream oneof map \
+         reserved extend to max optional repeated required inf nan true group extensions int32 \
+         string proto3",
+    )
 }

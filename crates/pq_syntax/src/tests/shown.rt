@@ -1,11 +1,14 @@
 //! A tree as lines of text, with each span.
 
+use super::text_is;
 use crate::{
     Constant, ConstantKind, ImportKind, Label, Memory, MethodType, Name, Node, Number, Parsed,
     Range, RangeEnd, Setting, Statement, Strings, parse,
 };
 use pq_lex::Span;
 use std::alloc::Global;
+use std::process::Abort;
+use std::test::Fail;
 
 fn place(alloc: Global, span: Span) -> Result<String, Memory> {
     format!(in alloc; "{}-{}", span.start, span.end)
@@ -229,4 +232,15 @@ pub(super) fn shown(alloc: Global, text: &str) -> Result<String, Memory> {
         }
     }
     Ok(all)
+}
+
+/// The tree of the text has just these lines.
+pub(super) fn reads_as(
+    rt: &(impl Abort + AllocGlobal),
+    text: &str,
+    want: &str,
+) -> Result<(), Fail> {
+    let read = shown(rt.alloc(), text)?;
+    text_is(rt, read.as_str(), want, text);
+    Ok(())
 }
