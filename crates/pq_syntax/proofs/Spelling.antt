@@ -1,5 +1,5 @@
 -- A token whose span is cut between characters is told as it is written.
-use Rattle.std.proofs.Common.{◌≡◌, ℕ, List, ◌≤◌, length, sym, ◌∙◌}
+use Rattle.std.proofs.Common.{◌≡◌, ℕ, List, ◌≤◌, length, sym}
 use Rattle.std.specs.Prelude.{slice_range}
 use Rattle.std.specs.Str.{IsUtf8}
 use Rattle.std.specs.Str.Lossy.{utf8_lossy}

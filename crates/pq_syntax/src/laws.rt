@@ -2,7 +2,7 @@
 
 ghost use Rattle.std.specs.Prelude.{◌≡◌, List, ℕ, true};
 ghost use Rattle.pq_lex.specs.declared.token.Span.{Span};
-ghost use Rattle.pq_syntax.specs.Equal.{same_nodes};
+ghost use Rattle.pq_syntax.specs.Equal.{same_trees};
 ghost use Rattle.pq_syntax.specs.FaultPlace.{FaultStands, IsTree};
 ghost use Rattle.pq_syntax.specs.declared.fault.Code.{Code};
 ghost use Rattle.pq_syntax.specs.declared.tree.Node.{Node};
@@ -28,6 +28,6 @@ pub fn one_fault()
 
 /// Equality of trees, also where a bound asks for it, holds exactly of those that contracts see as the same.
 pub fn equal_trees()
-    ensures equal_are_same { (a b : List Node) → same_nodes a b ≡ true → a ≡ b }
-    ensures same_are_equal { (a b : List Node) → a ≡ b → same_nodes a b ≡ true }
+    ensures equal_are_same { (a b : List Node) → same_trees a b ≡ true → a ≡ b }
+    ensures same_are_equal { (a b : List Node) → a ≡ b → same_trees a b ≡ true }
 {}
