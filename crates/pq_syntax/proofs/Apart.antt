@@ -114,7 +114,13 @@ kind_is (Valued v) w n h = at_text w.kind (first _ _ h)
 kind_is (Sign c) w n h = at_symbol w.kind (first _ _ h)
 kind_is NoBracket w n h = absurd (n refl)
 
-differ : (c d : Class) (w : Word) → (c ≡ NoBracket → ⊥) → (d ≡ NoBracket → ⊥) → (kind_of c ≡ kind_of d → ⊥) → accepts_class c w ≡ true → accepts_class d w ≡ true → ⊥
+differ : (c d : Class) (w : Word)
+    → (c ≡ NoBracket → ⊥)
+    → (d ≡ NoBracket → ⊥)
+    → (kind_of c ≡ kind_of d → ⊥)
+    → accepts_class c w ≡ true
+    → accepts_class d w ≡ true
+    → ⊥
 differ c d w p q n e f = n (sym (kind_is c w p e) ∙ kind_is d w q f)
 
 -- no word is of both classes: by their spellings, or by their kinds
@@ -135,9 +141,12 @@ apart_classes (OneOf as') (OneOf bs) = none_in as' bs
 apart_classes c d = not (number (kind_of c) == number (kind_of d))
 
 apart_classes_sound : (c d : Class) (w : Word) → apart_classes c d ≡ true → accepts_class c w ≡ true → accepts_class d w ≡ true → ⊥
-apart_classes_sound (Sign a) (Sign b) w h e f = both_ways (same (a ∷ []) (b ∷ [])) (not-true _ h) (sym (of_text (λ x. same x (b ∷ [])) w.text (a ∷ []) (second _ _ e)) ∙ second _ _ f)
-apart_classes_sound NoBracket (Sign c) w h e f = both_ways (is_symbol w.kind && among w.text brackets) (not-true _ e) (and_from _ _ (first _ _ f) (of_text (λ x. among x brackets) w.text (c ∷ []) (second _ _ f) ∙ h))
-apart_classes_sound (Sign c) NoBracket w h e f = both_ways (is_symbol w.kind && among w.text brackets) (not-true _ f) (and_from _ _ (first _ _ e) (of_text (λ x. among x brackets) w.text (c ∷ []) (second _ _ e) ∙ h))
+apart_classes_sound (Sign a) (Sign b) w h e f =
+    both_ways (same (a ∷ []) (b ∷ [])) (not-true _ h) (sym (of_text (λ x. same x (b ∷ [])) w.text (a ∷ []) (second _ _ e)) ∙ second _ _ f)
+apart_classes_sound NoBracket (Sign c) w h e f =
+    both_ways (is_symbol w.kind && among w.text brackets) (not-true _ e) (and_from _ _ (first _ _ f) (of_text (λ x. among x brackets) w.text (c ∷ []) (second _ _ f) ∙ h))
+apart_classes_sound (Sign c) NoBracket w h e f =
+    both_ways (is_symbol w.kind && among w.text brackets) (not-true _ f) (and_from _ _ (first _ _ e) (of_text (λ x. among x brackets) w.text (c ∷ []) (second _ _ e) ∙ h))
 apart_classes_sound (Keyword a) (Keyword b) w h e f = both_ways (same a b) (not-true _ h) (sym (of_text (λ x. same x b) w.text a (second _ _ e)) ∙ second _ _ f)
 apart_classes_sound (Keyword a) (NameBut bs) w h e f = both_ways (among w.text bs) (not-true _ (second _ _ f)) (of_text (λ x. among x bs) w.text a (second _ _ e) ∙ h)
 apart_classes_sound (NameBut bs) (Keyword a) w h e f = both_ways (among w.text bs) (not-true _ (second _ _ e)) (of_text (λ x. among x bs) w.text a (second _ _ f) ∙ h)

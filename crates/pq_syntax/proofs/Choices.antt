@@ -23,11 +23,15 @@ pub record Led (a lead : Rule Terminal) : Type 0 where
   pub stands : skips a ≡ false
 
 -- a rule that goes on behind a token begins where the token stands
-pub starts_word : (text : List ℕ) (c : Terminal) (more : Rule Terminal) (tokens : List Token) (t : Bool) → starts_at accepts (One c) (words text tokens) ≡ t → starts_at accepts (Then (One c) more) (words text tokens) ≡ t
+pub starts_word : (text : List ℕ) (c : Terminal) (more : Rule Terminal) (tokens : List Token) (t : Bool)
+    → starts_at accepts (One c) (words text tokens) ≡ t
+    → starts_at accepts (Then (One c) more) (words text tokens) ≡ t
 starts_word text c more tokens t h = starts_then accepts (One c) more (words text tokens) t refl h
 
 -- and one that goes on behind such a rule
-pub starts_phrase : (text : List ℕ) (c : Terminal) (more further : Rule Terminal) (tokens : List Token) (t : Bool) → starts_at accepts (One c) (words text tokens) ≡ t → starts_at accepts (Then (Then (One c) more) further) (words text tokens) ≡ t
+pub starts_phrase : (text : List ℕ) (c : Terminal) (more further : Rule Terminal) (tokens : List Token) (t : Bool)
+    → starts_at accepts (One c) (words text tokens) ≡ t
+    → starts_at accepts (Then (Then (One c) more) further) (words text tokens) ≡ t
 starts_phrase text c more further tokens t h = starts_then accepts (Then (One c) more) further (words text tokens) t refl (starts_word text c more tokens t h)
 
 -- a token alone, what begins by a token, by what begins by one, by another rule, and by a type
@@ -68,7 +72,11 @@ module _ {text : List ℕ} {x : List Token} where
     fails = λ e f. fails_left (l.starts text x true h) f;
   }
 
-  pub chooses_past : {a b c lead : Rule Terminal} {within : Parse Word → Parse Word} → Led a lead → starts_at accepts lead (words text x) ≡ false → Chooses text b c x within → Chooses text (Or a b) c x (λ p. Right (within p))
+  pub chooses_past : {a b c lead : Rule Terminal} {within : Parse Word → Parse Word}
+      → Led a lead
+      → starts_at accepts lead (words text x) ≡ false
+      → Chooses text b c x within
+      → Chooses text (Or a b) c x (λ p. Right (within p))
   chooses_past {a} {b} l h n = record {
     starts = λ e. starts_right accepts a b (words text x) (n.starts e);
     takes = λ y p t. takes_right (l.starts text x false h) l.stands (n.takes y p t);
@@ -81,14 +89,22 @@ module _ {text : List ℕ} {x : List Token} where
   pub enters_first : {a b lead : Rule Terminal} → Led a lead → starts_at accepts lead (words text x) ≡ true → Enters text (Or a b) a x (λ p. Left p)
   enters_first l h = record { chooses = chooses_first l h; starts = l.starts text x true h }
 
-  pub enters_past : {a b c lead : Rule Terminal} {within : Parse Word → Parse Word} → Led a lead → starts_at accepts lead (words text x) ≡ false → Enters text b c x within → Enters text (Or a b) c x (λ p. Right (within p))
+  pub enters_past : {a b c lead : Rule Terminal} {within : Parse Word → Parse Word}
+      → Led a lead
+      → starts_at accepts lead (words text x) ≡ false
+      → Enters text b c x within
+      → Enters text (Or a b) c x (λ p. Right (within p))
   enters_past l h n = record { chooses = chooses_past l h n.chooses; starts = n.starts }
 
   -- where no alternative begins, the rule does not
   pub ends_itself : {X : Type 0} {a lead : Rule Terminal} {old : List X} → Led a lead → starts_at accepts lead (words text x) ≡ false → Ends text a x old old
   ends_itself l h = record { starts = l.starts text x false h; is = refl }
 
-  pub ends_past : {X : Type 0} {a b lead : Rule Terminal} {old new : List X} → Led a lead → starts_at accepts lead (words text x) ≡ false → Ends text b x old new → Ends text (Or a b) x old new
+  pub ends_past : {X : Type 0} {a b lead : Rule Terminal} {old new : List X}
+      → Led a lead
+      → starts_at accepts lead (words text x) ≡ false
+      → Ends text b x old new
+      → Ends text (Or a b) x old new
   ends_past {a = a} {b} l h e = record { starts = starts_neither accepts a b (words text x) (l.starts text x false h) e.starts; is = e.is }
 
   -- what is said of the alternative, as said of the rule
@@ -103,11 +119,19 @@ module _ {text : List ℕ} {x : List Token} where
     chosen_within {e} n f = record { starts = λ k h. n.starts (f.starts k h); fails = n.fails e f.fails }
 
     -- an alternative of which every parse is read as the same
-    pub chosen_reads : {X : Type 0} {y : List Token} {view : Parse Word → X} {v : X} → Chooses text r a x within → Passes text a x y → ((p : Parse Word) → v ≡ view (within p)) → Reads text r view x y v
+    pub chosen_reads : {X : Type 0} {y : List Token} {view : Parse Word → X} {v : X}
+        → Chooses text r a x within
+        → Passes text a x y
+        → ((p : Parse Word) → v ≡ view (within p))
+        → Reads text r view x y v
     chosen_reads {y = y} n p same = record { parse = _; takes = n.takes (words text y) p.parse p.takes; is = same p.parse }
 
     -- one whose parse stands for the same in the rule
-    pub chosen_begins : {X : Type 0} {y : List Token} {view whole : Parse Word → List X} {old new : List X} → Chooses text r a x within → Begins text a view x y old new → ((p : Parse Word) → view p ≡ whole (within p)) → Begins text r whole x y old new
+    pub chosen_begins : {X : Type 0} {y : List Token} {view whole : Parse Word → List X} {old new : List X}
+        → Chooses text r a x within
+        → Begins text a view x y old new
+        → ((p : Parse Word) → view p ≡ whole (within p))
+        → Begins text r whole x y old new
     chosen_begins {y = y} {old = old} n b same = record {
       starts = n.starts b.starts;
       adds = record { parse = within b.adds.parse; takes = n.takes (words text y) b.adds.parse b.adds.takes; is = b.adds.is ∙ ap (λ l. old ++ l) (same b.adds.parse) };
@@ -119,9 +143,15 @@ module _ {text : List ℕ} {x : List Token} where
     pub entered_fails : {e : Failure} → Enters text r a x within → Fails text a x e → FailsWithin text r x e
     entered_fails n f = chosen_within n.chooses (record { starts = λ k h. n.starts; fails = f })
 
-    pub entered_adds : {X : Type 0} {y : List Token} {view whole : Parse Word → List X} {old new : List X} → Enters text r a x within → Adds text a view x y old new → ((p : Parse Word) → view p ≡ whole (within p)) → Begins text r whole x y old new
+    pub entered_adds : {X : Type 0} {y : List Token} {view whole : Parse Word → List X} {old new : List X}
+        → Enters text r a x within
+        → Adds text a view x y old new
+        → ((p : Parse Word) → view p ≡ whole (within p))
+        → Begins text r whole x y old new
     entered_adds n b same = chosen_begins n.chooses (record { starts = n.starts; adds = b }) same
 
 -- an empty statement stands for nothing
-pub adds_empty : {text : List ℕ} {c : Terminal} {tokens left : List Token} {t : Token} {old : List Node} → TakesToken text c tokens left t → Adds text (One c) no_nodes tokens left old old
+pub adds_empty : {text : List ℕ} {c : Terminal} {tokens left : List Token} {t : Token} {old : List Node}
+    → TakesToken text c tokens left t
+    → Adds text (One c) no_nodes tokens left old old
 adds_empty {old = old} s = record { parse = _; takes = s.takes; is = sym (append-nil old) }

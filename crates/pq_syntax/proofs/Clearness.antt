@@ -78,7 +78,12 @@ unfolding nested
 balanced_clear zero = record { brace = refl; bracket = refl; parenthesis = refl }
 balanced_clear (suc n) =
     let b = balanced_clear n in
-    record { brace = rw (b.brace, b.bracket, b.parenthesis) (refl {a = true}); bracket = rw (b.brace, b.bracket, b.parenthesis) (refl {a = true}); parenthesis = rw (b.brace, b.bracket, b.parenthesis) (refl {a = true}) }
+    record {
+      brace = rw (b.brace, b.bracket, b.parenthesis) (refl {a = true});
+      bracket = rw (b.brace, b.bracket, b.parenthesis)
+          (refl {a = true});
+      parenthesis = rw (b.brace, b.bracket, b.parenthesis) (refl {a = true});
+    }
 
 items_clear : (n levels : ℕ) → is_clear apart (Many (item n levels)) (CloseBrace ∷ []) ≡ true
 unfolding item

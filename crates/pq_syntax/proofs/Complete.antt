@@ -81,7 +81,9 @@ module _ {A W : Type 0} (accepts : A → W → Bool) where
 
   -- either r starts with the word, or it stands for nothing
   abbrev Steps : Rule A → List (Rule A) → W → List W → List (Parse W) → Type 0
-  Steps r k w ws l = ((starts accepts r w ≡ true) × (ps : List (Parse W)) × Derives accepts (after accepts r k w) ws ps × (l ≡ built accepts r w ps)) ⊎ ((starts accepts r w ≡ false) × (skips r ≡ true) × (ps : List (Parse W)) × Derives accepts k (w ∷ ws) ps × (l ≡ void r ∷ ps))
+  Steps r k w ws l =
+      ((starts accepts r w ≡ true) × (ps : List (Parse W)) × Derives accepts (after accepts r k w) ws ps × (l ≡ built accepts r w ps)) ⊎
+      ((starts accepts r w ≡ false) × (skips r ≡ true) × (ps : List (Parse W)) × Derives accepts k (w ∷ ws) ps × (l ≡ void r ∷ ps))
 
   abbrev One_of : A → List (Rule A) → W → List W → List (Parse W) → Type 0
   One_of c k w ws l = (accepts c w ≡ true) × (ps : List (Parse W)) × Derives accepts k ws ps × (l ≡ Leaf w ∷ ps)
@@ -89,21 +91,32 @@ module _ {A W : Type 0} (accepts : A → W → Bool) where
   un_one : {c : A} {k : List (Rule A)} {w : W} {ws : List W} {l : List (Parse W)} → Derives accepts (One c ∷ k) (w ∷ ws) l → One_of c k w ws l
   un_one (one {ps = ps} h d) = (h, ps, d, refl)
 
-  un_empty : {k : List (Rule A)} {ws : List W} {l : List (Parse W)} → Derives accepts (Empty ∷ k) ws l → (ps : List (Parse W)) × Derives accepts k ws ps × (l ≡ Nil ∷ ps)
+  un_empty : {k : List (Rule A)} {ws : List W} {l : List (Parse W)}
+      → Derives accepts (Empty ∷ k) ws l
+      → (ps : List (Parse W)) × Derives accepts k ws ps × (l ≡ Nil ∷ ps)
   un_empty (empty {ps = ps} d) = (ps, d, refl)
 
-  un_both : {a b : Rule A} {k : List (Rule A)} {ws : List W} {l : List (Parse W)} → Derives accepts (Then a b ∷ k) ws l → (ps : List (Parse W)) × Derives accepts (a ∷ b ∷ k) ws ps × (l ≡ paired ps)
+  un_both : {a b : Rule A} {k : List (Rule A)} {ws : List W} {l : List (Parse W)}
+      → Derives accepts (Then a b ∷ k) ws l
+      → (ps : List (Parse W)) × Derives accepts (a ∷ b ∷ k) ws ps × (l ≡ paired ps)
   un_both (both {x = x} {y = y} {ps = ps} d) = (x ∷ y ∷ ps, d, refl)
 
-  un_or : {a b : Rule A} {k : List (Rule A)} {ws : List W} {l : List (Parse W)} → Derives accepts (Or a b ∷ k) ws l → ((ps : List (Parse W)) × Derives accepts (a ∷ k) ws ps × (l ≡ lefted ps)) ⊎ ((ps : List (Parse W)) × Derives accepts (b ∷ k) ws ps × (l ≡ righted ps))
+  un_or : {a b : Rule A} {k : List (Rule A)} {ws : List W} {l : List (Parse W)}
+      → Derives accepts (Or a b ∷ k) ws l
+      → ((ps : List (Parse W)) × Derives accepts (a ∷ k) ws ps × (l ≡ lefted ps)) ⊎ ((ps : List (Parse W)) × Derives accepts (b ∷ k) ws ps × (l ≡ righted ps))
   un_or (left {x = x} {ps = ps} d) = inl (x ∷ ps, d, refl)
   un_or (right {x = x} {ps = ps} d) = inr (x ∷ ps, d, refl)
 
-  un_many : {r : Rule A} {k : List (Rule A)} {ws : List W} {l : List (Parse W)} → Derives accepts (Many r ∷ k) ws l → ((ps : List (Parse W)) × Derives accepts (r ∷ Many r ∷ k) ws ps × (l ≡ paired ps)) ⊎ ((ps : List (Parse W)) × Derives accepts k ws ps × (l ≡ Nil ∷ ps))
+  un_many : {r : Rule A} {k : List (Rule A)} {ws : List W} {l : List (Parse W)}
+      → Derives accepts (Many r ∷ k) ws l
+      → ((ps : List (Parse W)) × Derives accepts (r ∷ Many r ∷ k) ws ps × (l ≡ paired ps)) ⊎ ((ps : List (Parse W)) × Derives accepts k ws ps × (l ≡ Nil ∷ ps))
   un_many (stop {ps = ps} d) = inr (ps, d, refl)
   un_many (more {x = x} {xs = xs} {ps = ps} d) = inl (x ∷ xs ∷ ps, d, refl)
 
-  taken : (r : Rule A) (k : List (Rule A)) (w : W) (ws : List W) (l : List (Parse W)) → Clear accepts r (begins accepts k) → Derives accepts (r ∷ k) (w ∷ ws) l → Steps r k w ws l
+  taken : (r : Rule A) (k : List (Rule A)) (w : W) (ws : List W) (l : List (Parse W))
+      → Clear accepts r (begins accepts k)
+      → Derives accepts (r ∷ k) (w ∷ ws) l
+      → Steps r k w ws l
   taken (One c) k w ws l ok d = let u = un_one d in inl (u.0, u.1, u.2, u.3)
   taken Empty k w ws l ok d = let u = un_empty d in inr (refl, refl, u.0, u.1, u.2)
   taken (Then a b) k w ws l ok d =
@@ -158,7 +171,10 @@ module _ {A W : Type 0} (accepts : A → W → Bool) where
   after_clear (Many r) k w ok all = after_clear r (Many r ∷ k) w ok.0 (ok, all)
 
   -- one step: the machine goes on, and the rest is derived from what it goes on with
-  pub step : (k : List (Rule A)) (w : W) (ws : List W) (l : List (Parse W)) → AllClear accepts k → Derives accepts k (w ∷ ws) l → (next : List (Rule A)) × (pop accepts k w ≡ Some next) × (ps : List (Parse W)) × Derives accepts next ws ps × (l ≡ push accepts k w ps)
+  pub step : (k : List (Rule A)) (w : W) (ws : List W) (l : List (Parse W))
+      → AllClear accepts k
+      → Derives accepts k (w ∷ ws) l
+      → (next : List (Rule A)) × (pop accepts k w ≡ Some next) × (ps : List (Parse W)) × Derives accepts next ws ps × (l ≡ push accepts k w ps)
   step [] w ws l ok d = elim d [ ]
   step (r ∷ k) w ws l ok d =
       elim (taken r k w ws l ok.0 d) [

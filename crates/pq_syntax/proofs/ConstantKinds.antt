@@ -22,10 +22,14 @@ module _ {text : List ℕ} {x : List Token} where
   pub unsigned_whole : starts_at accepts (One WholeNumber) (words text x) ≡ true → Chooses text unsigned (One WholeNumber) x (λ p. Left p)
   unsigned_whole h = chooses_first by_token h
 
-  pub unsigned_real : starts_at accepts (One WholeNumber) (words text x) ≡ false → starts_at accepts (One RealNumber) (words text x) ≡ true → Chooses text unsigned (One RealNumber) x (λ p. Right (Left p))
+  pub unsigned_real : starts_at accepts (One WholeNumber) (words text x) ≡ false
+      → starts_at accepts (One RealNumber) (words text x) ≡ true
+      → Chooses text unsigned (One RealNumber) x (λ p. Right (Left p))
   unsigned_real e h = chooses_past by_token e (chooses_first by_token h)
 
-  pub unsigned_not_finite : starts_at accepts (One WholeNumber) (words text x) ≡ false → starts_at accepts (One RealNumber) (words text x) ≡ false → Chooses text unsigned (One NotFinite) x (λ p. Right (Right p))
+  pub unsigned_not_finite : starts_at accepts (One WholeNumber) (words text x) ≡ false
+      → starts_at accepts (One RealNumber) (words text x) ≡ false
+      → Chooses text unsigned (One NotFinite) x (λ p. Right (Right p))
   unsigned_not_finite e h = chooses_past by_token e (chooses_past by_token h chooses_itself)
 
 abbrev pub sign : Rule Terminal
@@ -40,11 +44,19 @@ module _ (n : ℕ) (text : List ℕ) (x : List Token) where
   chooses_name h = chooses_first by_word h
 
   module _ (name : starts_at accepts (One AnyName) (words text x) ≡ false) where
-    chooses_signed : {c : Terminal} {within : Parse Word → Parse Word} → Chooses text sign (One c) x within → starts_at accepts (One c) (words text x) ≡ true → Chooses text (constant n) signed x (λ p. Right (Left p))
+    chooses_signed : {c : Terminal} {within : Parse Word → Parse Word}
+        → Chooses text sign (One c) x within
+        → starts_at accepts (One c) (words text x) ≡ true
+        → Chooses text (constant n) signed x (λ p. Right (Left p))
     chooses_signed s h = chooses_past by_word name (chooses_first (by_first refl) (s.starts h))
 
     -- a sign and what stands behind it, where the sign begins the constant
-    signed_reads : {c : Terminal} {within : Parse Word → Parse Word} {y z : List Token} {t : Token} {v : ConstantKind} → Chooses text sign (One c) x within → starts_at accepts (One c) (words text x) ≡ true → TakesToken text c x y t → Reads text unsigned unsigned_kind y z v → Reads text (constant n) kind_of x z v
+    signed_reads : {c : Terminal} {within : Parse Word → Parse Word} {y z : List Token} {t : Token} {v : ConstantKind}
+        → Chooses text sign (One c) x within
+        → starts_at accepts (One c) (words text x) ≡ true
+        → TakesToken text c x y t
+        → Reads text unsigned unsigned_kind y z v
+        → Reads text (constant n) kind_of x z v
     signed_reads {y = y} {z} s h t r = record {
       parse = Right (Left (Pair _ r.parse));
       takes = (chooses_signed s h).takes (words text z) _ (takes_then (s.takes (words text y) _ t.takes) r.takes);
@@ -52,15 +64,27 @@ module _ (n : ℕ) (text : List ℕ) (x : List Token) where
     }
 
     -- a fault behind the sign
-    signed_fails : {c : Terminal} {within : Parse Word → Parse Word} {y : List Token} {t : Token} {e : Failure} → Chooses text sign (One c) x within → starts_at accepts (One c) (words text x) ≡ true → TakesToken text c x y t → Fails text unsigned y e → Fails text (constant n) x e
+    signed_fails : {c : Terminal} {within : Parse Word → Parse Word} {y : List Token} {t : Token} {e : Failure}
+        → Chooses text sign (One c) x within
+        → starts_at accepts (One c) (words text x) ≡ true
+        → TakesToken text c x y t
+        → Fails text unsigned y e
+        → Fails text (constant n) x e
     signed_fails {y = y} {e = e} s h t f = (chooses_signed s h).fails e (fails_then (record { parse = _; takes = s.takes (words text y) _ t.takes }) f)
 
     -- a fault at the sign
-    sign_fails : {c : Terminal} {within : Parse Word → Parse Word} {e : Failure} → Chooses text sign (One c) x within → starts_at accepts (One c) (words text x) ≡ true → Fails text (One c) x e → Fails text (constant n) x e
+    sign_fails : {c : Terminal} {within : Parse Word → Parse Word} {e : Failure}
+        → Chooses text sign (One c) x within
+        → starts_at accepts (One c) (words text x) ≡ true
+        → Fails text (One c) x e
+        → Fails text (constant n) x e
     sign_fails {e = e} s h f = (chooses_signed s h).fails e (fails_first (s.fails e f))
 
     module _ (h : starts_at accepts (One Minus) (words text x) ≡ true) where
-      pub minus_reads : {y z : List Token} {t : Token} {v : ConstantKind} → TakesToken text Minus x y t → Reads text unsigned unsigned_kind y z v → Reads text (constant n) kind_of x z v
+      pub minus_reads : {y z : List Token} {t : Token} {v : ConstantKind}
+          → TakesToken text Minus x y t
+          → Reads text unsigned unsigned_kind y z v
+          → Reads text (constant n) kind_of x z v
       minus_reads t r = signed_reads (chooses_first by_token h) h t r
 
       pub minus_unread : {y : List Token} {t : Token} {e : Failure} → TakesToken text Minus x y t → Fails text unsigned y e → Fails text (constant n) x e
@@ -71,7 +95,10 @@ module _ (n : ℕ) (text : List ℕ) (x : List Token) where
 
     module _ (minus : starts_at accepts (One Minus) (words text x) ≡ false) where
       module _ (h : starts_at accepts (One Plus) (words text x) ≡ true) where
-        pub plus_reads : {y z : List Token} {t : Token} {v : ConstantKind} → TakesToken text Plus x y t → Reads text unsigned unsigned_kind y z v → Reads text (constant n) kind_of x z v
+        pub plus_reads : {y z : List Token} {t : Token} {v : ConstantKind}
+            → TakesToken text Plus x y t
+            → Reads text unsigned unsigned_kind y z v
+            → Reads text (constant n) kind_of x z v
         plus_reads t r = signed_reads (chooses_past by_token minus chooses_itself) h t r
 
         pub plus_unread : {y : List Token} {t : Token} {e : Failure} → TakesToken text Plus x y t → Fails text unsigned y e → Fails text (constant n) x e
@@ -82,19 +109,25 @@ module _ (n : ℕ) (text : List ℕ) (x : List Token) where
 
       module _ (plus : starts_at accepts (One Plus) (words text x) ≡ false) where
         -- an alternative behind names and signs
-        behind_signs : {a : Rule Terminal} {within : Parse Word → Parse Word} → Chooses text (Or (One WholeNumber) (Or (One RealNumber) (Or strs (block n)))) a x within → Chooses text (constant n) a x (λ p. Right (Right (within p)))
+        behind_signs : {a : Rule Terminal} {within : Parse Word → Parse Word}
+            → Chooses text (Or (One WholeNumber) (Or (One RealNumber) (Or strs (block n)))) a x within
+            → Chooses text (constant n) a x (λ p. Right (Right (within p)))
         behind_signs a = chooses_past by_word name (chooses_past (by_first refl) (starts_neither accepts (One Minus) (One Plus) (words text x) minus plus) a)
 
-        pub chooses_whole : starts_at accepts (One WholeNumber) (words text x) ≡ true → Chooses text (constant n) (One WholeNumber) x (λ p. Right (Right (Left p)))
+        pub chooses_whole : starts_at accepts (One WholeNumber) (words text x) ≡ true
+            → Chooses text (constant n) (One WholeNumber) x (λ p. Right (Right (Left p)))
         chooses_whole h = behind_signs (chooses_first by_token h)
 
         module _ (whole : starts_at accepts (One WholeNumber) (words text x) ≡ false) where
-          pub chooses_real : starts_at accepts (One RealNumber) (words text x) ≡ true → Chooses text (constant n) (One RealNumber) x (λ p. Right (Right (Right (Left p))))
+          pub chooses_real : starts_at accepts (One RealNumber) (words text x) ≡ true
+              → Chooses text (constant n) (One RealNumber) x (λ p. Right (Right (Right (Left p))))
           chooses_real h = behind_signs (chooses_past by_token whole (chooses_first by_token h))
 
           module _ (real : starts_at accepts (One RealNumber) (words text x) ≡ false) where
-            pub chooses_strings : starts_at accepts (One StringLiteral) (words text x) ≡ true → Chooses text (constant n) strs x (λ p. Right (Right (Right (Right (Left p)))))
+            pub chooses_strings : starts_at accepts (One StringLiteral) (words text x) ≡ true
+                → Chooses text (constant n) strs x (λ p. Right (Right (Right (Right (Left p)))))
             chooses_strings h = behind_signs (chooses_past by_token whole (chooses_past by_token real (chooses_first by_word h)))
 
-            pub chooses_block : starts_at accepts (One StringLiteral) (words text x) ≡ false → Chooses text (constant n) (block n) x (λ p. Right (Right (Right (Right (Right p)))))
+            pub chooses_block : starts_at accepts (One StringLiteral) (words text x) ≡ false
+                → Chooses text (constant n) (block n) x (λ p. Right (Right (Right (Right (Right p)))))
             chooses_block h = behind_signs (chooses_past by_token whole (chooses_past by_token real (chooses_past by_word h chooses_itself)))

@@ -80,7 +80,8 @@ module _ {A W : Type 0} (accepts : A → W → Bool) where
           decided b follow f within q.0,
           λ w e g. apart_all (firsts a) (firsts b) w r.0 (started a w e) (started b w g),
           not-true (skips a && skips b) t.0,
-          λ s w e g. apart_all (firsts a ++ firsts b) follow w (not_both (skips a || skips b) (all_apart apart (firsts a ++ firsts b) follow) t.1 s) (started (Or a b) w e) (within w g),
+          λ s w e g. apart_all (firsts a ++ firsts b) follow w (not_both (skips a || skips b) (all_apart apart (firsts a ++ firsts b) follow) t.1 s)
+              (started (Or a b) w e) (within w g),
         )
     decided (Many r) follow f within h =
         let p = and_parts (is_clear apart r (firsts r ++ follow)) (not (skips r) && all_apart apart (firsts r) follow) h in

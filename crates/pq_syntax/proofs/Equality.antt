@@ -32,7 +32,11 @@ fields : {A B : Type 0} {E : A → A → Bool} {F : B → B → Bool} → Told E
 fields {E = E} {F = F} first others x y =
     Decides-like (E x.0 y.0 && F x.1 y.1) (λ p i. (p.0 i, p.1 i)) (λ e. (λ i. (e i).0, λ i. (e i).1)) (Decides-and (E x.0 y.0) (F x.1 y.1) (first x.0 y.0) (others x.1 y.1))
 
-of_struct : (N : structs.Record) → structs.Propositions N → {E : Values N.parts → Values N.parts → Bool} → Told E → Told (λ (x y : N.D). E (N.as_values x) (N.as_values y))
+of_struct : (N : structs.Record)
+    → structs.Propositions N
+    → {E : Values N.parts → Values N.parts → Bool}
+    → Told E
+    → Told (λ (x y : N.D). E (N.as_values x) (N.as_values y))
 of_struct N alone {E} told x y = Decides-like (E (N.as_values x) (N.as_values y)) (structs.values_one N alone x y) (ap N.as_values) (told (N.as_values x) (N.as_values y))
 
 -- ---- variants

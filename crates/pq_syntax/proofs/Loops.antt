@@ -12,14 +12,25 @@ module _ {A W X : Type 0} {accepts : A → W → Bool} {r : Rule A} {view : Pars
   pub loop_begins : (start : List W) → Loop accepts r view start start []
   loop_begins start = record { takes = λ left p t. (p, t, refl); stops = λ n s. s }
 
-  pub loop_goes : {start rest left : List W} {sofar : List X} {p : Parse W} → Loop accepts r view start rest sofar → starts_at accepts r rest ≡ true → Takes accepts r rest left p → Loop accepts r view start left (sofar ++ view p)
+  pub loop_goes : {start rest left : List W} {sofar : List X} {p : Parse W}
+      → Loop accepts r view start rest sofar
+      → starts_at accepts r rest ≡ true
+      → Takes accepts r rest left p
+      → Loop accepts r view start left (sofar ++ view p)
   loop_goes {start} {rest} {left} {sofar} {p} l h t = record {
     takes = λ left' q s. let u = l.takes left' (Pair p q) (takes_more h t s) in (u.0, u.1, u.2 ∙ sym (append_assoc sofar (view p) (list_of view q)));
     stops = λ n s. l.stops n (stops_more h t s);
   }
 
-  pub loop_ends : {start rest : List W} {sofar : List X} → Loop accepts r view start rest sofar → starts_at accepts r rest ≡ false → (q : Parse W) × Takes accepts (Many r) start rest q × (sofar ≡ list_of view q)
+  pub loop_ends : {start rest : List W} {sofar : List X}
+      → Loop accepts r view start rest sofar
+      → starts_at accepts r rest ≡ false
+      → (q : Parse W) × Takes accepts (Many r) start rest q × (sofar ≡ list_of view q)
   loop_ends {start} {rest} {sofar} l h = let u = l.takes rest Nil (takes_stop h) in (u.0, u.1, sym (u.2 ∙ append-nil sofar))
 
-  pub loop_fails : {start rest : List W} {sofar : List X} {n : ℕ} → Loop accepts r view start rest sofar → starts_at accepts r rest ≡ true → Stops accepts r rest n → Stops accepts (Many r) start n
+  pub loop_fails : {start rest : List W} {sofar : List X} {n : ℕ}
+      → Loop accepts r view start rest sofar
+      → starts_at accepts r rest ≡ true
+      → Stops accepts r rest n
+      → Stops accepts (Many r) start n
   loop_fails {n = n} l h s = l.stops n (stops_item h s)

@@ -34,7 +34,10 @@ use Rattle.pq_syntax.proofs.Clearness.{clear, deeper_clear, samples}
 abbrev IsRead : List ℕ → List Token → List Node → Type 0
 IsRead text tokens nodes = (p : Parse Word) × Derives accepts (proto_file ∷ []) (words text tokens) (p ∷ []) × (nodes ≡ file_nodes 63 p)
 
-one_parse : (text : List ℕ) (tokens : List Token) (l : List (Parse Word)) (nodes : List Node) → Derives accepts (proto_file ∷ []) (words text tokens) l → nodes_of 63 l ≡ nodes → IsRead text tokens nodes
+one_parse : (text : List ℕ) (tokens : List Token) (l : List (Parse Word)) (nodes : List Node)
+    → Derives accepts (proto_file ∷ []) (words text tokens) l
+    → nodes_of 63 l ≡ nodes
+    → IsRead text tokens nodes
 one_parse text tokens [] nodes d e = let n = long accepts d in absurd (omega (arith, n))
 one_parse text tokens (p ∷ []) nodes d e = (p, d, sym e)
 one_parse text tokens (p ∷ q ∷ l) nodes d e = let n = long accepts d in absurd (omega (arith, n))
@@ -42,7 +45,10 @@ one_parse text tokens (p ∷ q ∷ l) nodes d e = let n = long accepts d in absu
 read_nodes : (text : List ℕ) (tokens : List Token) (nodes : List Node) → reading 63 63 text tokens ≡ Ok nodes → IsRead text tokens nodes
 read_nodes text tokens nodes h = by_result (run accepts (proto_file ∷ []) (words text tokens)) refl h
   where
-    by_result : (r : Result (List (Parse Word)) ℕ) → run accepts (proto_file ∷ []) (words text tokens) ≡ r → on_ok (nodes_of 63) r ≡ Ok nodes → IsRead text tokens nodes
+    by_result : (r : Result (List (Parse Word)) ℕ)
+        → run accepts (proto_file ∷ []) (words text tokens) ≡ r
+        → on_ok (nodes_of 63) r ≡ Ok nodes
+        → IsRead text tokens nodes
     by_result (Ok l) e g = let same : nodes_of 63 l ≡ nodes = cc in one_parse text tokens l nodes (run_whole accepts (proto_file ∷ []) (words text tokens) l e) same
     by_result (Err n) e g = cc
 
@@ -60,7 +66,9 @@ split_words text (t ∷ ts) (x ∷ xs) f e =
     (t ∷ s.0, s.1, ap (λ l. t ∷ l) s.2, ap (λ w. w ∷ words text s.0) head ∙ ap (λ l. x ∷ l) s.3, s.4)
 
 abbrev StopsAt : List ℕ → List Token → ℕ → Type 0
-StopsAt text tokens n = (before : List Token) × (from : List Token) × (tokens ≡ before ++ from) × (length from ≡ n) × IsFaultPlace accepts (proto_file ∷ []) (words text before) (words text from)
+StopsAt text tokens n =
+    (before : List Token) × (from : List Token) × (tokens ≡ before ++ from) × (length from ≡ n) × IsFaultPlace accepts (proto_file ∷ [])
+    (words text before) (words text from)
 
 stops_there : (text : List ℕ) (tokens : List Token) (n : ℕ) → run accepts (proto_file ∷ []) (words text tokens) ≡ Err n → StopsAt text tokens n
 stops_there text tokens n h =
@@ -72,7 +80,10 @@ stops_there text tokens n h =
 read_stops : (text : List ℕ) (tokens : List Token) (n : ℕ) → reading 63 63 text tokens ≡ Err n → StopsAt text tokens n
 read_stops text tokens n h = by_result (run accepts (proto_file ∷ []) (words text tokens)) refl h
   where
-    by_result : (r : Result (List (Parse Word)) ℕ) → run accepts (proto_file ∷ []) (words text tokens) ≡ r → on_ok (nodes_of 63) r ≡ Err n → StopsAt text tokens n
+    by_result : (r : Result (List (Parse Word)) ℕ)
+        → run accepts (proto_file ∷ []) (words text tokens) ≡ r
+        → on_ok (nodes_of 63) r ≡ Err n
+        → StopsAt text tokens n
     by_result (Ok l) e g = cc
     by_result (Err m) e g = let same : m ≡ n = cc in subst (λ x. StopsAt text tokens x) same (stops_there text tokens m e)
 
@@ -99,12 +110,16 @@ module _ (text : List ℕ) (before : List Token) (t : Token) (ts : List Token) w
   goes_by : (r : Result (List (Parse Word)) ℕ) → further ≡ r → passes (length (t ∷ ts)) (on_ok (nodes_of 64) r) ≡ true → GoesDeeper text before t
   unfolding further
   goes_by (Ok l) e h = deeper_whole accepts samples (deeper_file ∷ []) deeper_clear (words text before) (word text t) (words text ts) l e
-  goes_by (Err n) e h = let less = ltb-true n (length (t ∷ ts)) h in deeper_later accepts samples (deeper_file ∷ []) deeper_clear (words text before) (word text t) (words text ts) n e (omega (arith, less, count))
+  goes_by (Err n) e h =
+      let less = ltb-true n (length (t ∷ ts)) h in deeper_later accepts samples (deeper_file ∷ []) deeper_clear (words text before) (word text t)
+      (words text ts) n e (omega (arith, less, count))
 
   stays_by : (r : Result (List (Parse Word)) ℕ) → further ≡ r → passes (length (t ∷ ts)) (on_ok (nodes_of 64) r) ≡ false → GoesDeeper text before t → ⊥
   unfolding further
   stays_by (Ok l) e h = cc
-  stays_by (Err n) e h = let least = ltb-false n (length (t ∷ ts)) h in deeper_not accepts (deeper_file ∷ []) (words text before) (word text t) (words text ts) samples deeper_clear n e (omega (arith, least, count))
+  stays_by (Err n) e h =
+      let least = ltb-false n (length (t ∷ ts)) h in deeper_not accepts (deeper_file ∷ []) (words text before) (word text t)
+      (words text ts) samples deeper_clear n e (omega (arith, least, count))
 
   goes_deeper : passes_token ≡ true → GoesDeeper text before t
   goes_deeper h = goes_by further refl (sym passes_is ∙ h)
@@ -113,7 +128,10 @@ module _ (text : List ℕ) (before : List Token) (t : Token) (ts : List Token) w
   stays h = stays_by further refl (sym passes_is ∙ h)
 
   -- the fault at the token, by whether it is one of the version and whether higher limits let the token through
-  token_fault : (stop : Option (Span × LexicalCode)) (version deeper : Bool) → is_version_fault (length before) t.kind ≡ version → passes_token ≡ deeper → IsFault text before (t ∷ ts) stop t.span (cond version OnlyProto3 (cond deeper TooDeep UnexpectedToken))
+  token_fault : (stop : Option (Span × LexicalCode)) (version deeper : Bool)
+      → is_version_fault (length before) t.kind ≡ version
+      → passes_token ≡ deeper
+      → IsFault text before (t ∷ ts) stop t.span (cond version OnlyProto3 (cond deeper TooDeep UnexpectedToken))
   token_fault stop true deeper v d = other_version v
   token_fault stop false true v d = by_depth v (goes_deeper d)
   token_fault stop false false v d = unexpected v (stays d)
@@ -126,27 +144,36 @@ module _ (text : List ℕ) (before : List Token) (t : Token) (ts : List Token) w
   not_passed true d g = absurd (g (goes_deeper d))
   not_passed false d g = d
 
-  token_is : (version deeper : Bool) → is_version_fault (length before) t.kind ≡ version → passes_token ≡ deeper → ◌≡◌ {A = Span × Code} (t.span, cond version OnlyProto3 (cond deeper TooDeep UnexpectedToken)) (t.span, token_code (length before) t.kind passes_token)
+  token_is : (version deeper : Bool)
+      → is_version_fault (length before) t.kind ≡ version
+      → passes_token ≡ deeper
+      → ◌≡◌ {A = Span × Code} (t.span, cond version OnlyProto3 (cond deeper TooDeep UnexpectedToken)) (t.span, token_code (length before) t.kind passes_token)
   token_is version deeper v d = rw (v, d) refl
 
 -- the fault of the text at the tokens from behind those before, as a function
 abbrev fault_from : List ℕ → List Token → List Token → Option (Span × LexicalCode) → Span × Code
 fault_from text before from stop = fault_of text (length before) from stop (passes (length from) (reading 64 64 text (before ++ from)))
 
-is_fault : (text : List ℕ) (before from : List Token) (stop : Option (Span × LexicalCode)) → IsFault text before from stop (fault_from text before from stop).0 (fault_from text before from stop).1
+is_fault : (text : List ℕ) (before from : List Token) (stop : Option (Span × LexicalCode))
+    → IsFault text before from stop (fault_from text before from stop).0 (fault_from text before from stop).1
 is_fault text before (t ∷ ts) stop = token_fault text before t ts stop (is_version_fault (length before) t.kind) (passes_token text before t ts) refl refl
 is_fault text before [] (Some f) = not_lexed
 is_fault text before [] None = at_end
 
-fault_is_from : (text : List ℕ) (before from : List Token) (stop : Option (Span × LexicalCode)) (span : Span) (code : Code) → IsFault text before from stop span code → ◌≡◌ {A = Span × Code} (span, code) (fault_from text before from stop)
+fault_is_from : (text : List ℕ) (before from : List Token) (stop : Option (Span × LexicalCode)) (span : Span) (code : Code)
+    → IsFault text before from stop span code
+    → ◌≡◌ {A = Span × Code} (span, code) (fault_from text before from stop)
 fault_is_from text before from stop span code (other_version {t = t} {ts = ts} v) = token_is text before t ts true (passes_token text before t ts) v refl
-fault_is_from text before from stop span code (by_depth {t = t} {ts = ts} v g) = token_is text before t ts false true v (passed text before t ts (passes_token text before t ts) refl g)
-fault_is_from text before from stop span code (unexpected {t = t} {ts = ts} v g) = token_is text before t ts false false v (not_passed text before t ts (passes_token text before t ts) refl g)
+fault_is_from text before from stop span code (by_depth {t = t} {ts = ts} v g) =
+    token_is text before t ts false true v (passed text before t ts (passes_token text before t ts) refl g)
+fault_is_from text before from stop span code (unexpected {t = t} {ts = ts} v g) =
+    token_is text before t ts false false v (not_passed text before t ts (passes_token text before t ts) refl g)
 fault_is_from text before from stop span code not_lexed = refl
 fault_is_from text before from stop span code at_end = refl
 
 -- the answer at a fault is that of the split
-fault_split : (text : List ℕ) (b f : List Token) (stop : Option (Span × LexicalCode)) → answer text (record { tokens = b ++ f; fault = stop }) (Err (length f)) (reading 64 64 text (b ++ f)) ≡ at_fault (fault_from text b f stop)
+fault_split : (text : List ℕ) (b f : List Token) (stop : Option (Span × LexicalCode))
+    → answer text (record { tokens = b ++ f; fault = stop }) (Err (length f)) (reading 64 64 text (b ++ f)) ≡ at_fault (fault_from text b f stop)
 fault_split text b f stop =
     let same : length (b ++ f) - length f ≡ length b = omega (arith, length-append b f) in
     let deeper : Bool = passes (length f) (reading 64 64 text (b ++ f)) in
@@ -155,20 +182,33 @@ fault_split text b f stop =
 abbrev Stands : List ℕ → Parsed → Type 0
 Stands text p = IfTree (IsTree text) p × IfFaulty (FaultStands text) p
 
-whole_stands : (text : List ℕ) (tokens : List Token) (stop : Option (Span × LexicalCode)) (nodes : List Node) → Lexes 0 text tokens stop → IsRead text tokens nodes → Stands text (whole nodes stop)
+whole_stands : (text : List ℕ) (tokens : List Token) (stop : Option (Span × LexicalCode)) (nodes : List Node)
+    → Lexes 0 text tokens stop
+    → IsRead text tokens nodes
+    → Stands text (whole nodes stop)
 whole_stands text tokens None nodes l r = (record { tokens = tokens; lexes = l; parse = r.0; derives = r.1; is = r.2 }, tt)
 whole_stands text tokens (Some f) nodes l r = (tt, lexical tokens l (r.0 ∷ [], r.1))
 
-split_stands : (text : List ℕ) (b f : List Token) (stop : Option (Span × LexicalCode)) → Lexes 0 text (b ++ f) stop → IsFaultPlace accepts (proto_file ∷ []) (words text b) (words text f) → Stands text (answer text (record { tokens = b ++ f; fault = stop }) (Err (length f)) (reading 64 64 text (b ++ f)))
+split_stands : (text : List ℕ) (b f : List Token) (stop : Option (Span × LexicalCode))
+    → Lexes 0 text (b ++ f) stop
+    → IsFaultPlace accepts (proto_file ∷ []) (words text b) (words text f)
+    → Stands text (answer text (record { tokens = b ++ f; fault = stop }) (Err (length f)) (reading 64 64 text (b ++ f)))
 split_stands text b f stop l p = subst (Stands text) (sym (fault_split text b f stop)) (tt, syntactic b f l p (is_fault text b f stop))
 
-fault_stands : (text : List ℕ) (tokens : List Token) (stop : Option (Span × LexicalCode)) (n : ℕ) → Lexes 0 text tokens stop → StopsAt text tokens n → Stands text (answer text (record { tokens = tokens; fault = stop }) (Err n) (reading 64 64 text tokens))
+fault_stands : (text : List ℕ) (tokens : List Token) (stop : Option (Span × LexicalCode)) (n : ℕ)
+    → Lexes 0 text tokens stop
+    → StopsAt text tokens n
+    → Stands text (answer text (record { tokens = tokens; fault = stop }) (Err n) (reading 64 64 text tokens))
 fault_stands text tokens stop n l s =
     let at_split = split_stands text s.0 s.1 stop (subst (λ ts. Lexes 0 text ts stop) s.2 l) s.4 in
     let at_tokens = subst (λ ts. Stands text (answer text (record { tokens = ts; fault = stop }) (Err (length s.1)) (reading 64 64 text ts))) (sym s.2) at_split in
     subst (λ m. Stands text (answer text (record { tokens = tokens; fault = stop }) (Err m) (reading 64 64 text tokens))) s.3 at_tokens
 
-answer_stands : (text : List ℕ) (r : Reading) → Lexes 0 text r.tokens r.fault → (x : Result (List Node) ℕ) → reading 63 63 text r.tokens ≡ x → Stands text (answer text r x (reading 64 64 text r.tokens))
+answer_stands : (text : List ℕ) (r : Reading)
+    → Lexes 0 text r.tokens r.fault
+    → (x : Result (List Node) ℕ)
+    → reading 63 63 text r.tokens ≡ x
+    → Stands text (answer text r x (reading 64 64 text r.tokens))
 answer_stands text r l (Ok nodes) h = whole_stands text r.tokens r.fault nodes l (read_nodes text r.tokens nodes h)
 answer_stands text r l (Err n) h = fault_stands text r.tokens r.fault n l (read_stops text r.tokens n h)
 
@@ -191,7 +231,13 @@ if_faulty each text (Ok p) h = subst (IfFaulty (FaultStands text)) (sym h) (pars
 if_faulty each text (Err e) h = tt
 
 -- where the tokens are those of the text, the answer at a fault is what the text is read as
-pub fault_parsed : {E : Type 0} (text : List ℕ) (r : Reading) (tokens : List Token) (e : Failure) (left : ℕ) (x : Result Parsed E) → r ≡ tokens_of text → tokens ≡ r.tokens → e ≡ FaultAt left → IfFault e (λ n. reading 63 63 text tokens ≡ Err n) → IfOk x (λ p. p ≡ answer text (record { tokens = tokens; fault = r.fault }) (Err left) (reading 64 64 text tokens)) → IfOk x (λ p. p ≡ parsed text)
+pub fault_parsed : {E : Type 0} (text : List ℕ) (r : Reading) (tokens : List Token) (e : Failure) (left : ℕ) (x : Result Parsed E)
+    → r ≡ tokens_of text
+    → tokens ≡ r.tokens
+    → e ≡ FaultAt left
+    → IfFault e (λ n. reading 63 63 text tokens ≡ Err n)
+    → IfOk x (λ p. p ≡ answer text (record { tokens = tokens; fault = r.fault }) (Err left) (reading 64 64 text tokens))
+    → IfOk x (λ p. p ≡ parsed text)
 fault_parsed text r tokens e left (Ok p) is same at h answered =
     let stops = subst (λ (f : Failure). IfFault f (λ n. reading 63 63 text tokens ≡ Err n)) at h in
     let read_all = ap (λ y. answer text (record { tokens = tokens; fault = r.fault }) y (reading 64 64 text tokens)) (sym stops) in
@@ -200,12 +246,19 @@ fault_parsed text r tokens e left (Ok p) is same at h answered =
 fault_parsed text r tokens e left (Err m) is same at h answered = tt
 
 module _ (one : OneLexing) (each : EachText) (text : List ℕ) where
-  from_tokens : (tokens : List Token) (stop : Option (Span × LexicalCode)) (x : Result (List Node) ℕ) → Lexes 0 text tokens stop → reading 63 63 text tokens ≡ x → parsed text ≡ answer text (record { tokens = tokens; fault = stop }) x (reading 64 64 text tokens)
+  from_tokens : (tokens : List Token) (stop : Option (Span × LexicalCode)) (x : Result (List Node) ℕ)
+      → Lexes 0 text tokens stop
+      → reading 63 63 text tokens ≡ x
+      → parsed text ≡ answer text (record { tokens = tokens; fault = stop }) x (reading 64 64 text tokens)
   from_tokens tokens stop x l h =
       let e = one text (tokens_of text).tokens tokens (tokens_of text).fault stop (each text) l in
-      ap (λ ts. answer text (record { tokens = ts; fault = (tokens_of text).fault }) (reading 63 63 text ts) (reading 64 64 text ts)) e.0 ∙ ap (λ f. answer text (record { tokens = tokens; fault = f }) (reading 63 63 text tokens) (reading 64 64 text tokens)) e.1 ∙ ap (λ y. answer text (record { tokens = tokens; fault = stop }) y (reading 64 64 text tokens)) h
+      ap (λ ts. answer text (record { tokens = ts; fault = (tokens_of text).fault }) (reading 63 63 text ts) (reading 64 64 text ts)) e.0 ∙ ap
+      (λ f. answer text (record { tokens = tokens; fault = f }) (reading 63 63 text tokens) (reading 64 64 text tokens)) e.1 ∙ ap
+      (λ y. answer text (record { tokens = tokens; fault = stop }) y (reading 64 64 text tokens)) h
 
-  sentence_read : (tokens : List Token) (l : List (Parse Word)) → Derives accepts (proto_file ∷ []) (words text tokens) l → reading 63 63 text tokens ≡ Ok (nodes_of 63 l)
+  sentence_read : (tokens : List Token) (l : List (Parse Word))
+      → Derives accepts (proto_file ∷ []) (words text tokens) l
+      → reading 63 63 text tokens ≡ Ok (nodes_of 63 l)
   sentence_read tokens l d = ap (on_ok (nodes_of 63)) (read accepts (proto_file ∷ []) (words text tokens) l clear d)
 
   tree_is : (nodes : List Node) → IsTree text nodes → parsed text ≡ Tree nodes
@@ -214,10 +267,12 @@ module _ (one : OneLexing) (each : EachText) (text : List ℕ) where
   place_read : (b f : List Token) → IsFaultPlace accepts (proto_file ∷ []) (words text b) (words text f) → reading 63 63 text (b ++ f) ≡ Err (length f)
   place_read b f p =
       let all : words text (b ++ f) ≡ words text b ++ words text f = map-append (word text) b f in
-      ap (on_ok (nodes_of 63)) (ap (run accepts (proto_file ∷ [])) all ∙ run_stops accepts (proto_file ∷ []) samples clear (words text b) (words text f) p) ∙ ap (λ n. Err n) (length-map f (word text))
+      ap (on_ok (nodes_of 63)) (ap (run accepts (proto_file ∷ [])) all ∙ run_stops accepts (proto_file ∷ []) samples clear (words text b)
+      (words text f) p) ∙ ap (λ n. Err n) (length-map f (word text))
 
   fault_is : (span : Span) (code : Code) → FaultStands text span code → parsed text ≡ Fault span code
-  fault_is span code (syntactic b f {stop = stop} l p is) = from_tokens (b ++ f) stop (Err (length f)) l (place_read b f p) ∙ fault_split text b f stop ∙ ap at_fault (sym (fault_is_from text b f stop span code is))
+  fault_is span code (syntactic b f {stop = stop} l p is) =
+      from_tokens (b ++ f) stop (Err (length f)) l (place_read b f p) ∙ fault_split text b f stop ∙ ap at_fault (sym (fault_is_from text b f stop span code is))
   fault_is span code (lexical tokens {span = s} {code = c} l s') = from_tokens tokens (Some (s, c)) (Ok (nodes_of 63 s'.0)) l (sentence_read tokens s'.0 s'.1)
 
   pub one_tree : (nodes others : List Node) → IsTree text nodes → IsTree text others → nodes ≡ others

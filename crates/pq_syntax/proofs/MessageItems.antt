@@ -22,7 +22,12 @@ use Rattle.pq_syntax.proofs.Choices.{Chooses, Enters, by_phrase, chooses_itself,
 use Rattle.pq_syntax.proofs.Rules.{takes_then}
 
 -- an extend block: what is cited in this order is its keyword, its type, its block and the node pushed
-pub extend_adds : {text : List ℕ} {tokens kind body left : List Token} {old new : List Node} {t : Token} {name : Name} (depth n : ℕ) → TakesToken text ExtendWord tokens kind t → Reads text type' name_of kind body name → Passes text (block n) body left → Pushed text depth tokens left (Extend name) old new → Adds text (extend n) (extend_nodes depth) tokens left old new
+pub extend_adds : {text : List ℕ} {tokens kind body left : List Token} {old new : List Node} {t : Token} {name : Name} (depth n : ℕ)
+    → TakesToken text ExtendWord tokens kind t
+    → Reads text type' name_of kind body name
+    → Passes text (block n) body left
+    → Pushed text depth tokens left (Extend name) old new
+    → Adds text (extend n) (extend_nodes depth) tokens left old new
 extend_adds {text} {old = old} {t = t} depth n keyword type_name block' push =
     let all = takes_then keyword.takes (takes_then type_name.takes block'.takes) in
     let whole : Parse Word = Pair (Leaf (word text t)) (Pair type_name.parse block'.parse) in
@@ -48,7 +53,9 @@ module _ (text : List ℕ) (n : ℕ) (tokens : List Token) where
   unfolding item item_nodes
   other_at_more less h = record { within = λ p. Right p; chooses = chooses_past by_phrase h chooses_itself; same = λ depth p. refl; ends = λ old new e. ends_past by_phrase h e }
 
-  message_enters : (less : ℕ) → starts_at accepts (One MessageWord) (words text tokens) ≡ true → Enters text (item n (suc less)) (message n less) tokens (λ p. Left p)
+  message_enters : (less : ℕ)
+      → starts_at accepts (One MessageWord) (words text tokens) ≡ true
+      → Enters text (item n (suc less)) (message n less) tokens (λ p. Left p)
   unfolding item
   message_enters less h = enters_first by_phrase h
 
@@ -65,24 +72,37 @@ module _ (text : List ℕ) (n : ℕ) (tokens : List Token) where
       pub other_deeper : starts_at accepts (One MessageWord) (words text tokens) ≡ false → IsOther text n levels tokens
       other_deeper h = subst (λ k. IsOther text n k tokens) (sym one_more) (other_at_more less h)
 
-      pub begins_message : {depth : ℕ} {left : List Token} {old new : List Node} → starts_at accepts (One MessageWord) (words text tokens) ≡ true → Adds text (message n less) (message_nodes less depth) tokens left old new → Begins text (item n levels) (item_nodes levels depth) tokens left old new
-      begins_message {depth} {left} {old} {new} h a = subst (λ k. Begins text (item n k) (item_nodes k depth) tokens left old new) (sym one_more) (entered_adds (message_enters less h) a (message_same less depth))
+      pub begins_message : {depth : ℕ} {left : List Token} {old new : List Node}
+          → starts_at accepts (One MessageWord) (words text tokens) ≡ true
+          → Adds text (message n less) (message_nodes less depth) tokens left old new
+          → Begins text (item n levels) (item_nodes levels depth) tokens left old new
+      begins_message {depth} {left} {old} {new} h a =
+          subst (λ k. Begins text (item n k) (item_nodes k depth) tokens left old new) (sym one_more) (entered_adds (message_enters less h) a (message_same less depth))
 
-      pub within_message : {e : Failure} → starts_at accepts (One MessageWord) (words text tokens) ≡ true → Fails text (message n less) tokens e → FailsWithin text (item n levels) tokens e
+      pub within_message : {e : Failure}
+          → starts_at accepts (One MessageWord) (words text tokens) ≡ true
+          → Fails text (message n less) tokens e
+          → FailsWithin text (item n levels) tokens e
       within_message {e} h f = subst (λ k. FailsWithin text (item n k) tokens e) (sym one_more) (entered_fails (message_enters less h) f)
 
 -- what is said of the answer of a statement's function, as said of an item's
 module _ {text : List ℕ} {n levels : ℕ} {tokens : List Token} (other : IsOther text n levels tokens) where
-  pub other_taken : (depth : ℕ) (old new : List Node) (r : Result (Option (Bor (List Token))) Failure) → IfOk r (λ found. IfSome found (λ rest. Begins text (statement n) (statement_nodes depth) tokens rest.now old new)) → IfOk r (λ found. IfSome found (λ rest. Begins text (item n levels) (item_nodes levels depth) tokens rest.now old new))
+  pub other_taken : (depth : ℕ) (old new : List Node) (r : Result (Option (Bor (List Token))) Failure)
+      → IfOk r (λ found. IfSome found (λ rest. Begins text (statement n) (statement_nodes depth) tokens rest.now old new))
+      → IfOk r (λ found. IfSome found (λ rest. Begins text (item n levels) (item_nodes levels depth) tokens rest.now old new))
   other_taken depth old new (Ok (Some rest)) h = chosen_begins other.chooses h (other.same depth)
   other_taken depth old new (Ok None) h = h
   other_taken depth old new (Err e) h = h
 
-  pub other_none : (old new : List Node) (r : Result (Option (Bor (List Token))) Failure) → IfOk r (λ found. IfNone found (Ends text (statement n) tokens old new)) → IfOk r (λ found. IfNone found (Ends text (item n levels) tokens old new))
+  pub other_none : (old new : List Node) (r : Result (Option (Bor (List Token))) Failure)
+      → IfOk r (λ found. IfNone found (Ends text (statement n) tokens old new))
+      → IfOk r (λ found. IfNone found (Ends text (item n levels) tokens old new))
   other_none old new (Ok (Some rest)) h = h
   other_none old new (Ok None) h = other.ends old new h
   other_none old new (Err e) h = h
 
-  pub other_fault : (r : Result (Option (Bor (List Token))) Failure) → IfErr r (λ e. FailsWithin text (statement n) tokens e) → IfErr r (λ e. FailsWithin text (item n levels) tokens e)
+  pub other_fault : (r : Result (Option (Bor (List Token))) Failure)
+      → IfErr r (λ e. FailsWithin text (statement n) tokens e)
+      → IfErr r (λ e. FailsWithin text (item n levels) tokens e)
   other_fault (Ok found) h = h
   other_fault (Err e) h = chosen_within other.chooses h

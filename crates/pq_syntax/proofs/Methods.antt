@@ -24,7 +24,11 @@ use Rattle.pq_syntax.proofs.Choices.{starts_word}
 use Rattle.pq_syntax.proofs.Rules.{takes_then, takes_left, takes_right}
 
 -- a type behind the keyword
-pub reads_stream : {text : List ℕ} {tokens rest left : List Token} {t : Token} {name : Name} → starts_at accepts (One StreamWord) (words text tokens) ≡ true → TakesToken text StreamWord tokens rest t → Reads text type' name_of rest left name → Reads text streamed method_type_of tokens left (record { is_stream = true; type_name = name })
+pub reads_stream : {text : List ℕ} {tokens rest left : List Token} {t : Token} {name : Name}
+    → starts_at accepts (One StreamWord) (words text tokens) ≡ true
+    → TakesToken text StreamWord tokens rest t
+    → Reads text type' name_of rest left name
+    → Reads text streamed method_type_of tokens left (record { is_stream = true; type_name = name })
 reads_stream {text} {tokens} h s r = record {
   parse = Left (Pair (Leaf (word text _)) r.parse);
   takes = takes_left (starts_word text StreamWord type' tokens true h) (takes_then s.takes r.takes);
@@ -32,7 +36,10 @@ reads_stream {text} {tokens} h s r = record {
 }
 
 -- and one without it
-pub reads_plain : {text : List ℕ} {tokens left : List Token} {name : Name} → starts_at accepts (One StreamWord) (words text tokens) ≡ false → Reads text (type_from MethodTypeName) name_of tokens left name → Reads text streamed method_type_of tokens left (record { is_stream = false; type_name = name })
+pub reads_plain : {text : List ℕ} {tokens left : List Token} {name : Name}
+    → starts_at accepts (One StreamWord) (words text tokens) ≡ false
+    → Reads text (type_from MethodTypeName) name_of tokens left name
+    → Reads text streamed method_type_of tokens left (record { is_stream = false; type_name = name })
 reads_plain {text} {tokens} h r = record {
   parse = Right r.parse;
   takes = takes_right (starts_word text StreamWord type' tokens false h) refl r.takes;
@@ -40,7 +47,12 @@ reads_plain {text} {tokens} h r = record {
 }
 
 -- a method ends by its statements in braces
-pub ends_braced : {text : List ℕ} {tokens opened rest left : List Token} {old new : List Node} {s t : Token} (brackets depth : ℕ) → starts_at accepts (One OpenBrace) (words text tokens) ≡ true → TakesToken text OpenBrace tokens opened s → Adds text (Many (method_item brackets)) (list_of (method_item_nodes depth)) opened rest old new → TakesToken text CloseBrace rest left t → Adds text (method_end brackets) (method_end_nodes depth) tokens left old new
+pub ends_braced : {text : List ℕ} {tokens opened rest left : List Token} {old new : List Node} {s t : Token} (brackets depth : ℕ)
+    → starts_at accepts (One OpenBrace) (words text tokens) ≡ true
+    → TakesToken text OpenBrace tokens opened s
+    → Adds text (Many (method_item brackets)) (list_of (method_item_nodes depth)) opened rest old new
+    → TakesToken text CloseBrace rest left t
+    → Adds text (method_end brackets) (method_end_nodes depth) tokens left old new
 ends_braced {text} {tokens} brackets depth h open' body close' = record {
   parse = Left (Pair (Leaf (word text _)) (Pair body.parse (Leaf (word text _))));
   takes = takes_left (starts_word text OpenBrace (Then (Many (method_item brackets)) (One CloseBrace)) tokens true h) (takes_then open'.takes (takes_then body.takes close'.takes));
@@ -48,7 +60,10 @@ ends_braced {text} {tokens} brackets depth h open' body close' = record {
 }
 
 -- or by a semicolon
-pub ends_plain : {text : List ℕ} {tokens left : List Token} {old : List Node} {t : Token} (brackets depth : ℕ) → starts_at accepts (One OpenBrace) (words text tokens) ≡ false → TakesToken text Semicolon tokens left t → Adds text (method_end brackets) (method_end_nodes depth) tokens left old old
+pub ends_plain : {text : List ℕ} {tokens left : List Token} {old : List Node} {t : Token} (brackets depth : ℕ)
+    → starts_at accepts (One OpenBrace) (words text tokens) ≡ false
+    → TakesToken text Semicolon tokens left t
+    → Adds text (method_end brackets) (method_end_nodes depth) tokens left old old
 ends_plain {text} {tokens} {old = old} brackets depth h s = record {
   parse = Right (Leaf (word text _));
   takes = takes_right (starts_word text OpenBrace (Then (Many (method_item brackets)) (One CloseBrace)) tokens false h) refl s.takes;
@@ -57,7 +72,20 @@ ends_plain {text} {tokens} {old = old} brackets depth h s = record {
 
 -- a method: what is cited in this order is its name and its two types with the words in front of them, the index of its node, the
 -- node pushed, what ends it, the span and the node given it
-pub method_adds : {text : List ℕ} {tokens named typed returned answered opened left : List Token} {old pushed mid new : List Node} {name : Name} {input output : MethodType} {s t : Token} (brackets depth index : ℕ) (span : Span) → TakesToken text MethodWord tokens named s → Reads text (One AnyName) name_of named typed name → Reads text in_parentheses enclosed_type_of typed returned input → TakesToken text ReturnsWord returned answered t → Reads text in_parentheses enclosed_type_of answered opened output → index ≡ length old → Pushed text depth tokens opened (Method name input output) old pushed → Adds text (method_end brackets) (method_end_nodes (suc depth)) opened left pushed mid → Across tokens left span → Spanned index span mid new → Adds text (method brackets) (method_nodes depth) tokens left old new
+pub method_adds :
+    {text : List ℕ} {tokens named typed returned answered opened left : List Token} {old pushed mid new : List Node} {name : Name}
+    {input output : MethodType} {s t : Token} (brackets depth index : ℕ) (span : Span)
+    → TakesToken text MethodWord tokens named s
+    → Reads text (One AnyName) name_of named typed name
+    → Reads text in_parentheses enclosed_type_of typed returned input
+    → TakesToken text ReturnsWord returned answered t
+    → Reads text in_parentheses enclosed_type_of answered opened output
+    → index ≡ length old
+    → Pushed text depth tokens opened (Method name input output) old pushed
+    → Adds text (method_end brackets) (method_end_nodes (suc depth)) opened left pushed mid
+    → Across tokens left span
+    → Spanned index span mid new
+    → Adds text (method brackets) (method_nodes depth) tokens left old new
 method_adds {text} {tokens} {named} {typed} {returned} {answered} {opened} {left} {old} {pushed} {mid} {new} {name} {input} {output} {s} {t} brackets depth index span k n a r b i push end across set =
     let front = takes_then k.takes (takes_then n.takes (takes_then a.takes (takes_then r.takes b.takes))) in
     let all = takes_then k.takes (takes_then n.takes (takes_then a.takes (takes_then r.takes (takes_then b.takes end.takes)))) in
@@ -67,5 +95,10 @@ method_adds {text} {tokens} {named} {typed} {returned} {answered} {opened} {left
     record {
       parse = whole;
       takes = all;
-      is = spanned text tokens opened left depth old pushed mid new (method_end_nodes (suc depth) end.parse) span first whole index (Method name input output) front.read push end.is all.read across i set ∙ ap (λ x. node x input output) n.is ∙ ap (λ y. node (name_of n.parse) y output) a.is ∙ ap (λ z. node (name_of n.parse) (enclosed_type_of a.parse) z) b.is;
+      is =
+          spanned text tokens opened left depth old pushed mid new (method_end_nodes (suc depth) end.parse) span first whole index
+          (Method name input output) front.read push end.is all.read across i set
+          ∙ ap (λ x. node x input output) n.is
+          ∙ ap (λ y. node (name_of n.parse) y output) a.is
+          ∙ ap (λ z. node (name_of n.parse) (enclosed_type_of a.parse) z) b.is;
     }

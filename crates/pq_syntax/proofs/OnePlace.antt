@@ -29,7 +29,11 @@ module _ {A W : Type 0} (accepts : A → W → Bool) (k : List (Rule A)) where
   ]
 
   -- so the machine stops at the fault place
-  pub run_stops : (samples : (c : A) → (w : W) × (accepts c w ≡ true)) → AllClear accepts k → (before from : List W) → IsFaultPlace accepts k before from → run accepts k (before ++ from) ≡ Err (length from)
+  pub run_stops : (samples : (c : A) → (w : W) × (accepts c w ≡ true))
+      → AllClear accepts k
+      → (before from : List W)
+      → IsFaultPlace accepts k before from
+      → run accepts k (before ++ from) ≡ Err (length from)
   run_stops samples clear before from p = by_result (run accepts k (before ++ from)) refl
     where
       by_result : (r : Result (List (Parse W)) ℕ) → run accepts k (before ++ from) ≡ r → r ≡ Err (length from)

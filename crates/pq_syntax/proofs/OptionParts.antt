@@ -31,14 +31,26 @@ abbrev pub Joined : List ℕ → List Token → List Token → List ℕ → Type
 Joined text tokens rest t = (ws : List Word) → words text tokens ≡ ws ++ words text rest → t ≡ utf8_lossy (joined ws)
 
 -- a name alone
-pub part_named : {text : List ℕ} {tokens rest : List Token} {t : Token} {name : List ℕ} {span : Span} → starts_at accepts (One AnyName) (words text tokens) ≡ true → TakesToken text AnyName tokens rest t → Joined text tokens rest name → Across tokens rest span → Reads text optpart part_of tokens rest (record { is_extension = false; text = name; span = span })
+pub part_named : {text : List ℕ} {tokens rest : List Token} {t : Token} {name : List ℕ} {span : Span}
+    → starts_at accepts (One AnyName) (words text tokens) ≡ true
+    → TakesToken text AnyName tokens rest t
+    → Joined text tokens rest name
+    → Across tokens rest span
+    → Reads text optpart part_of tokens rest (record { is_extension = false; text = name; span = span })
 part_named {text} {tokens} {rest} {t} {name} {span} h s j a =
     let n = j (leaves (Leaf (word text t))) s.takes.read in
     let m = a text (leaves (Leaf (word text t))) s.takes.read in
     record { parse = Left (Leaf (word text t)); takes = takes_left h s.takes; is = rw (n, m) refl }
 
 -- the name of an extension, in parentheses
-pub part_enclosed : {text : List ℕ} {tokens opened closing rest : List Token} {t u : Token} {name : List ℕ} {span : Span} → starts_at accepts (One AnyName) (words text tokens) ≡ false → TakesToken text OpenParenthesis tokens opened t → Passes text type' opened closing → TakesToken text CloseParenthesis closing rest u → Joined text opened closing name → Across tokens rest span → Reads text optpart part_of tokens rest (record { is_extension = true; text = name; span = span })
+pub part_enclosed : {text : List ℕ} {tokens opened closing rest : List Token} {t u : Token} {name : List ℕ} {span : Span}
+    → starts_at accepts (One AnyName) (words text tokens) ≡ false
+    → TakesToken text OpenParenthesis tokens opened t
+    → Passes text type' opened closing
+    → TakesToken text CloseParenthesis closing rest u
+    → Joined text opened closing name
+    → Across tokens rest span
+    → Reads text optpart part_of tokens rest (record { is_extension = true; text = name; span = span })
 part_enclosed {text} {tokens} {opened} {closing} {rest} {t} {u} {name} {span} h o p c j a =
     let all = takes_then o.takes (takes_then p.takes c.takes) in
     let whole : Parse Word = Pair (Leaf (word text t)) (Pair p.parse (Leaf (word text u))) in
@@ -47,7 +59,13 @@ part_enclosed {text} {tokens} {opened} {closing} {rest} {t} {u} {name} {span} h 
     record { parse = Right whole; takes = takes_right h refl all; is = rw (n, m) refl }
 
 -- a name, and the constant that it is set to
-pub setting_reads : {text : List ℕ} (brackets : ℕ) {tokens named rest left : List Token} {t : Token} {parts : List NamePart} {value : Constant} {span : Span} → Reads text optname (listed part_of) tokens named parts → TakesToken text Equals named rest t → Reads text (constant brackets) constant_of rest left value → Across tokens left span → Reads text (optset brackets) setting_of tokens left (record { parts = parts; constant = value; span = span })
+pub setting_reads :
+    {text : List ℕ} (brackets : ℕ) {tokens named rest left : List Token} {t : Token} {parts : List NamePart} {value : Constant} {span : Span}
+    → Reads text optname (listed part_of) tokens named parts
+    → TakesToken text Equals named rest t
+    → Reads text (constant brackets) constant_of rest left value
+    → Across tokens left span
+    → Reads text (optset brackets) setting_of tokens left (record { parts = parts; constant = value; span = span })
 setting_reads {text} brackets {t = t} n e k a =
     let all = takes_then n.takes (takes_then e.takes k.takes) in
     let whole : Parse Word = Pair n.parse (Pair (Leaf (word text t)) k.parse) in
@@ -59,22 +77,38 @@ abbrev in_brackets : ℕ → Rule Terminal
 in_brackets brackets = Then (separated Comma (optset brackets)) (One CloseBracket)
 
 -- options in brackets
-pub settings_present : {text : List ℕ} (brackets : ℕ) {tokens opened rest left : List Token} {t u : Token} {settings : List Setting} → TakesToken text OpenBracket tokens opened t → Reads text (separated Comma (optset brackets)) (listed setting_of) opened rest settings → TakesToken text CloseBracket rest left u → Reads text (opt (opts brackets)) settings_of tokens left settings
+pub settings_present : {text : List ℕ} (brackets : ℕ) {tokens opened rest left : List Token} {t u : Token} {settings : List Setting}
+    → TakesToken text OpenBracket tokens opened t
+    → Reads text (separated Comma (optset brackets)) (listed setting_of) opened rest settings
+    → TakesToken text CloseBracket rest left u
+    → Reads text (opt (opts brackets)) settings_of tokens left settings
 settings_present {text} brackets {tokens} {t = t} {u = u} o s c = record {
   parse = Left (Pair (Leaf (word text t)) (Pair s.parse (Leaf (word text u))));
   takes = takes_left (starts_word text OpenBracket (in_brackets brackets) tokens true (starts_token o)) (takes_then o.takes (takes_then s.takes c.takes));
   is = s.is;
 }
 
-pub settings_absent : (text : List ℕ) (brackets : ℕ) (tokens : List Token) {settings : List Setting} → starts_at accepts (One OpenBracket) (words text tokens) ≡ false → settings ≡ [] → Reads text (opt (opts brackets)) settings_of tokens tokens settings
+pub settings_absent : (text : List ℕ) (brackets : ℕ) (tokens : List Token) {settings : List Setting}
+    → starts_at accepts (One OpenBracket) (words text tokens) ≡ false
+    → settings ≡ []
+    → Reads text (opt (opts brackets)) settings_of tokens tokens settings
 settings_absent text brackets tokens h e = record { parse = Right Nil; takes = takes_none (starts_word text OpenBracket (in_brackets brackets) tokens false h) refl; is = e }
 
 -- a fault in options whose bracket stands there
-pub settings_fail : {text : List ℕ} (brackets : ℕ) {tokens : List Token} {e : Failure} → starts_at accepts (One OpenBracket) (words text tokens) ≡ true → Fails text (opts brackets) tokens e → Fails text (opt (opts brackets)) tokens e
+pub settings_fail : {text : List ℕ} (brackets : ℕ) {tokens : List Token} {e : Failure}
+    → starts_at accepts (One OpenBracket) (words text tokens) ≡ true
+    → Fails text (opts brackets) tokens e
+    → Fails text (opt (opts brackets)) tokens e
 settings_fail {text} brackets {tokens} h f = chosen_fails (chooses_first by_word h) f
 
 -- an option statement, whose node is pushed
-pub option_adds : {text : List ℕ} (brackets : ℕ) {tokens rest closing left : List Token} {t u : Token} {setting : Setting} {old new : List Node} (depth : ℕ) → TakesToken text OptionWord tokens rest t → Reads text (optset brackets) setting_of rest closing setting → TakesToken text Semicolon closing left u → Pushed text depth tokens left (OptionStatement setting) old new → Adds text (option brackets) (option_nodes depth) tokens left old new
+pub option_adds :
+    {text : List ℕ} (brackets : ℕ) {tokens rest closing left : List Token} {t u : Token} {setting : Setting} {old new : List Node} (depth : ℕ)
+    → TakesToken text OptionWord tokens rest t
+    → Reads text (optset brackets) setting_of rest closing setting
+    → TakesToken text Semicolon closing left u
+    → Pushed text depth tokens left (OptionStatement setting) old new
+    → Adds text (option brackets) (option_nodes depth) tokens left old new
 option_adds {text} brackets {t = t} {u = u} {setting} depth w s c push =
     let all = takes_then w.takes (takes_then s.takes c.takes) in
     let whole : Parse Word = Pair (Leaf (word text t)) (Pair s.parse (Leaf (word text u))) in

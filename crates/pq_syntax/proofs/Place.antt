@@ -20,7 +20,11 @@ module _ {A W : Type 0} (accepts : A → W → Bool) where
   on_err_is f (Ok x) n h = cc
   on_err_is f (Err m) n h = cc
 
-  whole_next : (k : List (Rule A)) (w : W) (ws : List W) (l : List (Parse W)) (p : Option (List (Rule A))) → pop accepts k w ≡ p → ((next : List (Rule A)) (ps : List (Parse W)) → run accepts next ws ≡ Ok ps → Derives accepts next ws ps) → From k w ws p ≡ Ok l → Derives accepts k (w ∷ ws) l
+  whole_next : (k : List (Rule A)) (w : W) (ws : List W) (l : List (Parse W)) (p : Option (List (Rule A)))
+      → pop accepts k w ≡ p
+      → ((next : List (Rule A)) (ps : List (Parse W)) → run accepts next ws ≡ Ok ps → Derives accepts next ws ps)
+      → From k w ws p ≡ Ok l
+      → Derives accepts k (w ∷ ws) l
   whole_next k w ws l None e goes h = cc
   whole_next k w ws l (Some next) e goes h =
       let s = on_ok_is (push accepts k w) (run accepts next ws) l h in
@@ -46,14 +50,22 @@ module _ {A W : Type 0} (accepts : A → W → Bool) where
       let s = step accepts k w ws l ok d in
       ap (From k w ws) s.1 ∙ ap (on_ok (push accepts k w)) (read s.0 ws s.2 (pop_clear accepts k w s.0 ok s.1) s.3) ∙ ap (λ (q : List (Parse W)). Ok q) (sym s.4)
 
-  back : (k : List (Rule A)) (w : W) (ws : List W) (next : List (Rule A)) → AllClear accepts k → pop accepts k w ≡ Some next → IsSentence accepts k (w ∷ ws) → IsSentence accepts next ws
+  back : (k : List (Rule A)) (w : W) (ws : List W) (next : List (Rule A))
+      → AllClear accepts k
+      → pop accepts k w ≡ Some next
+      → IsSentence accepts k (w ∷ ws)
+      → IsSentence accepts next ws
   back k w ws next ok e d =
       let s = step accepts k w ws d.0 ok d.1 in
       let is : Some s.0 ≡ Some next = sym s.1 ∙ e in
       let same : s.0 ≡ next = cc in
       (s.2, subst (λ q. Derives accepts q ws s.2) same s.3)
 
-  back_stuck : (k : List (Rule A)) (w : W) (next : List (Rule A)) (before from : List W) → AllClear accepts k → pop accepts k w ≡ Some next → Stuck accepts next before from → Stuck accepts k (w ∷ before) from
+  back_stuck : (k : List (Rule A)) (w : W) (next : List (Rule A)) (before from : List W)
+      → AllClear accepts k
+      → pop accepts k w ≡ Some next
+      → Stuck accepts next before from
+      → Stuck accepts k (w ∷ before) from
   back_stuck k w next before [] ok e h = λ d. h (back k w before next ok e d)
   back_stuck k w next before (x ∷ xs) ok e h = λ rest d. h rest (back k w (before ++ x ∷ rest) next ok e d)
 
@@ -64,7 +76,13 @@ module _ {A W : Type 0} (accepts : A → W → Bool) where
     begun_here : (k : List (Rule A)) → (rest : List W) × IsSentence accepts k rest
     begun_here k = let s = some_words accepts samples k in (s.0, (s.1, s.2))
 
-    stopped_next : (k : List (Rule A)) (w : W) (ws : List W) (n : ℕ) → AllClear accepts k → (p : Option (List (Rule A))) → pop accepts k w ≡ p → ((next : List (Rule A)) → AllClear accepts next → run accepts next ws ≡ Err n → Stops next ws n) → From k w ws p ≡ Err n → Stops k (w ∷ ws) n
+    stopped_next : (k : List (Rule A)) (w : W) (ws : List W) (n : ℕ)
+        → AllClear accepts k
+        → (p : Option (List (Rule A)))
+        → pop accepts k w ≡ p
+        → ((next : List (Rule A)) → AllClear accepts next → run accepts next ws ≡ Err n → Stops next ws n)
+        → From k w ws p ≡ Err n
+        → Stops k (w ∷ ws) n
     stopped_next k w ws n ok None e goes h =
         ([], w ∷ ws, refl, cc, record { some = begun_here k; none = λ rest d. let s = step accepts k w rest d.0 ok d.1 in let no : Some s.0 ≡ None = sym s.1 ∙ e in cc })
     stopped_next k w ws n ok (Some next) e goes h =

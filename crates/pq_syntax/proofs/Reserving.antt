@@ -23,29 +23,51 @@ use Rattle.pq_syntax.proofs.Rules.{takes_then, takes_left, takes_right}
 use Rattle.pq_syntax.proofs.Steps.{fails_first, fails_then, fails_token, fails_left, fails_right}
 
 -- one string, from what it is taken to say
-pub string_reads : {text : List ℕ} {tokens left : List Token} {t : Token} {s : Strings} → TakesToken text StringLiteral tokens left t → ((p : Parse Word) → words text tokens ≡ leaves p ++ words text left → s ≡ strings_of p) → Reads text (One StringLiteral) strings_of tokens left s
+pub string_reads : {text : List ℕ} {tokens left : List Token} {t : Token} {s : Strings}
+    → TakesToken text StringLiteral tokens left t
+    → ((p : Parse Word) → words text tokens ≡ leaves p ++ words text left → s ≡ strings_of p)
+    → Reads text (One StringLiteral) strings_of tokens left s
 string_reads {text} {t = t} taken says = record { parse = Leaf (word text t); takes = taken.takes; is = says (Leaf (word text t)) taken.takes.read }
 
 module _ {text : List ℕ} {tokens opened : List Token} {s : Token} (signs : Bool) (reserving : TakesToken text ReservedWord tokens opened s) where
   -- a fault in the numbers, and one behind them
-  pub reserved_fails_numbers : {e : Failure} → starts_at accepts (ranges signs) (words text opened) ≡ true → Fails text (ranges signs) opened e → Fails text (reserved signs) tokens e
+  pub reserved_fails_numbers : {e : Failure}
+      → starts_at accepts (ranges signs) (words text opened) ≡ true
+      → Fails text (ranges signs) opened e
+      → Fails text (reserved signs) tokens e
   reserved_fails_numbers h f = fails_token reserving (fails_first (fails_left h f))
 
-  pub reserved_fails_past_numbers : {rest : List Token} {x : List Range} {e : Failure} → starts_at accepts (ranges signs) (words text opened) ≡ true → Reads text (ranges signs) (listed range_of) opened rest x → Fails text (One Semicolon) rest e → Fails text (reserved signs) tokens e
+  pub reserved_fails_past_numbers : {rest : List Token} {x : List Range} {e : Failure}
+      → starts_at accepts (ranges signs) (words text opened) ≡ true
+      → Reads text (ranges signs) (listed range_of) opened rest x
+      → Fails text (One Semicolon) rest e
+      → Fails text (reserved signs) tokens e
   reserved_fails_past_numbers {rest} h r f =
       let passed : Passes text (Or (ranges signs) strings) opened rest = record { parse = _; takes = takes_left h r.takes } in
       fails_token reserving (fails_then passed f)
 
   -- a fault in the names, and one behind them
-  pub reserved_fails_names : {e : Failure} → starts_at accepts (ranges signs) (words text opened) ≡ false → Fails text strings opened e → Fails text (reserved signs) tokens e
+  pub reserved_fails_names : {e : Failure}
+      → starts_at accepts (ranges signs) (words text opened) ≡ false
+      → Fails text strings opened e
+      → Fails text (reserved signs) tokens e
   reserved_fails_names h f = fails_token reserving (fails_first (fails_right h (ranges_skip_not signs) f))
 
-  pub reserved_fails_past_names : {rest : List Token} {x : List Strings} {e : Failure} → starts_at accepts (ranges signs) (words text opened) ≡ false → Reads text strings (listed strings_of) opened rest x → Fails text (One Semicolon) rest e → Fails text (reserved signs) tokens e
+  pub reserved_fails_past_names : {rest : List Token} {x : List Strings} {e : Failure}
+      → starts_at accepts (ranges signs) (words text opened) ≡ false
+      → Reads text strings (listed strings_of) opened rest x
+      → Fails text (One Semicolon) rest e
+      → Fails text (reserved signs) tokens e
   reserved_fails_past_names {rest} h r f =
       let passed : Passes text (Or (ranges signs) strings) opened rest = record { parse = _; takes = takes_right h (ranges_skip_not signs) r.takes } in
       fails_token reserving (fails_then passed f)
 
-  pub reserved_numbers : {rest left : List Token} {x : List Range} {t : Token} {old new : List Node} (depth : ℕ) → starts_at accepts (ranges signs) (words text opened) ≡ true → Reads text (ranges signs) (listed range_of) opened rest x → TakesToken text Semicolon rest left t → Pushed text depth tokens left (ReservedNumbers x) old new → Adds text (reserved signs) (reserved_nodes depth) tokens left old new
+  pub reserved_numbers : {rest left : List Token} {x : List Range} {t : Token} {old new : List Node} (depth : ℕ)
+      → starts_at accepts (ranges signs) (words text opened) ≡ true
+      → Reads text (ranges signs) (listed range_of) opened rest x
+      → TakesToken text Semicolon rest left t
+      → Pushed text depth tokens left (ReservedNumbers x) old new
+      → Adds text (reserved signs) (reserved_nodes depth) tokens left old new
   reserved_numbers {rest} {left} {x} {t} {old} depth h r semicolon push =
       let all = takes_then reserving.takes (takes_then (takes_left {b = strings} h r.takes) semicolon.takes) in
       let whole : Parse Word = Pair (Leaf (word text s)) (Pair (Left r.parse) (Leaf (word text t))) in
@@ -55,7 +77,12 @@ module _ {text : List ℕ} {tokens opened : List Token} {s : Token} (signs : Boo
         is = push text (leaves whole) all.read ∙ ap (λ (y : List Range). old ++ node_of depth whole (ReservedNumbers y) ∷ []) r.is;
       }
 
-  pub reserved_names : {rest left : List Token} {x : List Strings} {t : Token} {old new : List Node} (depth : ℕ) → starts_at accepts (ranges signs) (words text opened) ≡ false → Reads text strings (listed strings_of) opened rest x → TakesToken text Semicolon rest left t → Pushed text depth tokens left (ReservedNames x) old new → Adds text (reserved signs) (reserved_nodes depth) tokens left old new
+  pub reserved_names : {rest left : List Token} {x : List Strings} {t : Token} {old new : List Node} (depth : ℕ)
+      → starts_at accepts (ranges signs) (words text opened) ≡ false
+      → Reads text strings (listed strings_of) opened rest x
+      → TakesToken text Semicolon rest left t
+      → Pushed text depth tokens left (ReservedNames x) old new
+      → Adds text (reserved signs) (reserved_nodes depth) tokens left old new
   reserved_names {rest} {left} {x} {t} {old} depth h r semicolon push =
       let all = takes_then reserving.takes (takes_then (takes_right {a = ranges signs} h (ranges_skip_not signs) r.takes) semicolon.takes) in
       let whole : Parse Word = Pair (Leaf (word text s)) (Pair (Right r.parse) (Leaf (word text t))) in

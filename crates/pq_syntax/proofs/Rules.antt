@@ -20,7 +20,12 @@ module _ {A W : Type 0} {accepts : A → W → Bool} where
   stops_one c ws h = record { goes = λ k. run_not accepts c k ws h }
 
   pub takes_then : {a b : Rule A} {x y z : List W} {p q : Parse W} → Takes accepts a x y p → Takes accepts b y z q → Takes accepts (Then a b) x z (Pair p q)
-  takes_then {a} {b} {x} {y} {z} {p} {q} s t = record { goes = λ k. run_both accepts a b k x ∙ ap (on_ok paired) (s.goes (b ∷ k) ∙ ap (on_ok (λ ps. p ∷ ps)) (t.goes k)) ∙ three p q (run accepts k z); read = read_both _ _ _ s.read t.read }
+  takes_then {a} {b} {x} {y} {z} {p} {q} s t =
+      record {
+        goes = λ k. run_both accepts a b k x ∙ ap (on_ok paired) (s.goes (b ∷ k) ∙ ap (on_ok (λ ps. p ∷ ps)) (t.goes k)) ∙ three p q
+            (run accepts k z);
+        read = read_both _ _ _ s.read t.read;
+      }
     where
       three : (u v : Parse W) (r : Result (List (Parse W)) ℕ) → on_ok paired (on_ok (λ ps. u ∷ ps) (on_ok (λ ps. v ∷ ps) r)) ≡ on_ok (λ ps. Pair u v ∷ ps) r
       three u v (Ok ps) = refl
@@ -33,13 +38,19 @@ module _ {A W : Type 0} {accepts : A → W → Bool} where
   stops_then {a} {b} {x} {y} {p} s t = record { goes = λ k. run_both accepts a b k x ∙ ap (on_ok paired) (s.goes (b ∷ k) ∙ ap (on_ok (λ ps. p ∷ ps)) (t.goes k)) }
 
   pub takes_left : {a b : Rule A} {x y : List W} {p : Parse W} → starts_at accepts a x ≡ true → Takes accepts a x y p → Takes accepts (Or a b) x y (Left p)
-  takes_left {a} {b} {x} {y} {p} h s = record { goes = λ k. run_left accepts a b k x h ∙ ap (on_ok lefted) (s.goes k) ∙ sym (on_twice lefted (λ ps. p ∷ ps) (run accepts k y)); read = s.read }
+  takes_left {a} {b} {x} {y} {p} h s =
+      record { goes = λ k. run_left accepts a b k x h ∙ ap (on_ok lefted) (s.goes k) ∙ sym (on_twice lefted (λ ps. p ∷ ps) (run accepts k y)); read = s.read }
 
   pub stops_left : {a b : Rule A} {x : List W} {n : ℕ} → starts_at accepts a x ≡ true → Stops accepts a x n → Stops accepts (Or a b) x n
   stops_left {a} {b} {x} h s = record { goes = λ k. run_left accepts a b k x h ∙ ap (on_ok lefted) (s.goes k) }
 
-  pub takes_right : {a b : Rule A} {x y : List W} {p : Parse W} → starts_at accepts a x ≡ false → skips a ≡ false → Takes accepts b x y p → Takes accepts (Or a b) x y (Right p)
-  takes_right {a} {b} {x} {y} {p} h e s = record { goes = λ k. run_right accepts a b k x h e ∙ ap (on_ok righted) (s.goes k) ∙ sym (on_twice righted (λ ps. p ∷ ps) (run accepts k y)); read = s.read }
+  pub takes_right : {a b : Rule A} {x y : List W} {p : Parse W}
+      → starts_at accepts a x ≡ false
+      → skips a ≡ false
+      → Takes accepts b x y p
+      → Takes accepts (Or a b) x y (Right p)
+  takes_right {a} {b} {x} {y} {p} h e s =
+      record { goes = λ k. run_right accepts a b k x h e ∙ ap (on_ok righted) (s.goes k) ∙ sym (on_twice righted (λ ps. p ∷ ps) (run accepts k y)); read = s.read }
 
   pub stops_right : {a b : Rule A} {x : List W} {n : ℕ} → starts_at accepts a x ≡ false → skips a ≡ false → Stops accepts b x n → Stops accepts (Or a b) x n
   stops_right {a} {b} {x} h e s = record { goes = λ k. run_right accepts a b k x h e ∙ ap (on_ok righted) (s.goes k) }
@@ -55,8 +66,17 @@ module _ {A W : Type 0} {accepts : A → W → Bool} where
   pub takes_stop : {r : Rule A} {x : List W} → starts_at accepts r x ≡ false → Takes accepts (Many r) x x Nil
   takes_stop {r} {x} h = record { goes = λ k. run_stop accepts r k x h; read = refl }
 
-  pub takes_more : {r : Rule A} {x y z : List W} {p q : Parse W} → starts_at accepts r x ≡ true → Takes accepts r x y p → Takes accepts (Many r) y z q → Takes accepts (Many r) x z (Pair p q)
-  takes_more {r} {x} {y} {z} {p} {q} h s t = record { goes = λ k. run_more accepts r k x h ∙ ap (on_ok paired) (s.goes (Many r ∷ k) ∙ ap (on_ok (λ ps. p ∷ ps)) (t.goes k)) ∙ three p q (run accepts k z); read = read_both _ _ _ s.read t.read }
+  pub takes_more : {r : Rule A} {x y z : List W} {p q : Parse W}
+      → starts_at accepts r x ≡ true
+      → Takes accepts r x y p
+      → Takes accepts (Many r) y z q
+      → Takes accepts (Many r) x z (Pair p q)
+  takes_more {r} {x} {y} {z} {p} {q} h s t =
+      record {
+        goes = λ k. run_more accepts r k x h ∙ ap (on_ok paired) (s.goes (Many r ∷ k) ∙ ap (on_ok (λ ps. p ∷ ps)) (t.goes k)) ∙ three p q
+            (run accepts k z);
+        read = read_both _ _ _ s.read t.read;
+      }
     where
       three : (u v : Parse W) (o : Result (List (Parse W)) ℕ) → on_ok paired (on_ok (λ ps. u ∷ ps) (on_ok (λ ps. v ∷ ps) o)) ≡ on_ok (λ ps. Pair u v ∷ ps) o
       three u v (Ok ps) = refl
@@ -65,7 +85,11 @@ module _ {A W : Type 0} {accepts : A → W → Bool} where
   pub stops_item : {r : Rule A} {x : List W} {n : ℕ} → starts_at accepts r x ≡ true → Stops accepts r x n → Stops accepts (Many r) x n
   stops_item {r} {x} h s = record { goes = λ k. run_more accepts r k x h ∙ ap (on_ok paired) (s.goes (Many r ∷ k)) }
 
-  pub stops_more : {r : Rule A} {x y : List W} {p : Parse W} {n : ℕ} → starts_at accepts r x ≡ true → Takes accepts r x y p → Stops accepts (Many r) y n → Stops accepts (Many r) x n
+  pub stops_more : {r : Rule A} {x y : List W} {p : Parse W} {n : ℕ}
+      → starts_at accepts r x ≡ true
+      → Takes accepts r x y p
+      → Stops accepts (Many r) y n
+      → Stops accepts (Many r) x n
   stops_more {r} {x} {y} {p} h s t = record { goes = λ k. run_more accepts r k x h ∙ ap (on_ok paired) (s.goes (Many r ∷ k) ∙ ap (on_ok (λ ps. p ∷ ps)) (t.goes k)) }
 
 -- what a rule starts with

@@ -17,7 +17,12 @@ use Rattle.pq_syntax.proofs.Choices.{starts_word}
 
 module _ {X : Type 0} {text : List ℕ} {c : Terminal} {r : Rule Terminal} {view : Parse Word → X} {tokens rest : List Token} {old new : List X} where
   -- a further item is pushed
-  pub separated_goes : {next after : List Token} {t : Token} {x : X} {newer : List X} → Adding text (Then (One c) r) (behind view) tokens rest old new → TakesToken text c rest next t → Reads text r view next after x → newer ≡ new ++ x ∷ [] → Adding text (Then (One c) r) (behind view) tokens after old newer
+  pub separated_goes : {next after : List Token} {t : Token} {x : X} {newer : List X}
+      → Adding text (Then (One c) r) (behind view) tokens rest old new
+      → TakesToken text c rest next t
+      → Reads text r view next after x
+      → newer ≡ new ++ x ∷ []
+      → Adding text (Then (One c) r) (behind view) tokens after old newer
   separated_goes l s i push = adding_goes l (record {
     starts = starts_word text c r rest true (starts_token s);
     adds = record {
@@ -27,19 +32,35 @@ module _ {X : Type 0} {text : List ℕ} {c : Terminal} {r : Rule Terminal} {view
     };
   })
 
-  pub separated_ends : Adding text (Then (One c) r) (behind view) tokens rest old new → starts_at accepts (One c) (words text rest) ≡ false → Adds text (Many (Then (One c) r)) (list_of (behind view)) tokens rest old new
+  pub separated_ends : Adding text (Then (One c) r) (behind view) tokens rest old new
+      → starts_at accepts (One c) (words text rest) ≡ false
+      → Adds text (Many (Then (One c) r)) (list_of (behind view)) tokens rest old new
   separated_ends l h = adding_ends l (starts_word text c r rest false h)
 
   -- a fault at a separator that stands there
-  pub separated_fails_token : {e : Failure} → Adding text (Then (One c) r) (behind view) tokens rest old new → starts_at accepts (One c) (words text rest) ≡ true → Fails text (One c) rest e → Fails text (Many (Then (One c) r)) tokens e
+  pub separated_fails_token : {e : Failure}
+      → Adding text (Then (One c) r) (behind view) tokens rest old new
+      → starts_at accepts (One c) (words text rest) ≡ true
+      → Fails text (One c) rest e
+      → Fails text (Many (Then (One c) r)) tokens e
   separated_fails_token l h f = adding_fails l (record { starts = λ n e. starts_word text c r rest true h; fails = fails_first f })
 
   -- a fault in the item behind a separator
-  pub separated_fails_item : {next : List Token} {t : Token} {e : Failure} → Adding text (Then (One c) r) (behind view) tokens rest old new → TakesToken text c rest next t → Fails text r next e → Fails text (Many (Then (One c) r)) tokens e
+  pub separated_fails_item : {next : List Token} {t : Token} {e : Failure}
+      → Adding text (Then (One c) r) (behind view) tokens rest old new
+      → TakesToken text c rest next t
+      → Fails text r next e
+      → Fails text (Many (Then (One c) r)) tokens e
   separated_fails_item l s f = adding_fails l (record { starts = λ n e. starts_word text c r rest true (starts_token s); fails = fails_token s f })
 
 -- a first item alone in its list, and more of them
-pub separated_listed : {X : Type 0} {text : List ℕ} {c : Terminal} {r : Rule Terminal} {view : Parse Word → X} {tokens rest left : List Token} {x : X} {none first all : List X} → Reads text r view tokens rest x → none ≡ [] → first ≡ none ++ x ∷ [] → Adds text (Many (Then (One c) r)) (list_of (behind view)) rest left first all → Reads text (Then r (Many (Then (One c) r))) (listed view) tokens left all
+pub separated_listed :
+    {X : Type 0} {text : List ℕ} {c : Terminal} {r : Rule Terminal} {view : Parse Word → X} {tokens rest left : List Token} {x : X} {none first all : List X}
+    → Reads text r view tokens rest x
+    → none ≡ []
+    → first ≡ none ++ x ∷ []
+    → Adds text (Many (Then (One c) r)) (list_of (behind view)) rest left first all
+    → Reads text (Then r (Many (Then (One c) r))) (listed view) tokens left all
 separated_listed {view = view} {x = x} i empty push more = record {
   parse = Pair i.parse more.parse;
   takes = takes_then i.takes more.takes;

@@ -24,7 +24,9 @@ module _ {A W : Type 0} (accepts : A → W → Bool) where
   long (stop d) = ap suc (long d)
   long (more d) = let e = long d in omega (arith, e)
 
-  both_of : (a b : Rule A) (k : List (Rule A)) (ws : List W) (ps : List (Parse W)) → Derives accepts (a ∷ b ∷ k) ws ps → Derives accepts (Then a b ∷ k) ws (paired ps)
+  both_of : (a b : Rule A) (k : List (Rule A)) (ws : List W) (ps : List (Parse W))
+      → Derives accepts (a ∷ b ∷ k) ws ps
+      → Derives accepts (Then a b ∷ k) ws (paired ps)
   both_of a b k ws [] d = let e = long d in absurd (omega (arith, e))
   both_of a b k ws (x ∷ []) d = let e = long d in absurd (omega (arith, e))
   both_of a b k ws (x ∷ y ∷ ps) d = both d
@@ -33,11 +35,15 @@ module _ {A W : Type 0} (accepts : A → W → Bool) where
   left_of a b k ws [] d = let e = long d in absurd (omega (arith, e))
   left_of a b k ws (x ∷ ps) d = left d
 
-  right_of : (a b : Rule A) (k : List (Rule A)) (ws : List W) (ps : List (Parse W)) → Derives accepts (b ∷ k) ws ps → Derives accepts (Or a b ∷ k) ws (righted ps)
+  right_of : (a b : Rule A) (k : List (Rule A)) (ws : List W) (ps : List (Parse W))
+      → Derives accepts (b ∷ k) ws ps
+      → Derives accepts (Or a b ∷ k) ws (righted ps)
   right_of a b k ws [] d = let e = long d in absurd (omega (arith, e))
   right_of a b k ws (x ∷ ps) d = right d
 
-  more_of : (r : Rule A) (k : List (Rule A)) (ws : List W) (ps : List (Parse W)) → Derives accepts (r ∷ Many r ∷ k) ws ps → Derives accepts (Many r ∷ k) ws (paired ps)
+  more_of : (r : Rule A) (k : List (Rule A)) (ws : List W) (ps : List (Parse W))
+      → Derives accepts (r ∷ Many r ∷ k) ws ps
+      → Derives accepts (Many r ∷ k) ws (paired ps)
   more_of r k ws [] d = let e = long d in absurd (omega (arith, e))
   more_of r k ws (x ∷ []) d = let e = long d in absurd (omega (arith, e))
   more_of r k ws (x ∷ y ∷ ps) d = more d
@@ -46,14 +52,20 @@ module _ {A W : Type 0} (accepts : A → W → Bool) where
   as_read : {k : List (Rule A)} {ws : List W} {ps qs : List (Parse W)} → ps ≡ qs → Derives accepts k ws ps → Derives accepts k ws qs
   as_read {k} {ws} e d = subst (λ l. Derives accepts k ws l) e d
 
-  or_skips : (a b : Rule A) (k : List (Rule A)) (ws : List W) (ps : List (Parse W)) → (skips a ≡ true → Derives accepts (a ∷ k) ws (void a ∷ ps)) → (skips a ≡ false → Derives accepts (b ∷ k) ws (void b ∷ ps)) → Derives accepts (Or a b ∷ k) ws (void (Or a b) ∷ ps)
+  or_skips : (a b : Rule A) (k : List (Rule A)) (ws : List W) (ps : List (Parse W))
+      → (skips a ≡ true → Derives accepts (a ∷ k) ws (void a ∷ ps))
+      → (skips a ≡ false → Derives accepts (b ∷ k) ws (void b ∷ ps))
+      → Derives accepts (Or a b ∷ k) ws (void (Or a b) ∷ ps)
   or_skips a b k ws ps at_a at_b = elim (cases_Bool (skips a)) [
     | inl e ↦ as_read (ap (λ (p : Parse W). p ∷ ps) (sym (cond-true (skips a) _ _ e))) (left (at_a e))
     | inr e ↦ as_read (ap (λ (p : Parse W). p ∷ ps) (sym (cond-false (skips a) _ _ e))) (right (at_b e))
   ]
 
   -- a rule that may stand for nothing
-  skipped : (r : Rule A) (k : List (Rule A)) (ws : List W) (ps : List (Parse W)) → skips r ≡ true → Derives accepts k ws ps → Derives accepts (r ∷ k) ws (void r ∷ ps)
+  skipped : (r : Rule A) (k : List (Rule A)) (ws : List W) (ps : List (Parse W))
+      → skips r ≡ true
+      → Derives accepts k ws ps
+      → Derives accepts (r ∷ k) ws (void r ∷ ps)
   skipped (One c) k ws ps h d = cc
   skipped Empty k ws ps h d = empty d
   skipped (Then a b) k ws ps h d =
@@ -62,7 +74,10 @@ module _ {A W : Type 0} (accepts : A → W → Bool) where
   skipped (Or a b) k ws ps h d = or_skips a b k ws ps (λ e. skipped a k ws ps e d) (λ e. skipped b k ws ps (or_second _ _ h e) d)
   skipped (Many r) k ws ps h d = stop d
 
-  stepped : (r : Rule A) (k : List (Rule A)) (w : W) (ws : List W) (ps : List (Parse W)) → starts accepts r w ≡ true → Derives accepts (after accepts r k w) ws ps → Derives accepts (r ∷ k) (w ∷ ws) (built accepts r w ps)
+  stepped : (r : Rule A) (k : List (Rule A)) (w : W) (ws : List W) (ps : List (Parse W))
+      → starts accepts r w ≡ true
+      → Derives accepts (after accepts r k w) ws ps
+      → Derives accepts (r ∷ k) (w ∷ ws) (built accepts r w ps)
   stepped (One c) k w ws ps h d = one h d
   stepped Empty k w ws ps h d = cc
   stepped (Then a b) k w ws ps h d =
@@ -82,7 +97,10 @@ module _ {A W : Type 0} (accepts : A → W → Bool) where
       ]
   stepped (Many r) k w ws ps h d = more_of r k (w ∷ ws) (built accepts r w ps) (stepped r (Many r ∷ k) w ws ps h d)
 
-  pub popped : (k : List (Rule A)) (w : W) (ws : List W) (next : List (Rule A)) (ps : List (Parse W)) → pop accepts k w ≡ Some next → Derives accepts next ws ps → Derives accepts k (w ∷ ws) (push accepts k w ps)
+  pub popped : (k : List (Rule A)) (w : W) (ws : List W) (next : List (Rule A)) (ps : List (Parse W))
+      → pop accepts k w ≡ Some next
+      → Derives accepts next ws ps
+      → Derives accepts k (w ∷ ws) (push accepts k w ps)
   popped [] w ws next ps h d = cc
   popped (r ∷ k) w ws next ps h d =
       elim (cases_Bool (starts accepts r w)) [

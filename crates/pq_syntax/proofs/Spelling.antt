@@ -8,6 +8,11 @@ use Rattle.std.proofs.lemmas.Str.{utf8_lossy-IsUtf8}
 use Rattle.pq_lex.specs.declared.token.Span.{Span}
 use Rattle.pq_lex.specs.Values.{spelling}
 
-pub part_is : (text : List ℕ) (span : Span) (part : List ℕ) → span.start ≤ span.end → span.end ≤ length text → part ≡ slice_range text span.start span.end → IsUtf8 part → part ≡ utf8_lossy (spelling text span)
+pub part_is : (text : List ℕ) (span : Span) (part : List ℕ)
+    → span.start ≤ span.end
+    → span.end ≤ length text
+    → part ≡ slice_range text span.start span.end
+    → IsUtf8 part
+    → part ≡ utf8_lossy (spelling text span)
 part_is text span part first last is utf8 =
     sym (rw (le-leb span.start span.end first, le-leb span.end (length text) last, sym is) (utf8_lossy-IsUtf8 part utf8))

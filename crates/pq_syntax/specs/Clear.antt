@@ -17,7 +17,9 @@ abbrev pub Clear : {A W : Type 0} → (A → W → Bool) → Rule A → (W → B
 Clear accepts (One c) f = Unit {0}
 Clear accepts Empty f = Unit {0}
 Clear accepts (Then a b) f = Clear accepts a (λ w. starts accepts b w || (skips b && f w)) × Clear accepts b f
-Clear accepts (Or a b) f = Clear accepts a f × Clear accepts b f × Apart (starts accepts a) (starts accepts b) × (skips a && skips b ≡ false) × (skips a || skips b ≡ true → Apart (λ w. starts accepts a w || starts accepts b w) f)
+Clear accepts (Or a b) f =
+    Clear accepts a f × Clear accepts b f × Apart (starts accepts a) (starts accepts b) × (skips a && skips b ≡ false) ×
+    (skips a || skips b ≡ true → Apart (λ w. starts accepts a w || starts accepts b w) f)
 Clear accepts (Many r) f = Clear accepts r (λ w. starts accepts r w || f w) × (skips r ≡ false) × Apart (starts accepts r) f
 
 abbrev pub AllClear : {A W : Type 0} → (A → W → Bool) → List (Rule A) → Type 0

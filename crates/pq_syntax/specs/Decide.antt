@@ -24,5 +24,7 @@ abbrev pub is_clear : {A : Type 0} → (A → A → Bool) → Rule A → List A 
 is_clear apart (One c) follow = true
 is_clear apart Empty follow = true
 is_clear apart (Then a b) follow = is_clear apart a (firsts b ++ cond (skips b) follow []) && is_clear apart b follow
-is_clear apart (Or a b) follow = is_clear apart a follow && (is_clear apart b follow && (all_apart apart (firsts a) (firsts b) && (not (skips a && skips b) && (not (skips a || skips b) || all_apart apart (firsts a ++ firsts b) follow))))
+is_clear apart (Or a b) follow =
+    is_clear apart a follow && (is_clear apart b follow && (all_apart apart (firsts a) (firsts b) &&
+    (not (skips a && skips b) && (not (skips a || skips b) || all_apart apart (firsts a ++ firsts b) follow))))
 is_clear apart (Many r) follow = is_clear apart r (firsts r ++ follow) && (not (skips r) && all_apart apart (firsts r) follow)

@@ -33,7 +33,9 @@ strs = One StringLiteral ▸ Many (One StringLiteral)
 -- any token but a bracket, or two brackets that pair up, within which they pair up so many levels deep
 unfoldable pub nested : ℕ → Rule Terminal
 nested zero = One Plain
-nested (suc n) = One Plain ∣ (One OpenBrace ▸ Many (nested n) ▸ One CloseBrace) ∣ (One OpenBracket ▸ Many (nested n) ▸ One CloseBracket) ∣ (One OpenParenthesis ▸ Many (nested n) ▸ One CloseParenthesis)
+nested (suc n) =
+    One Plain ∣ (One OpenBrace ▸ Many (nested n) ▸ One CloseBrace) ∣ (One OpenBracket ▸ Many (nested n) ▸ One CloseBracket) ∣
+    (One OpenParenthesis ▸ Many (nested n) ▸ One CloseParenthesis)
 
 -- balanced: any tokens in which { }, [ ] and ( ) pair up, so many levels deep
 abbrev pub balanced : ℕ → Rule Terminal

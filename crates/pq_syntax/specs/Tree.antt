@@ -64,7 +64,8 @@ labelled_nodes depth _ = []
 
 -- "map" "<" keytype "," type ">" tail, or a plain field whose type begins with the name map
 abbrev pub mapped_nodes : ℕ → Parse Word → List Node
-mapped_nodes depth (Pair map' (Left (Pair entry tail))) = let e = entry_of entry in let t = tail_of tail in node_of depth (Pair map' (Left (Pair entry tail))) (MapField e.0 e.1 t.name t.number t.options) ∷ []
+mapped_nodes depth (Pair map' (Left (Pair entry tail))) =
+    let e = entry_of entry in let t = tail_of tail in node_of depth (Pair map' (Left (Pair entry tail))) (MapField e.0 e.1 t.name t.number t.options) ∷ []
 mapped_nodes depth (Pair map' (Right (Pair dotted tail))) = node_of depth (Pair map' (Right (Pair dotted tail))) (field_of None (Pair map' dotted) tail) ∷ []
 mapped_nodes depth _ = []
 
@@ -88,7 +89,8 @@ reserved_nodes depth _ = []
 
 -- ident "=" [ "-" ] integer [ opts ] ";"
 abbrev pub value_nodes : ℕ → Parse Word → List Node
-value_nodes depth (Pair name (Pair equals (Pair number (Pair options semicolon)))) = node_of depth (Pair name (Pair equals (Pair number (Pair options semicolon)))) (Value (name_of name) (bound_of number) (settings_of options)) ∷ []
+value_nodes depth (Pair name (Pair equals (Pair number (Pair options semicolon)))) =
+    node_of depth (Pair name (Pair equals (Pair number (Pair options semicolon)))) (Value (name_of name) (bound_of number) (settings_of options)) ∷ []
 value_nodes depth _ = []
 
 -- option | reserved | value | ";"
@@ -109,7 +111,9 @@ method_end_nodes depth _ = []
 
 -- "rpc" ident "(" type ")" "returns" "(" type ")" end
 abbrev pub method_nodes : ℕ → Parse Word → List Node
-method_nodes depth (Pair keyword (Pair name (Pair input (Pair returns (Pair output end))))) = node_of depth (Pair keyword (Pair name (Pair input (Pair returns (Pair output end))))) (Method (name_of name) (enclosed_type_of input) (enclosed_type_of output)) ∷ method_end_nodes (suc depth) end
+method_nodes depth (Pair keyword (Pair name (Pair input (Pair returns (Pair output end))))) =
+    node_of depth (Pair keyword (Pair name (Pair input (Pair returns (Pair output end)))))
+    (Method (name_of name) (enclosed_type_of input) (enclosed_type_of output)) ∷ method_end_nodes (suc depth) end
 method_nodes depth _ = []
 
 -- option | rpc | ";"
@@ -126,7 +130,9 @@ extend_nodes depth _ = []
 
 -- enum | extend | option | oneof | reserved | labelled | mapped | ";" | field
 abbrev pub statement_nodes : ℕ → Parse Word → List Node
-statement_nodes depth = either (enum_nodes depth) (either (extend_nodes depth) (either (option_nodes depth) (either (oneof_nodes depth) (either (reserved_nodes depth) (either (labelled_nodes depth) (either (mapped_nodes depth) (either no_nodes (field_nodes depth))))))))
+statement_nodes depth =
+    either (enum_nodes depth) (either (extend_nodes depth) (either (option_nodes depth)
+    (either (oneof_nodes depth) (either (reserved_nodes depth) (either (labelled_nodes depth) (either (mapped_nodes depth) (either no_nodes (field_nodes depth))))))))
 
 -- message | statement, where messages stand so many levels deep
 unfoldable pub item_nodes : ℕ → ℕ → Parse Word → List Node
@@ -152,7 +158,9 @@ package_nodes _ = []
 
 -- import | package | option | message | enum | service | extend | ";"
 abbrev pub file_item_nodes : ℕ → Parse Word → List Node
-file_item_nodes levels = either import_nodes (either package_nodes (either (option_nodes 0) (either (message_nodes levels 0) (either (enum_nodes 0) (either (service_nodes 0) (either (extend_nodes 0) no_nodes))))))
+file_item_nodes levels =
+    either import_nodes (either package_nodes (either (option_nodes 0) (either (message_nodes levels 0)
+    (either (enum_nodes 0) (either (service_nodes 0) (either (extend_nodes 0) no_nodes))))))
 
 -- syntax items
 abbrev pub file_nodes : ℕ → Parse Word → List Node

@@ -84,7 +84,9 @@ accepts_class NoBracket w = not (is_symbol w.kind && among w.text brackets)
 -- the keywords that begin a statement of a message, of a oneof and of an enum; none of them begins a type's name or a
 -- value's there. `required` begins no statement; `map` in a message is looked at for itself.
 abbrev pub message_words : List (List ℕ)
-message_words = codes "message" ∷ codes "enum" ∷ codes "extend" ∷ codes "option" ∷ codes "oneof" ∷ codes "reserved" ∷ codes "optional" ∷ codes "repeated" ∷ codes "required" ∷ codes "map" ∷ []
+message_words =
+    codes "message" ∷ codes "enum" ∷ codes "extend" ∷ codes "option" ∷ codes "oneof" ∷ codes "reserved" ∷ codes "optional" ∷ codes "repeated" ∷
+    codes "required" ∷ codes "map" ∷ []
 
 abbrev pub oneof_words : List (List ℕ)
 oneof_words = codes "option" ∷ codes "optional" ∷ codes "repeated" ∷ codes "required" ∷ []
@@ -94,7 +96,9 @@ enum_words = codes "option" ∷ codes "reserved" ∷ []
 
 -- the types of a map's key (proto3 language specification, "Map field")
 abbrev pub key_types : List (List ℕ)
-key_types = codes "int32" ∷ codes "int64" ∷ codes "uint32" ∷ codes "uint64" ∷ codes "sint32" ∷ codes "sint64" ∷ codes "fixed32" ∷ codes "fixed64" ∷ codes "sfixed32" ∷ codes "sfixed64" ∷ codes "bool" ∷ codes "string" ∷ []
+key_types =
+    codes "int32" ∷ codes "int64" ∷ codes "uint32" ∷ codes "uint64" ∷ codes "sint32" ∷ codes "sint64" ∷ codes "fixed32" ∷ codes "fixed64" ∷
+    codes "sfixed32" ∷ codes "sfixed64" ∷ codes "bool" ∷ codes "string" ∷ []
 
 abbrev pub class : Terminal → Class
 class SyntaxWord = Keyword (codes "syntax")

@@ -37,7 +37,8 @@ pub skip_nested-returns-in_err-rest-clause-fault : goal.skip_nested-returns-in_e
 skip_nested-returns-in_err-rest-clause-fault t c =
     let p = err_from_is_err_and c.from_residual.result c.from_residual.ensures.1 in
     let more : c.args.levels ≡ suc (c.args.levels - 1) = omega (arith, c.if-levels-eq0.false) in
-    rw (p.1, p.2) (entered_fails (enters_brace _ _ (sym c.looks_at.ensures ∙ c.if-looks_at.false) _ _ more (sym c.looks_at-2.ensures ∙ c.if-looks_at-2.true)) c.in_err-rest.ensures.fault)
+    rw (p.1, p.2) (entered_fails (enters_brace _ _ (sym c.looks_at.ensures ∙ c.if-looks_at.false) _ _ more
+    (sym c.looks_at-2.ensures ∙ c.if-looks_at-2.true)) c.in_err-rest.ensures.fault)
 
 pub skip_nested-returns-then-looks_at-2-clause-taken : goal.skip_nested-returns-then-looks_at-2-clause-taken
 skip_nested-returns-then-looks_at-2-clause-taken t c =
@@ -48,28 +49,34 @@ pub skip_nested-returns-in_err-rest-2-clause-fault : goal.skip_nested-returns-in
 skip_nested-returns-in_err-rest-2-clause-fault t c =
     let p = err_from_is_err_and c.from_residual-in_err-rest-2.result c.from_residual-in_err-rest-2.ensures.1 in
     let more : c.args.levels ≡ suc (c.args.levels - 1) = omega (arith, c.if-levels-eq0.false) in
-    rw (p.1, p.2) (entered_fails (enters_bracket _ _ (sym c.looks_at.ensures ∙ c.if-looks_at.false) _ _ more (sym c.looks_at-2.ensures ∙ c.if-looks_at-2.false) (sym c.looks_at-3.ensures ∙ c.if-looks_at-3.true)) c.in_err-rest-2.ensures.fault)
+    rw (p.1, p.2) (entered_fails (enters_bracket _ _ (sym c.looks_at.ensures ∙ c.if-looks_at.false) _ _ more
+    (sym c.looks_at-2.ensures ∙ c.if-looks_at-2.false) (sym c.looks_at-3.ensures ∙ c.if-looks_at-3.true)) c.in_err-rest-2.ensures.fault)
 
 pub skip_nested-returns-then-looks_at-3-clause-taken : goal.skip_nested-returns-then-looks_at-3-clause-taken
 skip_nested-returns-then-looks_at-3-clause-taken t c =
     let more : c.args.levels ≡ suc (c.args.levels - 1) = omega (arith, c.if-levels-eq0.false) in
-    entered_passes (enters_bracket _ _ (sym c.looks_at.ensures ∙ c.if-looks_at.false) _ _ more (sym c.looks_at-2.ensures ∙ c.if-looks_at-2.false) (sym c.looks_at-3.ensures ∙ c.if-looks_at-3.true)) c.in_ok-rest-2.ensures.taken
+    entered_passes (enters_bracket _ _ (sym c.looks_at.ensures ∙ c.if-looks_at.false) _ _ more (sym c.looks_at-2.ensures ∙ c.if-looks_at-2.false)
+    (sym c.looks_at-3.ensures ∙ c.if-looks_at-3.true)) c.in_ok-rest-2.ensures.taken
 
 pub skip_nested-returns-in_err-rest-3-clause-fault : goal.skip_nested-returns-in_err-rest-3-clause-fault
 skip_nested-returns-in_err-rest-3-clause-fault t c =
     let p = err_from_is_err_and c.from_residual-in_err-rest-3.result c.from_residual-in_err-rest-3.ensures.1 in
     let more : c.args.levels ≡ suc (c.args.levels - 1) = omega (arith, c.if-levels-eq0.false) in
-    rw (p.1, p.2) (entered_fails (enters_parenthesis _ _ (sym c.looks_at.ensures ∙ c.if-looks_at.false) _ _ more (sym c.looks_at-2.ensures ∙ c.if-looks_at-2.false) (sym c.looks_at-3.ensures ∙ c.if-looks_at-3.false) (sym c.looks_at-4.ensures ∙ c.if-looks_at-4.true)) c.in_err-rest-3.ensures.fault)
+    rw (p.1, p.2) (entered_fails (enters_parenthesis _ _ (sym c.looks_at.ensures ∙ c.if-looks_at.false) _ _ more
+    (sym c.looks_at-2.ensures ∙ c.if-looks_at-2.false) (sym c.looks_at-3.ensures ∙ c.if-looks_at-3.false)
+    (sym c.looks_at-4.ensures ∙ c.if-looks_at-4.true)) c.in_err-rest-3.ensures.fault)
 
 pub skip_nested-returns-then-looks_at-4-clause-taken : goal.skip_nested-returns-then-looks_at-4-clause-taken
 skip_nested-returns-then-looks_at-4-clause-taken t c =
     let more : c.args.levels ≡ suc (c.args.levels - 1) = omega (arith, c.if-levels-eq0.false) in
-    entered_passes (enters_parenthesis _ _ (sym c.looks_at.ensures ∙ c.if-looks_at.false) _ _ more (sym c.looks_at-2.ensures ∙ c.if-looks_at-2.false) (sym c.looks_at-3.ensures ∙ c.if-looks_at-3.false) (sym c.looks_at-4.ensures ∙ c.if-looks_at-4.true)) c.in_ok-rest-3.ensures.taken
+    entered_passes (enters_parenthesis _ _ (sym c.looks_at.ensures ∙ c.if-looks_at.false) _ _ more (sym c.looks_at-2.ensures ∙ c.if-looks_at-2.false)
+    (sym c.looks_at-3.ensures ∙ c.if-looks_at-3.false) (sym c.looks_at-4.ensures ∙ c.if-looks_at-4.true)) c.in_ok-rest-3.ensures.taken
 
 pub skip_nested-returns-clause-none : goal.skip_nested-returns-clause-none
 skip_nested-returns-clause-none t c =
     let more : c.args.levels ≡ suc (c.args.levels - 1) = omega (arith, c.if-levels-eq0.false) in
-    none_nested _ _ (sym c.looks_at.ensures ∙ c.if-looks_at.false) _ _ more (sym c.looks_at-2.ensures ∙ c.if-looks_at-2.false) (sym c.looks_at-3.ensures ∙ c.if-looks_at-3.false) (sym c.looks_at-4.ensures ∙ c.if-looks_at-4.false)
+    none_nested _ _ (sym c.looks_at.ensures ∙ c.if-looks_at.false) _ _ more (sym c.looks_at-2.ensures ∙ c.if-looks_at-2.false)
+    (sym c.looks_at-3.ensures ∙ c.if-looks_at-3.false) (sym c.looks_at-4.ensures ∙ c.if-looks_at-4.false)
 
 pub skip_pair-returns-in_err-rest-clause-fault : goal.skip_pair-returns-in_err-rest-clause-fault
 skip_pair-returns-in_err-rest-clause-fault t c =

@@ -19,12 +19,17 @@ returns-in_err-rest-2-clause-fault c =
     rw (p.1, p.2) (chosen_fails (unsigned_real (sym c.looks_at.ensures ∙ c.if-looks_at.false) (sym c.looks_at-2.ensures ∙ c.if-looks_at-2.true)) c.in_err-rest-2.ensures.fault)
 
 pub returns-then-looks_at-2-clause-taken : goal.returns-then-looks_at-2-clause-taken
-returns-then-looks_at-2-clause-taken c = chosen_reads (unsigned_real (sym c.looks_at.ensures ∙ c.if-looks_at.false) (sym c.looks_at-2.ensures ∙ c.if-looks_at-2.true)) (token_passes c.in_ok-rest-2.ensures.taken) (λ p. refl)
+returns-then-looks_at-2-clause-taken c =
+    chosen_reads (unsigned_real (sym c.looks_at.ensures ∙ c.if-looks_at.false) (sym c.looks_at-2.ensures ∙ c.if-looks_at-2.true))
+    (token_passes c.in_ok-rest-2.ensures.taken) (λ p. refl)
 
 pub returns-in_err-rest-3-clause-fault : goal.returns-in_err-rest-3-clause-fault
 returns-in_err-rest-3-clause-fault c =
     let p = err_from_is_err_and c.from_residual-in_err-rest-3.result c.from_residual-in_err-rest-3.ensures.1 in
-    rw (p.1, p.2) (chosen_fails (unsigned_not_finite (sym c.looks_at.ensures ∙ c.if-looks_at.false) (sym c.looks_at-2.ensures ∙ c.if-looks_at-2.false)) c.in_err-rest-3.ensures.fault)
+    rw (p.1, p.2) (chosen_fails (unsigned_not_finite (sym c.looks_at.ensures ∙ c.if-looks_at.false)
+    (sym c.looks_at-2.ensures ∙ c.if-looks_at-2.false)) c.in_err-rest-3.ensures.fault)
 
 pub returns-clause-taken : goal.returns-clause-taken
-returns-clause-taken c = chosen_reads (unsigned_not_finite (sym c.looks_at.ensures ∙ c.if-looks_at.false) (sym c.looks_at-2.ensures ∙ c.if-looks_at-2.false)) (token_passes c.in_ok-rest-3.ensures.taken) (λ p. refl)
+returns-clause-taken c =
+    chosen_reads (unsigned_not_finite (sym c.looks_at.ensures ∙ c.if-looks_at.false) (sym c.looks_at-2.ensures ∙ c.if-looks_at-2.false))
+    (token_passes c.in_ok-rest-3.ensures.taken) (λ p. refl)

@@ -21,12 +21,14 @@ returns-in_err-rest-2-clause-fault c =
 pub returns-in_err-value-clause-fault : goal.returns-in_err-value-clause-fault
 returns-in_err-value-clause-fault c =
     let p = err_from_is_err_and c.from_residual-in_err-value.result c.from_residual-in_err-value.ensures.1 in
-    rw (p.1, p.2) (fails_token c.in_ok-rest.ensures.taken (fails_read c.in_ok-key.ensures.taken (fails_token c.in_ok-rest-2.ensures.taken (fails_first c.in_err-value.ensures.fault))))
+    rw (p.1, p.2) (fails_token c.in_ok-rest.ensures.taken (fails_read c.in_ok-key.ensures.taken
+    (fails_token c.in_ok-rest-2.ensures.taken (fails_first c.in_err-value.ensures.fault))))
 
 pub returns-in_err-rest-3-clause-fault : goal.returns-in_err-rest-3-clause-fault
 returns-in_err-rest-3-clause-fault c =
     let p = err_from_is_err_and c.from_residual-in_err-rest-3.result c.from_residual-in_err-rest-3.ensures.1 in
-    rw (p.1, p.2) (fails_token c.in_ok-rest.ensures.taken (fails_read c.in_ok-key.ensures.taken (fails_token c.in_ok-rest-2.ensures.taken (fails_read c.in_ok-value.ensures.taken c.in_err-rest-3.ensures.fault))))
+    rw (p.1, p.2) (fails_token c.in_ok-rest.ensures.taken (fails_read c.in_ok-key.ensures.taken
+    (fails_token c.in_ok-rest-2.ensures.taken (fails_read c.in_ok-value.ensures.taken c.in_err-rest-3.ensures.fault))))
 
 pub returns-clause-taken : goal.returns-clause-taken
 returns-clause-taken c = entry_reads c.in_ok-rest.ensures.taken c.in_ok-key.ensures.taken c.in_ok-rest-2.ensures.taken c.in_ok-value.ensures.taken c.in_ok-rest-3.ensures.taken

@@ -27,10 +27,14 @@ returns-in_err-rest-2-clause-fault c =
 pub returns-in_err-tail-2-clause-fault : goal.returns-in_err-tail-2-clause-fault
 returns-in_err-tail-2-clause-fault c =
     let p = err_from_is_err_and c.from_residual-in_err-tail-2.result c.from_residual-in_err-tail-2.ensures.1 in
-    rw (p.1, p.2) (named_map_fails _ c.in_ok-rest.ensures.taken (sym c.looks_at.ensures ∙ c.if-looks_at.false) (fails_then c.in_ok-rest-2.ensures.taken c.in_err-tail-2.ensures.fault))
+    rw (p.1, p.2) (named_map_fails _ c.in_ok-rest.ensures.taken (sym c.looks_at.ensures ∙ c.if-looks_at.false)
+    (fails_then c.in_ok-rest-2.ensures.taken c.in_err-tail-2.ensures.fault))
 
 pub returns-then-looks_at-clause-taken : goal.returns-then-looks_at-clause-taken
-returns-then-looks_at-clause-taken c = map_adds _ _ c.in_ok-rest.ensures.taken (sym c.looks_at.ensures ∙ c.if-looks_at.true) c.in_ok-key.ensures.taken c.in_ok-tail.ensures.taken c.in_ok-push_node.ensures
+returns-then-looks_at-clause-taken c =
+    map_adds _ _ c.in_ok-rest.ensures.taken (sym c.looks_at.ensures ∙ c.if-looks_at.true) c.in_ok-key.ensures.taken c.in_ok-tail.ensures.taken c.in_ok-push_node.ensures
 
 pub returns-clause-taken : goal.returns-clause-taken
-returns-clause-taken c = named_map_adds _ _ c.in_ok-rest.ensures.taken (sym c.looks_at.ensures ∙ c.if-looks_at.false) c.in_ok-rest-2.ensures.taken c.in_ok-type_name.ensures c.in_ok-tail-2.ensures.taken c.in_ok-push_node-2.ensures
+returns-clause-taken c =
+    named_map_adds _ _ c.in_ok-rest.ensures.taken (sym c.looks_at.ensures ∙ c.if-looks_at.false) c.in_ok-rest-2.ensures.taken
+    c.in_ok-type_name.ensures c.in_ok-tail-2.ensures.taken c.in_ok-push_node-2.ensures

@@ -21,12 +21,16 @@ returns-in_err-number-clause-fault c =
 pub returns-in_err-options-clause-fault : goal.returns-in_err-options-clause-fault
 returns-in_err-options-clause-fault c =
     let p = err_from_is_err_and c.from_residual-in_err-options.result c.from_residual-in_err-options.ensures.1 in
-    rw (p.1, p.2) (fails_read c.in_ok-name.ensures.taken (fails_token c.in_ok-rest.ensures.taken (fails_token c.in_ok-number.ensures.taken (fails_first c.in_err-options.ensures.fault))))
+    rw (p.1, p.2) (fails_read c.in_ok-name.ensures.taken (fails_token c.in_ok-rest.ensures.taken
+    (fails_token c.in_ok-number.ensures.taken (fails_first c.in_err-options.ensures.fault))))
 
 pub returns-in_err-rest-2-clause-fault : goal.returns-in_err-rest-2-clause-fault
 returns-in_err-rest-2-clause-fault c =
     let p = err_from_is_err_and c.from_residual-in_err-rest-2.result c.from_residual-in_err-rest-2.ensures.1 in
-    rw (p.1, p.2) (fails_read c.in_ok-name.ensures.taken (fails_token c.in_ok-rest.ensures.taken (fails_token c.in_ok-number.ensures.taken (fails_read c.in_ok-options.ensures.taken c.in_err-rest-2.ensures.fault))))
+    rw (p.1, p.2) (fails_read c.in_ok-name.ensures.taken (fails_token c.in_ok-rest.ensures.taken
+    (fails_token c.in_ok-number.ensures.taken (fails_read c.in_ok-options.ensures.taken c.in_err-rest-2.ensures.fault))))
 
 pub returns-clause-taken : goal.returns-clause-taken
-returns-clause-taken c = tail_reads _ c.in_ok-name.ensures.taken c.in_ok-rest.ensures.taken c.in_ok-number.ensures.taken c.in_ok-options.ensures.taken c.in_ok-rest-2.ensures.taken c.read_number.ensures
+returns-clause-taken c =
+    tail_reads _ c.in_ok-name.ensures.taken c.in_ok-rest.ensures.taken c.in_ok-number.ensures.taken c.in_ok-options.ensures.taken
+    c.in_ok-rest-2.ensures.taken c.read_number.ensures

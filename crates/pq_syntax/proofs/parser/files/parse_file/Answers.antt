@@ -16,7 +16,8 @@ returns-in_err-rest-2-clause-fault c =
     rw (p.1, p.2) (file_fails _ _ (fails_then c.in_ok-rest.ensures.taken c.in_err-rest-2.ensures.fault))
 
 pub returns-then-is_empty-clause-tree : goal.returns-then-is_empty-clause-tree
-returns-then-is_empty-clause-tree c = file_tree _ _ _ c.in_ok-rest.ensures.taken c.in_ok-rest-2.ensures.taken c.in_ok-nodes.ensures.items (eqb-true _ 0 (sym c.is_empty.ensures ∙ c.if-is_empty.true))
+returns-then-is_empty-clause-tree c =
+    file_tree _ _ _ c.in_ok-rest.ensures.taken c.in_ok-rest-2.ensures.taken c.in_ok-nodes.ensures.items (eqb-true _ 0 (sym c.is_empty.ensures ∙ c.if-is_empty.true))
 
 pub returns-else-is_empty-clause-fault : goal.returns-else-is_empty-clause-fault
 returns-else-is_empty-clause-fault c =

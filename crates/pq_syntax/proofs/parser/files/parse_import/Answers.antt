@@ -19,4 +19,5 @@ returns-in_err-rest-2-clause-fault c =
     rw (p.1, p.2) (fails_token c.in_ok-rest.ensures.taken (fails_read c.parse_import_kind-kind.ensures.taken (fails_read c.in_ok-file.ensures.taken c.in_err-rest-2.ensures.fault)))
 
 pub returns-clause-taken : goal.returns-clause-taken
-returns-clause-taken c = import_adds c.in_ok-rest.ensures.taken c.parse_import_kind-kind.ensures.taken c.in_ok-file.ensures.taken c.in_ok-rest-2.ensures.taken c.in_ok-push_node.ensures
+returns-clause-taken c =
+    import_adds c.in_ok-rest.ensures.taken c.parse_import_kind-kind.ensures.taken c.in_ok-file.ensures.taken c.in_ok-rest-2.ensures.taken c.in_ok-push_node.ensures

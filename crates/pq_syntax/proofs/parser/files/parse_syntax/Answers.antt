@@ -24,4 +24,9 @@ returns-in_err-rest-4-clause-fault c =
     rw (p.1, p.2) (fails_token c.in_ok-rest.ensures.taken (fails_token c.in_ok-rest-2.ensures.taken (fails_then c.in_ok-rest-3.ensures.taken c.in_err-rest-4.ensures.fault)))
 
 pub returns-clause-taken : goal.returns-clause-taken
-returns-clause-taken c = record { parse = _; takes = takes_then c.in_ok-rest.ensures.taken.takes (takes_then c.in_ok-rest-2.ensures.taken.takes (takes_then c.in_ok-rest-3.ensures.taken.takes c.in_ok-rest-4.ensures.taken.takes)) }
+returns-clause-taken c =
+    record {
+      parse = _;
+      takes = takes_then c.in_ok-rest.ensures.taken.takes
+          (takes_then c.in_ok-rest-2.ensures.taken.takes (takes_then c.in_ok-rest-3.ensures.taken.takes c.in_ok-rest-4.ensures.taken.takes));
+    }

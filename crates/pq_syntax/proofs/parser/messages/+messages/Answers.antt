@@ -9,13 +9,19 @@ use Rattle.pq_syntax.proofs.Steps.{adding_begins, adding_fails, adding_goes, add
 use Rattle.pq_syntax.proofs.parser.messages.+messages.Goals as goal
 
 pub parse_item-returns-then-levels-eq0-clause-taken : goal.parse_item-returns-then-levels-eq0-clause-taken
-parse_item-returns-then-levels-eq0-clause-taken t c = other_taken (other_lowest c.args.text.now c.args.brackets c.args.tokens.now c.args.levels c.if-levels-eq0.true) c.args.depth c.args.nodes.now.items c.parse_statement.new.nodes.items c.parse_statement.result c.parse_statement.ensures.taken
+parse_item-returns-then-levels-eq0-clause-taken t c =
+    other_taken (other_lowest c.args.text.now c.args.brackets c.args.tokens.now c.args.levels c.if-levels-eq0.true) c.args.depth
+    c.args.nodes.now.items c.parse_statement.new.nodes.items c.parse_statement.result c.parse_statement.ensures.taken
 
 pub parse_item-returns-then-levels-eq0-clause-none : goal.parse_item-returns-then-levels-eq0-clause-none
-parse_item-returns-then-levels-eq0-clause-none t c = other_none (other_lowest c.args.text.now c.args.brackets c.args.tokens.now c.args.levels c.if-levels-eq0.true) c.args.nodes.now.items c.parse_statement.new.nodes.items c.parse_statement.result c.parse_statement.ensures.none
+parse_item-returns-then-levels-eq0-clause-none t c =
+    other_none (other_lowest c.args.text.now c.args.brackets c.args.tokens.now c.args.levels c.if-levels-eq0.true) c.args.nodes.now.items
+    c.parse_statement.new.nodes.items c.parse_statement.result c.parse_statement.ensures.none
 
 pub parse_item-returns-then-levels-eq0-clause-fault : goal.parse_item-returns-then-levels-eq0-clause-fault
-parse_item-returns-then-levels-eq0-clause-fault t c = other_fault (other_lowest c.args.text.now c.args.brackets c.args.tokens.now c.args.levels c.if-levels-eq0.true) c.parse_statement.result c.parse_statement.ensures.fault
+parse_item-returns-then-levels-eq0-clause-fault t c =
+    other_fault (other_lowest c.args.text.now c.args.brackets c.args.tokens.now c.args.levels c.if-levels-eq0.true) c.parse_statement.result
+    c.parse_statement.ensures.fault
 
 pub parse_item-returns-in_err-rest-clause-fault : goal.parse_item-returns-in_err-rest-clause-fault
 parse_item-returns-in_err-rest-clause-fault t c =
@@ -31,17 +37,20 @@ parse_item-returns-then-looks_at-clause-taken t c =
 pub parse_item-returns-clause-taken : goal.parse_item-returns-clause-taken
 parse_item-returns-clause-taken t c =
     let one_more : c.args.levels ≡ suc (c.args.levels - 1) = omega (arith, c.if-levels-eq0.false) in
-    other_taken (other_deeper c.args.text.now c.args.brackets c.args.tokens.now c.args.levels one_more (sym c.looks_at.ensures ∙ c.if-looks_at.false)) c.args.depth c.args.nodes.now.items c.parse_statement-2.new.nodes.items c.parse_statement-2.result c.parse_statement-2.ensures.taken
+    other_taken (other_deeper c.args.text.now c.args.brackets c.args.tokens.now c.args.levels one_more (sym c.looks_at.ensures ∙ c.if-looks_at.false))
+    c.args.depth c.args.nodes.now.items c.parse_statement-2.new.nodes.items c.parse_statement-2.result c.parse_statement-2.ensures.taken
 
 pub parse_item-returns-clause-none : goal.parse_item-returns-clause-none
 parse_item-returns-clause-none t c =
     let one_more : c.args.levels ≡ suc (c.args.levels - 1) = omega (arith, c.if-levels-eq0.false) in
-    other_none (other_deeper c.args.text.now c.args.brackets c.args.tokens.now c.args.levels one_more (sym c.looks_at.ensures ∙ c.if-looks_at.false)) c.args.nodes.now.items c.parse_statement-2.new.nodes.items c.parse_statement-2.result c.parse_statement-2.ensures.none
+    other_none (other_deeper c.args.text.now c.args.brackets c.args.tokens.now c.args.levels one_more (sym c.looks_at.ensures ∙ c.if-looks_at.false))
+    c.args.nodes.now.items c.parse_statement-2.new.nodes.items c.parse_statement-2.result c.parse_statement-2.ensures.none
 
 pub parse_item-returns-clause-fault : goal.parse_item-returns-clause-fault
 parse_item-returns-clause-fault t c =
     let one_more : c.args.levels ≡ suc (c.args.levels - 1) = omega (arith, c.if-levels-eq0.false) in
-    other_fault (other_deeper c.args.text.now c.args.brackets c.args.tokens.now c.args.levels one_more (sym c.looks_at.ensures ∙ c.if-looks_at.false)) c.parse_statement-2.result c.parse_statement-2.ensures.fault
+    other_fault (other_deeper c.args.text.now c.args.brackets c.args.tokens.now c.args.levels one_more (sym c.looks_at.ensures ∙ c.if-looks_at.false))
+    c.parse_statement-2.result c.parse_statement-2.ensures.fault
 
 pub parse_items-loop-after-init : goal.parse_items-loop-after-init
 parse_items-loop-after-init t c = record { goes = adding_begins _ _; within = omega arith }
@@ -82,4 +91,7 @@ parse_message-returns-in_err-rest-2-clause-fault t c =
     rw (p.1, p.2) (fails_read c.in_ok-name.ensures.taken (fails_added c.in_ok-rest.ensures.taken c.in_err-rest-2.ensures.fault))
 
 pub parse_message-returns-clause-taken : goal.parse_message-returns-clause-taken
-parse_message-returns-clause-taken t c = body_adds _ (item_nodes _ _) (λ name. Message name) _ _ c.in_ok-name.ensures.taken (c.len-index.ensures ∙ c.args.nodes.now.ok.0) c.in_ok-push_node.ensures (one_deeper (λ n. list_of (item_nodes c.args.levels n)) c.args.depth c.in_ok-rest.ensures.taken) c.in_ok-rest-2.ensures.taken c.across.ensures c.set_span.ensures
+parse_message-returns-clause-taken t c =
+    body_adds _ (item_nodes _ _) (λ name. Message name) _ _ c.in_ok-name.ensures.taken (c.len-index.ensures ∙ c.args.nodes.now.ok.0)
+    c.in_ok-push_node.ensures (one_deeper (λ n. list_of (item_nodes c.args.levels n)) c.args.depth c.in_ok-rest.ensures.taken)
+    c.in_ok-rest-2.ensures.taken c.across.ensures c.set_span.ensures

@@ -1,17 +1,16 @@
 use Rattle.std.proofs.Common.{refl, sym, ◌∙◌}
 use Rattle.std.proofs.lemmas.Result.{err_from_is_err_and}
-use Rattle.pq_syntax.proofs.Choices.{adds_empty, by_phrase, by_token, by_type, by_word, entered_adds, entered_fails, enters_first, enters_itself, enters_past}
-use Rattle.pq_syntax.specs.declared.terminal.Terminal.TheVariants.{EnumWord, ExtendWord, OptionWord, OneofWord, ReservedWord, LabelWord, MapWord, Semicolon, FieldTypeName}
-use Rattle.pq_syntax.proofs.TypeFirst.{not_at_type}
+use Rattle.pq_syntax.proofs.Choices.{adds_empty, by_phrase, by_token, by_word, entered_adds, entered_fails, enters_first, enters_past}
+use Rattle.pq_syntax.proofs.TypeFirst.{enters_field}
 use Rattle.pq_syntax.proofs.parser.messages.parse_statement.Goals as goal
 
 pub returns-in_err-rest-clause-fault : goal.returns-in_err-rest-clause-fault
 returns-in_err-rest-clause-fault c =
     let p = err_from_is_err_and c.from_residual.result c.from_residual.ensures.1 in
-    rw (p.1, p.2) (entered_fails (enters_past by_phrase (not_at_type FieldTypeName EnumWord c.args.text.now c.args.tokens.now refl refl (sym c.looks_at_type.ensures ∙ c.if-looks_at_type.true)) (enters_past by_word (not_at_type FieldTypeName ExtendWord c.args.text.now c.args.tokens.now refl refl (sym c.looks_at_type.ensures ∙ c.if-looks_at_type.true)) (enters_past by_word (not_at_type FieldTypeName OptionWord c.args.text.now c.args.tokens.now refl refl (sym c.looks_at_type.ensures ∙ c.if-looks_at_type.true)) (enters_past by_phrase (not_at_type FieldTypeName OneofWord c.args.text.now c.args.tokens.now refl refl (sym c.looks_at_type.ensures ∙ c.if-looks_at_type.true)) (enters_past by_word (not_at_type FieldTypeName ReservedWord c.args.text.now c.args.tokens.now refl refl (sym c.looks_at_type.ensures ∙ c.if-looks_at_type.true)) (enters_past by_word (not_at_type FieldTypeName LabelWord c.args.text.now c.args.tokens.now refl refl (sym c.looks_at_type.ensures ∙ c.if-looks_at_type.true)) (enters_past by_word (not_at_type FieldTypeName MapWord c.args.text.now c.args.tokens.now refl refl (sym c.looks_at_type.ensures ∙ c.if-looks_at_type.true)) (enters_past by_token (not_at_type FieldTypeName Semicolon c.args.text.now c.args.tokens.now refl refl (sym c.looks_at_type.ensures ∙ c.if-looks_at_type.true)) (enters_itself by_type (sym c.looks_at_type.ensures ∙ c.if-looks_at_type.true)))))))))) c.in_err-rest.ensures.fault)
+    rw (p.1, p.2) (entered_fails (enters_field _ (sym c.looks_at_type.ensures ∙ c.if-looks_at_type.true)) c.in_err-rest.ensures.fault)
 
 pub returns-then-looks_at_type-clause-taken : goal.returns-then-looks_at_type-clause-taken
-returns-then-looks_at_type-clause-taken c = entered_adds (enters_past by_phrase (not_at_type FieldTypeName EnumWord c.args.text.now c.args.tokens.now refl refl (sym c.looks_at_type.ensures ∙ c.if-looks_at_type.true)) (enters_past by_word (not_at_type FieldTypeName ExtendWord c.args.text.now c.args.tokens.now refl refl (sym c.looks_at_type.ensures ∙ c.if-looks_at_type.true)) (enters_past by_word (not_at_type FieldTypeName OptionWord c.args.text.now c.args.tokens.now refl refl (sym c.looks_at_type.ensures ∙ c.if-looks_at_type.true)) (enters_past by_phrase (not_at_type FieldTypeName OneofWord c.args.text.now c.args.tokens.now refl refl (sym c.looks_at_type.ensures ∙ c.if-looks_at_type.true)) (enters_past by_word (not_at_type FieldTypeName ReservedWord c.args.text.now c.args.tokens.now refl refl (sym c.looks_at_type.ensures ∙ c.if-looks_at_type.true)) (enters_past by_word (not_at_type FieldTypeName LabelWord c.args.text.now c.args.tokens.now refl refl (sym c.looks_at_type.ensures ∙ c.if-looks_at_type.true)) (enters_past by_word (not_at_type FieldTypeName MapWord c.args.text.now c.args.tokens.now refl refl (sym c.looks_at_type.ensures ∙ c.if-looks_at_type.true)) (enters_past by_token (not_at_type FieldTypeName Semicolon c.args.text.now c.args.tokens.now refl refl (sym c.looks_at_type.ensures ∙ c.if-looks_at_type.true)) (enters_itself by_type (sym c.looks_at_type.ensures ∙ c.if-looks_at_type.true)))))))))) c.in_ok-rest.ensures.taken (λ p. refl)
+returns-then-looks_at_type-clause-taken c = entered_adds (enters_field _ (sym c.looks_at_type.ensures ∙ c.if-looks_at_type.true)) c.in_ok-rest.ensures.taken (λ p. refl)
 
 pub returns-in_err-rest-2-clause-fault : goal.returns-in_err-rest-2-clause-fault
 returns-in_err-rest-2-clause-fault c =
@@ -24,55 +23,125 @@ returns-then-looks_at-clause-taken c = entered_adds (enters_first by_phrase (sym
 pub returns-in_err-rest-3-clause-fault : goal.returns-in_err-rest-3-clause-fault
 returns-in_err-rest-3-clause-fault c =
     let p = err_from_is_err_and c.from_residual-in_err-rest-3.result c.from_residual-in_err-rest-3.ensures.1 in
-    rw (p.1, p.2) (entered_fails (enters_past by_phrase (sym c.looks_at.ensures ∙ c.if-looks_at.false) (enters_first by_word (sym c.looks_at-2.ensures ∙ c.if-looks_at-2.true))) c.in_err-rest-3.ensures.fault)
+    rw (p.1, p.2) (entered_fails
+    (enters_past by_phrase (sym c.looks_at.ensures ∙ c.if-looks_at.false)
+    (enters_first by_word (sym c.looks_at-2.ensures ∙ c.if-looks_at-2.true))) c.in_err-rest-3.ensures.fault)
 
 pub returns-then-looks_at-2-clause-taken : goal.returns-then-looks_at-2-clause-taken
-returns-then-looks_at-2-clause-taken c = entered_adds (enters_past by_phrase (sym c.looks_at.ensures ∙ c.if-looks_at.false) (enters_first by_word (sym c.looks_at-2.ensures ∙ c.if-looks_at-2.true))) c.in_ok-rest-3.ensures.taken (λ p. refl)
+returns-then-looks_at-2-clause-taken c = entered_adds
+    (enters_past by_phrase (sym c.looks_at.ensures ∙ c.if-looks_at.false)
+    (enters_first by_word (sym c.looks_at-2.ensures ∙ c.if-looks_at-2.true))) c.in_ok-rest-3.ensures.taken (λ p. refl)
 
 pub returns-in_err-rest-4-clause-fault : goal.returns-in_err-rest-4-clause-fault
 returns-in_err-rest-4-clause-fault c =
     let p = err_from_is_err_and c.from_residual-in_err-rest-4.result c.from_residual-in_err-rest-4.ensures.1 in
-    rw (p.1, p.2) (entered_fails (enters_past by_phrase (sym c.looks_at.ensures ∙ c.if-looks_at.false) (enters_past by_word (sym c.looks_at-2.ensures ∙ c.if-looks_at-2.false) (enters_first by_word (sym c.looks_at-3.ensures ∙ c.if-looks_at-3.true)))) c.in_err-rest-4.ensures.fault)
+    rw (p.1, p.2) (entered_fails
+    (enters_past by_phrase (sym c.looks_at.ensures ∙ c.if-looks_at.false)
+    (enters_past by_word (sym c.looks_at-2.ensures ∙ c.if-looks_at-2.false)
+    (enters_first by_word (sym c.looks_at-3.ensures ∙ c.if-looks_at-3.true)))) c.in_err-rest-4.ensures.fault)
 
 pub returns-then-looks_at-3-clause-taken : goal.returns-then-looks_at-3-clause-taken
-returns-then-looks_at-3-clause-taken c = entered_adds (enters_past by_phrase (sym c.looks_at.ensures ∙ c.if-looks_at.false) (enters_past by_word (sym c.looks_at-2.ensures ∙ c.if-looks_at-2.false) (enters_first by_word (sym c.looks_at-3.ensures ∙ c.if-looks_at-3.true)))) c.in_ok-rest-4.ensures.taken (λ p. refl)
+returns-then-looks_at-3-clause-taken c = entered_adds
+    (enters_past by_phrase (sym c.looks_at.ensures ∙ c.if-looks_at.false)
+    (enters_past by_word (sym c.looks_at-2.ensures ∙ c.if-looks_at-2.false)
+    (enters_first by_word (sym c.looks_at-3.ensures ∙ c.if-looks_at-3.true)))) c.in_ok-rest-4.ensures.taken (λ p. refl)
 
 pub returns-in_err-rest-5-clause-fault : goal.returns-in_err-rest-5-clause-fault
 returns-in_err-rest-5-clause-fault c =
     let p = err_from_is_err_and c.from_residual-in_err-rest-5.result c.from_residual-in_err-rest-5.ensures.1 in
-    rw (p.1, p.2) (entered_fails (enters_past by_phrase (sym c.looks_at.ensures ∙ c.if-looks_at.false) (enters_past by_word (sym c.looks_at-2.ensures ∙ c.if-looks_at-2.false) (enters_past by_word (sym c.looks_at-3.ensures ∙ c.if-looks_at-3.false) (enters_first by_phrase (sym c.looks_at-4.ensures ∙ c.if-looks_at-4.true))))) c.in_err-rest-5.ensures.fault)
+    rw (p.1, p.2) (entered_fails
+    (enters_past by_phrase (sym c.looks_at.ensures ∙ c.if-looks_at.false)
+    (enters_past by_word (sym c.looks_at-2.ensures ∙ c.if-looks_at-2.false)
+    (enters_past by_word (sym c.looks_at-3.ensures ∙ c.if-looks_at-3.false)
+    (enters_first by_phrase (sym c.looks_at-4.ensures ∙ c.if-looks_at-4.true))))) c.in_err-rest-5.ensures.fault)
 
 pub returns-then-looks_at-4-clause-taken : goal.returns-then-looks_at-4-clause-taken
-returns-then-looks_at-4-clause-taken c = entered_adds (enters_past by_phrase (sym c.looks_at.ensures ∙ c.if-looks_at.false) (enters_past by_word (sym c.looks_at-2.ensures ∙ c.if-looks_at-2.false) (enters_past by_word (sym c.looks_at-3.ensures ∙ c.if-looks_at-3.false) (enters_first by_phrase (sym c.looks_at-4.ensures ∙ c.if-looks_at-4.true))))) c.in_ok-rest-5.ensures.taken (λ p. refl)
+returns-then-looks_at-4-clause-taken c = entered_adds
+    (enters_past by_phrase (sym c.looks_at.ensures ∙ c.if-looks_at.false)
+    (enters_past by_word (sym c.looks_at-2.ensures ∙ c.if-looks_at-2.false)
+    (enters_past by_word (sym c.looks_at-3.ensures ∙ c.if-looks_at-3.false)
+    (enters_first by_phrase (sym c.looks_at-4.ensures ∙ c.if-looks_at-4.true))))) c.in_ok-rest-5.ensures.taken (λ p. refl)
 
 pub returns-in_err-rest-6-clause-fault : goal.returns-in_err-rest-6-clause-fault
 returns-in_err-rest-6-clause-fault c =
     let p = err_from_is_err_and c.from_residual-in_err-rest-6.result c.from_residual-in_err-rest-6.ensures.1 in
-    rw (p.1, p.2) (entered_fails (enters_past by_phrase (sym c.looks_at.ensures ∙ c.if-looks_at.false) (enters_past by_word (sym c.looks_at-2.ensures ∙ c.if-looks_at-2.false) (enters_past by_word (sym c.looks_at-3.ensures ∙ c.if-looks_at-3.false) (enters_past by_phrase (sym c.looks_at-4.ensures ∙ c.if-looks_at-4.false) (enters_first by_word (sym c.looks_at-5.ensures ∙ c.if-looks_at-5.true)))))) c.in_err-rest-6.ensures.fault)
+    rw (p.1, p.2) (entered_fails
+    (enters_past by_phrase (sym c.looks_at.ensures ∙ c.if-looks_at.false)
+    (enters_past by_word (sym c.looks_at-2.ensures ∙ c.if-looks_at-2.false)
+    (enters_past by_word (sym c.looks_at-3.ensures ∙ c.if-looks_at-3.false)
+    (enters_past by_phrase (sym c.looks_at-4.ensures ∙ c.if-looks_at-4.false)
+    (enters_first by_word (sym c.looks_at-5.ensures ∙ c.if-looks_at-5.true)))))) c.in_err-rest-6.ensures.fault)
 
 pub returns-then-looks_at-5-clause-taken : goal.returns-then-looks_at-5-clause-taken
-returns-then-looks_at-5-clause-taken c = entered_adds (enters_past by_phrase (sym c.looks_at.ensures ∙ c.if-looks_at.false) (enters_past by_word (sym c.looks_at-2.ensures ∙ c.if-looks_at-2.false) (enters_past by_word (sym c.looks_at-3.ensures ∙ c.if-looks_at-3.false) (enters_past by_phrase (sym c.looks_at-4.ensures ∙ c.if-looks_at-4.false) (enters_first by_word (sym c.looks_at-5.ensures ∙ c.if-looks_at-5.true)))))) c.in_ok-rest-6.ensures.taken (λ p. refl)
+returns-then-looks_at-5-clause-taken c = entered_adds
+    (enters_past by_phrase (sym c.looks_at.ensures ∙ c.if-looks_at.false)
+    (enters_past by_word (sym c.looks_at-2.ensures ∙ c.if-looks_at-2.false)
+    (enters_past by_word (sym c.looks_at-3.ensures ∙ c.if-looks_at-3.false)
+    (enters_past by_phrase (sym c.looks_at-4.ensures ∙ c.if-looks_at-4.false)
+    (enters_first by_word (sym c.looks_at-5.ensures ∙ c.if-looks_at-5.true)))))) c.in_ok-rest-6.ensures.taken (λ p. refl)
 
 pub returns-in_err-rest-7-clause-fault : goal.returns-in_err-rest-7-clause-fault
 returns-in_err-rest-7-clause-fault c =
     let p = err_from_is_err_and c.from_residual-in_err-rest-7.result c.from_residual-in_err-rest-7.ensures.1 in
-    rw (p.1, p.2) (entered_fails (enters_past by_phrase (sym c.looks_at.ensures ∙ c.if-looks_at.false) (enters_past by_word (sym c.looks_at-2.ensures ∙ c.if-looks_at-2.false) (enters_past by_word (sym c.looks_at-3.ensures ∙ c.if-looks_at-3.false) (enters_past by_phrase (sym c.looks_at-4.ensures ∙ c.if-looks_at-4.false) (enters_past by_word (sym c.looks_at-5.ensures ∙ c.if-looks_at-5.false) (enters_first by_word (sym c.looks_at-6.ensures ∙ c.if-looks_at-6.true))))))) c.in_err-rest-7.ensures.fault)
+    rw (p.1, p.2) (entered_fails
+    (enters_past by_phrase (sym c.looks_at.ensures ∙ c.if-looks_at.false)
+    (enters_past by_word (sym c.looks_at-2.ensures ∙ c.if-looks_at-2.false)
+    (enters_past by_word (sym c.looks_at-3.ensures ∙ c.if-looks_at-3.false)
+    (enters_past by_phrase (sym c.looks_at-4.ensures ∙ c.if-looks_at-4.false)
+    (enters_past by_word (sym c.looks_at-5.ensures ∙ c.if-looks_at-5.false)
+    (enters_first by_word (sym c.looks_at-6.ensures ∙ c.if-looks_at-6.true))))))) c.in_err-rest-7.ensures.fault)
 
 pub returns-then-looks_at-6-clause-taken : goal.returns-then-looks_at-6-clause-taken
-returns-then-looks_at-6-clause-taken c = entered_adds (enters_past by_phrase (sym c.looks_at.ensures ∙ c.if-looks_at.false) (enters_past by_word (sym c.looks_at-2.ensures ∙ c.if-looks_at-2.false) (enters_past by_word (sym c.looks_at-3.ensures ∙ c.if-looks_at-3.false) (enters_past by_phrase (sym c.looks_at-4.ensures ∙ c.if-looks_at-4.false) (enters_past by_word (sym c.looks_at-5.ensures ∙ c.if-looks_at-5.false) (enters_first by_word (sym c.looks_at-6.ensures ∙ c.if-looks_at-6.true))))))) c.in_ok-rest-7.ensures.taken (λ p. refl)
+returns-then-looks_at-6-clause-taken c = entered_adds
+    (enters_past by_phrase (sym c.looks_at.ensures ∙ c.if-looks_at.false)
+    (enters_past by_word (sym c.looks_at-2.ensures ∙ c.if-looks_at-2.false)
+    (enters_past by_word (sym c.looks_at-3.ensures ∙ c.if-looks_at-3.false)
+    (enters_past by_phrase (sym c.looks_at-4.ensures ∙ c.if-looks_at-4.false)
+    (enters_past by_word (sym c.looks_at-5.ensures ∙ c.if-looks_at-5.false)
+    (enters_first by_word (sym c.looks_at-6.ensures ∙ c.if-looks_at-6.true))))))) c.in_ok-rest-7.ensures.taken (λ p. refl)
 
 pub returns-in_err-rest-8-clause-fault : goal.returns-in_err-rest-8-clause-fault
 returns-in_err-rest-8-clause-fault c =
     let p = err_from_is_err_and c.from_residual-in_err-rest-8.result c.from_residual-in_err-rest-8.ensures.1 in
-    rw (p.1, p.2) (entered_fails (enters_past by_phrase (sym c.looks_at.ensures ∙ c.if-looks_at.false) (enters_past by_word (sym c.looks_at-2.ensures ∙ c.if-looks_at-2.false) (enters_past by_word (sym c.looks_at-3.ensures ∙ c.if-looks_at-3.false) (enters_past by_phrase (sym c.looks_at-4.ensures ∙ c.if-looks_at-4.false) (enters_past by_word (sym c.looks_at-5.ensures ∙ c.if-looks_at-5.false) (enters_past by_word (sym c.looks_at-6.ensures ∙ c.if-looks_at-6.false) (enters_first by_word (sym c.looks_at-7.ensures ∙ c.if-looks_at-7.true)))))))) c.in_err-rest-8.ensures.fault)
+    rw (p.1, p.2) (entered_fails
+    (enters_past by_phrase (sym c.looks_at.ensures ∙ c.if-looks_at.false)
+    (enters_past by_word (sym c.looks_at-2.ensures ∙ c.if-looks_at-2.false)
+    (enters_past by_word (sym c.looks_at-3.ensures ∙ c.if-looks_at-3.false)
+    (enters_past by_phrase (sym c.looks_at-4.ensures ∙ c.if-looks_at-4.false)
+    (enters_past by_word (sym c.looks_at-5.ensures ∙ c.if-looks_at-5.false)
+    (enters_past by_word (sym c.looks_at-6.ensures ∙ c.if-looks_at-6.false)
+    (enters_first by_word (sym c.looks_at-7.ensures ∙ c.if-looks_at-7.true)))))))) c.in_err-rest-8.ensures.fault)
 
 pub returns-then-looks_at-7-clause-taken : goal.returns-then-looks_at-7-clause-taken
-returns-then-looks_at-7-clause-taken c = entered_adds (enters_past by_phrase (sym c.looks_at.ensures ∙ c.if-looks_at.false) (enters_past by_word (sym c.looks_at-2.ensures ∙ c.if-looks_at-2.false) (enters_past by_word (sym c.looks_at-3.ensures ∙ c.if-looks_at-3.false) (enters_past by_phrase (sym c.looks_at-4.ensures ∙ c.if-looks_at-4.false) (enters_past by_word (sym c.looks_at-5.ensures ∙ c.if-looks_at-5.false) (enters_past by_word (sym c.looks_at-6.ensures ∙ c.if-looks_at-6.false) (enters_first by_word (sym c.looks_at-7.ensures ∙ c.if-looks_at-7.true)))))))) c.in_ok-rest-8.ensures.taken (λ p. refl)
+returns-then-looks_at-7-clause-taken c = entered_adds
+    (enters_past by_phrase (sym c.looks_at.ensures ∙ c.if-looks_at.false)
+    (enters_past by_word (sym c.looks_at-2.ensures ∙ c.if-looks_at-2.false)
+    (enters_past by_word (sym c.looks_at-3.ensures ∙ c.if-looks_at-3.false)
+    (enters_past by_phrase (sym c.looks_at-4.ensures ∙ c.if-looks_at-4.false)
+    (enters_past by_word (sym c.looks_at-5.ensures ∙ c.if-looks_at-5.false)
+    (enters_past by_word (sym c.looks_at-6.ensures ∙ c.if-looks_at-6.false)
+    (enters_first by_word (sym c.looks_at-7.ensures ∙ c.if-looks_at-7.true)))))))) c.in_ok-rest-8.ensures.taken (λ p. refl)
 
 pub returns-in_err-rest-9-clause-fault : goal.returns-in_err-rest-9-clause-fault
 returns-in_err-rest-9-clause-fault c =
     let p = err_from_is_err_and c.from_residual-in_err-rest-9.result c.from_residual-in_err-rest-9.ensures.1 in
-    rw (p.1, p.2) (entered_fails (enters_past by_phrase (sym c.looks_at.ensures ∙ c.if-looks_at.false) (enters_past by_word (sym c.looks_at-2.ensures ∙ c.if-looks_at-2.false) (enters_past by_word (sym c.looks_at-3.ensures ∙ c.if-looks_at-3.false) (enters_past by_phrase (sym c.looks_at-4.ensures ∙ c.if-looks_at-4.false) (enters_past by_word (sym c.looks_at-5.ensures ∙ c.if-looks_at-5.false) (enters_past by_word (sym c.looks_at-6.ensures ∙ c.if-looks_at-6.false) (enters_past by_word (sym c.looks_at-7.ensures ∙ c.if-looks_at-7.false) (enters_first by_token (sym c.looks_at-8.ensures ∙ c.if-looks_at-8.true))))))))) c.in_err-rest-9.ensures.fault)
+    rw (p.1, p.2) (entered_fails
+    (enters_past by_phrase (sym c.looks_at.ensures ∙ c.if-looks_at.false)
+    (enters_past by_word (sym c.looks_at-2.ensures ∙ c.if-looks_at-2.false)
+    (enters_past by_word (sym c.looks_at-3.ensures ∙ c.if-looks_at-3.false)
+    (enters_past by_phrase (sym c.looks_at-4.ensures ∙ c.if-looks_at-4.false)
+    (enters_past by_word (sym c.looks_at-5.ensures ∙ c.if-looks_at-5.false)
+    (enters_past by_word (sym c.looks_at-6.ensures ∙ c.if-looks_at-6.false)
+    (enters_past by_word (sym c.looks_at-7.ensures ∙ c.if-looks_at-7.false)
+    (enters_first by_token (sym c.looks_at-8.ensures ∙ c.if-looks_at-8.true))))))))) c.in_err-rest-9.ensures.fault)
 
 pub returns-then-looks_at-8-clause-taken : goal.returns-then-looks_at-8-clause-taken
-returns-then-looks_at-8-clause-taken c = entered_adds (enters_past by_phrase (sym c.looks_at.ensures ∙ c.if-looks_at.false) (enters_past by_word (sym c.looks_at-2.ensures ∙ c.if-looks_at-2.false) (enters_past by_word (sym c.looks_at-3.ensures ∙ c.if-looks_at-3.false) (enters_past by_phrase (sym c.looks_at-4.ensures ∙ c.if-looks_at-4.false) (enters_past by_word (sym c.looks_at-5.ensures ∙ c.if-looks_at-5.false) (enters_past by_word (sym c.looks_at-6.ensures ∙ c.if-looks_at-6.false) (enters_past by_word (sym c.looks_at-7.ensures ∙ c.if-looks_at-7.false) (enters_first by_token (sym c.looks_at-8.ensures ∙ c.if-looks_at-8.true))))))))) (adds_empty c.in_ok-rest-9.ensures.taken) (λ p. refl)
+returns-then-looks_at-8-clause-taken c = entered_adds
+    (enters_past by_phrase (sym c.looks_at.ensures ∙ c.if-looks_at.false)
+    (enters_past by_word (sym c.looks_at-2.ensures ∙ c.if-looks_at-2.false)
+    (enters_past by_word (sym c.looks_at-3.ensures ∙ c.if-looks_at-3.false)
+    (enters_past by_phrase (sym c.looks_at-4.ensures ∙ c.if-looks_at-4.false)
+    (enters_past by_word (sym c.looks_at-5.ensures ∙ c.if-looks_at-5.false)
+    (enters_past by_word (sym c.looks_at-6.ensures ∙ c.if-looks_at-6.false)
+    (enters_past by_word (sym c.looks_at-7.ensures ∙ c.if-looks_at-7.false)
+    (enters_first by_token (sym c.looks_at-8.ensures ∙ c.if-looks_at-8.true))))))))) (adds_empty c.in_ok-rest-9.ensures.taken) (λ p. refl)

@@ -14,7 +14,8 @@ loop-rest-init c = record { goes = adding_begins _ _; shorter = c.in_ok-after.en
 pub returns-in_err-more-clause-fault : goal.returns-in_err-more-clause-fault
 returns-in_err-more-clause-fault c =
     let p = err_from_is_err_and c.from_residual-in_err-more.result c.from_residual-in_err-more.ensures.1 in
-    rw (p.1, p.2) (fails_token c.in_ok-after.ensures.taken (adding_fails c.loop-rest.invariant.goes (record { starts = λ n e. sym c.looks_at.ensures ∙ c.loop-rest-test.true; fails = c.in_err-more.ensures.fault })))
+    rw (p.1, p.2) (fails_token c.in_ok-after.ensures.taken (adding_fails c.loop-rest.invariant.goes
+    (record { starts = λ n e. sym c.looks_at.ensures ∙ c.loop-rest-test.true; fails = c.in_err-more.ensures.fault })))
 
 pub loop-rest-smaller : goal.loop-rest-smaller
 loop-rest-smaller c = c.in_ok-more.ensures.shorter

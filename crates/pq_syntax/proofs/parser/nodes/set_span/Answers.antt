@@ -6,7 +6,11 @@ use Rattle.pq_syntax.specs.Tree.{spanning}
 use Rattle.pq_syntax.specs.declared.tree.Node.{Node}
 use Rattle.pq_syntax.proofs.parser.nodes.set_span.Goals as goal
 
-set_there : (items before after : List Node) (n m : Node) (index : ℕ) (span : Span) → items ≡ before ++ n ∷ after → length before ≡ index → m ≡ get_or items index m → slice_set items index (spanning m span) ≡ before ++ spanning n span ∷ after
+set_there : (items before after : List Node) (n m : Node) (index : ℕ) (span : Span)
+    → items ≡ before ++ n ∷ after
+    → length before ≡ index
+    → m ≡ get_or items index m
+    → slice_set items index (spanning m span) ≡ before ++ spanning n span ∷ after
 set_there items before after n m index span e h v =
     let there : get_or items index m ≡ n = rw (e, sym h) (get_or-append_seam before n after m) in
     rw (v ∙ there, e, sym h) (set-append_seam before n after (spanning n span))

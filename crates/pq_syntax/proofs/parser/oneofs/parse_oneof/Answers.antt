@@ -26,4 +26,7 @@ pub set_span-requires : goal.set_span-requires
 set_span-requires c = index_within _ _ _ _ c.in_ok-name.ensures.taken.takes (c.len-index.ensures ∙ c.args.nodes.now.ok.0) c.in_ok-push_node.ensures c.in_ok-rest.ensures.taken
 
 pub returns-clause-taken : goal.returns-clause-taken
-returns-clause-taken c = body_adds c.args.depth (oneof_item_nodes (suc c.args.depth)) (λ name. Oneof name) _ _ c.in_ok-name.ensures.taken (c.len-index.ensures ∙ c.args.nodes.now.ok.0) c.in_ok-push_node.ensures (one_deeper (λ n. list_of (oneof_item_nodes n)) c.args.depth c.in_ok-rest.ensures.taken) c.in_ok-rest-2.ensures.taken c.across.ensures c.set_span.ensures
+returns-clause-taken c =
+    body_adds c.args.depth (oneof_item_nodes (suc c.args.depth)) (λ name. Oneof name) _ _ c.in_ok-name.ensures.taken
+    (c.len-index.ensures ∙ c.args.nodes.now.ok.0) c.in_ok-push_node.ensures
+    (one_deeper (λ n. list_of (oneof_item_nodes n)) c.args.depth c.in_ok-rest.ensures.taken) c.in_ok-rest-2.ensures.taken c.across.ensures c.set_span.ensures

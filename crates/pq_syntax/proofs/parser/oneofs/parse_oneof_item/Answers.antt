@@ -14,18 +14,30 @@ returns-then-looks_at-clause-taken c = entered_adds (enters_first by_word (sym c
 pub returns-in_err-rest-2-clause-fault : goal.returns-in_err-rest-2-clause-fault
 returns-in_err-rest-2-clause-fault c =
     let p = err_from_is_err_and c.from_residual-in_err-rest-2.result c.from_residual-in_err-rest-2.ensures.1 in
-    rw (p.1, p.2) (entered_fails (enters_past by_word (sym c.looks_at.ensures ∙ c.if-looks_at.false) (enters_first by_type (sym c.looks_at_type.ensures ∙ c.if-looks_at_type.true))) c.in_err-rest-2.ensures.fault)
+    rw (p.1, p.2) (entered_fails
+    (enters_past by_word (sym c.looks_at.ensures ∙ c.if-looks_at.false)
+    (enters_first by_type (sym c.looks_at_type.ensures ∙ c.if-looks_at_type.true))) c.in_err-rest-2.ensures.fault)
 
 pub returns-then-looks_at_type-clause-taken : goal.returns-then-looks_at_type-clause-taken
-returns-then-looks_at_type-clause-taken c = entered_adds (enters_past by_word (sym c.looks_at.ensures ∙ c.if-looks_at.false) (enters_first by_type (sym c.looks_at_type.ensures ∙ c.if-looks_at_type.true))) c.in_ok-rest-2.ensures.taken (λ p. refl)
+returns-then-looks_at_type-clause-taken c = entered_adds
+    (enters_past by_word (sym c.looks_at.ensures ∙ c.if-looks_at.false)
+    (enters_first by_type (sym c.looks_at_type.ensures ∙ c.if-looks_at_type.true))) c.in_ok-rest-2.ensures.taken (λ p. refl)
 
 pub returns-in_err-rest-3-clause-fault : goal.returns-in_err-rest-3-clause-fault
 returns-in_err-rest-3-clause-fault c =
     let p = err_from_is_err_and c.from_residual-in_err-rest-3.result c.from_residual-in_err-rest-3.ensures.1 in
-    rw (p.1, p.2) (entered_fails (enters_past by_word (sym c.looks_at.ensures ∙ c.if-looks_at.false) (enters_past by_type (sym c.looks_at_type.ensures ∙ c.if-looks_at_type.false) (enters_itself by_token (sym c.looks_at-2.ensures ∙ c.if-looks_at-2.true)))) c.in_err-rest-3.ensures.fault)
+    rw (p.1, p.2) (entered_fails
+    (enters_past by_word (sym c.looks_at.ensures ∙ c.if-looks_at.false)
+    (enters_past by_type (sym c.looks_at_type.ensures ∙ c.if-looks_at_type.false)
+    (enters_itself by_token (sym c.looks_at-2.ensures ∙ c.if-looks_at-2.true)))) c.in_err-rest-3.ensures.fault)
 
 pub returns-then-looks_at-2-clause-taken : goal.returns-then-looks_at-2-clause-taken
-returns-then-looks_at-2-clause-taken c = entered_adds (enters_past by_word (sym c.looks_at.ensures ∙ c.if-looks_at.false) (enters_past by_type (sym c.looks_at_type.ensures ∙ c.if-looks_at_type.false) (enters_itself by_token (sym c.looks_at-2.ensures ∙ c.if-looks_at-2.true)))) (adds_empty c.in_ok-rest-3.ensures.taken) (λ p. refl)
+returns-then-looks_at-2-clause-taken c = entered_adds
+    (enters_past by_word (sym c.looks_at.ensures ∙ c.if-looks_at.false)
+    (enters_past by_type (sym c.looks_at_type.ensures ∙ c.if-looks_at_type.false)
+    (enters_itself by_token (sym c.looks_at-2.ensures ∙ c.if-looks_at-2.true)))) (adds_empty c.in_ok-rest-3.ensures.taken) (λ p. refl)
 
 pub returns-clause-none : goal.returns-clause-none
-returns-clause-none c = ends_past by_word (sym c.looks_at.ensures ∙ c.if-looks_at.false) (ends_past by_type (sym c.looks_at_type.ensures ∙ c.if-looks_at_type.false) (ends_itself by_token (sym c.looks_at-2.ensures ∙ c.if-looks_at-2.false)))
+returns-clause-none c = ends_past by_word (sym c.looks_at.ensures ∙ c.if-looks_at.false)
+    (ends_past by_type (sym c.looks_at_type.ensures ∙ c.if-looks_at_type.false)
+    (ends_itself by_token (sym c.looks_at-2.ensures ∙ c.if-looks_at-2.false)))

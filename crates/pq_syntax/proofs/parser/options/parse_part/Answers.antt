@@ -25,7 +25,10 @@ returns-in_err-close-clause-fault c =
 pub returns-in_err-rest-2-clause-fault : goal.returns-in_err-rest-2-clause-fault
 returns-in_err-rest-2-clause-fault c =
     let p = err_from_is_err_and c.from_residual-in_err-rest-2.result c.from_residual-in_err-rest-2.ensures.1 in
-    rw (p.1, p.2) (fails_right (sym c.looks_at.ensures ∙ c.if-looks_at.false) refl (fails_token c.in_ok-name.ensures.taken (fails_then c.in_ok-close.ensures.taken c.in_err-rest-2.ensures.fault)))
+    rw (p.1, p.2) (fails_right (sym c.looks_at.ensures ∙ c.if-looks_at.false) refl
+    (fails_token c.in_ok-name.ensures.taken (fails_then c.in_ok-close.ensures.taken c.in_err-rest-2.ensures.fault)))
 
 pub returns-clause-taken : goal.returns-clause-taken
-returns-clause-taken c = part_enclosed (sym c.looks_at.ensures ∙ c.if-looks_at.false) c.in_ok-name.ensures.taken c.in_ok-close.ensures.taken c.in_ok-rest-2.ensures.taken c.in_ok-read_joined-2.ensures c.across-2.ensures
+returns-clause-taken c =
+    part_enclosed (sym c.looks_at.ensures ∙ c.if-looks_at.false) c.in_ok-name.ensures.taken c.in_ok-close.ensures.taken c.in_ok-rest-2.ensures.taken
+    c.in_ok-read_joined-2.ensures c.across-2.ensures

@@ -16,4 +16,6 @@ returns-in_err-rest-clause-fault c =
     rw (p.1, p.2) (fails_read c.in_ok-first.ensures.taken c.in_err-rest.ensures.fault)
 
 pub returns-clause-taken : goal.returns-clause-taken
-returns-clause-taken c = rw c.new.ensures (separated_listed c.in_ok-first.ensures.taken c.new-parts.ensures.items (chosen _ _ _ _ c.push.ensures.items (ap is_ok c.in_ok-push.was)) c.in_ok-rest.ensures.taken)
+returns-clause-taken c =
+    rw c.new.ensures (separated_listed c.in_ok-first.ensures.taken c.new-parts.ensures.items
+    (chosen _ _ _ _ c.push.ensures.items (ap is_ok c.in_ok-push.was)) c.in_ok-rest.ensures.taken)

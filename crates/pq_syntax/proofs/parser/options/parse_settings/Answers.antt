@@ -17,17 +17,23 @@ returns-in_err-rest-clause-fault c =
 pub returns-in_err-first-clause-fault : goal.returns-in_err-first-clause-fault
 returns-in_err-first-clause-fault c =
     let p = err_from_is_err_and c.from_residual-in_err-first.result c.from_residual-in_err-first.ensures.1 in
-    rw (p.1, p.2) (settings_fail _ (sym c.looks_at.ensures ∙ c.if-not-looks_at.false) (fails_token c.in_ok-rest.ensures.taken (fails_first (fails_first c.in_err-first.ensures.fault))))
+    rw (p.1, p.2) (settings_fail _ (sym c.looks_at.ensures ∙ c.if-not-looks_at.false)
+    (fails_token c.in_ok-rest.ensures.taken (fails_first (fails_first c.in_err-first.ensures.fault))))
 
 pub returns-in_err-rest-2-clause-fault : goal.returns-in_err-rest-2-clause-fault
 returns-in_err-rest-2-clause-fault c =
     let p = err_from_is_err_and c.from_residual-in_err-rest-2.result c.from_residual-in_err-rest-2.ensures.1 in
-    rw (p.1, p.2) (settings_fail _ (sym c.looks_at.ensures ∙ c.if-not-looks_at.false) (fails_token c.in_ok-rest.ensures.taken (fails_first (fails_read c.in_ok-first.ensures.taken c.in_err-rest-2.ensures.fault))))
+    rw (p.1, p.2) (settings_fail _ (sym c.looks_at.ensures ∙ c.if-not-looks_at.false)
+    (fails_token c.in_ok-rest.ensures.taken (fails_first (fails_read c.in_ok-first.ensures.taken c.in_err-rest-2.ensures.fault))))
 
 pub returns-in_err-rest-3-clause-fault : goal.returns-in_err-rest-3-clause-fault
 returns-in_err-rest-3-clause-fault c =
     let p = err_from_is_err_and c.from_residual-in_err-rest-3.result c.from_residual-in_err-rest-3.ensures.1 in
-    rw (p.1, p.2) (settings_fail _ (sym c.looks_at.ensures ∙ c.if-not-looks_at.false) (fails_token c.in_ok-rest.ensures.taken (fails_read (separated_listed c.in_ok-first.ensures.taken c.new-settings.ensures.items (chosen _ _ _ _ c.push.ensures.items (ap is_ok c.in_ok-push.was)) c.in_ok-rest-2.ensures.taken) c.in_err-rest-3.ensures.fault)))
+    rw (p.1, p.2) (settings_fail _ (sym c.looks_at.ensures ∙ c.if-not-looks_at.false)
+    (fails_token c.in_ok-rest.ensures.taken (fails_read (separated_listed c.in_ok-first.ensures.taken c.new-settings.ensures.items
+    (chosen _ _ _ _ c.push.ensures.items (ap is_ok c.in_ok-push.was)) c.in_ok-rest-2.ensures.taken) c.in_err-rest-3.ensures.fault)))
 
 pub returns-clause-taken : goal.returns-clause-taken
-returns-clause-taken c = rw c.new-2.ensures (settings_present _ c.in_ok-rest.ensures.taken (separated_listed c.in_ok-first.ensures.taken c.new-settings.ensures.items (chosen _ _ _ _ c.push.ensures.items (ap is_ok c.in_ok-push.was)) c.in_ok-rest-2.ensures.taken) c.in_ok-rest-3.ensures.taken)
+returns-clause-taken c =
+    rw c.new-2.ensures (settings_present _ c.in_ok-rest.ensures.taken (separated_listed c.in_ok-first.ensures.taken c.new-settings.ensures.items
+    (chosen _ _ _ _ c.push.ensures.items (ap is_ok c.in_ok-push.was)) c.in_ok-rest-2.ensures.taken) c.in_ok-rest-3.ensures.taken)

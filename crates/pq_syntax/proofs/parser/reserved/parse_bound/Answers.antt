@@ -14,7 +14,9 @@ returns-in_err-number-clause-fault c =
     rw (p.1, p.2) (bound_fails_behind_sign _ (sym c.looks_at_sign.ensures ∙ c.if-looks_at_sign.true) c.in_ok-rest.ensures.taken c.in_err-number.ensures.fault)
 
 pub returns-then-looks_at_sign-clause-taken : goal.returns-then-looks_at_sign-clause-taken
-returns-then-looks_at_sign-clause-taken c = bound_signed _ (sym c.looks_at_sign.ensures ∙ c.if-looks_at_sign.true) c.in_ok-rest.ensures.taken c.in_ok-number.ensures.taken c.read_number-value.ensures c.across.ensures
+returns-then-looks_at_sign-clause-taken c =
+    bound_signed _ (sym c.looks_at_sign.ensures ∙ c.if-looks_at_sign.true) c.in_ok-rest.ensures.taken c.in_ok-number.ensures.taken
+    c.read_number-value.ensures c.across.ensures
 
 pub returns-in_err-number-2-clause-fault : goal.returns-in_err-number-2-clause-fault
 returns-in_err-number-2-clause-fault c =

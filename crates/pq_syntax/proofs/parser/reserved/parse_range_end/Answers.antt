@@ -14,15 +14,21 @@ returns-in_err-rest-clause-fault c =
 pub returns-in_err-last-clause-fault : goal.returns-in_err-last-clause-fault
 returns-in_err-last-clause-fault c =
     let p = err_from_is_err_and c.from_residual-in_err-last.result c.from_residual-in_err-last.ensures.1 in
-    rw (p.1, p.2) (end_fails_at_bound _ (sym c.looks_at.ensures ∙ c.if-not-looks_at.false) c.in_ok-rest.ensures.taken (sym c.looks_at_bound.ensures ∙ c.if-looks_at_bound.true) c.in_err-last.ensures.fault)
+    rw (p.1, p.2) (end_fails_at_bound _ (sym c.looks_at.ensures ∙ c.if-not-looks_at.false) c.in_ok-rest.ensures.taken
+    (sym c.looks_at_bound.ensures ∙ c.if-looks_at_bound.true) c.in_err-last.ensures.fault)
 
 pub returns-then-looks_at_bound-clause-taken : goal.returns-then-looks_at_bound-clause-taken
-returns-then-looks_at_bound-clause-taken c = ends_at_bound _ (sym c.looks_at.ensures ∙ c.if-not-looks_at.false) c.in_ok-rest.ensures.taken (sym c.looks_at_bound.ensures ∙ c.if-looks_at_bound.true) c.in_ok-last.ensures.taken
+returns-then-looks_at_bound-clause-taken c =
+    ends_at_bound _ (sym c.looks_at.ensures ∙ c.if-not-looks_at.false) c.in_ok-rest.ensures.taken
+    (sym c.looks_at_bound.ensures ∙ c.if-looks_at_bound.true) c.in_ok-last.ensures.taken
 
 pub returns-in_err-rest-2-clause-fault : goal.returns-in_err-rest-2-clause-fault
 returns-in_err-rest-2-clause-fault c =
     let p = err_from_is_err_and c.from_residual-in_err-rest-2.result c.from_residual-in_err-rest-2.ensures.1 in
-    rw (p.1, p.2) (end_fails_at_max _ (sym c.looks_at.ensures ∙ c.if-not-looks_at.false) c.in_ok-rest.ensures.taken (sym c.looks_at_bound.ensures ∙ c.if-looks_at_bound.false) c.in_err-rest-2.ensures.fault)
+    rw (p.1, p.2) (end_fails_at_max _ (sym c.looks_at.ensures ∙ c.if-not-looks_at.false) c.in_ok-rest.ensures.taken
+    (sym c.looks_at_bound.ensures ∙ c.if-looks_at_bound.false) c.in_err-rest-2.ensures.fault)
 
 pub returns-clause-taken : goal.returns-clause-taken
-returns-clause-taken c = ends_at_max _ (sym c.looks_at.ensures ∙ c.if-not-looks_at.false) c.in_ok-rest.ensures.taken (sym c.looks_at_bound.ensures ∙ c.if-looks_at_bound.false) c.in_ok-rest-2.ensures.taken
+returns-clause-taken c =
+    ends_at_max _ (sym c.looks_at.ensures ∙ c.if-not-looks_at.false) c.in_ok-rest.ensures.taken
+    (sym c.looks_at_bound.ensures ∙ c.if-looks_at_bound.false) c.in_ok-rest-2.ensures.taken

@@ -17,10 +17,13 @@ returns-in_err-ranges-clause-fault c =
 pub returns-in_err-rest-2-clause-fault : goal.returns-in_err-rest-2-clause-fault
 returns-in_err-rest-2-clause-fault c =
     let p = err_from_is_err_and c.from_residual-in_err-rest-2.result c.from_residual-in_err-rest-2.ensures.1 in
-    rw (p.1, p.2) (reserved_fails_past_numbers _ c.in_ok-rest.ensures.taken (sym c.looks_at_bound.ensures ∙ c.if-looks_at_bound.true) c.in_ok-ranges.ensures.taken c.in_err-rest-2.ensures.fault)
+    rw (p.1, p.2) (reserved_fails_past_numbers _ c.in_ok-rest.ensures.taken (sym c.looks_at_bound.ensures ∙ c.if-looks_at_bound.true)
+    c.in_ok-ranges.ensures.taken c.in_err-rest-2.ensures.fault)
 
 pub returns-then-looks_at_bound-clause-taken : goal.returns-then-looks_at_bound-clause-taken
-returns-then-looks_at_bound-clause-taken c = reserved_numbers _ c.in_ok-rest.ensures.taken _ (sym c.looks_at_bound.ensures ∙ c.if-looks_at_bound.true) c.in_ok-ranges.ensures.taken c.in_ok-rest-2.ensures.taken c.in_ok-push_node.ensures
+returns-then-looks_at_bound-clause-taken c =
+    reserved_numbers _ c.in_ok-rest.ensures.taken _ (sym c.looks_at_bound.ensures ∙ c.if-looks_at_bound.true) c.in_ok-ranges.ensures.taken
+    c.in_ok-rest-2.ensures.taken c.in_ok-push_node.ensures
 
 pub returns-in_err-names-clause-fault : goal.returns-in_err-names-clause-fault
 returns-in_err-names-clause-fault c =
@@ -30,7 +33,10 @@ returns-in_err-names-clause-fault c =
 pub returns-in_err-rest-3-clause-fault : goal.returns-in_err-rest-3-clause-fault
 returns-in_err-rest-3-clause-fault c =
     let p = err_from_is_err_and c.from_residual-in_err-rest-3.result c.from_residual-in_err-rest-3.ensures.1 in
-    rw (p.1, p.2) (reserved_fails_past_names _ c.in_ok-rest.ensures.taken (sym c.looks_at_bound.ensures ∙ c.if-looks_at_bound.false) c.in_ok-names.ensures.taken c.in_err-rest-3.ensures.fault)
+    rw (p.1, p.2) (reserved_fails_past_names _ c.in_ok-rest.ensures.taken (sym c.looks_at_bound.ensures ∙ c.if-looks_at_bound.false)
+    c.in_ok-names.ensures.taken c.in_err-rest-3.ensures.fault)
 
 pub returns-clause-taken : goal.returns-clause-taken
-returns-clause-taken c = reserved_names _ c.in_ok-rest.ensures.taken _ (sym c.looks_at_bound.ensures ∙ c.if-looks_at_bound.false) c.in_ok-names.ensures.taken c.in_ok-rest-3.ensures.taken c.in_ok-push_node-2.ensures
+returns-clause-taken c =
+    reserved_names _ c.in_ok-rest.ensures.taken _ (sym c.looks_at_bound.ensures ∙ c.if-looks_at_bound.false) c.in_ok-names.ensures.taken
+    c.in_ok-rest-3.ensures.taken c.in_ok-push_node-2.ensures

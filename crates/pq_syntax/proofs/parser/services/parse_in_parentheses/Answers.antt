@@ -19,4 +19,10 @@ returns-in_err-rest-2-clause-fault c =
     rw (p.1, p.2) (fails_token c.in_ok-rest.ensures.taken (fails_read c.in_ok-kind.ensures.taken c.in_err-rest-2.ensures.fault))
 
 pub returns-clause-taken : goal.returns-clause-taken
-returns-clause-taken c = record { parse = _; takes = takes_then c.in_ok-rest.ensures.taken.takes (takes_then c.in_ok-kind.ensures.taken.takes c.in_ok-rest-2.ensures.taken.takes); is = c.in_ok-kind.ensures.taken.is }
+returns-clause-taken c =
+    record {
+      parse = _;
+      takes = takes_then c.in_ok-rest.ensures.taken.takes
+          (takes_then c.in_ok-kind.ensures.taken.takes c.in_ok-rest-2.ensures.taken.takes);
+      is = c.in_ok-kind.ensures.taken.is;
+    }

@@ -25,17 +25,20 @@ returns-in_err-input-clause-fault c =
 pub returns-in_err-rest-2-clause-fault : goal.returns-in_err-rest-2-clause-fault
 returns-in_err-rest-2-clause-fault c =
     let p = err_from_is_err_and c.from_residual-in_err-rest-2.result c.from_residual-in_err-rest-2.ensures.1 in
-    rw (p.1, p.2) (fails_token c.in_ok-rest.ensures.taken (fails_read c.in_ok-name.ensures.taken (fails_read c.in_ok-input.ensures.taken (fails_first c.in_err-rest-2.ensures.fault))))
+    rw (p.1, p.2) (fails_token c.in_ok-rest.ensures.taken (fails_read c.in_ok-name.ensures.taken
+    (fails_read c.in_ok-input.ensures.taken (fails_first c.in_err-rest-2.ensures.fault))))
 
 pub returns-in_err-output-clause-fault : goal.returns-in_err-output-clause-fault
 returns-in_err-output-clause-fault c =
     let p = err_from_is_err_and c.from_residual-in_err-output.result c.from_residual-in_err-output.ensures.1 in
-    rw (p.1, p.2) (fails_token c.in_ok-rest.ensures.taken (fails_read c.in_ok-name.ensures.taken (fails_read c.in_ok-input.ensures.taken (fails_token c.in_ok-rest-2.ensures.taken (fails_first c.in_err-output.ensures.fault)))))
+    rw (p.1, p.2) (fails_token c.in_ok-rest.ensures.taken (fails_read c.in_ok-name.ensures.taken
+    (fails_read c.in_ok-input.ensures.taken (fails_token c.in_ok-rest-2.ensures.taken (fails_first c.in_err-output.ensures.fault)))))
 
 pub returns-in_err-rest-3-clause-fault : goal.returns-in_err-rest-3-clause-fault
 returns-in_err-rest-3-clause-fault c =
     let p = err_from_is_err_and c.from_residual-in_err-rest-3.result c.from_residual-in_err-rest-3.ensures.1 in
-    rw (p.1, p.2) (fails_token c.in_ok-rest.ensures.taken (fails_read c.in_ok-name.ensures.taken (fails_read c.in_ok-input.ensures.taken (fails_token c.in_ok-rest-2.ensures.taken (fails_read c.in_ok-output.ensures.taken c.in_err-rest-3.ensures.fault)))))
+    rw (p.1, p.2) (fails_token c.in_ok-rest.ensures.taken (fails_read c.in_ok-name.ensures.taken
+    (fails_read c.in_ok-input.ensures.taken (fails_token c.in_ok-rest-2.ensures.taken (fails_read c.in_ok-output.ensures.taken c.in_err-rest-3.ensures.fault)))))
 
 pub set_span-requires : goal.set_span-requires
 set_span-requires c =
@@ -43,4 +46,7 @@ set_span-requires c =
     index_within c.args.tokens.now c.args.nodes.now.items _ _ front (c.len-index.ensures ∙ c.args.nodes.now.ok.0) c.in_ok-push_node.ensures c.in_ok-rest-3.ensures.taken
 
 pub returns-clause-taken : goal.returns-clause-taken
-returns-clause-taken c = method_adds _ _ _ _ c.in_ok-rest.ensures.taken c.in_ok-name.ensures.taken c.in_ok-input.ensures.taken c.in_ok-rest-2.ensures.taken c.in_ok-output.ensures.taken (c.len-index.ensures ∙ c.args.nodes.now.ok.0) c.in_ok-push_node.ensures (one_deeper (λ n. method_end_nodes n) _ c.in_ok-rest-3.ensures.taken) c.across.ensures c.set_span.ensures
+returns-clause-taken c =
+    method_adds _ _ _ _ c.in_ok-rest.ensures.taken c.in_ok-name.ensures.taken c.in_ok-input.ensures.taken c.in_ok-rest-2.ensures.taken
+    c.in_ok-output.ensures.taken (c.len-index.ensures ∙ c.args.nodes.now.ok.0) c.in_ok-push_node.ensures
+    (one_deeper (λ n. method_end_nodes n) _ c.in_ok-rest-3.ensures.taken) c.across.ensures c.set_span.ensures

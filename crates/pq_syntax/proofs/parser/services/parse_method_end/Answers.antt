@@ -13,15 +13,18 @@ returns-in_err-rest-clause-fault c =
 pub returns-in_err-rest-2-clause-fault : goal.returns-in_err-rest-2-clause-fault
 returns-in_err-rest-2-clause-fault c =
     let p = err_from_is_err_and c.from_residual-in_err-rest-2.result c.from_residual-in_err-rest-2.ensures.1 in
-    rw (p.1, p.2) (chosen_fails (chooses_first by_word (sym c.looks_at.ensures ∙ c.if-looks_at.true)) (fails_token c.in_ok-rest.ensures.taken (fails_first c.in_err-rest-2.ensures.fault)))
+    rw (p.1, p.2) (chosen_fails (chooses_first by_word (sym c.looks_at.ensures ∙ c.if-looks_at.true))
+    (fails_token c.in_ok-rest.ensures.taken (fails_first c.in_err-rest-2.ensures.fault)))
 
 pub returns-in_err-rest-3-clause-fault : goal.returns-in_err-rest-3-clause-fault
 returns-in_err-rest-3-clause-fault c =
     let p = err_from_is_err_and c.from_residual-in_err-rest-3.result c.from_residual-in_err-rest-3.ensures.1 in
-    rw (p.1, p.2) (chosen_fails (chooses_first by_word (sym c.looks_at.ensures ∙ c.if-looks_at.true)) (fails_token c.in_ok-rest.ensures.taken (fails_added c.in_ok-rest-2.ensures.taken c.in_err-rest-3.ensures.fault)))
+    rw (p.1, p.2) (chosen_fails (chooses_first by_word (sym c.looks_at.ensures ∙ c.if-looks_at.true))
+    (fails_token c.in_ok-rest.ensures.taken (fails_added c.in_ok-rest-2.ensures.taken c.in_err-rest-3.ensures.fault)))
 
 pub returns-then-looks_at-clause-taken : goal.returns-then-looks_at-clause-taken
-returns-then-looks_at-clause-taken c = ends_braced _ _ (sym c.looks_at.ensures ∙ c.if-looks_at.true) c.in_ok-rest.ensures.taken c.in_ok-rest-2.ensures.taken c.in_ok-rest-3.ensures.taken
+returns-then-looks_at-clause-taken c =
+    ends_braced _ _ (sym c.looks_at.ensures ∙ c.if-looks_at.true) c.in_ok-rest.ensures.taken c.in_ok-rest-2.ensures.taken c.in_ok-rest-3.ensures.taken
 
 pub returns-in_err-rest-4-clause-fault : goal.returns-in_err-rest-4-clause-fault
 returns-in_err-rest-4-clause-fault c =

@@ -14,7 +14,11 @@ returns-then-looks_at-clause-taken c = entered_adds (enters_first by_word (sym c
 pub returns-in_err-rest-2-clause-fault : goal.returns-in_err-rest-2-clause-fault
 returns-in_err-rest-2-clause-fault c =
     let p = err_from_is_err_and c.from_residual-in_err-rest-2.result c.from_residual-in_err-rest-2.ensures.1 in
-    rw (p.1, p.2) (entered_fails (enters_past by_word (sym c.looks_at.ensures ∙ c.if-looks_at.false) (enters_itself by_token (sym c.looks_at-2.ensures ∙ c.if-looks_at-2.true))) c.in_err-rest-2.ensures.fault)
+    rw (p.1, p.2) (entered_fails
+    (enters_past by_word (sym c.looks_at.ensures ∙ c.if-looks_at.false)
+    (enters_itself by_token (sym c.looks_at-2.ensures ∙ c.if-looks_at-2.true))) c.in_err-rest-2.ensures.fault)
 
 pub returns-then-looks_at-2-clause-taken : goal.returns-then-looks_at-2-clause-taken
-returns-then-looks_at-2-clause-taken c = entered_adds (enters_past by_word (sym c.looks_at.ensures ∙ c.if-looks_at.false) (enters_itself by_token (sym c.looks_at-2.ensures ∙ c.if-looks_at-2.true))) (adds_empty c.in_ok-rest-2.ensures.taken) (λ p. refl)
+returns-then-looks_at-2-clause-taken c = entered_adds
+    (enters_past by_word (sym c.looks_at.ensures ∙ c.if-looks_at.false)
+    (enters_itself by_token (sym c.looks_at-2.ensures ∙ c.if-looks_at-2.true))) (adds_empty c.in_ok-rest-2.ensures.taken) (λ p. refl)

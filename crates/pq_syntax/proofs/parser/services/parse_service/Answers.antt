@@ -23,4 +23,7 @@ returns-in_err-rest-2-clause-fault c =
     rw (p.1, p.2) (fails_read c.in_ok-name.ensures.taken (fails_added c.in_ok-rest.ensures.taken c.in_err-rest-2.ensures.fault))
 
 pub returns-clause-taken : goal.returns-clause-taken
-returns-clause-taken c = body_adds _ (service_item_nodes _) (λ name. Service name) _ _ c.in_ok-name.ensures.taken (c.len-index.ensures ∙ c.args.nodes.now.ok.0) c.in_ok-push_node.ensures (one_deeper (λ n. list_of (service_item_nodes n)) c.args.depth c.in_ok-rest.ensures.taken) c.in_ok-rest-2.ensures.taken c.across.ensures c.set_span.ensures
+returns-clause-taken c =
+    body_adds _ (service_item_nodes _) (λ name. Service name) _ _ c.in_ok-name.ensures.taken (c.len-index.ensures ∙ c.args.nodes.now.ok.0)
+    c.in_ok-push_node.ensures (one_deeper (λ n. list_of (service_item_nodes n)) c.args.depth c.in_ok-rest.ensures.taken) c.in_ok-rest-2.ensures.taken
+    c.across.ensures c.set_span.ensures
