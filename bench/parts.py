@@ -22,7 +22,7 @@ import sessions
 
 HERE = os.path.dirname(os.path.abspath(__file__))
 CRATES = os.path.join(HERE, "..", "crates")
-PARTS = {"lexing": ["pq_lex"], "parsing": ["pq_lex", "pq_syntax"]}
+PARTS = {"lexing": ["pq_lex"], "parsing": ["pq_lex", "pq_names", "pq_syntax"]}
 
 
 def built(folder, part):

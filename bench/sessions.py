@@ -6,6 +6,10 @@ Printed are the rate at 2n and the ratio of the two times: a program that is lin
 and the gate of this bench is 2.2 everywhere. Times are the processor's, of the whole process, input from a
 file, output to nowhere.
 
+One session has a file of one long line that is not ASCII, with a diagnostic every 16 bytes; another is its twin in ASCII, of as
+many bytes. Beside their ratios the time of the one as a multiple of the other's is printed: each column of such a line is counted
+in UTF-16 units, which must not cost a walk from the start of the line.
+
 usage: bench/sessions.py [--program PATH] [--runs N] [--quick]
 """
 import argparse
@@ -22,7 +26,7 @@ MOST = 2.2
 
 
 def frame(body):
-    data = body if isinstance(body, bytes) else json.dumps(body, separators=(",", ":")).encode()
+    data = body if isinstance(body, bytes) else json.dumps(body, separators=(",", ":"), ensure_ascii=False).encode()
     return b"Content-Length: %d\r\n\r\n" % len(data) + data
 
 
@@ -79,6 +83,20 @@ def long_bodies(n):
     return FIRST + frame(body) * n + LAST
 
 
+def one_line(n, comment):
+    """One file of one line, opened and diagnosed: n fields whose numbers are out of range, each with a comment after it."""
+    fields = ("int32 a=0;" + comment) * n
+    return FIRST + opened("a.proto", 'syntax = "proto3";message M{' + fields + "}") + diagnosed(0, "a.proto") + LAST
+
+
+def long_line(n):
+    return one_line(n, "/*\u00e9*/")
+
+
+def long_ascii_line(n):
+    return one_line(n, "/*ee*/")
+
+
 def run(program, path):
     """The processor time of one run, the system's part included."""
     before = resource.getrusage(resource.RUSAGE_CHILDREN)
@@ -95,6 +113,17 @@ def timed(program, paths, runs):
     return [min(times) for times in zip(*[[run(program, path) for path in paths] for _ in range(runs)])]
 
 
+def measured(program, folder, make, n, runs):
+    """The bytes of the session at 2n, and its best times at n and at 2n."""
+    paths = []
+    for count in (n, 2 * n):
+        data = make(count)
+        paths.append(os.path.join(folder, str(count)))
+        with open(paths[-1], "wb") as sink:
+            sink.write(data)
+    return len(data), timed(program, paths, runs)
+
+
 def main():
     words = argparse.ArgumentParser()
     words.add_argument("--program", default=PROGRAM)
@@ -104,22 +133,21 @@ def main():
     sessions = [("texts of 1 MB, opened and diagnosed", big_texts, 40, "texts"),
                 ("small requests", small_requests, 50_000, "requests"),
                 ("small files, opened and diagnosed", many_files, 25_000, "files"),
-                ("bodies of 16 MiB", long_bodies, 8, "bodies")]
+                ("bodies of 16 MiB", long_bodies, 8, "bodies"),
+                ("a line of 1 MB, ASCII", long_ascii_line, 32_500, "diagnostics"),
+                ("a line of 1 MB, not ASCII", long_line, 32_500, "diagnostics")]
     worst = 0.0
+    of = {}
     with tempfile.TemporaryDirectory() as folder:
         for title, make, n, unit in sessions:
             n = max(1, n // 10) if words.quick else n
-            paths = []
-            for count in (n, 2 * n):
-                data = make(count)
-                paths.append(os.path.join(folder, str(count)))
-                with open(paths[-1], "wb") as sink:
-                    sink.write(data)
-            times = timed(words.program, paths, words.runs)
+            size, times = of[make] = measured(words.program, folder, make, n, words.runs)
             ratio = times[1] / times[0]
             worst = max(worst, ratio)
             print("%-38s %8.1f MB/s %10.0f %s/s   %.2f s at n, %.2f s at 2n, ratio %.2f"
-                  % (title, len(data) / times[1] / 1e6, 2 * n / times[1], unit, times[0], times[1], ratio), flush=True)
+                  % (title, size / times[1] / 1e6, 2 * n / times[1], unit, times[0], times[1], ratio), flush=True)
+    twins = [of[long_line][1][at] / of[long_ascii_line][1][at] for at in (0, 1)]
+    print("the line that is not ASCII took %.2f times its twin's time at n, and %.2f times at 2n" % tuple(twins))
     print("largest ratio %.2f, wanted at most %.1f" % (worst, MOST))
     return 0 if worst <= MOST else 1
 

@@ -5,7 +5,7 @@ use Rattle.std.proofs.Common.{false}
 use Rattle.std.proofs.lemmas.List.{append-nil, take-append-drop, length-append, length-take-le}
 use Rattle.pq_frame.specs.Header.{IsHeader, body_length}
 use Rattle.pq_frame.specs.Frames.{IsFrame, IsRest, Frames, State, Reading, Feeds}
-use Rattle.pq_frame.specs.Reader.{state_of, IsKept}
+use Rattle.pq_frame.specs.aux.Reader.{state_of, IsKept}
 use Rattle.pq_frame.specs.declared.fault.FrameFault.{FrameFault}
 use Rattle.pq_frame.proofs.HeaderLemmas.{header_not_empty, header_has_two}
 
@@ -19,7 +19,7 @@ split_twice bytes header after body others end needed at_end past_end at_needed 
       omega (arith, header_not_empty header is, ap (length {A = ℕ}) whole, length-append header (body ++ others), length-append body others),
     )
 
--- the loop over the frames ends at the rest, where the new reader stands
+-- the loop over the frames ends at the rest, which is the state of the new reader
 pub frames_end : (bytes rest : List ℕ) (bodies : List (List ℕ)) (kept new : State) → ((others : List (List ℕ)) (end : State) → Frames rest others end → Frames bytes (bodies ++ others) end) → new ≡ kept → IsRest rest kept → Frames bytes bodies new
 frames_end bytes rest bodies kept new goes_on same h =
     subst (λ (state : State). Frames bytes bodies state) (sym same) (subst (λ (all : List (List ℕ)). Frames bytes all kept) (append-nil bodies) (goes_on [] kept h))

@@ -1,10 +1,9 @@
 pub mod Header
 pub mod Frames
-pub mod Front
-pub mod Reader
 pub mod Bodies
 pub mod Written
 pub mod Runs
 pub mod Json
 pub mod Labels
 pub mod Messages
+pub mod aux

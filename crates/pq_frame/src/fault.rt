@@ -1,30 +1,30 @@
-//! Why a stream is no sequence of frames.
+//! The errors of a stream of frames.
 ghost use Rattle.std.specs.Prelude.{◌≡◌};
 ghost use Rattle.pq_frame.specs.declared.fault.FrameFault.TheVariants.{Memory};
 
 use std::alloc::AllocError;
 use thiserror::Error;
 
-/// Why `FrameReader::feed` answers no bodies (LSP 3.17, "Base Protocol", "Header Part").
+/// The errors of `FrameReader::feed` (LSP 3.17, "Base Protocol", "Header Part").
 ///
-/// All but `Memory` are faults of the stream: the reader that met one answers it for good. After
-/// `Memory` the reader is as it was.
+/// All but `Memory` are errors of the stream. A reader that met one returns it for good. `Memory`
+/// leaves the reader as it was.
 #[derive(Clone, Copy, Debug, PartialEq, Eq, Error)]
 pub enum FrameFault {
     /// No empty line ends the header part within its first 4,096 bytes.
     #[error("the header part has no end in its first 4096 bytes")]
     HeaderTooLong,
-    /// The header part has ended, and none of its lines is named Content-Length.
+    /// The header part has no line that is named Content-Length.
     #[error("the header part has no Content-Length")]
     NoLength,
-    /// More than one line is named Content-Length, also where one value is too large, or the value
-    /// is empty or not all digits.
+    /// More than one line is named Content-Length, or the value is empty or not all digits.
+    /// A second line is this error also if one of the values is too large.
     #[error("the header part has no single Content-Length in digits")]
     BadLength,
-    /// The one Content-Length is in digits and over 16,777,216 bytes.
+    /// The only Content-Length is in digits and exceeds 16,777,216 bytes.
     #[error("the body is longer than 16777216 bytes")]
     TooLong,
-    /// Memory was refused. The piece was not taken and can be fed again.
+    /// An allocation failed. The piece was not taken and can be fed again.
     #[error("out of memory")]
     Memory,
 }
@@ -32,6 +32,7 @@ pub enum FrameFault {
 impl From<AllocError> for FrameFault {
     ghost from_gives = { λ _ e. e ≡ Memory };
 
+    /// An allocation failure is `Memory`.
     fn from(_error: AllocError) -> FrameFault {
         FrameFault::Memory
     }

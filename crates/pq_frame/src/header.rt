@@ -1,25 +1,28 @@
-//! The header part of a frame: where it ends, and the length of the body that it gives.
+//! The header part of a frame: its end, and the length of the body that it gives.
+//!
+//! Both are found by one pass over at most 4,096 bytes.
 ghost use Rattle.std.specs.Prelude.{◌≡◌, ◌↔◌, ◌+◌, ◌<◌, ◌≤◌, length, take, reverse, IfSome, IfNone, IsTrue, option_map, Result, Ok, Err};
 ghost use Rattle.std.specs.Prelude.{[], ◌∷◌, MatchOption};
-ghost use Rattle.pq_frame.specs.Header.{IsHeader, EndsHeader, NoHeaderBelow, trimmed, without_leading_blanks, length_text, is_length_name as length_name, is_colon, number_of, body_length, header_lines};
+ghost use Rattle.pq_frame.specs.Header.{IsHeader, EndsHeader, NoHeaderBelow, trimmed, without_leading_blanks, length_text, is_length_name as length_name, is_colon, number_of, body_length, header_lines, max_header};
 ghost use Rattle.std.specs.List.{position, list_all};
 ghost use Rattle.std.specs.Char.{is_ascii_digit};
 
 use crate::fault::FrameFault;
 
-/// The most bytes of a header part, its empty line among them.
+/// The length in bytes of the longest header part, with its empty line.
 pub(crate) const MAX_HEADER: usize = 4096;
 
-/// The most bytes of a body.
+/// The length in bytes of the longest body.
 const MAX_BODY: usize = 16_777_216;
 
+/// Whether the last line of `bytes` is empty.
 fn ends_header(bytes: &[u8]) -> bool
     ensures { IsTrue result ↔ EndsHeader bytes.now }
 {
     bytes == b"\r\n".as_slice() || bytes.ends_with(b"\r\n\r\n")
 }
 
-/// The length of the header part at the front, where no shorter front than `from` is one.
+/// The length of the header part that begins `bytes`. No prefix shorter than `from` ends one.
 fn header_len(bytes: &[u8], from: usize) -> Option<usize>
     requires { NoHeaderBelow bytes.now from }
     ensures found { IfSome result (λ end. (end ≤ length bytes.now)
@@ -34,6 +37,7 @@ fn header_len(bytes: &[u8], from: usize) -> Option<usize>
     None
 }
 
+/// `text` without the blanks at its start.
 fn trim_start(text: &[u8]) -> &[u8]
     ensures { result.now ≡ without_leading_blanks text.now }
 {
@@ -44,6 +48,7 @@ fn trim_start(text: &[u8]) -> &[u8]
     rest
 }
 
+/// `text` without the blanks at its end.
 fn trim_end(text: &[u8]) -> &[u8]
     ensures { result.now ≡ reverse (without_leading_blanks (reverse text.now)) }
 {
@@ -54,25 +59,28 @@ fn trim_end(text: &[u8]) -> &[u8]
     rest
 }
 
+/// `text` without the blanks at both ends.
 fn trim(text: &[u8]) -> &[u8]
     ensures { result.now ≡ trimmed text.now }
 {
     trim_end(trim_start(text))
 }
 
+/// The index of the first colon of `line`.
 fn colon_at(line: &[u8]) -> Option<usize>
     ensures { result ≡ position is_colon line.now }
 {
     line.iter().position(|b| *b == b':')
 }
 
+/// Whether `name` is Content-Length, in letters of either case.
 fn is_length_name(name: &[u8]) -> bool
     ensures { result ≡ length_name name.now }
 {
     name.eq_ignore_ascii_case(b"content-length")
 }
 
-/// The value of a line that gives the length.
+/// The value of `line`, if its name is Content-Length.
 #[tactic(auto, unfolding(crate::specs::Header::length_text))]
 fn length_value(line: &[u8]) -> Option<&[u8]>
     ensures { option_map (λ s. s.now) result ≡ length_text line.now }
@@ -89,13 +97,14 @@ fn length_value(line: &[u8]) -> Option<&[u8]>
     }
 }
 
+/// Whether all of `digits` are decimal digits.
 fn all_digits(digits: &[u8]) -> bool
     ensures { result ≡ list_all is_ascii_digit digits.now }
 {
     digits.iter().all(|b| b.is_ascii_digit())
 }
 
-/// The number that the digits write, or the fault.
+/// The number that `digits` write, or the error of this value.
 fn number(digits: &[u8]) -> Result<usize, FrameFault>
     ensures { result ≡ number_of digits.now }
 {
@@ -115,7 +124,7 @@ fn number(digits: &[u8]) -> Result<usize, FrameFault>
     }
 }
 
-/// The first line that ends, and what follows it.
+/// The first line of `bytes` without its CR LF, and the bytes after it.
 fn next_line(bytes: &[u8]) -> Option<(&[u8], &[u8])>
     ensures lines { MatchOption result (header_lines bytes.now ≡ [])
         (λ p. header_lines bytes.now ≡ p.0.now ∷ header_lines p.1.now) }
@@ -129,7 +138,7 @@ fn next_line(bytes: &[u8]) -> Option<(&[u8], &[u8])>
     None
 }
 
-/// The length of the body that the header part gives, or the fault.
+/// The length of the body that `header` gives, or the error of `header`.
 #[tactic(auto, unfolding(crate::specs::Header::body_length))]
 pub(crate) fn body_len(header: &[u8]) -> Result<usize, FrameFault>
     ensures { result ≡ body_length header.now }
@@ -152,13 +161,13 @@ pub(crate) fn body_len(header: &[u8]) -> Result<usize, FrameFault>
     }
 }
 
-/// The length of the header part at the front, if there is one.
+/// The length of the header part that begins `bytes`, if its end is within 4,096 bytes.
 pub(crate) fn header_at(bytes: &[u8]) -> Option<usize>
     ensures found { IfSome result
         (λ end. (end ≤ length bytes.now) × IsHeader (take end bytes.now)) }
     ensures cut { IfNone result
-        (length bytes.now < 4096 → NoHeaderBelow bytes.now (length bytes.now + 1)) }
-    ensures long { IfNone result (4096 ≤ length bytes.now → NoHeaderBelow bytes.now 4097) }
+        (length bytes.now < max_header → NoHeaderBelow bytes.now (length bytes.now + 1)) }
+    ensures long { IfNone result (max_header ≤ length bytes.now → NoHeaderBelow bytes.now (max_header + 1)) }
 {
     if bytes.len() < MAX_HEADER {
         header_len(bytes, 0)

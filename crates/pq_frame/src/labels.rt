@@ -1,32 +1,33 @@
-//! The label of a request: what its reply repeats as `id`.
+//! The label of a request, which its response repeats as `id`.
 ghost use Rattle.std.specs.Prelude.{◌≡◌, ◌↔◌, option_map, IfOk, IfSome, IsTrue};
 ghost use Rattle.serde_json.specs.View.{view, number_view};
 ghost use Rattle.serde_json.specs.Find.{as_integer};
-ghost use Rattle.pq_frame.specs.Labels.{said_label, integer_label, label_of as label_of_id, HasOneForm};
+ghost use Rattle.pq_frame.specs.Labels.{label_model, integer_label, label_of as label_of_id, HasOneForm};
 
 use crate::Memory;
 use serde_json::{Number, Value};
 use std::alloc::Global;
 
-/// What the reply to a request repeats as its `id`: an integer of 64 bits, signed or unsigned, a
-/// text, or nothing (JSON-RPC 2.0, "Request object" and "Response object").
+/// The `id` of a response: an integer of 64 bits, signed or unsigned, a string, or `null`
+/// (JSON-RPC 2.0, "Request object" and "Response object").
 ///
-/// An integer that was read is `Negative` only below 0, so it has one form, and labels that were
-/// read are equal where they say the same.
+/// `Message::read` makes `Negative` only of integers below 0. So an integer has one form, and `==`
+/// of labels that were read is equality of their ids.
 #[derive(Clone, Debug, Drop, PartialEq, Eq)]
 pub enum Label {
-    /// JSON's `null`: the label of a reply to what has no id that can be read.
+    /// `null`: the label of the response to a body without a readable id.
     None,
     /// An integer from 0 to 2^64 - 1.
     Unsigned(u64),
-    /// An integer from -2^63 to -1, where it was read.
+    /// An integer from -2^63 to -1, if `Message::read` made it.
     Negative(i64),
-    /// A text.
+    /// A string.
     Text(String),
 }
 
+/// The label of `number`, if it is an integer of 64 bits.
 fn integer_label_of(number: &Number) -> Option<Label>
-    ensures value { option_map said_label result
+    ensures value { option_map label_model result
         ≡ option_map integer_label (as_integer (number_view number.now)) }
     ensures one_form { IfSome result HasOneForm }
 {
@@ -37,11 +38,11 @@ fn integer_label_of(number: &Number) -> Option<Label>
     }
 }
 
-/// The label that an `id` gives: none where it is absent, a number that is no integer of 64 bits,
-/// or of another kind.
+/// The label of the member `id`. It is `None` if `id` is absent, a number but not an integer of 64
+/// bits, or of another kind.
 pub(crate) fn label_of(alloc: Global, id: Option<&Value>) -> Result<Label, Memory>
     ensures value { IfOk result
-        (λ label. said_label label ≡ label_of_id (option_map (λ d. view d.now) id.entry)) }
+        (λ label. label_model label ≡ label_of_id (option_map (λ d. view d.now) id.entry)) }
     ensures one_form { IfOk result HasOneForm }
 {
     match id {
@@ -51,11 +52,11 @@ pub(crate) fn label_of(alloc: Global, id: Option<&Value>) -> Result<Label, Memor
     }
 }
 
-/// A law of labels: `==` of labels in the one form, as all that were read are, says whether they
-/// say the same.
+/// A law of labels: `==` of labels in their one form is equality of their models. `Message::read`
+/// makes labels in this form alone.
 pub fn equal_labels(first: &Label, second: &Label) -> bool
     ensures exact { HasOneForm first.now → HasOneForm second.now
-        → (IsTrue result ↔ (said_label first.now ≡ said_label second.now)) }
+        → (IsTrue result ↔ (label_model first.now ≡ label_model second.now)) }
 {
     first == second
 }

@@ -1,20 +1,24 @@
-//! Laws of readers and frames, proved for all streams. The functions do nothing: their contracts
-//! are the laws.
+//! The theorems about streams of frames, each the contract of a function with an empty body.
+//!
+//! Every stream is frames and a rest (`each_stream`), in one way only (`one_reading`). `feed` finds
+//! them, however the stream is cut into pieces (`any_pieces`, from `empty_stream`). Frames once
+//! found stay (`frames_of_prefix`). What `frame` writes is one frame (`written_reads`).
 ghost use Rattle.std.specs.Prelude.{◌≡◌, ◌≤◌, ◌++◌, List, ℕ, length, []};
 ghost use Rattle.pq_frame.specs.Frames.{Frames, IsFrame, State, Reading};
+ghost use Rattle.pq_frame.specs.Header.{max_body};
 ghost use Rattle.pq_frame.specs.Written.{written};
-ghost use Rattle.pq_frame.specs.Runs.{Fed, Answer, all_taken, all_told};
+ghost use Rattle.pq_frame.specs.Runs.{Fed, Answer, taken_bytes, answered_bodies};
 
-/// However a stream is cut into pieces, what `feed` answers to them in turn are the frames of the
-/// stream, and the reader stands at its rest. A piece to which `feed` answered `Memory` was not
-/// taken and is no part of the stream.
+/// `feed` answers the bodies of the frames of a stream, however the stream is cut into pieces.
+/// The reader is then in the state of the stream's rest. A piece to which `feed` answered `Memory`
+/// was not taken: it is not part of the stream.
 pub fn any_pieces()
     ensures { (pieces : List (List ℕ)) (answers : List Answer) (state : State)
         → Fed (Reading []) pieces answers state
-        → Frames (all_taken pieces answers) (all_told answers) state }
+        → Frames (taken_bytes pieces answers) (answered_bodies answers) state }
 {}
 
-/// A stream is frames and a rest in one way only.
+/// The bodies and the rest of a stream are unique.
 pub fn one_reading()
     ensures { (bytes : List ℕ) (bodies : List (List ℕ)) (state : State)
         (others : List (List ℕ)) (other : State)
@@ -22,26 +26,26 @@ pub fn one_reading()
         → (bodies ≡ others) × (state ≡ other) }
 {}
 
-/// What `frame` writes for a body of at most 16,777,216 bytes reads as one frame with that body.
+/// `frame` writes one frame, if the body has at most 16,777,216 bytes.
 pub fn written_reads()
-    ensures { (body : List ℕ) → length body ≤ 16777216 → IsFrame (written body) body }
+    ensures { (body : List ℕ) → length body ≤ max_body → IsFrame (written body) body }
 {}
 
-/// Each stream of bytes is frames and a rest.
+/// Each stream is frames and a rest.
 pub fn each_stream()
     ensures { (bytes : List ℕ)
         → (bodies : List (List ℕ)) × (state : State) × Frames bytes bodies state }
 {}
 
-/// No bytes are no frames, and their rest is empty: where a new reader stands.
+/// The empty stream has no frames, and its rest is empty: the state of a new reader.
 pub fn empty_stream()
     ensures { Frames [] [] (Reading []) }
 {}
 
-/// The frames of a front of a stream are the first frames of the stream, whatever follows.
-pub fn front_frames()
-    ensures { (front later : List ℕ) (bodies : List (List ℕ)) (state : State)
+/// The frames of a prefix of a stream are the first frames of the stream.
+pub fn frames_of_prefix()
+    ensures { (prefix later : List ℕ) (bodies : List (List ℕ)) (state : State)
         (all : List (List ℕ)) (end : State)
-        → Frames front bodies state → Frames (front ++ later) all end
+        → Frames prefix bodies state → Frames (prefix ++ later) all end
         → (others : List (List ℕ)) × (all ≡ bodies ++ others) }
 {}

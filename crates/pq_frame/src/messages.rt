@@ -1,10 +1,12 @@
-//! What a body says: the messages of JSON-RPC 2.0.
+//! The messages of JSON-RPC 2.0: what message a body is.
+//!
+//! A body is read as JSON once. Its strings are copied into the message, and `params` is moved.
 ghost use Rattle.std.specs.Prelude.{◌≡◌, option_and_then, Option, Some, IfOk, option_map, codes};
 ghost use Rattle.serde_json.specs.Data.{Data};
 ghost use Rattle.serde_json.specs.View.{view};
 ghost use Rattle.serde_json.specs.Find.{get, as_str};
 ghost use Rattle.pq_frame.specs.Json.{IsJson};
-ghost use Rattle.pq_frame.specs.Messages.{said, said_by, is_id as is_id_of, is_version as is_version_of, if_there, kind_of as kind, is_text as is_text_of};
+ghost use Rattle.pq_frame.specs.Messages.{message_of, message_model, is_id as is_id_of, is_version as is_version_of, if_there, kind_of as kind, is_text as is_text_of};
 ghost use Rattle.pq_frame.specs.Messages.{params_of, is_answer as is_answer_of, IsLabelled, HasOneLabel};
 
 use crate::Memory;
@@ -12,48 +14,49 @@ use crate::labels::{Label, label_of};
 use serde_json::Value;
 use std::alloc::Global;
 
-/// What a body says (JSON-RPC 2.0, "Request object", "Notification", "Response object"; LSP 3.17,
+/// A message (JSON-RPC 2.0, "Request object", "Notification", "Response object"; LSP 3.17,
 /// "Base Protocol").
 ///
-/// `params` is what the member of that name holds, and `None` where there is none or it is `null`.
+/// `params` is the member of that name. It is `None` if the member is absent or `null`.
 #[derive(Debug, Drop)]
 pub enum Message {
-    /// The body is no JSON in UTF-8. Nesting deeper than 127 and a number out of a double's range
-    /// are none either.
+    /// The body is not JSON in UTF-8. Nesting deeper than 127 and a number outside a double's range
+    /// count as not JSON.
     BadJson,
-    /// JSON that is no message: no object, another version than "2.0", a `method` that is no text,
-    /// an `id` that is no integer of 64 bits and no text (`null` is neither), or neither a method
-    /// nor a result nor an error. Its label is the id where that is one, else none.
+    /// Valid JSON that is not a message: not an object, `jsonrpc` other than "2.0", a non-string
+    /// `method`, an `id` other than an integer of 64 bits or a string, or an object without
+    /// `method`, `result` and `error`. The label is the `id`, if it is an integer of 64 bits or a
+    /// string, else `None`.
     Invalid(Label),
-    /// A request. Its label is never none.
+    /// A request. Its label is never `None`.
     Ask {
         label: Label,
         method: String,
         params: Option<Value>,
     },
-    /// A notification: it has no id, and gets no reply.
+    /// A notification: it has no `id`, and gets no response.
     Notice {
         method: String,
         params: Option<Value>,
     },
-    /// The response to a request: a `result` or an `error`, also of `null`, and no method.
+    /// The response to a request: it has a `result` or an `error`, also of `null`, and no `method`.
     Response,
 }
 
 impl Message {
-    /// Reads a body.
+    /// Reads the message that `body` is.
     ///
-    /// Of members of one name the last counts. Answers `Memory` alone, where memory was refused:
-    /// every body is a message, if a bad one. The values of `params` are moved out of what was
-    /// read, and not copied.
+    /// Every body is a message, since `BadJson` and `Invalid` are. Of members of one name the last
+    /// counts. The only error is `Memory`, after an allocation failure. `params` is moved out of
+    /// the JSON value, not copied.
     pub fn read(alloc: Global, body: &[u8]) -> Result<Message, Memory>
-        ensures said { IfOk result
-            (λ m. (json : Option Data) × IsJson body.now json × (said_by m ≡ said json)) }
-        ensures labelled { IfOk result (λ m. IsLabelled (said_by m)) }
+        ensures message { IfOk result
+            (λ m. (json : Option Data) × IsJson body.now json × (message_model m ≡ message_of json)) }
+        ensures labelled { IfOk result (λ m. IsLabelled (message_model m)) }
         ensures one_form { IfOk result HasOneLabel }
     {
         match Value::from_slice(alloc, body) {
-            Ok(value) => said_by_value(alloc, value),
+            Ok(value) => message_by_value(alloc, value),
             Err(error) => {
                 if error.is_memory() {
                     Err(Memory)
@@ -65,6 +68,7 @@ impl Message {
     }
 }
 
+/// Whether `value` is a label: an integer of 64 bits or a string.
 fn is_id(value: &Value) -> bool
     ensures { result ≡ is_id_of (view value.now) }
 {
@@ -75,6 +79,7 @@ fn is_id(value: &Value) -> bool
     }
 }
 
+/// Whether the member `jsonrpc` is "2.0".
 fn is_version(version: Option<&Value>) -> bool
     ensures { result ≡ is_version_of (option_map (λ d. view d.now) version.entry) }
 {
@@ -84,6 +89,7 @@ fn is_version(version: Option<&Value>) -> bool
     }
 }
 
+/// Whether the member `method` is absent or a string.
 fn text_if_there(method: Option<&Value>) -> bool
     ensures { result ≡ if_there is_text_of (option_map (λ d. view d.now) method.entry) }
 {
@@ -93,6 +99,7 @@ fn text_if_there(method: Option<&Value>) -> bool
     }
 }
 
+/// Whether the member `id` is absent or a label.
 fn id_if_there(id: Option<&Value>) -> bool
     ensures { result ≡ if_there is_id_of (option_map (λ d. view d.now) id.entry) }
 {
@@ -102,13 +109,14 @@ fn id_if_there(id: Option<&Value>) -> bool
     }
 }
 
+/// Whether `value` has a result or an error.
 fn is_answer(value: &Value) -> bool
     ensures { result ≡ is_answer_of (view value.now) }
 {
     value.get("result").is_some() || value.get("error").is_some()
 }
 
-/// Moves the parameters out of a message.
+/// Moves `params` out of `value`. `null` counts as absent.
 fn take_params(value: &mut Value) -> Option<Value>
     ensures { option_map view result ≡ params_of (view value.old) }
 {
@@ -124,10 +132,9 @@ fn take_params(value: &mut Value) -> Option<Value>
     }
 }
 
-/// What an object of this version says, whose `method` is a text and whose `id` a label where they
-/// are there.
+/// The message of an object whose `jsonrpc`, `method` and `id` are well formed.
 fn well_formed(alloc: Global, mut value: Value) -> Result<Message, Memory>
-    ensures said { IfOk result (λ m. said_by m
+    ensures message { IfOk result (λ m. message_model m
         ≡ kind (get (codes "id") (view value))
         (option_and_then as_str (get (codes "method") (view value)))
         (params_of (view value)) (is_answer_of (view value))) }
@@ -159,10 +166,10 @@ fn well_formed(alloc: Global, mut value: Value) -> Result<Message, Memory>
     }
 }
 
-/// What a JSON value says.
-#[tactic(auto, unfolding(crate::specs::Messages::said))]
-fn said_by_value(alloc: Global, value: Value) -> Result<Message, Memory>
-    ensures said { IfOk result (λ m. said_by m ≡ said (Some (view value))) }
+/// The message that `value` is.
+#[tactic(auto, unfolding(crate::specs::Messages::message_of))]
+fn message_by_value(alloc: Global, value: Value) -> Result<Message, Memory>
+    ensures message { IfOk result (λ m. message_model m ≡ message_of (Some (view value))) }
     ensures one_form { IfOk result HasOneLabel }
 {
     if !value.is_object() {

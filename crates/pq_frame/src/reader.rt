@@ -1,18 +1,22 @@
-//! A reader of frames that come in pieces. It keeps the bytes of an unfinished frame, at most one
-//! header part and one body, or the fault that it met.
+//! A reader of frames that come in pieces.
+//!
+//! The reader keeps the bytes of an unfinished frame, or the error that it met. A piece inside a
+//! body is appended to the body. Any other piece is split into frames, after the kept bytes of the
+//! header part. A call takes time linear in its piece and the at most 4,096 bytes kept of a header
+//! part. A byte of a body is copied at most twice.
 ghost use Rattle.std.specs.Prelude.{◌≡◌, ◌↔◌, ◌+◌, ◌<◌, ◌++◌, [], ◌∷◌, List, ℕ, length, take, drop, ◌≤◌, IfOk, OnErr, IsTrue, Result, Ok, Err};
 
+use crate::beginning::{Beginning, read_beginning};
 use crate::fault::FrameFault;
-use crate::front::{Front, read_front};
 use std::alloc::{AllocError, Global};
 use std::marker::Model;
 use std::mem;
 
-/// Reads the frames of a stream of bytes that comes in pieces of any lengths (LSP 3.17, "Base
+/// A reader of the frames of a stream that comes in pieces of any lengths (LSP 3.17, "Base
 /// Protocol").
 ///
-/// Contracts see it as where it stands in the stream: `Reading` the bytes of an unfinished frame,
-/// or `Failed` with the fault that it met.
+/// Contracts see its state: `Reading` with the bytes of an unfinished frame, or `Failed` with the
+/// error that it met.
 #[derive(Drop)]
 pub struct FrameReader {
     alloc: Global,
@@ -28,7 +32,7 @@ impl Model for FrameReader {
 
     ghost Value = { State };
 
-    ghost use Rattle.pq_frame.specs.Reader.{state_of, IsKept};
+    ghost use Rattle.pq_frame.specs.aux.Reader.{state_of, IsKept};
 
     ghost view = { λ a. state_of a.fault (a.header.items ++ a.body.items) };
 
@@ -36,11 +40,11 @@ impl Model for FrameReader {
 }
 
 ghost use Rattle.pq_frame.specs.Frames.{Frames, Feeds, Reading, Failed};
-ghost use Rattle.pq_frame.specs.Header.{IsHeader, NoHeaderBelow, body_length};
+ghost use Rattle.pq_frame.specs.Header.{IsHeader, NoHeaderBelow, body_length, max_header};
 ghost use Rattle.pq_frame.specs.Bodies.{bodies_of, answer_of};
 
 impl FrameReader {
-    /// A reader at the start of a stream. It takes no memory until it is fed.
+    /// A reader at the start of a stream. It allocates nothing until it is fed.
     pub fn new(alloc: Global) -> FrameReader
         ensures { result ≡ Reading [] }
     {
@@ -53,9 +57,9 @@ impl FrameReader {
         }
     }
 
-    /// A reader in the middle of a header part.
+    /// A reader after the bytes `header` of an unfinished header part.
     fn in_header(alloc: Global, header: &[u8]) -> Result<FrameReader, AllocError>
-        requires short { length header.now < 4096 }
+        requires short { length header.now < max_header }
         requires none_ends { NoHeaderBelow header.now (length header.now + 1) }
         ensures { IfOk result (λ r. r ≡ Reading header.now) }
     {
@@ -68,7 +72,7 @@ impl FrameReader {
         })
     }
 
-    /// A reader in the middle of a body of `needed` bytes.
+    /// A reader after `header` and the bytes `body` of a body of `needed` bytes.
     fn in_body(
         alloc: Global,
         header: &[u8],
@@ -89,7 +93,7 @@ impl FrameReader {
         })
     }
 
-    /// A reader that met a fault.
+    /// A reader that met `fault`.
     fn failed(alloc: Global, fault: FrameFault) -> FrameReader
         ensures { result ≡ Failed fault }
     {
@@ -102,21 +106,20 @@ impl FrameReader {
         }
     }
 
-    /// Whether the stream may end here: no byte of an unfinished frame is kept, and no fault was
-    /// met.
+    /// Whether the stream may end here: the reader keeps no bytes and met no error.
     pub fn at_rest(&self) -> bool
         ensures { IsTrue result ↔ (self.now ≡ Reading []) }
     {
         self.fault.is_none() && self.header.is_empty()
     }
 
-    /// Takes the next piece of the stream, of any length, and answers the bodies that are whole
-    /// now, in their order.
+    /// Takes `piece`, the next bytes of the stream, and returns the bodies that it completes, in
+    /// order.
     ///
-    /// A fault of the stream is answered as soon as the bytes show it; where it stands behind
-    /// bodies that this piece made whole, they are answered and the fault waits for the next call,
-    /// also of no bytes. From then on every call answers that fault. `Memory` is answered where
-    /// memory was refused: the piece was not taken, and the reader is as it was.
+    /// An error of the stream is returned as soon as the bytes show it. If the piece completes
+    /// bodies before the error, this call returns them and the next call returns the error, also
+    /// for an empty piece. Every later call returns the same error. `Memory` is an allocation
+    /// failure: the piece was not taken, and the reader is as it was.
     pub fn feed(&mut self, piece: &[u8]) -> Result<Vec<Vec<u8>>, FrameFault>
         ensures { Feeds self.old piece.now (answer_of result) self.new }
     {
@@ -147,7 +150,7 @@ impl FrameReader {
     }
 }
 
-/// The frames of a piece that comes after the bytes of an unfinished header part.
+/// The bodies of `header` and then `piece`, and a reader of the rest. `header` is unfinished.
 fn split_after(
     alloc: Global,
     header: &[u8],
@@ -163,7 +166,8 @@ fn split_after(
     split(alloc, &bytes)
 }
 
-/// The frames of a piece that begins with the rest of a body.
+/// The bodies of `piece` after the unfinished `body`, and a reader of the rest. The first `missing`
+/// bytes of `piece` complete `body`.
 fn finish_body(
     alloc: Global,
     body: &mut Vec<u8>,
@@ -184,19 +188,19 @@ fn finish_body(
     Ok((bodies, next))
 }
 
-/// The frames at the front of a stream, and a reader of the rest.
+/// The bodies of `bytes`, and a reader of the rest.
 fn split(alloc: Global, bytes: &[u8]) -> Result<(Vec<Vec<u8>>, FrameReader), AllocError>
     ensures { IfOk result (λ r. Frames bytes.now (bodies_of r.0.items) r.1) }
 {
     let mut bodies = Vec::new(alloc);
     let mut rest = bytes;
     'frames: loop {
-        match read_front(rest) {
-            Front::Frame { body, others } => {
+        match read_beginning(rest) {
+            Beginning::Frame { body, others } => {
                 bodies.push(Vec::from_slice(alloc, body)?)?;
                 rest = others;
             }
-            Front::CutBody {
+            Beginning::CutBody {
                 header,
                 body,
                 needed,
@@ -204,11 +208,11 @@ fn split(alloc: Global, bytes: &[u8]) -> Result<(Vec<Vec<u8>>, FrameReader), All
                 let reader = FrameReader::in_body(alloc, header, body, needed)?;
                 return Ok((bodies, reader));
             }
-            Front::CutHeader => {
+            Beginning::CutHeader => {
                 let reader = FrameReader::in_header(alloc, rest)?;
                 return Ok((bodies, reader));
             }
-            Front::Fault(fault) => return Ok((bodies, FrameReader::failed(alloc, fault))),
+            Beginning::Fault(fault) => return Ok((bodies, FrameReader::failed(alloc, fault))),
         }
     }
 }

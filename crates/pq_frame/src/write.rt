@@ -1,16 +1,16 @@
-//! Writing a frame.
+//! Writes a frame.
 ghost use Rattle.std.specs.Prelude.{◌≡◌, length, IfOk};
 ghost use Rattle.pq_frame.specs.Written.{written};
 
 use crate::Memory;
 use std::alloc::Global;
 
-/// The frame of a body: `Content-Length: N`, an empty line and the body, where N is the body's
-/// length in bytes (LSP 3.17, "Base Protocol").
+/// The frame of `body`: `Content-Length: N`, an empty line and `body`, where N is its length in
+/// bytes (LSP 3.17, "Base Protocol").
 ///
-/// A body of at most 16,777,216 bytes is what a `FrameReader` reads from its frame
-/// (`written_reads`); to the frame of a longer one a `FrameReader` answers `TooLong`. Answers
-/// `Memory` alone, where memory was refused.
+/// A `FrameReader` reads a body of at most 16,777,216 bytes back from its frame (`written_reads`).
+/// It answers `TooLong` to the frame of a longer one. The only error is `Memory`, after an
+/// allocation failure.
 #[tactic(auto, unfolding(crate::specs::Written::written))]
 pub fn frame(alloc: Global, body: &[u8]) -> Result<Vec<u8>, Memory>
     ensures { IfOk result (λ bytes. bytes.items ≡ written body.now) }

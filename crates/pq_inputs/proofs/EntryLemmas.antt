@@ -1,5 +1,5 @@
 -- What is kept of a file, as it is read and written.
-use Rattle.std.proofs.Common.{◌≡◌, ◌≢◌, ℕ, zero, suc, ◌+◌, ◌<◌, ◌≤◌, ◌⊎◌, inl, inr, Bool, true, false, cond, not, ◌&&◌, ◌||◌, List, [], ◌∷◌, ◌++◌, length, slice_get, slice_set, get_or, Option, Some, None, is_some, unwrap_or, refl, sym, ap, ap₂, ◌∙◌, subst, arith, true≢false, Bor}
+use Rattle.std.proofs.Common.{◌≡◌, ℕ, zero, suc, inl, inr, true, false, cond, List, [], ◌∷◌, ◌++◌, length, slice_get, slice_set, Option, Some, None, is_some, unwrap_or, refl, sym, ap, ap₂, ◌∙◌, arith, true≢false, Bor}
 use Rattle.std.specs.Option.{option_copied, option_map}
 use Rattle.std.specs.Str.{bytes_eq}
 use Rattle.std.proofs.lemmas.Bool.{false_from_ne_true}
@@ -9,7 +9,7 @@ use Rattle.std.proofs.lemmas.Slice.Eq.{bytes_eq-Decides}
 use Rattle.pq_names.proofs.Places.{push_last}
 use Rattle.pq_inputs.specs.Sources.{File, Sources, never_set, file_in, with_file}
 use Rattle.pq_inputs.specs.Refusal.{was_set}
-use Rattle.pq_inputs.specs.Kept.{Entry, Entries, blank, lookup, entry_in, with_entry, side_by_side, sources_of}
+use Rattle.pq_inputs.specs.aux.Kept.{Entry, Entries, blank, lookup, entry_in, with_entry, side_by_side, sources_of}
 use Rattle.pq_inputs.proofs.FileTests.{cases_bool}
 
 -- texts that differ fail the test

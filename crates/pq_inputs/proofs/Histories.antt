@@ -1,17 +1,17 @@
 -- Histories, as one more state of the sources comes.
-use Rattle.std.proofs.Common.{◌≡◌, ◌≢◌, ℕ, ◌+◌, ◌-◌, ◌<◌, ◌≤◌, ◌⊎◌, inl, inr, List, [], ◌∷◌, ◌++◌, length, slice_get, Some, sym, ap, ◌∙◌, subst, arith, zero, suc, get_or}
+use Rattle.std.proofs.Common.{◌≡◌, ℕ, ◌+◌, ◌-◌, ◌<◌, ◌≤◌, inl, inr, List, [], ◌∷◌, ◌++◌, length, slice_get, Some, sym, ap, ◌∙◌, subst, arith, zero, suc, get_or}
 use Rattle.std.proofs.lemmas.Bool.{cases_lt}
 use Rattle.std.proofs.lemmas.List.{length_push}
 use Rattle.std.proofs.lemmas.Option.{slice_get_within, slice_get-get_or, same_Some}
 use Rattle.pq_names.proofs.Places.{push_keeps, push_last, push_cases}
 use Rattle.pq_inputs.specs.declared.durability.Durability.{Durability}
-use Rattle.pq_inputs.specs.Sources.{Sources, file_in, ChangesAt}
-use Rattle.pq_inputs.specs.Changes.{level, ChangesOfAt, IsLast, IsLastChange, IsLastChangeOf}
+use Rattle.pq_inputs.specs.Sources.{File, Sources, file_in, ChangesAt}
+use Rattle.pq_inputs.specs.Changes.{level, ChangesOfAt, IsLastChange, IsLastChangeOf}
 use Rattle.pq_inputs.proofs.FileTests.{same_unless}
-use Rattle.pq_inputs.proofs.Last.{IsExtended, last_stays, last_moves}
+use Rattle.pq_inputs.proofs.Last.{IsExtended}
 
--- what a list has before its end is no matter of what was pushed
-push_before : {X : Type 0} (xs : List X) (y : X) (i : ℕ) (x : X) → i < length xs → slice_get (xs ++ y ∷ []) i ≡ Some x → slice_get xs i ≡ Some x
+-- what a list has before its end does not depend on what was pushed
+pub push_before : {X : Type 0} (xs : List X) (y : X) (i : ℕ) (x : X) → i < length xs → slice_get (xs ++ y ∷ []) i ≡ Some x → slice_get xs i ≡ Some x
 push_before xs y i x within is = elim (push_cases xs y i x is) [ inl before ↦ before | inr last ↦ absurd (let at_end = last.0 in omega arith) ]
 
 -- a change that a history has, it has with one more state at its end
@@ -88,3 +88,18 @@ last_change_of_within history n d r counted last = elim (cases_lt 0 r) [
   | inr none ↦ omega arith
   | inl some ↦ let c = last.happened (r - 1) (omega arith) in let within = change_within history c.name (r - 1) c.change in omega arith
 ]
+
+-- a file of a durability or more that had its last such change before a revision is from that
+-- revision on what it was
+pub lasting_since : (history : List Sources) (d : Durability) (r : ℕ) → IsLastChangeOf history d r → (left v : ℕ) (then later : Sources) → r ≤ v → slice_get history v ≡ Some then → slice_get history (v + left) ≡ Some later → (name : List ℕ) → level d ≤ level (file_in then name).durability → file_in then name ≡ file_in later name
+lasting_since history d r last zero v then later after was is name lasting =
+    let same : then ≡ later = same_Some then later (sym was ∙ ap (slice_get history) (omega arith) ∙ is) in
+    ap (λ (s : Sources). file_in s name) same
+lasting_since history d r last (suc left) v then later after was is name lasting =
+    let within = slice_get_within history (v + suc left) later is in
+    let next = get_or history (v + 1) [] in
+    let next_is : slice_get history (v + 1) ≡ Some next = slice_get-get_or history (v + 1) [] (omega (arith, within)) in
+    let same : file_in then name ≡ file_in next name = same_unless (file_in then name) (file_in next name) (λ differs. last.latest v after (record { name = name; change = record { before = then; after = next; was = was; is = next_is; differs = differs }; lasting = lasting })) in
+    let lasts : level d ≤ level (file_in next name).durability = subst (λ (f : File). level d ≤ level f.durability) same lasting in
+    let end_is : slice_get history ((v + 1) + left) ≡ Some later = ap (slice_get history) (omega arith) ∙ is in
+    same ∙ lasting_since history d r last left (v + 1) next later (omega arith) next_is end_is name lasts

@@ -1,22 +1,21 @@
 -- The table stays sound: at first, and as a file is set.
-use Rattle.std.proofs.Common.{◌≡◌, ◌≢◌, ℕ, ◌+◌, ◌<◌, ◌≤◌, ◌⊎◌, inl, inr, Bool, true, false, cond, if◌then◌else◌, List, [], ◌∷◌, ◌++◌, length, slice_get, Option, Some, None, refl, sym, ap, ◌∙◌, subst, arith, leb-true, leb-false, true≢false}
+use Rattle.std.proofs.Common.{◌≡◌, ◌≢◌, ℕ, ◌+◌, ◌<◌, ◌≤◌, inl, inr, Bool, true, false, cond, if◌then◌else◌, List, [], ◌∷◌, ◌++◌, length, slice_get, Option, Some, None, refl, sym, ap, ◌∙◌, subst, arith, leb-true, leb-false, true≢false}
 use Rattle.std.specs.Prelude.{nat_le, ◌==◌, MatchOption, is_some}
 use Rattle.std.specs.Str.{bytes_eq}
 use Rattle.std.proofs.lemmas.List.{length_push}
-use Rattle.std.proofs.lemmas.Option.{none-some}
+use Rattle.std.proofs.lemmas.Option.{none-some, slice_get_within}
 use Rattle.std.proofs.lemmas.Slice.Eq.{bytes_eq-Decides}
-use Rattle.pq_names.proofs.Places.{push_keeps, push_last}
+use Rattle.pq_names.proofs.Places.{push_keeps, push_last, push_cases}
 use Rattle.pq_inputs.specs.declared.durability.Durability.{Durability}
-use Rattle.pq_inputs.specs.declared.limits.TheConstants.{MAX_FILES, LAST_REVISION}
-use Rattle.pq_inputs.specs.Sources.{File, Sources, file_in, ChangesAt}
-use Rattle.pq_inputs.specs.Changes.{level, ChangesOfAt, IsLast, IsLastChange, IsLastChangeOf}
+use Rattle.pq_inputs.specs.Sources.{File, Sources, file_in, with_file, ChangesAt}
+use Rattle.pq_inputs.specs.Changes.{level, ChangesOfAt, IsLastChange, IsLastChangeOf}
 use Rattle.pq_inputs.specs.declared.fault.InputFault.TheVariants.{TextTooLong, TooManyFiles, RevisionsUsedUp}
-use Rattle.pq_inputs.specs.Refusal.{was_set, is_too_long, is_full_for, refusal}
-use Rattle.pq_inputs.specs.Kept.{Entry, Entries, lookup, entry_in, with_entry, sources_of, Marks, mark_of, IsKept}
+use Rattle.pq_inputs.specs.Refusal.{max_files, last_revision, is_too_long, is_full_for, refusal}
+use Rattle.pq_inputs.specs.aux.Kept.{Entry, Entries, lookup, entry_in, with_entry, sources_of, Marks, mark_of, IsKept}
 use Rattle.pq_inputs.proofs.FileTests.{cases_bool, below_limit}
-use Rattle.pq_inputs.proofs.EntryLemmas.{file_is, entry_after, was_set_is, length_sources, length_with_known, with_new}
+use Rattle.pq_inputs.proofs.EntryLemmas.{sources_with, file_is, entry_after, was_set_is, length_sources, length_with_known, with_new}
 use Rattle.pq_inputs.proofs.Last.{last_stays, last_moves}
-use Rattle.pq_inputs.proofs.Histories.{changes_extended, changes_of_extended, last_before, no_last_change, last_change, no_change}
+use Rattle.pq_inputs.proofs.Histories.{push_before, changes_extended, changes_of_extended, last_before, no_last_change, last_change, no_change}
 
 -- at first no file was set, and nothing changed
 pub kept_new : (marks : Marks) → ((d : Durability) → mark_of marks d ≡ 0) → IsKept [] 0 marks ([] ∷ [])
@@ -27,6 +26,7 @@ kept_new marks none = record {
   counted = refl;
   first = refl;
   latest = refl;
+  made = λ r before after was is. let within = slice_get_within ([] ∷ []) (r + 1) after is in absurd (omega arith);
   changes = λ name. record { happened = λ p is. absurd (omega arith); latest = λ p after c. no_change [] name p c };
   of_level = λ d. rw (none d) (record { happened = λ p is. absurd (omega arith); latest = λ p after c. no_change [] c.name p c.change });
 }
@@ -40,8 +40,8 @@ module _ (es : Entries) (n : ℕ) (marks : Marks) (history : List Sources) (kept
 
   -- what all that follows takes for granted
   pub record Accepted : Type 0 where
-    pub room : length after ≤ MAX_FILES
-    pub below : n < LAST_REVISION
+    pub room : length after ≤ max_files
+    pub below : n < last_revision
 
   -- another file stays
   same_elsewhere : (q : List ℕ) → bytes_eq name q ≡ false → entry_in after q ≡ entry_in es q
@@ -55,6 +55,20 @@ module _ (es : Entries) (n : ℕ) (marks : Marks) (history : List Sources) (kept
   unchanged : (q : List ℕ) → (entry_in es q).file ≡ (entry_in after q).file → ChangesAt next q n → ⊥
   unchanged q same = no_last_change history n (sources_of es) (sources_of after) kept.counted kept.latest q (file_is es q ∙ same ∙ sym (file_is after q))
 
+  -- each sources of the new history are the ones before with one file set
+  made_next : (r : ℕ) (before later : Sources) → slice_get next r ≡ Some before → slice_get next (r + 1) ≡ Some later → (q : List ℕ) × (file : File) × (later ≡ with_file before q file)
+  made_next r before later was is = elim (push_cases history (sources_of after) (r + 1) later is) [
+    | inl old ↦
+        let within = slice_get_within history (r + 1) later old in
+        kept.made r before later (push_before history (sources_of after) r before (omega arith) was) old
+    | inr last ↦
+        let counted = kept.counted in
+        let end = last.0 in
+        let at : r ≡ n = omega arith in
+        let before_is : before ≡ sources_of es = last_before history n (sources_of es) (sources_of after) kept.counted kept.latest before (subst (λ (i : ℕ). slice_get next i ≡ Some before) at was) in
+        (name, entry.file, sym last.1 ∙ sources_with es name entry ∙ ap (λ (s : Sources). with_file s name entry.file) (sym before_is))
+  ]
+
   -- what holds of the new history, whatever changed
   sound : Accepted → (more : Marks) → ((q : List ℕ) → IsLastChange next q (entry_in after q).changed) → ((d : Durability) → IsLastChangeOf next d (mark_of more d)) → IsKept after (n + 1) more next
   sound accepted more changes of_level = record {
@@ -63,6 +77,7 @@ module _ (es : Entries) (n : ℕ) (marks : Marks) (history : List Sources) (kept
     counted = let counted = kept.counted in omega (arith, length_push history (sources_of after));
     first = push_keeps history (sources_of after) 0 [] kept.first;
     latest = ap (slice_get next) (sym kept.counted) ∙ push_last history (sources_of after);
+    made = made_next;
     changes = changes;
     of_level = of_level;
   }
@@ -150,20 +165,20 @@ not_some (Some e) none = absurd (true≢false none)
 pub accepted : (es : Entries) (n : ℕ) (marks : Marks) (history : List Sources) (kept : IsKept es n marks history) (name : List ℕ) (entry : Entry) (text : Option (List ℕ)) → refusal (record { files = sources_of es; revision = n; history = history }) name text ≡ None → Accepted es n marks history kept name entry
 accepted es n marks history kept name entry text unrefused = record { room = room; below = below }
   where
-    parts : (is_full_for (sources_of es) name ≡ false) × ((n == LAST_REVISION) ≡ false)
-    parts = unrefused_parts (is_too_long text) (is_full_for (sources_of es) name) (n == LAST_REVISION) unrefused
+    parts : (is_full_for (sources_of es) name ≡ false) × ((n == last_revision) ≡ false)
+    parts = unrefused_parts (is_too_long text) (is_full_for (sources_of es) name) (n == last_revision) unrefused
 
-    room : length (with_entry es name entry) ≤ MAX_FILES
+    room : length (with_entry es name entry) ≤ max_files
     room = elim (cases_bool (is_some (lookup es name))) [
       | inl known ↦ rw (length_with_known es name entry known) kept.few
       | inr new ↦
-          let free : (length (sources_of es) == MAX_FILES) ≡ false = rw (was_set_is es name ∙ new) at parts.0 in
-          let below_all : length es < MAX_FILES = below_limit (length es) MAX_FILES kept.few (rw length_sources at free) in
+          let free : (length (sources_of es) == max_files) ≡ false = rw (was_set_is es name ∙ new) at parts.0 in
+          let below_all : length es < max_files = below_limit (length es) max_files kept.few (rw length_sources at free) in
           rw (with_new es name entry (not_some (lookup es name) new)) (omega (arith, length_push es (name, entry), below_all))
     ]
 
-    below : n < LAST_REVISION
-    below = below_limit n LAST_REVISION kept.bounded parts.1
+    below : n < last_revision
+    below = below_limit n last_revision kept.bounded parts.1
 
 -- a file that is set, whether it changed or not
 pub kept_set : (es : Entries) (n : ℕ) (marks : Marks) (history : List Sources) (kept : IsKept es n marks history) (name : List ℕ) (entry : Entry) (text : Option (List ℕ)) (more : Marks) (before : Option Durability) → refusal (record { files = sources_of es; revision = n; history = history }) name text ≡ None → entry.changed ≡ (if is_some before then n + 1 else (entry_in es name).changed) → MatchOption before ((entry_in es name).file ≡ entry.file) (λ d. (d ≡ (entry_in es name).file.durability) × ((entry_in es name).file ≢ entry.file)) → MatchOption before (more ≡ marks) (λ b. (d : Durability) → mark_of more d ≡ (if nat_le (level d) (level b) then n + 1 else mark_of marks d)) → IsKept (with_entry es name entry) (n + 1) more (history ++ sources_of (with_entry es name entry) ∷ [])

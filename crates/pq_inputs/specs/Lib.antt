@@ -1,4 +1,4 @@
 pub mod Sources
 pub mod Changes
 pub mod Refusal
-pub mod Kept
+pub mod aux

@@ -1,12 +1,12 @@
-//! How seldom a file is expected to change.
+//! Durabilities: how rarely files are expected to change.
 
-/// How seldom a file is expected to change. (The Salsa book, "Durability".)
+/// How rarely a file is expected to change. (The Salsa book, "Durability".)
 #[derive(Clone, Copy, Debug, PartialEq, Eq, PartialOrd, Ord)]
 pub enum Durability {
-    /// A file that is worked on.
+    /// A file that is being edited.
     Low,
-    /// A file that changes now and then.
+    /// A file that changes from time to time.
     Medium,
-    /// A file that hardly ever changes, as one of a library.
+    /// A file that rarely changes, such as one of a library.
     High,
 }

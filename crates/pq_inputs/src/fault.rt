@@ -1,8 +1,8 @@
-//! Why a change is refused.
+//! Errors of a change of the inputs.
 pub use std::alloc::AllocError as Memory;
 use thiserror::Error;
 
-/// Why a change of a file was refused. The inputs stand as they were.
+/// Why a change of a file was refused. A refusal leaves the inputs unchanged.
 #[derive(Clone, Copy, Debug, PartialEq, Eq, Error)]
 pub enum InputFault {
     /// The text has more than `MAX_TEXT` bytes.
@@ -14,16 +14,16 @@ pub enum InputFault {
     /// The revision is `LAST_REVISION`.
     #[error("the revisions are used up")]
     RevisionsUsedUp,
-    /// There was no memory for the change.
+    /// An allocation failed.
     #[error("out of memory")]
     Memory,
 }
 
-/// A refused change: why, and the text that was handed over.
+/// A refused change: the error, and the text that was passed in.
 #[derive(Debug, Drop)]
 pub struct SetRefused {
-    /// Why the change was refused.
+    /// The error.
     pub fault: InputFault,
-    /// The text that was handed over, or `None` where the file was to be absent.
+    /// The text that was passed in, or `None` where the file was to be absent.
     pub text: Option<String>,
 }

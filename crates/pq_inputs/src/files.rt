@@ -1,17 +1,23 @@
-//! What is kept of all files that were ever set.
-ghost use Rattle.std.specs.Prelude.{◌≡◌, ◌≢◌, [], length, slice_get, slice_set, string_bytes, MatchOption, IfOk, IfErr, OnErr, if◌then◌else◌, is_some, Some};
+//! The records of all files that were ever set, by name. A look-up is one search of the names.
+ghost use Rattle.std.specs.Prelude.{◌≡◌, ◌≢◌, ◌≤◌, [], length, slice_get, slice_set, string_bytes, MatchOption, IfOk, IfErr, OnErr, if◌then◌else◌, is_some, Some};
 ghost use Rattle.std.specs.Option.{option_map, option_copied};
 ghost use Rattle.pq_inputs.specs.Sources.{File};
-ghost use Rattle.pq_inputs.specs.Kept.{Entry, lookup, entry_in, with_entry};
+ghost use Rattle.pq_inputs.specs.Refusal.{max_files};
+ghost use Rattle.pq_inputs.specs.aux.Kept.{Entry, lookup, entry_in, with_entry};
 
 use crate::durability::Durability;
 use crate::fault::Memory;
+use crate::limits::MAX_FILES;
 use crate::record::Record;
-use pq_names::Names;
+use pq_names::{MAX_NAMES, Names, NamesFault};
 use std::alloc::Global;
 use std::marker::Model;
 
-// The files that were ever set, by their names. Contracts see them in the order in which they were first set.
+// The table of names takes the name of each file.
+const _: () = prove!(MAX_FILES < MAX_NAMES);
+
+/// The files that were ever set, by name. Contracts see them in the order in which they were first
+/// set.
 #[derive(Drop)]
 pub(crate) struct Files {
     names: Names,
@@ -20,7 +26,7 @@ pub(crate) struct Files {
 
 impl Model for Files {
     ghost use Rattle.std.specs.Prelude.{◌≡◌, length};
-    ghost use Rattle.pq_inputs.specs.Kept.{Entries, side_by_side};
+    ghost use Rattle.pq_inputs.specs.aux.Kept.{Entries, side_by_side};
 
     ghost Value = { Entries };
 
@@ -30,7 +36,7 @@ impl Model for Files {
 }
 
 impl Files {
-    // No files.
+    /// No files. They take their memory from `alloc`.
     pub(crate) fn new(alloc: Global) -> Files
         ensures { result ≡ [] }
     {
@@ -40,14 +46,14 @@ impl Files {
         }
     }
 
-    // How many files there are.
+    /// The number of files.
     pub(crate) fn len(&self) -> usize
         ensures { result ≡ length self.now }
     {
         self.records.len()
     }
 
-    // The record of a file, or None where it was never set.
+    /// The record of the file `name`, or `None` where it was never set.
     pub(crate) fn get(&self, name: &str) -> Option<&Record>
         ensures { option_copied result ≡ lookup self.now name.now }
     {
@@ -57,7 +63,7 @@ impl Files {
         }
     }
 
-    // The revision of the last change of a file, or 0.
+    /// The revision of the last change of the file `name`, or 0.
     pub(crate) fn changed(&self, name: &str) -> u64
         ensures { result ≡ (entry_in self.now name.now).changed }
     {
@@ -67,25 +73,31 @@ impl Files {
         }
     }
 
-    // The place of the file of a name, which becomes one of the files where it was never set.
-    pub(crate) fn place(&mut self, name: &str) -> Result<usize, Memory>
-        ensures place { IfOk result (λ place. slice_get self.new place ≡ Some (name.now, entry_in self.old name.now)) }
-        ensures entries { IfOk result (λ place. (entry : Entry) → slice_set self.new place (name.now, entry) ≡ with_entry self.old name.now entry) }
+    /// The index of the file `name`, which becomes one of the files where it was never set.
+    fn place(&mut self, name: &str) -> Result<usize, Memory>
+        requires { length self.old ≤ max_files }
+        ensures place { IfOk result (λ place.
+            slice_get self.new place ≡ Some (name.now, entry_in self.old name.now)) }
+        ensures entries { IfOk result (λ place. (entry : Entry) →
+            slice_set self.new place (name.now, entry) ≡ with_entry self.old name.now entry) }
         ensures refused { OnErr result (self.new ≡ self.old) }
     {
         if let Some(id) = self.names.find(name) {
             return Ok(id.number() as usize);
         }
         self.records.reserve(1)?;
-        let Ok(id) = self.names.intern(name) else {
-            return Err(Memory);
+        let id = match self.names.intern(name) {
+            Ok(id) => id,
+            Err(NamesFault::Full) => unreachable!(),
+            Err(NamesFault::Memory) => return Err(Memory),
         };
         self.records.push_reserved(Record::blank());
         Ok(id.number() as usize)
     }
 
-    // Writes the text and durability of a file at a revision. The durability before is answered where the file changed.
-    // Without memory the text comes back, and the files are as they were.
+    /// Writes `text` and `durability` to the file `name` at `revision`. Where the file changed, its
+    /// durability before the change comes back. Where an allocation fails, `text` comes back, and
+    /// the files stay unchanged.
     pub(crate) fn write(
         &mut self,
         name: &str,
@@ -93,6 +105,7 @@ impl Files {
         durability: Durability,
         revision: u64,
     ) -> Result<Option<Durability>, Option<String>>
+        requires { length self.old ≤ max_files }
         ensures written { IfOk result (λ before.
             self.new ≡ with_entry self.old name.now (record {
               file = record { text = option_map string_bytes text; durability = durability };
@@ -100,7 +113,8 @@ impl Files {
             })) }
         ensures differs { let old = (entry_in self.old name.now).file in
             let new : File = record { text = option_map string_bytes text; durability = durability } in
-            IfOk result (λ before. MatchOption before (old ≡ new) (λ d. (d ≡ old.durability) × (old ≢ new))) }
+            IfOk result (λ before. MatchOption before (old ≡ new)
+            (λ d. (d ≡ old.durability) × (old ≢ new))) }
         ensures refused { OnErr result (self.new ≡ self.old) }
         ensures back { IfErr result (λ back. back ≡ text) }
     {

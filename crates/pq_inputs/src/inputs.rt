@@ -1,10 +1,10 @@
-//! The table of files.
+//! The inputs: the files now, and what is known of their changes.
 ghost use Rattle.std.specs.Prelude.{◌≡◌, ℕ, ◌+◌, ◌<◌, ◌≤◌, List, [], ◌∷◌, ◌++◌, length, slice_get, string_bytes, Option, Some, None, unwrap_or, IfOk, OnOk, IfErr, OnErr};
 ghost use Rattle.std.specs.Option.{option_map, option_copied};
 ghost use Rattle.pq_inputs.specs.declared.durability.Durability.{Durability};
 ghost use Rattle.pq_inputs.specs.Sources.{File, Sources, file_in, with_file, ChangesAt};
 ghost use Rattle.pq_inputs.specs.Changes.{level, IsLastChange, IsLastChangeOf};
-ghost use Rattle.pq_inputs.specs.Refusal.{is_too_long, is_full_for, refusal};
+ghost use Rattle.pq_inputs.specs.Refusal.{is_full_for, is_too_long, last_revision, refusal};
 
 use crate::durability::Durability;
 use crate::fault::{InputFault, Memory, SetRefused};
@@ -17,9 +17,11 @@ use crate::revision::Revision;
 use std::alloc::Global;
 use std::marker::Model;
 
-/// The texts and durabilities of files, the last revision, and when each file last changed.
+/// The texts and durabilities of files, the last revision, and the revision of the last change of
+/// each file.
 ///
-/// Contracts see the files, the last revision, and the sources at each revision from 0 on.
+/// Contracts see the files, the last revision, and the history: the sources at each revision from 0
+/// on.
 #[derive(Drop)]
 pub struct Inputs {
     files: Files,
@@ -33,7 +35,7 @@ impl Model for Inputs {
 
     ghost Value = { Table };
 
-    ghost use Rattle.pq_inputs.specs.Kept.{sources_of, IsKept};
+    ghost use Rattle.pq_inputs.specs.aux.Kept.{sources_of, IsKept};
 
     ghost view = { λ i. record { files = sources_of i.files; revision = i.revision; history = i.history.items } };
 
@@ -41,9 +43,10 @@ impl Model for Inputs {
 }
 
 impl Inputs {
-    /// Inputs without files, at revision 0. They take their memory from `alloc`.
+    /// Inputs without files, at revision 0, which take their memory from `alloc`.
     pub fn new(alloc: Global) -> Result<Inputs, Memory>
-        ensures { IfOk result (λ inputs. inputs ≡ record { files = []; revision = 0; history = [] ∷ [] }) }
+        ensures { IfOk result (λ inputs.
+            inputs ≡ record { files = []; revision = 0; history = [] ∷ [] }) }
     {
         let files = Files::new(alloc);
         let mut history = Vec::new(alloc);
@@ -56,25 +59,34 @@ impl Inputs {
         })
     }
 
-    /// Sets the text of a file, or its absence, and its durability, and answers the revision that this makes.
+    /// Sets the file `name` to `text`, or to absent, and to `durability`. Returns the revision that
+    /// this makes.
     ///
-    /// A file that is set to what it was makes a revision too, at which nothing changed. A refused change comes back
-    /// with its text and leaves all as it was. `TextTooLong` comes exactly where the text has more than `MAX_TEXT`
-    /// bytes; else `TooManyFiles` where the file was never set and `MAX_FILES` files were; else `RevisionsUsedUp`
-    /// where the revision is `LAST_REVISION`; and `Memory` in no other case than want of memory.
+    /// Setting a file to what it was makes a revision too, at which nothing changed. A refused
+    /// change leaves the inputs unchanged, and `text` comes back.
+    ///
+    /// # Errors
+    ///
+    /// - `TextTooLong` exactly where `text` has more than `MAX_TEXT` bytes.
+    /// - Else `TooManyFiles` exactly where the file was never set and `MAX_FILES` files were.
+    /// - Else `RevisionsUsedUp` exactly where the revision is `LAST_REVISION`.
+    /// - Else `Memory` where an allocation fails.
     pub fn set(
         &mut self,
         name: &str,
         text: Option<String>,
         durability: Durability,
     ) -> Result<Revision, SetRefused>
-        ensures revision { IfOk result (λ revision. (revision ≡ self.old.revision + 1) × (self.new.revision ≡ revision)) }
+        ensures revision { IfOk result (λ revision.
+            (revision ≡ self.old.revision + 1) × (self.new.revision ≡ revision)) }
         ensures files { let file : File = record { text = option_map string_bytes text; durability = durability } in
             OnOk result (self.new.files ≡ with_file self.old.files name.now file) }
         ensures history { OnOk result (self.new.history ≡ self.old.history ++ self.new.files ∷ []) }
-        ensures accepted { OnOk result (refusal self.old name.now (option_map string_bytes text) ≡ None) }
+        ensures accepted { OnOk result
+            (refusal self.old name.now (option_map string_bytes text) ≡ None) }
         ensures fault { IfErr result (λ refused.
-            refused.fault ≡ unwrap_or (refusal self.old name.now (option_map string_bytes text)) InputFault.Memory) }
+            refused.fault ≡
+            unwrap_or (refusal self.old name.now (option_map string_bytes text)) InputFault.Memory) }
         ensures refused { OnErr result (self.new ≡ self.old) }
         ensures back { IfErr result (λ refused. refused.text ≡ text) }
     {
@@ -102,7 +114,7 @@ impl Inputs {
         }
     }
 
-    // The reason for which a text of a file is refused whatever memory there is.
+    /// The reason to refuse `text` as the text of the file `name` whatever memory there is.
     fn refusal(&self, name: &str, text: Option<&str>) -> Option<InputFault>
         ensures { result ≡ refusal self.now name.now (option_copied text.entry) }
     {
@@ -118,7 +130,7 @@ impl Inputs {
         None
     }
 
-    // Whether there is no place for a file of this name.
+    /// Whether the file `name` is new and no new file can be set.
     fn is_full_for(&self, name: &str) -> bool
         ensures { result ≡ is_full_for self.now.files name.now }
     {
@@ -128,7 +140,7 @@ impl Inputs {
         self.files.len() >= MAX_FILES
     }
 
-    /// The text of a file, or `None` where it is absent or was never set.
+    /// The text of the file `name`, or `None` where it is absent or was never set.
     pub fn get(&self, name: &str) -> Option<&str>
         ensures { option_copied result ≡ (file_in self.now.files name.now).text }
     {
@@ -138,7 +150,7 @@ impl Inputs {
         }
     }
 
-    /// The durability of a file: Low where it was never set.
+    /// The durability of the file `name`, which is `Low` where it was never set.
     pub fn durability(&self, name: &str) -> Durability
         ensures { result ≡ (file_in self.now.files name.now).durability }
     {
@@ -148,44 +160,60 @@ impl Inputs {
         }
     }
 
-    /// The last revision at which the text or durability of a file changed, or 0 where neither ever did.
+    /// The last revision at which the text or durability of the file `name` changed, or 0 where
+    /// neither ever did.
     ///
-    /// The file is now as it was at each revision from that one on.
+    /// At each revision from that one on the file is what it is now.
     pub fn changed_at(&self, name: &str) -> Revision
         ensures last { IsLastChange self.now.history name.now result }
         ensures within { result ≤ self.now.revision }
-        ensures kept { (revision : ℕ) (then : Sources) → result ≤ revision → slice_get self.now.history revision ≡ Some then →
+        ensures kept { (revision : ℕ) (then : Sources) → result ≤ revision →
+            slice_get self.now.history revision ≡ Some then →
             file_in then name.now ≡ file_in self.now.files name.now }
     {
         Revision::of(self.files.changed(name))
     }
 
-    /// The last revision at which a file changed that was of this durability or a higher one before that change, or 0
-    /// where there is none. So a file that changed later was of a lower durability.
+    /// The last revision at which a file changed whose durability before the change was at least
+    /// `durability`, or 0.
+    ///
+    /// Each file that changed later had a lower durability before that change. A file that has at
+    /// least this durability at that revision, or at a later one, has not changed since.
     pub fn last_changed(&self, durability: Durability) -> Revision
         ensures last { IsLastChangeOf self.now.history durability result }
         ensures within { result ≤ self.now.revision }
-        ensures later { (name : List ℕ) (revision : ℕ) (change : ChangesAt self.now.history name revision) → result ≤ revision →
-            level (file_in change.before name).durability < level durability }
+        ensures later { (name : List ℕ) (revision : ℕ) (change : ChangesAt self.now.history name revision) →
+            result ≤ revision → level (file_in change.before name).durability < level durability }
+        ensures stays { (revision other : ℕ) (then after : Sources) (name : List ℕ) →
+            result ≤ revision → revision ≤ other →
+            slice_get self.now.history revision ≡ Some then →
+            slice_get self.now.history other ≡ Some after →
+            level durability ≤ level (file_in then name).durability →
+            file_in then name ≡ file_in after name }
         ensures ordered { (lower : Durability) (last : ℕ) → level lower ≤ level durability →
             IsLastChangeOf self.now.history lower last → result ≤ last }
     {
         Revision::of(self.last_changed.of(durability))
     }
 
-    /// The last revision.
+    /// The last revision. The sources at each revision are those at the one before with one file
+    /// set.
     pub fn now(&self) -> Revision
         ensures now { result ≡ self.now.revision }
-        ensures bounded { result ≤ LAST_REVISION }
+        ensures bounded { result ≤ last_revision }
         ensures counted { length self.now.history ≡ self.now.revision + 1 }
         ensures first { slice_get self.now.history 0 ≡ Some [] }
         ensures last { slice_get self.now.history self.now.revision ≡ Some self.now.files }
+        ensures made { (revision : ℕ) (before after : Sources) →
+            slice_get self.now.history revision ≡ Some before →
+            slice_get self.now.history (revision + 1) ≡ Some after →
+            (name : List ℕ) × (file : File) × (after ≡ with_file before name file) }
     {
         Revision::of(self.revision)
     }
 }
 
-// Whether a text has more bytes than a file may have.
+/// Whether `text`, where there is one, has more than `MAX_TEXT` bytes.
 fn is_too_long(text: Option<&str>) -> bool
     ensures { result ≡ is_too_long (option_copied text.entry) }
 {

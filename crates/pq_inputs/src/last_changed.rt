@@ -1,13 +1,15 @@
-//! The revision of the last change, for each durability.
+//! For each durability the revision of the last change. A change costs one write for each
+//! durability.
 ghost use Rattle.std.specs.Prelude.{◌≡◌, nat_le, MatchOption, if◌then◌else◌};
 ghost use Rattle.pq_inputs.specs.declared.durability.Durability.{Durability};
 ghost use Rattle.pq_inputs.specs.Changes.{level};
-ghost use Rattle.pq_inputs.specs.Kept.{mark_of};
+ghost use Rattle.pq_inputs.specs.aux.Kept.{mark_of};
 
 use crate::durability::Durability;
 use std::marker::Model;
 
-// For each durability the last revision at which a file changed that was of that durability or more before.
+/// For each durability the last revision at which a file changed whose durability before the change
+/// was at least that.
 #[derive(Drop)]
 pub(crate) struct LastChanged {
     low: u64,
@@ -16,7 +18,7 @@ pub(crate) struct LastChanged {
 }
 
 impl Model for LastChanged {
-    ghost use Rattle.pq_inputs.specs.Kept.{Marks};
+    ghost use Rattle.pq_inputs.specs.aux.Kept.{Marks};
 
     ghost Value = { Marks };
 
@@ -24,7 +26,7 @@ impl Model for LastChanged {
 }
 
 impl LastChanged {
-    // Nothing has changed yet.
+    /// The marks of inputs in which nothing has changed: 0 for each durability.
     pub(crate) fn new() -> LastChanged
         ensures { (d : Durability) → mark_of result d ≡ 0 }
     {
@@ -35,7 +37,7 @@ impl LastChanged {
         }
     }
 
-    // The revision for a durability.
+    /// The revision for `durability`.
     pub(crate) fn of(&self, durability: Durability) -> u64
         ensures { result ≡ mark_of self.now durability }
     {
@@ -46,7 +48,8 @@ impl LastChanged {
         }
     }
 
-    // Notes the durability before of a file that changed at a revision, if one did.
+    /// Notes that a file changed at `revision`, where `before` has its durability before the
+    /// change.
     pub(crate) fn note(&mut self, before: Option<Durability>, revision: u64)
         ensures { MatchOption before (self.new ≡ self.old) (λ b. (d : Durability) →
             mark_of self.new d ≡ (if nat_le (level d) (level b) then revision else mark_of self.old d)) }

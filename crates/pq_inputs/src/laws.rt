@@ -1,10 +1,10 @@
-//! Laws of the definitions, as functions that do nothing.
+//! Laws of the definitions, as the contracts of functions with empty bodies.
 ghost use Rattle.std.specs.Prelude.{◌≡◌, ℕ, List};
 ghost use Rattle.pq_inputs.specs.declared.durability.Durability.{Durability};
 ghost use Rattle.pq_inputs.specs.Sources.{Sources};
 ghost use Rattle.pq_inputs.specs.Changes.{IsLastChange, IsLastChangeOf};
 
-/// In a history a file has one last change, and so have the files of a durability or more.
+/// In a history each file has one revision of its last change, and so has each durability.
 pub fn one_last_change()
     ensures file { (history : List Sources) (name : List ℕ) (a b : ℕ) →
         IsLastChange history name a → IsLastChange history name b → a ≡ b }

@@ -1,10 +1,10 @@
-//! How much the inputs take.
+//! The limits of the inputs.
 
-/// The greatest length of a text, in bytes.
+/// The greatest length of the text of a file, in bytes.
 pub const MAX_TEXT: usize = 1_048_576;
 
-/// How many files may ever be set, by their names.
+/// The number of files that can be set, each counted once.
 pub const MAX_FILES: usize = 4_096;
 
-/// The last revision: no change is accepted at it.
+/// The last revision, at which no change is accepted.
 pub const LAST_REVISION: u64 = 65_536;

@@ -1,12 +1,13 @@
-//! The sources at a revision, kept for contracts alone.
+//! The sources at a revision, which only contracts see.
 ghost use Rattle.std.specs.Prelude.{◌≡◌};
-ghost use Rattle.pq_inputs.specs.Kept.{sources_of};
+ghost use Rattle.pq_inputs.specs.aux.Kept.{sources_of};
 
 use crate::files::Files;
 use std::marker::Model;
+use std::mem::size_of;
 use std::snapshot::Snapshot;
 
-// The sources at a revision. It has no bytes.
+/// The sources at a revision. A value of it takes no memory.
 #[derive(Drop)]
 pub(crate) struct Past {
     files: Snapshot<Files>,
@@ -14,7 +15,7 @@ pub(crate) struct Past {
 
 impl Model for Past {
     ghost use Rattle.pq_inputs.specs.Sources.{Sources};
-    ghost use Rattle.pq_inputs.specs.Kept.{sources_of};
+    ghost use Rattle.pq_inputs.specs.aux.Kept.{sources_of};
 
     ghost Value = { Sources };
 
@@ -22,7 +23,7 @@ impl Model for Past {
 }
 
 impl Past {
-    // The sources of these files.
+    /// The sources of `files`.
     pub(crate) fn of(files: &Files) -> Past
         ensures { result ≡ sources_of files.now }
     {
@@ -31,3 +32,6 @@ impl Past {
         }
     }
 }
+
+// A history takes no bytes, however long it is.
+const _: () = prove!(size_of::<Past>() == 0);

@@ -1,9 +1,11 @@
-//! The number of a state of the inputs.
+//! Revisions: the numbers of the states of the inputs.
 ghost use Rattle.std.specs.Prelude.{◌≡◌};
 
 use std::marker::Model;
 
-/// The number of a state of the inputs: 0 without files, and one more for each accepted change.
+/// A revision, the number of a state of the inputs: 0 at first, and one more after each accepted
+/// change.
+/// (The Salsa book, "The red-green algorithm".)
 #[derive(Clone, Copy, Debug, PartialEq, Eq, PartialOrd, Ord)]
 pub struct Revision {
     number: u64,
@@ -20,7 +22,7 @@ impl Model for Revision {
 }
 
 impl Revision {
-    // The revision of this number.
+    /// The revision with this `number`.
     pub(crate) fn of(number: u64) -> Revision
         ensures { result ≡ number }
     {

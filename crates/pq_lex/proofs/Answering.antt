@@ -4,8 +4,9 @@ use Rattle.std.proofs.lemmas.List.{map-append}
 use Rattle.std.proofs.lemmas.Bool.{both_ways, eq-eqb, eqb-true}
 use Rattle.pq_lex.specs.declared.lines.Line.{Line}
 use Rattle.pq_lex.specs.declared.position.Position.{Position}
-use Rattle.pq_lex.specs.Kept.{mark_of, marks_of, starts_of}
-use Rattle.pq_lex.specs.Lines.{starts_line, line_number, line_start, end_of_line, starts_to, character_start, units_of, units, position_of, IsBefore, is_ascii, units_kept, mark, lines_of, kept_column, IsByte}
+use Rattle.pq_lex.specs.aux.Kept.{mark_of, marks_of, starts_of}
+use Rattle.pq_lex.specs.Lines.{starts_line, line_number, line_start, end_of_line, character_start, units_of, units, position_of, IsBefore}
+use Rattle.pq_lex.specs.aux.LineMarks.{starts_to, is_ascii, units_kept, mark, lines_of, kept_column, IsByte}
 use Rattle.pq_lex.proofs.LineFacts.{end_within, last_line, next_line}
 use Rattle.pq_lex.proofs.Positions.{at_line, found_line, line_facts}
 use Rattle.pq_lex.proofs.Columns.{end_starts, line_length, row_length, kept_sum, kept_length, kept_plain, kept_wide, ascii_byte}

@@ -6,10 +6,11 @@ use Rattle.std.proofs.lemmas.List.Sums.{sum_by-cons}
 use Rattle.std.proofs.lemmas.Bool.{both_ways, cases_order}
 use Rattle.std.proofs.lemmas.Bool.Decides.{nat_tests}
 use Rattle.pq_lex.specs.Classes.{is_continuation}
-use Rattle.pq_lex.specs.Lines.{end_of_line, character_start, units_of, units, is_ascii, units_kept, floor, column_of, kept_column, IsByte}
+use Rattle.pq_lex.specs.Lines.{end_of_line, character_start, units_of, units}
+use Rattle.pq_lex.specs.aux.LineMarks.{is_ascii, units_kept, lead_index, column_of, kept_column, IsByte}
 use Rattle.pq_lex.proofs.LineLen.{is_break}
 use Rattle.pq_lex.proofs.LineFacts.{bool_cases, break_at}
-use Rattle.pq_lex.proofs.UnitLemmas.{floor_stop, floor_zero, floor_on}
+use Rattle.pq_lex.proofs.UnitLemmas.{lead_stop, lead_zero, lead_on}
 
 pub unit_zero : (b : ℕ) → units_of b ≡ 0 → is_continuation b ≡ true
 unit_zero b h = grind (arith, nat_tests)
@@ -40,10 +41,10 @@ end_starts text s h = elim (cases_order (end_of_line text s) (length text)) [
   ]
 ]
 
-floor_le : (u : List ℕ) (i : ℕ) → floor u i ≤ i
-unfolding floor
-floor_le u zero = omega arith
-floor_le u (suc i) = elim (nat_lt (suc i) (length u) && (get_or u (suc i) 0 == 0)) as (λ b. cond b (floor u i) (suc i) ≤ suc i) [ true ↦ omega (arith, floor_le u i) | false ↦ omega arith ]
+lead_le : (u : List ℕ) (i : ℕ) → lead_index u i ≤ i
+unfolding lead_index
+lead_le u zero = omega arith
+lead_le u (suc i) = elim (nat_lt (suc i) (length u) && (get_or u (suc i) 0 == 0)) as (λ b. cond b (lead_index u i) (suc i) ≤ suc i) [ true ↦ omega (arith, lead_le u i) | false ↦ omega arith ]
 
 module _ (text : List ℕ) where
   character_le : (o : ℕ) → character_start text o ≤ o
@@ -76,29 +77,29 @@ module _ (text : List ℕ) where
         let less : i < length (slice_range text s e) = omega (arith, line_length, h) in
         get_or-map units_of (slice_range text s e) i 0 0 less ∙ ap units_of (get_or-take (e - s) (drop s text) i 0 h ∙ get_or-drop s text i 0)
 
-    pub floor_is : (r : ℕ) → r ≤ e - s → character_start text (s + r) - s ≡ floor (map units_of (slice_range text s e)) r
-    floor_is zero h = let c : character_start text (s + 0) ≤ s + 0 = character_le (s + 0) in omega (arith, c, floor_zero (map units_of (slice_range text s e)))
-    floor_is (suc r) h =
+    pub lead_is : (r : ℕ) → r ≤ e - s → character_start text (s + r) - s ≡ lead_index (map units_of (slice_range text s e)) r
+    lead_is zero h = let c : character_start text (s + 0) ≤ s + 0 = character_le (s + 0) in omega (arith, c, lead_zero (map units_of (slice_range text s e)))
+    lead_is (suc r) h =
         let at : s + suc r ≡ suc (s + r) = omega arith in
         elim (bool_cases (is_continuation (get_or text (suc (s + r)) 0))) [
           | inl more ↦
               let less : suc r < e - s = elim (cases_order (suc r) (e - s)) [ inl same ↦ absurd (both_ways (is_continuation (get_or text e 0)) stop (subst (λ k. is_continuation (get_or text k 0) ≡ true) (let q : suc (s + r) ≡ e = omega (arith, same, ordered) in q) more)) | inr o ↦ elim o [ inl l ↦ l | inr m ↦ absurd (omega (arith, m, h)) ] ] in
               let unit : get_or (map units_of (slice_range text s e)) (suc r) 0 ≡ 0 = unit_at (suc r) less ∙ ap (λ k. units_of (get_or text k 0)) at ∙ continuation_unit (get_or text (suc (s + r)) 0) more in
-              let on : floor (map units_of (slice_range text s e)) (suc r) ≡ floor (map units_of (slice_range text s e)) (suc r - 1) = floor_on (map units_of (slice_range text s e)) (suc r) (omega arith) (omega (arith, less, row_length)) unit in
-              let back : floor (map units_of (slice_range text s e)) (suc r - 1) ≡ floor (map units_of (slice_range text s e)) r = ap (floor (map units_of (slice_range text s e))) (let q : suc r - 1 ≡ r = omega arith in q) in
-              ap (λ k. character_start text k - s) at ∙ ap (λ k. k - s) (character_on (s + r) more) ∙ floor_is r (omega (arith, h)) ∙ sym (on ∙ back)
+              let on : lead_index (map units_of (slice_range text s e)) (suc r) ≡ lead_index (map units_of (slice_range text s e)) (suc r - 1) = lead_on (map units_of (slice_range text s e)) (suc r) (omega arith) (omega (arith, less, row_length)) unit in
+              let back : lead_index (map units_of (slice_range text s e)) (suc r - 1) ≡ lead_index (map units_of (slice_range text s e)) r = ap (lead_index (map units_of (slice_range text s e))) (let q : suc r - 1 ≡ r = omega arith in q) in
+              ap (λ k. character_start text k - s) at ∙ ap (λ k. k - s) (character_on (s + r) more) ∙ lead_is r (omega (arith, h)) ∙ sym (on ∙ back)
           | inr here ↦
-              let stays : floor (map units_of (slice_range text s e)) (suc r) ≡ suc r = floor_stop (map units_of (slice_range text s e)) (suc r) (λ less z. both_ways (is_continuation (get_or text (suc (s + r)) 0)) here (unit_zero (get_or text (suc (s + r)) 0) (sym (ap (λ k. units_of (get_or text k 0)) at) ∙ sym (unit_at (suc r) (omega (arith, less, row_length))) ∙ z))) in
+              let stays : lead_index (map units_of (slice_range text s e)) (suc r) ≡ suc r = lead_stop (map units_of (slice_range text s e)) (suc r) (λ less z. both_ways (is_continuation (get_or text (suc (s + r)) 0)) here (unit_zero (get_or text (suc (s + r)) 0) (sym (ap (λ k. units_of (get_or text k 0)) at) ∙ sym (unit_at (suc r) (omega (arith, less, row_length))) ∙ z))) in
               let c : character_start text (s + suc r) ≡ suc (s + r) = ap (character_start text) at ∙ character_here (s + r) here in
               omega (arith, c, stays)
         ]
 
     pub column_is : (r : ℕ) → r ≤ e - s → column_of (map units_of (slice_range text s e)) r ≡ units (slice_range text s (character_start text (s + r)))
     column_is r h =
-        let f : character_start text (s + r) - s ≡ floor (map units_of (slice_range text s e)) r = floor_is r h in
-        let small : floor (map units_of (slice_range text s e)) r ≤ e - s = omega (arith, floor_le (map units_of (slice_range text s e)) r, h) in
-        let front : take (floor (map units_of (slice_range text s e)) r) (map units_of (slice_range text s e)) ≡ map units_of (take (floor (map units_of (slice_range text s e)) r) (drop s text)) =
-        take-map units_of (floor (map units_of (slice_range text s e)) r) (slice_range text s e) ∙ ap (map units_of) (take-take (floor (map units_of (slice_range text s e)) r) (e - s) (drop s text) small) in
+        let f : character_start text (s + r) - s ≡ lead_index (map units_of (slice_range text s e)) r = lead_is r h in
+        let small : lead_index (map units_of (slice_range text s e)) r ≤ e - s = omega (arith, lead_le (map units_of (slice_range text s e)) r, h) in
+        let front : take (lead_index (map units_of (slice_range text s e)) r) (map units_of (slice_range text s e)) ≡ map units_of (take (lead_index (map units_of (slice_range text s e)) r) (drop s text)) =
+        take-map units_of (lead_index (map units_of (slice_range text s e)) r) (slice_range text s e) ∙ ap (map units_of) (take-take (lead_index (map units_of (slice_range text s e)) r) (e - s) (drop s text) small) in
         ap sum front ∙ ap (λ k. units (take k (drop s text))) (sym f)
 
 both_parts : (p q : Bool) → (p && q) ≡ true → (p ≡ true) × (q ≡ true)
@@ -121,7 +122,7 @@ ascii_at (x ∷ xs) (suc i) h e = ascii_at xs i (both_parts _ _ h).1 (omega (ari
 
 ascii_column : (xs : List ℕ) (i : ℕ) → is_ascii xs ≡ true → i ≤ length xs → column_of (map units_of xs) i ≡ i
 ascii_column xs i h e =
-    let f : floor (map units_of xs) i ≡ i = floor_stop (map units_of xs) i (λ less z. let one = ascii_at xs i h (omega (arith, less, length-map xs units_of)) in omega (arith, one, z)) in
+    let f : lead_index (map units_of xs) i ≡ i = lead_stop (map units_of xs) i (λ less z. let one = ascii_at xs i h (omega (arith, less, length-map xs units_of)) in omega (arith, one, z)) in
     ap (λ k. sum (take k (map units_of xs))) f ∙ ascii_sum xs i h e
 
 more_than_none : (n : ℕ) → (suc n == 0) ≡ false
@@ -143,6 +144,10 @@ row_sum (x ∷ xs) = omega (arith, sum_by-cons (λ y. y) (units_of x) (map units
 
 pub kept_sum : (xs : List ℕ) → sum (units_kept xs) ≤ 2 * length xs
 kept_sum xs = elim (is_ascii xs) as (λ b. sum (cond b [] (map units_of xs)) ≤ 2 * length xs) [ true ↦ omega arith | false ↦ row_sum xs ]
+
+-- a byte has at most two units, also by the units that are kept
+pub kept_own_sum : (xs : List ℕ) → sum (units_kept xs) ≤ 2 * length (units_kept xs)
+kept_own_sum xs = elim (is_ascii xs) as (λ b. sum (cond b [] (map units_of xs)) ≤ 2 * length (cond b [] (map units_of xs))) [ true ↦ omega arith | false ↦ omega (arith, row_sum xs, length-map xs units_of) ]
 
 pub kept_length : (xs : List ℕ) → 0 < length (units_kept xs) → length (units_kept xs) ≡ length xs
 kept_length xs = elim (is_ascii xs) as (λ b. 0 < length (cond b [] (map units_of xs)) → length (cond b [] (map units_of xs)) ≡ length xs) [ true ↦ λ h. absurd (omega (arith, h)) | false ↦ λ h. length-map xs units_of ]

@@ -5,7 +5,8 @@ use Rattle.std.proofs.lemmas.Bool.{cases_order}
 use Rattle.std.proofs.lemmas.Bool.Decides.{nat_tests}
 use Rattle.pq_lex.specs.declared.position.Position.{Position}
 use Rattle.pq_lex.specs.Classes.{is_continuation}
-use Rattle.pq_lex.specs.Lines.{line_number, line_start, line_end, starts_to, character_start, units_of, units, position_of, IsBefore, IsOffset}
+use Rattle.pq_lex.specs.Lines.{line_number, line_start, line_end, character_start, units_of, units, position_of, IsBefore, IsOffset}
+use Rattle.pq_lex.specs.aux.LineMarks.{starts_to}
 use Rattle.pq_lex.proofs.Positions.{at_line, start_below}
 use Rattle.pq_lex.proofs.Columns.{starts_character}
 use Rattle.pq_lex.proofs.UnitLemmas.{sum_take, sum_take_le}
@@ -51,9 +52,9 @@ module _ (text : List ℕ) where
     before_itself : IsBefore text (position_of text o) o
     before_itself = record { within = within; start = starts_character text o start; ahead = ahead; line = refl; column = omega arith }
 
-    -- nothing behind it is before its own position
-    not_behind : (x : ℕ) → IsBefore text (position_of text o) x → x ≤ o
-    not_behind x b = elim (cases_order x o) [
+    -- no later offset is before its own position
+    not_after : (x : ℕ) → IsBefore text (position_of text o) x → x ≤ o
+    not_after x b = elim (cases_order x o) [
       | inl same ↦ omega (arith, same)
       | inr q ↦ elim q [
         | inl less ↦ omega (arith, less)
@@ -66,4 +67,4 @@ module _ (text : List ℕ) where
     ]
 
     pub comes_back : (answer : Option ℕ) → IsOffset text (position_of text o) answer → answer ≡ Some o
-    comes_back answer h = one text (position_of text o) answer (Some o) h (before_itself, not_behind)
+    comes_back answer h = one text (position_of text o) answer (Some o) h (before_itself, not_after)

@@ -11,7 +11,7 @@ use Rattle.pq_lex.specs.declared.escapes.Meaning.{Meaning}
 use Rattle.pq_lex.specs.declared.escapes.Meaning.TheVariants.{Byte, Scalar}
 use Rattle.pq_lex.specs.declared.escapes.Escape.{Escape}
 use Rattle.pq_lex.specs.Classes.{byte, in_set}
-use Rattle.pq_lex.specs.Escapes.{byte_escape, escape_to, in_64_bits, is_high, is_low, paired, pair_escape, scalar_escape, short_escape, long_escape, named, named_escape, unit_at, exactly, digits_end, number, escape_at}
+use Rattle.pq_lex.specs.Escapes.{byte_escape, escape_to, in_64_bits, is_high, is_low, paired, pair_escape, scalar_escape, short_escape, long_escape, named, named_escape, unit_at, hex_digits, digits_end, number, escape_at}
 
 -- a test that lets something through holds
 let_through : {A : Type 0} (b : Bool) (x : Option A) (e : A) → cond b x None ≡ Some e → (b ≡ true) × (x ≡ Some e)
@@ -60,7 +60,7 @@ escape_further text i e h =
     let octal = byte_escape 8 text (i + 1) (digits_end Octals 3 text (i + 1)) in
     let hexadecimal = byte_escape 16 text (i + 2) (digits_end Hexes 2 text (i + 2)) in
     let short = short_escape text (i + 6) (unit_at text i) in
-    let long = long_escape (i + 10) (exactly 8 text (i + 2)) in
+    let long = long_escape (i + 10) (hex_digits 8 text (i + 2)) in
     let other = named_escape (i + 2) (named (byte text (i + 1))) in
     let b = byte text (i + 1) in
     let last = cond (b == 85) long other in
@@ -72,7 +72,7 @@ escape_further text i e h =
         | inr h2 ↦ elim (one_of (b == 117) short last e h2) [
           | inl o ↦ let g : i + 6 ≤ e.end = short_further text (i + 6) (unit_at text i) e o in omega arith
           | inr h3 ↦ elim (one_of (b == 85) long other e h3) [
-            | inl o ↦ let g : i + 10 ≤ e.end = long_further (i + 10) (exactly 8 text (i + 2)) e o in omega arith
+            | inl o ↦ let g : i + 10 ≤ e.end = long_further (i + 10) (hex_digits 8 text (i + 2)) e o in omega arith
             | inr o ↦ let g : i + 2 ≤ e.end = named_further (i + 2) (named b) e o in omega arith
           ]
         ]

@@ -5,12 +5,13 @@ use Rattle.std.proofs.lemmas.Bool.{cases_order}
 use Rattle.pq_lex.specs.declared.lines.Line.{Line}
 use Rattle.pq_lex.specs.declared.position.Position.{Position}
 use Rattle.pq_lex.specs.Classes.{is_continuation}
-use Rattle.pq_lex.specs.Kept.{mark_of, marks_of, starts_of}
-use Rattle.pq_lex.specs.Lines.{starts_line, line_number, line_start, line_end, end_of_line, starts_to, character_start, units_of, units, position_of, IsBefore, units_kept, mark, lines_of, kept_column, floor, IsByte}
+use Rattle.pq_lex.specs.aux.Kept.{mark_of, marks_of, starts_of}
+use Rattle.pq_lex.specs.Lines.{starts_line, line_number, line_start, line_end, end_of_line, character_start, units_of, units, position_of, IsBefore}
+use Rattle.pq_lex.specs.aux.LineMarks.{starts_to, units_kept, mark, lines_of, kept_column, lead_index, IsByte}
 use Rattle.pq_lex.proofs.LineFacts.{bool_cases, end_within, same_start, same_number}
 use Rattle.pq_lex.proofs.Positions.{at_line, line_facts, start_below}
-use Rattle.pq_lex.proofs.Columns.{end_starts, starts_character, line_length, row_length, unit_at, floor_is, column_is, kept_is, continuation_unit}
-use Rattle.pq_lex.proofs.UnitLemmas.{floor_stop}
+use Rattle.pq_lex.proofs.Columns.{end_starts, starts_character, line_length, row_length, unit_at, lead_is, column_is, kept_is, continuation_unit}
+use Rattle.pq_lex.proofs.UnitLemmas.{lead_stop}
 
 mark_start : (text : List ℕ) (xs : List ℕ) → map (λ m. m.start) (map (mark text) xs) ≡ xs
 mark_start text [] = refl
@@ -93,7 +94,7 @@ module _ (text : List ℕ) (s : ℕ) (within : s ≤ length text) where
         ap (λ k. units (slice_range text k (character_start text (min o (line_end text o))))) from ∙ ap (λ k. units (slice_range text s (character_start text k))) at
 
     -- the first byte of a character after the line's start
-    column_sum : (r : ℕ) → r ≤ end_of_line text s - s → floor (map units_of (slice_range text s (end_of_line text s))) r ≡ r → (position_of text (s + r)).character ≡ sum (take r (map units_of (slice_range text s (end_of_line text s))))
+    column_sum : (r : ℕ) → r ≤ end_of_line text s - s → lead_index (map units_of (slice_range text s (end_of_line text s))) r ≡ r → (position_of text (s + r)).character ≡ sum (take r (map units_of (slice_range text s (end_of_line text s))))
     column_sum r h f =
         column_there (s + r) (omega arith) (omega (arith, h))
         ∙ sym (column_is text s (end_of_line text s) (omega arith) ends stop r h)
@@ -116,7 +117,7 @@ module _ (text : List ℕ) (s : ℕ) (within : s ≤ length text) where
         let len : length (map units_of (slice_range text s (end_of_line text s))) ≡ end_of_line text s - s = row_length text s (end_of_line text s) (omega arith) ends stop in
         let h : r ≤ end_of_line text s - s = omega (arith, byte.within, len) in
         let from : line_start text (s + r) ≡ s = same_start text s (s + r) begins (omega arith) (omega (arith, h)) in
-        let f : floor (map units_of (slice_range text s (end_of_line text s))) r ≡ r = floor_stop (map units_of (slice_range text s (end_of_line text s))) r byte.start in
+        let f : lead_index (map units_of (slice_range text s (end_of_line text s))) r ≡ r = lead_stop (map units_of (slice_range text s (end_of_line text s))) r byte.start in
         let e : line_end text (s + r) ≡ end_of_line text s = ap (end_of_line text) from in
         let column : (position_of text (s + r)).character ≡ sum (take r (map units_of (slice_range text s (end_of_line text s)))) = column_sum r h f in (
           record {
@@ -140,9 +141,9 @@ module _ (text : List ℕ) (s : ℕ) (within : s ≤ length text) where
             let high : line_end text q ≡ end_of_line text s = ap (end_of_line text) from in
             let sum_is : s + (q - s) ≡ q = omega (arith, low, from) in
             let small : q - s ≤ end_of_line text s - s = omega (arith, b.ahead, high) in
-            let f : character_start text (s + (q - s)) - s ≡ floor (map units_of (slice_range text s (end_of_line text s))) (q - s) = floor_is text s (end_of_line text s) (omega arith) ends stop (q - s) small in
+            let f : character_start text (s + (q - s)) - s ≡ lead_index (map units_of (slice_range text s (end_of_line text s))) (q - s) = lead_is text s (end_of_line text s) (omega arith) ends stop (q - s) small in
             let c : character_start text (s + (q - s)) ≡ q = ap (character_start text) sum_is ∙ b.start in
-            let fl : floor (map units_of (slice_range text s (end_of_line text s))) (q - s) ≡ q - s = omega (arith, f, c) in
+            let fl : lead_index (map units_of (slice_range text s (end_of_line text s))) (q - s) ≡ q - s = omega (arith, f, c) in
             let column : (position_of text (s + (q - s))).character ≡ sum (take (q - s) (map units_of (slice_range text s (end_of_line text s)))) = column_sum (q - s) small fl in
             let fits : (position_of text (s + (q - s))).character ≤ p.character = subst (λ k. (position_of text k).character ≤ p.character) (sym sum_is) b.column in
             elim (cases_order q (s + r)) [

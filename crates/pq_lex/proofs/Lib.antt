@@ -1,13 +1,15 @@
 pub mod Answering
 pub mod Columns
 pub mod ComingBack
+pub mod Counts
 pub mod EscapeLemmas
-pub mod Fronts
+pub mod FirstBytes
 pub mod Indexed
 pub mod LineFacts
 pub mod LineLen
 pub mod NumberEnds
 pub mod OnePiece
+pub mod Ordered
 pub mod Pieces
 pub mod Positions
 pub mod Readings

@@ -3,7 +3,8 @@ use Rattle.std.proofs.Common.{◌≡◌, ◌⊎◌, inl, inr, ℕ, zero, suc, �
 use Rattle.std.proofs.lemmas.List.{get_or-drop}
 use Rattle.std.proofs.lemmas.Bool.{cases_order, eqb-true}
 use Rattle.std.proofs.lemmas.Bool.Decides.{nat_tests}
-use Rattle.pq_lex.specs.Lines.{starts_line, line_number, line_start, line_len, end_of_line, starts_to}
+use Rattle.pq_lex.specs.Lines.{starts_line, line_number, line_start, line_len, end_of_line}
+use Rattle.pq_lex.specs.aux.LineMarks.{starts_to}
 use Rattle.pq_lex.proofs.LineLen.{is_break, len_within, len_plain, len_break}
 
 pub bool_cases : (b : Bool) → (b ≡ true) ⊎ (b ≡ false)

@@ -7,12 +7,12 @@ use Rattle.pq_lex.specs.declared.bytes.Set.TheVariants.{Digits, Octals, Hexes}
 use Rattle.pq_lex.specs.declared.bytes.Class.TheVariants.{Digit}
 use Rattle.pq_lex.specs.Classes.{byte, at, in_set}
 use Rattle.pq_lex.specs.Runs.{run_end, Run}
-use Rattle.pq_lex.specs.Tokens.{is_x, IsInteger, decimal, octal, hexadecimal, is_e, is_sign, behind_sign, IsExponent, IsFloat, pointed, raised}
-use Rattle.pq_lex.specs.Scan.{integer_end, exponent_end, float_end, float_end_at, pointed_end}
+use Rattle.pq_lex.specs.Tokens.{is_x, IsInteger, decimal, octal, hexadecimal, is_e, is_sign, exponent_digits, IsExponent, IsFloat, pointed, raised}
+use Rattle.pq_lex.specs.aux.Scan.{integer_end, exponent_end, float_end, float_end_at, pointed_end}
 use Rattle.pq_lex.proofs.RunLemmas.{run_is, run_most, run_one}
-use Rattle.pq_lex.proofs.Fronts.{digit_class}
+use Rattle.pq_lex.proofs.FirstBytes.{digit_class}
 
--- a byte that is not 0 stands in the text
+-- a byte that is not 0 lies in the text
 pub inside : (text : List ℕ) (i : ℕ) → (byte text i ≡ 0 → ⊥) → i < length text
 inside text i h = elim (cases_lt i (length text)) [ inl less ↦ less | inr past ↦ absurd (h (get_or_past text i 0 past)) ]
 
@@ -43,23 +43,23 @@ some_x b h e = both_ways (is_x b) (ap is_x e) h
 
 -- exponents
 module _ (text : List ℕ) (i : ℕ) where
-  behind_cases : (behind_sign text i ≡ i + 1) ⊎ ((behind_sign text i ≡ i + 2) × (i + 1 < length text))
+  behind_cases : (exponent_digits text i ≡ i + 1) ⊎ ((exponent_digits text i ≡ i + 2) × (i + 1 < length text))
   behind_cases = cond_both (is_sign (byte text (i + 1))) (i + 2) (i + 1) (λ k. (k ≡ i + 1) ⊎ ((k ≡ i + 2) × (i + 1 < length text)))
       (λ e. inr (refl, inside text (i + 1) (some_sign (byte text (i + 1)) e))) (λ e. inl refl)
 
-  behind_low : i + 1 ≤ behind_sign text i
+  behind_low : i + 1 ≤ exponent_digits text i
   behind_low = elim behind_cases [ inl e ↦ omega (arith, e) | inr e ↦ omega (arith, e.0) ]
 
-  behind_high : i < length text → behind_sign text i ≤ length text
+  behind_high : i < length text → exponent_digits text i ≤ length text
   behind_high h = elim behind_cases [ inl e ↦ omega (arith, e, h) | inr e ↦ omega (arith, e.0, e.1) ]
 
-  exponent_yes : is_e (byte text i) ≡ true → behind_sign text i < run_end Digits text (behind_sign text i) → exponent_end text i ≡ run_end Digits text (behind_sign text i)
+  exponent_yes : is_e (byte text i) ≡ true → exponent_digits text i < run_end Digits text (exponent_digits text i) → exponent_end text i ≡ run_end Digits text (exponent_digits text i)
   unfolding exponent_end
-  exponent_yes h less = let l = lt-ltb (behind_sign text i) (run_end Digits text (behind_sign text i)) less in rw (h, l) refl
+  exponent_yes h less = let l = lt-ltb (exponent_digits text i) (run_end Digits text (exponent_digits text i)) less in rw (h, l) refl
 
-  exponent_few : is_e (byte text i) ≡ true → run_end Digits text (behind_sign text i) ≤ behind_sign text i → exponent_end text i ≡ i
+  exponent_few : is_e (byte text i) ≡ true → run_end Digits text (exponent_digits text i) ≤ exponent_digits text i → exponent_end text i ≡ i
   unfolding exponent_end
-  exponent_few h less = let l = le-ltb (behind_sign text i) (run_end Digits text (behind_sign text i)) less in rw (h, l) refl
+  exponent_few h less = let l = le-ltb (exponent_digits text i) (run_end Digits text (exponent_digits text i)) less in rw (h, l) refl
 
   exponent_no : is_e (byte text i) ≡ false → exponent_end text i ≡ i
   unfolding exponent_end
@@ -70,7 +70,7 @@ module _ (text : List ℕ) (i : ℕ) where
   exponent_is = elim (cases_Bool (is_e (byte text i))) [
     | inr h ↦ inl (exponent_no h)
     | inl h ↦
-        let b = behind_sign text i in
+        let b = exponent_digits text i in
         let r = run_end Digits text b in
         elim (cases_lt b r) [
           | inr few ↦ inl (exponent_few h few)
@@ -86,7 +86,7 @@ module _ (text : List ℕ) (i : ℕ) where
 
   pub exponent_most : (n : ℕ) → IsExponent text i n → (i < n) × (n ≤ exponent_end text i)
   exponent_most n x =
-      let most = run_most Digits text (behind_sign text i) n x.digits in
+      let most = run_most Digits text (exponent_digits text i) n x.digits in
       let e = exponent_yes x.letter (omega (arith, most, x.some)) in
       (omega (arith, x.some, behind_low), omega (arith, most, e))
 

@@ -1,26 +1,24 @@
--- One thing stands at each place: one longest piece, or one fault.
+-- At each offset there is one step: one longest piece, or one error.
 use Rattle.std.proofs.Common.{◌≡◌, ◌⊎◌, inl, inr, ℕ, ◌+◌, ◌<◌, ◌≤◌, ◌==◌, true, false, List, length, refl, sym, ◌∙◌, ap, subst, arith}
 use Rattle.std.proofs.lemmas.Bool.{both_ways, cases_order, eqb-true, and_parts}
 use Rattle.pq_lex.specs.declared.bytes.Class.{Class}
 use Rattle.pq_lex.specs.declared.bytes.Class.TheVariants.{Letter, Digit, Space, Quote, Point, Slash, Mark, Other}
-use Rattle.pq_lex.specs.declared.bytes.Set.TheVariants.{Tails}
+use Rattle.pq_lex.specs.declared.bytes.Set.TheVariants.{Continuations}
 use Rattle.pq_lex.specs.declared.token.Kind.{Kind}
 use Rattle.pq_lex.specs.declared.token.Kind.TheVariants.{Integer, Float, Symbol}
-use Rattle.pq_lex.specs.declared.token.Piece.{Piece}
-use Rattle.pq_lex.specs.declared.token.Piece.TheVariants.{Separator, Lexeme}
 use Rattle.pq_lex.specs.declared.token.Span.{Span}
 use Rattle.pq_lex.specs.declared.token.Code.{Code}
 use Rattle.pq_lex.specs.declared.token.Step.{Step}
 use Rattle.pq_lex.specs.declared.token.Step.TheVariants.{Pass, Take, Stop}
 use Rattle.pq_lex.specs.Classes.{byte, at, class_of, is_quote}
 use Rattle.pq_lex.specs.Runs.{run_end}
-use Rattle.pq_lex.specs.Scan.{step_at}
-use Rattle.pq_lex.specs.Tokens.{span, opens, IsSeparator, order_mark, blanks, line_comment, comment, Spells, IsLongest, runs_on, IsCharacter, IsFault, of_comment, of_text, of_other}
+use Rattle.pq_lex.specs.aux.Scan.{step_at}
+use Rattle.pq_lex.specs.Tokens.{Piece, Separator, Lexeme, span, opens, IsSeparator, order_mark, blanks, line_comment, comment, Spells, IsLongest, runs_on, IsCharacter, IsFault, of_comment, of_text, of_other}
 use Rattle.pq_lex.proofs.RunLemmas.{run_one}
-use Rattle.pq_lex.proofs.Fronts.{class_space, of_class, only_letter, only_space, only_other, only_quote, only_mark, either_digit, either_point, either_slash}
+use Rattle.pq_lex.proofs.FirstBytes.{class_space, of_class, only_letter, only_space, only_other, only_quote, only_mark, either_digit, either_point, either_slash}
 use Rattle.pq_lex.proofs.NumberEnds.{float_longer}
 use Rattle.pq_lex.proofs.StringEnds.{fault_is}
-use Rattle.pq_lex.proofs.Pieces.{Stands, Fails, Overruns, as_sort, float_within, step_stands}
+use Rattle.pq_lex.proofs.Pieces.{IsStep, Fails, Overruns, as_sort, float_within, computed_step}
 
 module _ (text : List ℕ) (i : ℕ) where
   slash_two : (n : ℕ) → at text i ≡ Slash → IsSeparator text i n → i + 2 ≤ n
@@ -79,8 +77,8 @@ module _ (text : List ℕ) (i : ℕ) where
   quote_opens : is_quote (byte text i) ≡ true → opens text i ≡ true → ⊥
   quote_opens q o = both_ways (is_quote (byte text i)) (ap is_quote (eqb-true (byte text i) 47 (and_parts (byte text i == 47) (byte text (i + 1) == 42) o).0)) q
 
-  character_end : (n : ℕ) → IsCharacter text i n → n ≡ run_end Tails text (i + 1)
-  character_end n c = run_one Tails text (i + 1) n c.others (λ h. c.stop)
+  character_end : (n : ℕ) → IsCharacter text i n → n ≡ run_end Continuations text (i + 1)
+  character_end n c = run_one Continuations text (i + 1) n c.others (λ h. c.stop)
 
   one_fault : (a b : Span) (c d : Code) → IsFault text i a c → IsFault text i b d → Stop a c ≡ Stop b d
   one_fault a b c d (of_comment o e f) (of_comment p g h) = cc
@@ -123,17 +121,17 @@ module _ (text : List ℕ) (i : ℕ) where
       let w = p.is in
       cc
 
-  -- what stands at a place is one thing
-  pub stands_one : (s t : Step) → Stands text i s → Stands text i t → s ≡ t
-  stands_one (Pass n) (Pass m) x y = ap Pass (one_piece Separator Separator n m x y).1
-  stands_one (Pass n) (Take k m) x y = let e = (one_piece Separator (Lexeme k) n m x y.0).0 in cc
-  stands_one (Pass n) (Stop b d) x y = absurd (pass_no_fault n b d x y)
-  stands_one (Take j n) (Pass m) x y = let e = (one_piece (Lexeme j) Separator n m x.0 y).0 in cc
-  stands_one (Take j n) (Take k m) x y = let e = one_piece (Lexeme j) (Lexeme k) n m x.0 y.0 in let f = e.0 in let g = e.1 in cc
-  stands_one (Take j n) (Stop b d) x y = absurd (take_no_fault j n b d x.0 x.1 y)
-  stands_one (Stop a c) (Pass m) x y = absurd (pass_no_fault m a c y x)
-  stands_one (Stop a c) (Take k m) x y = absurd (take_no_fault k m a c y.0 y.1 x)
-  stands_one (Stop a c) (Stop b d) x y = one_stop a b c d x y
+  -- two steps at one offset are the same
+  pub one_step : (s t : Step) → IsStep text i s → IsStep text i t → s ≡ t
+  one_step (Pass n) (Pass m) x y = ap Pass (one_piece Separator Separator n m x y).1
+  one_step (Pass n) (Take k m) x y = let e = (one_piece Separator (Lexeme k) n m x y.0).0 in cc
+  one_step (Pass n) (Stop b d) x y = absurd (pass_no_fault n b d x y)
+  one_step (Take j n) (Pass m) x y = let e = (one_piece (Lexeme j) Separator n m x.0 y).0 in cc
+  one_step (Take j n) (Take k m) x y = let e = one_piece (Lexeme j) (Lexeme k) n m x.0 y.0 in let f = e.0 in let g = e.1 in cc
+  one_step (Take j n) (Stop b d) x y = absurd (take_no_fault j n b d x.0 x.1 y)
+  one_step (Stop a c) (Pass m) x y = absurd (pass_no_fault m a c y x)
+  one_step (Stop a c) (Take k m) x y = absurd (take_no_fault k m a c y.0 y.1 x)
+  one_step (Stop a c) (Stop b d) x y = one_stop a b c d x y
 
-  pub step_is : i < length text → (s : Step) → Stands text i s → step_at text i ≡ s
-  step_is here s h = stands_one (step_at text i) s (step_stands text i here) h
+  pub step_is : i < length text → (s : Step) → IsStep text i s → step_at text i ≡ s
+  step_is here s h = one_step (step_at text i) s (computed_step text i here) h

@@ -1,14 +1,13 @@
--- What stands at each place: the computed step is what the relations say.
+-- The step that the code computes at each offset is the one that the relations say: the longest
+-- piece there, or the error.
 use Rattle.std.proofs.Common.{◌≡◌, ◌⊎◌, inl, inr, ℕ, ◌+◌, ◌<◌, ◌≤◌, ◌==◌, true, false, cond, List, length, Option, Some, None, refl, sym, ◌∙◌, ap, subst, arith, nat_lt}
 use Rattle.std.proofs.lemmas.Bool.{both_ways, cases_lt, eqb-true, eq-eqb, ne_eqb, ltb-true, ltb-false, and_parts, and_from, and_left, and_right, cond_both}
 use Rattle.std.proofs.lemmas.List.{get_or_past}
 use Rattle.pq_lex.specs.declared.bytes.Class.{Class}
 use Rattle.pq_lex.specs.declared.bytes.Class.TheVariants.{Letter, Digit, Space, Quote, Point, Slash, Mark, Other}
-use Rattle.pq_lex.specs.declared.bytes.Set.TheVariants.{Spaces, Words, Lines, Tails}
+use Rattle.pq_lex.specs.declared.bytes.Set.TheVariants.{Spaces, Words, Lines, Continuations}
 use Rattle.pq_lex.specs.declared.token.Kind.{Kind}
 use Rattle.pq_lex.specs.declared.token.Kind.TheVariants.{Identifier, Integer, Float, Text, Symbol}
-use Rattle.pq_lex.specs.declared.token.Piece.{Piece}
-use Rattle.pq_lex.specs.declared.token.Piece.TheVariants.{Separator, Lexeme}
 use Rattle.pq_lex.specs.declared.token.Span.{Span}
 use Rattle.pq_lex.specs.declared.token.Code.{Code}
 use Rattle.pq_lex.specs.declared.token.Code.TheVariants.{UnclosedComment, NumberRunsOn, OtherCharacter}
@@ -16,10 +15,10 @@ use Rattle.pq_lex.specs.declared.token.Step.{Step}
 use Rattle.pq_lex.specs.declared.token.Step.TheVariants.{Pass, Take, Stop}
 use Rattle.pq_lex.specs.Classes.{byte, at, class_of, in_set, is_space}
 use Rattle.pq_lex.specs.Runs.{run_end}
-use Rattle.pq_lex.specs.Tokens.{span, opens, closes, ClosesFirst, IsSeparator, order_mark, blanks, line_comment, comment, IsInteger, decimal, octal, hexadecimal, IsExponent, IsFloat, pointed, raised, IsSymbol, Spells, IsLongest, HasNone, runs_on, IsFault, of_comment, of_text, of_other}
-use Rattle.pq_lex.specs.Scan.{integer_end, float_end, close_at, text_step, number_step, digit_step, point_step, comment_step, slash_step, is_order_mark, other_step, step_of, step_at}
+use Rattle.pq_lex.specs.Tokens.{Piece, Separator, Lexeme, span, opens, closes, ClosesFirst, IsSeparator, order_mark, blanks, line_comment, comment, IsInteger, decimal, octal, hexadecimal, IsExponent, IsFloat, pointed, raised, IsSymbol, Spells, IsLongest, HasNone, runs_on, IsFault, of_comment, of_text, of_other}
+use Rattle.pq_lex.specs.aux.Scan.{integer_end, float_end, close_at, text_step, number_step, digit_step, point_step, comment_step, slash_step, is_order_mark, other_step, step_of, step_at}
 use Rattle.pq_lex.proofs.RunLemmas.{run_is, run_most, run_stop, close_low, close_none, close_here}
-use Rattle.pq_lex.proofs.Fronts.{space_class, class_space, quote_class, point_class, slash_class, other_class, of_class, only_letter, only_space, only_other, only_quote, only_mark, either_digit, either_point, either_slash}
+use Rattle.pq_lex.proofs.FirstBytes.{space_class, class_space, quote_class, point_class, slash_class, other_class, of_class, only_letter, only_space, only_other, only_quote, only_mark, either_digit, either_point, either_slash}
 use Rattle.pq_lex.proofs.NumberEnds.{inside, inside_at, exponent_most, integer_is, integer_most, float_is, float_most, float_longer}
 use Rattle.pq_lex.proofs.StringEnds.{Ends, ends_at, fails_at, text_ends, quoted_is, quoted_within}
 
@@ -32,15 +31,17 @@ pub record Overruns (text : List ℕ) (i : ℕ) (at : Span) (code : Code) : Type
   pub here : at ≡ span i end
   pub is : code ≡ NumberRunsOn
 
--- no piece, and what is at fault
+-- no piece begins at i, and the error there
 pub record Fails (text : List ℕ) (i : ℕ) (at : Span) (code : Code) : Type 0 where
   pub none : HasNone text i
   pub fault : IsFault text i at code
 
-abbrev pub Stands : List ℕ → ℕ → Step → Type 0
-Stands text i (Pass n) = IsLongest text Separator i n
-Stands text i (Take k n) = IsLongest text (Lexeme k) i n × (runs_on k text n ≡ false)
-Stands text i (Stop at code) = Fails text i at code ⊎ Overruns text i at code
+-- `IsStep text i s` is: by the relations of `Tokens`, `s` is the longest piece at offset `i`, or
+-- the error there.
+abbrev pub IsStep : List ℕ → ℕ → Step → Type 0
+IsStep text i (Pass n) = IsLongest text Separator i n
+IsStep text i (Take k n) = IsLongest text (Lexeme k) i n × (runs_on k text n ≡ false)
+IsStep text i (Stop at code) = Fails text i at code ⊎ Overruns text i at code
 
 -- how far pieces go
 module _ (text : List ℕ) (i : ℕ) where
@@ -58,10 +59,10 @@ module _ (text : List ℕ) (i : ℕ) where
   integer_within n (hexadecimal z x some r) = (omega (arith, some), r.within)
 
   exponent_within : (q n : ℕ) → IsExponent text q n → (q < n) × (n ≤ length text)
-  exponent_within q n x = (behind q x, x.digits.within)
+  exponent_within q n x = (further q x, x.digits.within)
     where
-      behind : (q : ℕ) → IsExponent text q n → q < n
-      behind q x = (exponent_most text q n x).0
+      further : (q : ℕ) → IsExponent text q n → q < n
+      further q x = (exponent_most text q n x).0
 
   pub float_within : (n : ℕ) → IsFloat text i n → (i + 1 < n) × (n ≤ length text)
   float_within n (pointed p q whole point part some end) = elim end [
@@ -95,20 +96,20 @@ pub as_sort : (text : List ℕ) (i m : ℕ) (p q : Piece) → p ≡ q → Spells
 as_sort text i m p q e s = subst (λ r. Spells text r i m) e s
 
 -- a piece that is taken, whether or not it is a number
-numbered : (k : Kind) (text : List ℕ) (i n : ℕ) → IsLongest text (Lexeme k) i n → Stands text i (number_step k text i n)
-numbered k text i n l = cond_both (runs_on k text n) (Stop (span i n) NumberRunsOn) (Take k n) (Stands text i)
+numbered : (k : Kind) (text : List ℕ) (i n : ℕ) → IsLongest text (Lexeme k) i n → IsStep text i (number_step k text i n)
+numbered k text i n l = cond_both (runs_on k text n) (Stop (span i n) NumberRunsOn) (Take k n) (IsStep text i)
     (λ e. inr (record { kind = k; end = n; longest = l; runs = e; here = refl; is = refl })) (λ e. (l, e))
 
 module _ (text : List ℕ) (i : ℕ) (here : i < length text) where
-  letter_stands : at text i ≡ Letter → Stands text i (Take Identifier (run_end Words text (i + 1)))
-  letter_stands c = (
+  letter_step_is : at text i ≡ Letter → IsStep text i (Take Identifier (run_end Words text (i + 1)))
+  letter_step_is c = (
     longest_of text (Lexeme Identifier) i (run_end Words text (i + 1)) (record { first = c; others = run_is Words text (i + 1) (omega (arith, here)) })
         (λ q m s. let t = as_sort text i m q (Lexeme Identifier) (only_letter q (of_class text Letter i c q m s)) s in run_most Words text (i + 1) m t.others),
     refl,
   )
 
-  mark_stands : at text i ≡ Mark → Stands text i (Take Symbol (i + 1))
-  mark_stands c = (
+  mark_step_is : at text i ≡ Mark → IsStep text i (Take Symbol (i + 1))
+  mark_step_is c = (
     longest_of text (Lexeme Symbol) i (i + 1) (record { one = refl; mark = inl c; alone = no_slash })
         (λ q m s. let t = as_sort text i m q (Lexeme Symbol) (only_mark q (of_class text Mark i c q m s)) s in omega (arith, t.one)),
     refl,
@@ -123,8 +124,8 @@ module _ (text : List ℕ) (i : ℕ) (here : i < length text) where
   blank_end m c (line_comment a b r) = let e : at text i ≡ Slash = ap class_of a in cc
   blank_end m c (comment o k d end) = let e : at text i ≡ Slash = ap class_of (eqb-true (byte text i) 47 (and_parts (byte text i == 47) (byte text (i + 1) == 42) o).0) in cc
 
-  space_stands : at text i ≡ Space → Stands text i (Pass (run_end Spaces text (i + 1)))
-  space_stands c =
+  space_step_is : at text i ≡ Space → IsStep text i (Pass (run_end Spaces text (i + 1)))
+  space_step_is c =
       let r = run_is Spaces text (i + 1) (omega (arith, here)) in
       longest_of text Separator i (run_end Spaces text (i + 1))
       (blanks (omega (arith, r.ordered)) (record {
@@ -141,8 +142,8 @@ module _ (text : List ℕ) (i : ℕ) (here : i < length text) where
   float_known : (n m : ℕ) → float_end text i ≡ Some n → IsFloat text i m → m ≤ n
   float_known n m e f = let k = float_most text i m f in let same : k.0 ≡ n = cc (k.1, e) in omega (arith, same, k.2)
 
-  float_stands : (n : ℕ) → float_end text i ≡ Some n → ((q : Piece) (m : ℕ) → Spells text q i m → (m < n) ⊎ (q ≡ Lexeme Float)) → Stands text i (number_step Float text i n)
-  float_stands n e others = numbered Float text i n (longest_of text (Lexeme Float) i n (float_is text i n (omega (arith, here)) e) (λ q m s. elim (others q m s) [
+  float_step_is : (n : ℕ) → float_end text i ≡ Some n → ((q : Piece) (m : ℕ) → Spells text q i m → (m < n) ⊎ (q ≡ Lexeme Float)) → IsStep text i (number_step Float text i n)
+  float_step_is n e others = numbered Float text i n (longest_of text (Lexeme Float) i n (float_is text i n (omega (arith, here)) e) (λ q m s. elim (others q m s) [
     | inl less ↦ omega (arith, less)
     | inr same ↦ float_known n m e (as_sort text i m q (Lexeme Float) same s)
   ]))
@@ -150,12 +151,12 @@ module _ (text : List ℕ) (i : ℕ) (here : i < length text) where
   no_float : float_end text i ≡ None → (m : ℕ) → IsFloat text i m → ⊥
   no_float e m f = let k = float_most text i m f in let w = k.1 in cc
 
-  digit_stands : at text i ≡ Digit → (o : Option ℕ) → float_end text i ≡ o → Stands text i (digit_step text i o)
-  digit_stands c (Some n) e = float_stands n e (λ q m s. elim (either_digit q (of_class text Digit i c q m s)) [
+  digit_step_is : at text i ≡ Digit → (o : Option ℕ) → float_end text i ≡ o → IsStep text i (digit_step text i o)
+  digit_step_is c (Some n) e = float_step_is n e (λ q m s. elim (either_digit q (of_class text Digit i c q m s)) [
     | inl same ↦ inl (float_longer text i m n (as_sort text i m q (Lexeme Integer) same s) (float_is text i n (omega (arith, here)) e))
     | inr same ↦ inr same
   ])
-  digit_stands c None e = numbered Integer text i (integer_end text i) (longest_of text (Lexeme Integer) i (integer_end text i) (integer_is text i here c) (λ q m s.
+  digit_step_is c None e = numbered Integer text i (integer_end text i) (longest_of text (Lexeme Integer) i (integer_end text i) (integer_is text i here c) (λ q m s.
       elim (either_digit q (of_class text Digit i c q m s)) [
         | inl same ↦ integer_most text i m (as_sort text i m q (Lexeme Integer) same s)
         | inr same ↦ absurd (no_float e m (as_sort text i m q (Lexeme Float) same s))
@@ -164,12 +165,12 @@ module _ (text : List ℕ) (i : ℕ) (here : i < length text) where
   no_open : (b : ℕ) → byte text i ≡ b → (b == 47) ≡ false → opens text i ≡ false
   no_open b e f = and_left (byte text i == 47) (byte text (i + 1) == 42) (ap (λ k. k == 47) e ∙ f)
 
-  point_stands : at text i ≡ Point → (o : Option ℕ) → float_end text i ≡ o → Stands text i (point_step text i o)
-  point_stands c (Some n) e = float_stands n e (λ q m s. elim (either_point q (of_class text Point i c q m s)) [
+  point_step_is : at text i ≡ Point → (o : Option ℕ) → float_end text i ≡ o → IsStep text i (point_step text i o)
+  point_step_is c (Some n) e = float_step_is n e (λ q m s. elim (either_point q (of_class text Point i c q m s)) [
     | inl same ↦ inl (let t = as_sort text i m q (Lexeme Symbol) same s in let w = (float_within text i n (float_is text i n (omega (arith, here)) e)).0 in omega (arith, t.one, w))
     | inr same ↦ inr same
   ])
-  point_stands c None e = (
+  point_step_is c None e = (
     longest_of text (Lexeme Symbol) i (i + 1) (record { one = refl; mark = inr (inl c); alone = no_open 46 (point_class (byte text i) c) refl }) (λ q m s.
         elim (either_point q (of_class text Point i c q m s)) [
           | inl same ↦ let t = as_sort text i m q (Lexeme Symbol) same s in omega (arith, t.one)
@@ -179,8 +180,8 @@ module _ (text : List ℕ) (i : ℕ) (here : i < length text) where
   )
 
   -- strings
-  text_stands : at text i ≡ Quote → (s : Step) → Ends text (byte text i) i (i + 1) s → (text_step (length text) (byte text i) i text (i + 1) ≡ s) → Stands text i s
-  text_stands c s (ends_at n e r) is = subst (Stands text i) (sym e) (
+  text_step_is : at text i ≡ Quote → (s : Step) → Ends text (byte text i) i (i + 1) s → (text_step (length text) (byte text i) i text (i + 1) ≡ s) → IsStep text i s
+  text_step_is c s (ends_at n e r) is = subst (IsStep text i) (sym e) (
     longest_of text (Lexeme Text) i n (record { opened = quote_class (byte text i) c; rest = r }) (λ q m t.
         let u = as_sort text i m q (Lexeme Text) (only_quote q (of_class text Quote i c q m t)) t in
         let a = quoted_is text (byte text i) i u.opened m (i + 1) u.rest (length text) (omega arith) in
@@ -188,7 +189,7 @@ module _ (text : List ℕ) (i : ℕ) (here : i < length text) where
         omega (arith, b)),
     refl,
   )
-  text_stands c s (fails_at at code e r) is = subst (Stands text i) (sym e) (inl (record {
+  text_step_is c s (fails_at at code e r) is = subst (IsStep text i) (sym e) (inl (record {
     none = λ q m t.
         let u = as_sort text i m q (Lexeme Text) (only_quote q (of_class text Quote i c q m t)) t in
         let a = quoted_is text (byte text i) i u.opened m (i + 1) u.rest (length text) (omega arith) in
@@ -220,11 +221,11 @@ module _ (text : List ℕ) (i : ℕ) (here : i < length text) where
   opens_here : byte text i ≡ 47 → byte text (i + 1) ≡ 42 → opens text i ≡ true
   opens_here s t = and_from (byte text i == 47) (byte text (i + 1) == 42) (eq-eqb (byte text i) 47 s) (eq-eqb (byte text (i + 1)) 42 t)
 
-  comment_stands : at text i ≡ Slash → byte text i ≡ 47 → byte text (i + 1) ≡ 42 → Stands text i (comment_step text i (close_at text (i + 2)))
-  comment_stands c s t =
+  comment_step_is : at text i ≡ Slash → byte text i ≡ 47 → byte text (i + 1) ≡ 42 → IsStep text i (comment_step text i (close_at text (i + 2)))
+  comment_step_is c s t =
       let o = opens_here s t in
       let k = close_at text (i + 2) in
-      cond_both (nat_lt k (length text)) (Pass (k + 2)) (Stop (span i (i + 2)) UnclosedComment) (Stands text i)
+      cond_both (nat_lt k (length text)) (Pass (k + 2)) (Stop (span i (i + 2)) UnclosedComment) (IsStep text i)
       (λ e. let less = ltb-true k (length text) e in
       longest_of text Separator i (k + 2) (comment o k (record { from = close_low text (i + 2); here = close_here text (i + 2) less; before = λ j low high. close_none text (i + 2) j low high }) refl)
       (λ q m r. elim (either_slash q (of_class text Slash i c q m r)) [
@@ -248,10 +249,10 @@ module _ (text : List ℕ) (i : ℕ) (here : i < length text) where
         fault = of_comment o refl refl;
       }))
 
-  slash_stands : at text i ≡ Slash → Stands text i (slash_step text i)
-  slash_stands c =
+  slash_step_is : at text i ≡ Slash → IsStep text i (slash_step text i)
+  slash_step_is c =
       let s = slash_class (byte text i) c in
-      cond_both (byte text (i + 1) == 47) (Pass (run_end Lines text (i + 2))) (cond (byte text (i + 1) == 42) (comment_step text i (close_at text (i + 2))) (Take Symbol (i + 1))) (Stands text i)
+      cond_both (byte text (i + 1) == 47) (Pass (run_end Lines text (i + 2))) (cond (byte text (i + 1) == 42) (comment_step text i (close_at text (i + 2))) (Take Symbol (i + 1))) (IsStep text i)
       (λ e. let t = eqb-true (byte text (i + 1)) 47 e in
       let two = inside_at text (i + 1) 47 t (omega arith) in
       let r = run_is Lines text (i + 2) (omega (arith, two)) in
@@ -260,8 +261,8 @@ module _ (text : List ℕ) (i : ℕ) (here : i < length text) where
         | inl same ↦ let u = as_sort text i m q (Lexeme Symbol) same p in omega (arith, u.one, r.ordered)
         | inr same ↦ line_only m s t (as_sort text i m q Separator same p)
       ]))
-      (λ e. cond_both (byte text (i + 1) == 42) (comment_step text i (close_at text (i + 2))) (Take Symbol (i + 1)) (Stands text i)
-      (λ f. comment_stands c s (eqb-true (byte text (i + 1)) 42 f))
+      (λ e. cond_both (byte text (i + 1) == 42) (comment_step text i (close_at text (i + 2))) (Take Symbol (i + 1)) (IsStep text i)
+      (λ f. comment_step_is c s (eqb-true (byte text (i + 1)) 42 f))
       (λ f. (
         longest_of text (Lexeme Symbol) i (i + 1) (record { one = refl; mark = inr (inr c); alone = and_right (byte text i == 47) (byte text (i + 1) == 42) f })
             (λ q m p. elim (either_slash q (of_class text Slash i c q m p)) [
@@ -278,14 +279,14 @@ module _ (text : List ℕ) (i : ℕ) (here : i < length text) where
   mark_only m c (line_comment a b r) = let e : at text i ≡ Slash = ap class_of a in cc
   mark_only m c (comment o k d end) = let e : at text i ≡ Slash = ap class_of (eqb-true (byte text i) 47 (and_parts (byte text i == 47) (byte text (i + 1) == 42) o).0) in cc
 
-  tail_stop : in_set Tails (byte text (run_end Tails text (i + 1))) ≡ false
-  tail_stop = elim (cases_lt (run_end Tails text (i + 1)) (length text)) [
-    | inl less ↦ run_stop Tails text (i + 1) less
-    | inr past ↦ ap (in_set Tails) (get_or_past text (run_end Tails text (i + 1)) 0 past)
+  tail_stop : in_set Continuations (byte text (run_end Continuations text (i + 1))) ≡ false
+  tail_stop = elim (cases_lt (run_end Continuations text (i + 1)) (length text)) [
+    | inl less ↦ run_stop Continuations text (i + 1) less
+    | inr past ↦ ap (in_set Continuations) (get_or_past text (run_end Continuations text (i + 1)) 0 past)
   ]
 
-  other_stands : at text i ≡ Other → Stands text i (other_step text i)
-  other_stands c = cond_both (is_order_mark text i) (Pass 3) (Stop (span i (run_end Tails text (i + 1))) OtherCharacter) (Stands text i)
+  other_step_is : at text i ≡ Other → IsStep text i (other_step text i)
+  other_step_is c = cond_both (is_order_mark text i) (Pass 3) (Stop (span i (run_end Continuations text (i + 1))) OtherCharacter) (IsStep text i)
       (λ e. let t = and_parts (i == 0) _ e in
       let u = and_parts (byte text 0 == 0xEF) _ t.1 in
       let v = and_parts (byte text 1 == 0xBB) (byte text 2 == 0xBF) u.1 in
@@ -294,19 +295,19 @@ module _ (text : List ℕ) (i : ℕ) (here : i < length text) where
       (λ e. let o = other_class (byte text i) c in
       inl (record {
         none = λ q m s. both_ways (is_order_mark text i) e (mark_only m c (as_sort text i m q Separator (only_other q (of_class text Other i c q m s)) s)).0;
-        fault = of_other (and_left (byte text i == 47) (byte text (i + 1) == 42) o.1) o.0 (run_end Tails text (i + 1)) (record { others = run_is Tails text (i + 1) (omega (arith, here)); stop = tail_stop }) refl refl;
+        fault = of_other (and_left (byte text i == 47) (byte text (i + 1) == 42) o.1) o.0 (run_end Continuations text (i + 1)) (record { others = run_is Continuations text (i + 1) (omega (arith, here)); stop = tail_stop }) refl refl;
       }))
 
-  of_each : (c : Class) → at text i ≡ c → Stands text i (step_of text i c)
-  of_each Letter e = letter_stands e
-  of_each Digit e = digit_stands e (float_end text i) refl
-  of_each Space e = space_stands e
-  of_each Quote e = text_stands e _ (text_ends text (byte text i) i (quote_class (byte text i) e) (length text) (i + 1) (omega arith)) refl
-  of_each Point e = point_stands e (float_end text i) refl
-  of_each Slash e = slash_stands e
-  of_each Mark e = mark_stands e
-  of_each Other e = other_stands e
+  of_each : (c : Class) → at text i ≡ c → IsStep text i (step_of text i c)
+  of_each Letter e = letter_step_is e
+  of_each Digit e = digit_step_is e (float_end text i) refl
+  of_each Space e = space_step_is e
+  of_each Quote e = text_step_is e _ (text_ends text (byte text i) i (quote_class (byte text i) e) (length text) (i + 1) (omega arith)) refl
+  of_each Point e = point_step_is e (float_end text i) refl
+  of_each Slash e = slash_step_is e
+  of_each Mark e = mark_step_is e
+  of_each Other e = other_step_is e
 
-  pub step_stands : Stands text i (step_at text i)
+  pub computed_step : IsStep text i (step_at text i)
   unfolding step_at
-  step_stands = of_each (at text i) refl
+  computed_step = of_each (at text i) refl

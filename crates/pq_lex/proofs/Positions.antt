@@ -2,15 +2,16 @@
 use Rattle.std.proofs.Common.{◌≡◌, ◌⊎◌, inl, inr, ℕ, zero, suc, ◌+◌, ◌-◌, ◌<◌, ◌≤◌, true, false, List, [], ◌∷◌, ◌++◌, length, get_or, refl, sym, ◌∙◌, ap, subst, arith, length-append, append_assoc}
 use Rattle.std.proofs.lemmas.List.{append-nil}
 use Rattle.std.proofs.lemmas.Bool.{cases_order}
-use Rattle.pq_lex.specs.Lines.{starts_line, line_number, line_start, starts_to}
+use Rattle.pq_lex.specs.Lines.{starts_line, line_number, line_start}
+use Rattle.pq_lex.specs.aux.LineMarks.{starts_to}
 use Rattle.pq_lex.proofs.LineFacts.{bool_cases}
 
-get_left : (xs ys : List ℕ) (i : ℕ) → i < length xs → get_or (xs ++ ys) i 0 ≡ get_or xs i 0
+pub get_left : (xs ys : List ℕ) (i : ℕ) → i < length xs → get_or (xs ++ ys) i 0 ≡ get_or xs i 0
 get_left [] ys i h = absurd (omega (arith, h))
 get_left (x ∷ xs) ys zero h = refl
 get_left (x ∷ xs) ys (suc i) h = get_left xs ys i (omega (arith, h))
 
-get_right : (xs ys : List ℕ) (i : ℕ) → length xs ≤ i → get_or (xs ++ ys) i 0 ≡ get_or ys (i - length xs) 0
+pub get_right : (xs ys : List ℕ) (i : ℕ) → length xs ≤ i → get_or (xs ++ ys) i 0 ≡ get_or ys (i - length xs) 0
 get_right [] ys i h = ap (λ k. get_or ys k 0) (let e : i ≡ i - 0 = omega arith in e)
 get_right (x ∷ xs) ys zero h = absurd (omega (arith, h))
 get_right (x ∷ xs) ys (suc i) h = get_right xs ys i (omega (arith, h)) ∙ ap (λ k. get_or ys k 0) (let e : i - length xs ≡ suc i - length (x ∷ xs) = omega arith in e)
@@ -28,9 +29,9 @@ module _ (text : List ℕ) where
   unfolding starts_line
   zero_starts = refl
 
-  same_lines : (o : ℕ) → starts_line text (suc o) ≡ false → (starts_to text (suc o) ≡ starts_to text o) × (line_number text (suc o) ≡ line_number text o) × (line_start text (suc o) ≡ line_start text o)
+  no_more_lines : (o : ℕ) → starts_line text (suc o) ≡ false → (starts_to text (suc o) ≡ starts_to text o) × (line_number text (suc o) ≡ line_number text o) × (line_start text (suc o) ≡ line_start text o)
   unfolding line_number line_start starts_to
-  same_lines o h = (rw h refl, rw h refl, rw h refl)
+  no_more_lines o h = (rw h refl, rw h refl, rw h refl)
 
   more_lines : (o : ℕ) → starts_line text (suc o) ≡ true → (starts_to text (suc o) ≡ starts_to text o ++ suc o ∷ []) × (line_number text (suc o) ≡ suc (line_number text o)) × (line_start text (suc o) ≡ suc o)
   unfolding line_number line_start starts_to
@@ -58,7 +59,7 @@ module _ (text : List ℕ) where
         number = rw e.0 (one_more (λ i x. line_number text x ≡ i) (starts_to text o) (suc o) n.number (sym at));
       }
   step o n (inr h) =
-      let e = same_lines o h in
+      let e = no_more_lines o h in
       record {
         count = rw (e.0, e.1) n.count;
         last = rw (e.0, e.1, e.2) n.last;
@@ -81,22 +82,22 @@ module _ (text : List ℕ) where
   numbered zero = first_numbered
   numbered (suc o) = step o (numbered o) (bool_cases (starts_line text (suc o)))
 
-  -- the lines up to a later offset: those up to this one, and others behind it
+  -- the lines up to a later offset: those up to this one, and later ones
   record Later (o n : ℕ) : Type 0 where
     rest : List ℕ
     is : starts_to text n ≡ starts_to text o ++ rest
-    behind : (i : ℕ) → i < length rest → o < get_or rest i 0
+    after : (i : ℕ) → i < length rest → o < get_or rest i 0
 
   later_step : (o n : ℕ) → o ≤ n → Later o n → (starts_line text (suc n) ≡ true) ⊎ (starts_line text (suc n) ≡ false) → Later o (suc n)
   later_step o n le l (inl h) = record {
     rest = l.rest ++ suc n ∷ [];
     is = (more_lines n h).0 ∙ ap (λ xs. xs ++ suc n ∷ []) l.is ∙ append_assoc (starts_to text o) l.rest (suc n ∷ []);
-    behind = one_more (λ i x. o < x) l.rest (suc n) l.behind (omega (arith, le));
+    after = one_more (λ i x. o < x) l.rest (suc n) l.after (omega (arith, le));
   }
-  later_step o n le l (inr h) = record { rest = l.rest; is = (same_lines n h).0 ∙ l.is; behind = l.behind }
+  later_step o n le l (inr h) = record { rest = l.rest; is = (no_more_lines n h).0 ∙ l.is; after = l.after }
 
   later_same : (o n : ℕ) → o ≡ n → Later o n
-  later_same o n e = record { rest = []; is = ap (starts_to text) (sym e) ∙ sym (append-nil (starts_to text o)); behind = λ i h. absurd (omega (arith, h)) }
+  later_same o n e = record { rest = []; is = ap (starts_to text) (sym e) ∙ sym (append-nil (starts_to text o)); after = λ i h. absurd (omega (arith, h)) }
 
   later : (o n : ℕ) → o ≤ n → Later o n
   later o zero le = later_same o zero (omega (arith, le))
@@ -129,7 +130,7 @@ module _ (text : List ℕ) where
               absurd (omega (arith, below, same, b))
           | inr more ↦
               let same : get_or (starts_to text n) k 0 ≡ get_or l.rest (k - length (starts_to text o)) 0 = ap (λ xs. get_or xs k 0) l.is ∙ get_right (starts_to text o) l.rest k (omega (arith, more, c.count)) in
-              let b = l.behind (k - length (starts_to text o)) (omega (arith, more, c.count, within, ap length l.is, length-append (starts_to text o) l.rest)) in
+              let b = l.after (k - length (starts_to text o)) (omega (arith, more, c.count, within, ap length l.is, length-append (starts_to text o) l.rest)) in
               absurd (omega (arith, same, b, before))
         ]
       ]

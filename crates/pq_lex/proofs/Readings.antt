@@ -3,17 +3,16 @@ use Rattle.std.proofs.Common.{◌≡◌, ◌⊎◌, inl, inr, ℕ, zero, suc, �
 use Rattle.std.proofs.lemmas.Bool.{cases_lt, lt-ltb, le-ltb}
 use Rattle.std.proofs.lemmas.List.{append-nil}
 use Rattle.pq_lex.specs.declared.token.Kind.{Kind}
-use Rattle.pq_lex.specs.declared.token.Piece.TheVariants.{Separator, Lexeme}
 use Rattle.pq_lex.specs.declared.token.Span.{Span}
 use Rattle.pq_lex.specs.declared.token.Code.{Code}
 use Rattle.pq_lex.specs.declared.token.Code.TheVariants.{NumberRunsOn}
 use Rattle.pq_lex.specs.declared.token.Token.{Token}
 use Rattle.pq_lex.specs.declared.token.Step.{Step}
 use Rattle.pq_lex.specs.declared.token.Step.TheVariants.{Pass, Take, Stop}
-use Rattle.pq_lex.specs.Scan.{step_at}
-use Rattle.pq_lex.specs.Reading.{Reading, behind, reading_from, tokens_of, Sofar}
-use Rattle.pq_lex.specs.Tokens.{span, Lexes, ends, passes, takes, overruns, stops}
-use Rattle.pq_lex.proofs.Pieces.{Stands, Fails, Overruns, within, step_stands}
+use Rattle.pq_lex.specs.aux.Scan.{step_at}
+use Rattle.pq_lex.specs.aux.Reading.{Reading, with_token, reading_from, tokens_of, Sofar}
+use Rattle.pq_lex.specs.Tokens.{Separator, Lexeme, span, Lexes, ends, passes, takes, overruns, stops}
+use Rattle.pq_lex.proofs.Pieces.{IsStep, Fails, Overruns, within, computed_step}
 use Rattle.pq_lex.proofs.OnePiece.{step_is}
 
 abbrev nothing : Reading
@@ -35,7 +34,7 @@ module _ (text : List ℕ) (i : ℕ) where
   unfolding reading_from
   read_pass fuel n here e = let l = lt-ltb i (length text) here in rw (l, e) refl
 
-  read_take : (fuel : ℕ) (k : Kind) (n : ℕ) → i < length text → step_at text i ≡ Take k n → reading_from (suc fuel) text i ≡ behind (token_at k i n) (reading_from fuel text n)
+  read_take : (fuel : ℕ) (k : Kind) (n : ℕ) → i < length text → step_at text i ≡ Take k n → reading_from (suc fuel) text i ≡ with_token (token_at k i n) (reading_from fuel text n)
   unfolding reading_from
   read_take fuel k n here e = let l = lt-ltb i (length text) here in rw (l, e) refl
 
@@ -43,7 +42,7 @@ module _ (text : List ℕ) (i : ℕ) where
   unfolding reading_from
   read_stop fuel at code here e = let l = lt-ltb i (length text) here in rw (l, e) refl
 
--- the end of a text, a fault
+-- at the end of a text, and at an error
 at_end : (text : List ℕ) (i : ℕ) (r : Reading) → r ≡ nothing → i ≡ length text → Lexes i text r.tokens r.fault
 at_end text i r e h = subst (λ (q : Reading). Lexes i text q.tokens q.fault) (sym e) (ends h)
 
@@ -57,11 +56,11 @@ pub lexed : (text : List ℕ) (fuel i : ℕ) → i ≤ length text → length te
 lexed text zero i low enough = at_end text i (reading_from zero text i) (read_end text i zero (omega (arith, enough))) (omega (arith, low, enough))
 lexed text (suc fuel) i low enough = elim (cases_lt i (length text)) [
   | inr past ↦ at_end text i (reading_from (suc fuel) text i) (read_end text i (suc fuel) past) (omega (arith, low, past))
-  | inl here ↦ by_step (lexed text fuel) (step_at text i) refl (step_stands text i here) here
+  | inl here ↦ by_step (lexed text fuel) (step_at text i) refl (computed_step text i here) here
 ]
   where
     by_step : ((j : ℕ) → j ≤ length text → length text ≤ j + fuel → Lexes j text (reading_from fuel text j).tokens (reading_from fuel text j).fault)
-        → (s : Step) → step_at text i ≡ s → Stands text i s → i < length text → Lexes i text (reading_from (suc fuel) text i).tokens (reading_from (suc fuel) text i).fault
+        → (s : Step) → step_at text i ≡ s → IsStep text i s → i < length text → Lexes i text (reading_from (suc fuel) text i).tokens (reading_from (suc fuel) text i).fault
     by_step next (Pass n) e l here =
         let w = within text i Separator n l.spells in
         subst (λ (q : Reading). Lexes i text q.tokens q.fault) (sym (read_pass text i fuel n here e)) (passes l (next n w.1 (omega (arith, enough, w.0))))
@@ -81,7 +80,7 @@ read_is i text ts f (takes {n = n} {k = k} l o r) zero enough = let w = within t
 read_is i text ts f (takes {n = n} {k = k} {ts = rest} l o r) (suc fuel) enough =
     let w = within text i (Lexeme k) n l.spells in
     let here : i < length text = omega (arith, w.0, w.1) in
-    read_take text i fuel k n here (step_is text i here (Take k n) (l, o)) ∙ ap (behind (token_at k i n)) (read_is n text rest f r fuel (omega (arith, enough, w.0)))
+    read_take text i fuel k n here (step_is text i here (Take k n) (l, o)) ∙ ap (with_token (token_at k i n)) (read_is n text rest f r fuel (omega (arith, enough, w.0)))
 read_is i text ts f (overruns {n = n} {k = k} l o) zero enough = let w = within text i (Lexeme k) n l.spells in absurd (omega (arith, enough, w.0, w.1))
 read_is i text ts f (overruns {n = n} {k = k} l o) (suc fuel) enough =
     let w = within text i (Lexeme k) n l.spells in
@@ -106,28 +105,28 @@ one text a b f g l m =
     let e : x ≡ y = only text a f l ∙ sym (only text b g m) in
     (ap (λ (r : Reading). r.tokens) e, ap (λ (r : Reading). r.fault) e)
 
--- how a lexing goes on behind the tokens so far
-pub stands_at : (bytes text : List ℕ) (i : ℕ) (s : Step) → bytes ≡ text → i < length bytes → step_at bytes i ≡ s → Stands text i s
-stands_at bytes text i s same here e = subst (λ t. Stands t i s) same (subst (Stands bytes i) e (step_stands bytes i here))
+-- how a lexing goes on after the tokens so far
+pub step_found : (bytes text : List ℕ) (i : ℕ) (s : Step) → bytes ≡ text → i < length bytes → step_at bytes i ≡ s → IsStep text i s
+step_found bytes text i s same here e = subst (λ t. IsStep t i s) same (subst (IsStep bytes i) e (computed_step bytes i here))
 
 module _ (text : List ℕ) (i : ℕ) (sofar : List Token) (l : Sofar text i sofar) where
   pub finish : length text ≤ i → Lexes 0 text sofar None
   finish h = let w = l.within in subst (λ ts. Lexes 0 text ts None) (append-nil sofar) (l.goes [] None (ends (omega (arith, h, w))))
 
-  pub fault : (at : Span) (code : Code) → i < length text → Stands text i (Stop at code) → Lexes 0 text sofar (Some (at, code))
+  pub fault : (at : Span) (code : Code) → i < length text → IsStep text i (Stop at code) → Lexes 0 text sofar (Some (at, code))
   fault at code here s = subst (λ ts. Lexes 0 text ts (Some (at, code))) (append-nil sofar) (l.goes [] (Some (at, code)) (at_fault text i at code here s))
 
-  pub pass_on : (n : ℕ) → Stands text i (Pass n) → Sofar text n sofar
+  pub pass_on : (n : ℕ) → IsStep text i (Pass n) → Sofar text n sofar
   pass_on n s = record { within = (within text i Separator n s.spells).1; goes = λ ts f r. l.goes ts f (passes s r) }
 
-  pub take_on : (k : Kind) (n : ℕ) → Stands text i (Take k n) → Sofar text n (sofar ++ (token_at k i n ∷ []))
+  pub take_on : (k : Kind) (n : ℕ) → IsStep text i (Take k n) → Sofar text n (sofar ++ (token_at k i n ∷ []))
   take_on k n s = record {
     within = (within text i (Lexeme k) n s.0.spells).1;
     goes = λ ts f r. subst (λ q. Lexes 0 text q f) (sym (append_assoc sofar (token_at k i n ∷ []) ts)) (l.goes (token_at k i n ∷ ts) f (takes s.0 s.1 r));
   }
 
-  pub further_pass : (n : ℕ) → Stands text i (Pass n) → i < n
+  pub further_pass : (n : ℕ) → IsStep text i (Pass n) → i < n
   further_pass n s = (within text i Separator n s.spells).0
 
-  pub further_take : (k : Kind) (n : ℕ) → Stands text i (Take k n) → i < n
+  pub further_take : (k : Kind) (n : ℕ) → IsStep text i (Take k n) → i < n
   further_take k n s = (within text i (Lexeme k) n s.0.spells).0

@@ -5,9 +5,9 @@ use Rattle.pq_lex.specs.declared.bytes.Set.{Set}
 use Rattle.pq_lex.specs.Classes.{in_set, byte}
 use Rattle.pq_lex.specs.Runs.{first, run_end, Run}
 use Rattle.pq_lex.specs.Tokens.{closes}
-use Rattle.pq_lex.specs.Scan.{close_at}
+use Rattle.pq_lex.specs.aux.Scan.{close_at}
 
--- a number below i + suc k and not i is within the places behind i
+-- a number below i + suc k and not i is within the numbers after i
 module _ (f : ℕ → Bool) where
   -- what the first place is, whatever f i
   first_here : (k i : ℕ) → f i ≡ true → first f (suc k) i ≡ i

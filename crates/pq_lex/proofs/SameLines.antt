@@ -6,8 +6,8 @@ use Rattle.std.specs.Cmp.Lexicographic.{pointwise, pointwise_decides}
 use Rattle.std.specs.Cmp.Derive.{both_true}
 use Rattle.std.specs.Cmp.Derive.Mapped.{pointwise-map}
 use Rattle.pq_lex.specs.declared.lines.Line.{Line}
-use Rattle.pq_lex.specs.Kept.{mark_of, marks_of}
-use Rattle.pq_lex.specs.Lines.{LineMark, same_mark, same_lines}
+use Rattle.pq_lex.specs.aux.Kept.{mark_of, marks_of}
+use Rattle.pq_lex.specs.aux.LineMarks.{LineMark, same_mark, same_lines}
 
 one_mark : (a b : LineMark) → Decides (same_mark a b) (a ≡ b)
 one_mark a b = (
@@ -22,8 +22,8 @@ one_mark a b = (
 )
 
 -- the test of two lists of marks tells whether they are the same
-pub told : (a b : List LineMark) → Decides (same_lines a b) (a ≡ b)
-told = pointwise_decides one_mark
+pub same_lines_decides : (a b : List LineMark) → Decides (same_lines a b) (a ≡ b)
+same_lines_decides = pointwise_decides one_mark
 
 -- lines compare as their marks
 pub lines_as_marks : (a b : List Line) → same_lines (marks_of a) (marks_of b) ≡ pointwise (λ x y. same_mark (mark_of x) (mark_of y)) a b

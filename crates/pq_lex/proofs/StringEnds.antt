@@ -10,13 +10,13 @@ use Rattle.pq_lex.specs.declared.token.Step.TheVariants.{Take, Stop}
 use Rattle.pq_lex.specs.declared.escapes.Escape.{Escape}
 use Rattle.pq_lex.specs.Classes.{byte, is_quote}
 use Rattle.pq_lex.specs.Escapes.{escape_at}
-use Rattle.pq_lex.specs.Scan.{text_step}
+use Rattle.pq_lex.specs.aux.Scan.{text_step}
 use Rattle.pq_lex.specs.Tokens.{span, is_plain, Quoted, closed, plain, escaped, TextFault, opened_only, bad, plain_first, escaped_first}
 use Rattle.pq_lex.proofs.EscapeLemmas.{escape_further}
 use Rattle.pq_lex.proofs.NumberEnds.{inside, inside_at}
 use Rattle.pq_lex.proofs.StringSteps.{closes_here, bad_here, open_here, escape_goes, plain_goes, escape_next, plain_next, open_at_end}
 
--- what a string's rest is: a token, or a fault
+-- the rest of a string: a token, or an error
 pub data Ends (text : List ℕ) (quote start i : ℕ) (s : Step) : Type 0 where
   ends_at : (n : ℕ) → s ≡ Take Text n → Quoted text quote n i → Ends text quote start i s
   fails_at : (at : Span) (code : Code) → s ≡ Stop at code → TextFault text quote start at code i → Ends text quote start i s

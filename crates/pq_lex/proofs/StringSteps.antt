@@ -8,7 +8,7 @@ use Rattle.pq_lex.specs.declared.token.Step.TheVariants.{Take, Stop}
 use Rattle.pq_lex.specs.declared.escapes.Escape.{Escape}
 use Rattle.pq_lex.specs.Classes.{byte, is_quote}
 use Rattle.pq_lex.specs.Escapes.{escape_at}
-use Rattle.pq_lex.specs.Scan.{text_step}
+use Rattle.pq_lex.specs.aux.Scan.{text_step}
 use Rattle.pq_lex.specs.Tokens.{span, is_plain}
 use Rattle.pq_lex.proofs.EscapeLemmas.{escape_further}
 
@@ -74,9 +74,9 @@ module _ (quote start : ℕ) (text : List ℕ) (i : ℕ) (here : i < length text
   plain_goes zero enough h = absurd (omega (arith, here, enough))
   plain_goes (suc fuel) enough h = record { less = fuel; enough = omega (arith, enough); same = plain_next fuel h }
 
--- a quote is no NUL, as which the text reads behind its end
-pub no_quote_behind : (quote b : ℕ) → is_quote quote ≡ true → b ≡ 0 → (b == quote) ≡ false
-no_quote_behind quote b q e = ne_eqb b quote (λ s. let z : quote ≡ 0 = sym s ∙ e in absurd (both_ways (is_quote quote) (ap is_quote z) q))
+-- a quote is no NUL, which `byte` reads at the end of a text
+pub no_quote_after : (quote b : ℕ) → is_quote quote ≡ true → b ≡ 0 → (b == quote) ≡ false
+no_quote_after quote b q e = ne_eqb b quote (λ s. let z : quote ≡ 0 = sym s ∙ e in absurd (both_ways (is_quote quote) (ap is_quote z) q))
 
 module _ (quote start : ℕ) (text : List ℕ) (i : ℕ) where
   pub open_at_end : (fuel : ℕ) → is_quote quote ≡ true → length text ≤ i → text_step fuel quote start text i ≡ Stop (span start (start + 1)) UnclosedString
@@ -84,5 +84,5 @@ module _ (quote start : ℕ) (text : List ℕ) (i : ℕ) where
   open_at_end zero q h = refl
   open_at_end (suc fuel) q h =
       let e : byte text i ≡ 0 = get_or_past text i 0 h in
-      let n = no_quote_behind quote (byte text i) q e in
+      let n = no_quote_after quote (byte text i) q e in
       rw (n, e) refl

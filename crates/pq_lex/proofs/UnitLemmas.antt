@@ -4,7 +4,7 @@ use Rattle.std.proofs.lemmas.List.{take_all, take-take}
 use Rattle.std.proofs.lemmas.List.Sums.{sum_by-take-drop, sum_by-drop_more, sum_by-take-le}
 use Rattle.std.proofs.lemmas.Bool.{lt-ltb}
 use Rattle.std.proofs.lemmas.Bool.Decides.{nat_tests}
-use Rattle.pq_lex.specs.Lines.{floor, IsByte}
+use Rattle.pq_lex.specs.aux.LineMarks.{lead_index, IsByte}
 
 pub sum_take : (xs : List ℕ) (i : ℕ) → i < length xs → sum (take (i + 1) xs) ≡ sum (take i xs) + get_or xs i 0
 sum_take xs i h = omega (arith, sum_by-take-drop (λ x. x) xs i, sum_by-take-drop (λ x. x) xs (i + 1), sum_by-drop_more (λ x. x) xs i 0 h)
@@ -12,19 +12,19 @@ sum_take xs i h = omega (arith, sum_by-take-drop (λ x. x) xs i, sum_by-take-dro
 pub sum_take_le : (xs : List ℕ) (i j : ℕ) → i ≤ j → sum (take i xs) ≤ sum (take j xs)
 sum_take_le xs i j h = omega (arith, sum_by-take-le (λ x. x) (take j xs) i, ap sum (take-take i j xs h))
 
-pub floor_on : (u : List ℕ) (i : ℕ) → 0 < i → i < length u → get_or u i 0 ≡ 0 → floor u i ≡ floor u (i - 1)
-unfolding floor
-floor_on u zero p h e = absurd (omega (arith, p))
-floor_on u (suc i) p h e = rw (lt-ltb (suc i) (length u) h, e, sub-one) refl
+pub lead_on : (u : List ℕ) (i : ℕ) → 0 < i → i < length u → get_or u i 0 ≡ 0 → lead_index u i ≡ lead_index u (i - 1)
+unfolding lead_index
+lead_on u zero p h e = absurd (omega (arith, p))
+lead_on u (suc i) p h e = rw (lt-ltb (suc i) (length u) h, e, sub-one) refl
 
-pub floor_stop : (u : List ℕ) (i : ℕ) → (i < length u → get_or u i 0 ≡ 0 → ⊥) → floor u i ≡ i
-unfolding floor
-floor_stop u zero h = refl
-floor_stop u (suc i) h = let e : (nat_lt (suc i) (length u) && (get_or u (suc i) 0 == 0)) ≡ false = grind (arith, nat_tests) in rw e refl
+pub lead_stop : (u : List ℕ) (i : ℕ) → (i < length u → get_or u i 0 ≡ 0 → ⊥) → lead_index u i ≡ i
+unfolding lead_index
+lead_stop u zero h = refl
+lead_stop u (suc i) h = let e : (nat_lt (suc i) (length u) && (get_or u (suc i) 0 == 0)) ≡ false = grind (arith, nat_tests) in rw e refl
 
-pub floor_zero : (u : List ℕ) → floor u 0 ≡ 0
-unfolding floor
-floor_zero u = refl
+pub lead_zero : (u : List ℕ) → lead_index u 0 ≡ 0
+unfolding lead_index
+lead_zero u = refl
 
 -- where a scan of the units stops
 pub byte_found : (u : List ℕ) (column left i : ℕ) → i < length u → left + sum (take i u) ≡ column → left < get_or u i 0 → IsByte u column i
@@ -43,7 +43,7 @@ byte_end u column left e = record {
   most = λ q more within. absurd (omega (arith, more, within));
 }
 
-pub floor_none : (u : List ℕ) (i : ℕ) → i ≤ 0 → floor u i ≡ i
-unfolding floor
-floor_none u zero h = refl
-floor_none u (suc i) h = absurd (omega (arith, h))
+pub lead_none : (u : List ℕ) (i : ℕ) → i ≤ 0 → lead_index u i ≡ i
+unfolding lead_index
+lead_none u zero h = refl
+lead_none u (suc i) h = absurd (omega (arith, h))

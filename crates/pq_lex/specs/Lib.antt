@@ -1,9 +1,9 @@
+pub mod Ascii
 pub mod Classes
 pub mod Escapes
-pub mod Kept
 pub mod Lines
-pub mod Reading
+pub mod Order
 pub mod Runs
-pub mod Scan
 pub mod Tokens
 pub mod Values
+pub mod aux

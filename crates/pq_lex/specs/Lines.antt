@@ -1,58 +1,69 @@
--- Lines and columns of a text's offsets (Language Server Protocol 3.17, "Position" and "Text Documents"):
--- lines end at LF, CR LF or CR, and columns count the UTF-16 units of the text's UTF-8.
-use Rattle.std.specs.Prelude.{◌≡◌, ℕ, zero, suc, ◌+◌, ◌^◌, ◌≤◌, ◌==◌, Bool, true, not, ◌&&◌, ◌||◌, cond, List, [], ◌∷◌, ◌++◌, length, drop, map, min, sum, slice_index, slice_range, take, nat_lt, ◌<◌, Option, Some, None}
-use Rattle.std.specs.List.{list_all}
-use Rattle.std.specs.Ordering.{eq_of_both, on}
-use Rattle.std.specs.Cmp.{IsEquivalence, and_equiv, nat_eq_equiv, on_equiv}
-use Rattle.std.specs.Cmp.Lexicographic.{lists_equiv, nat_list_eq_equiv, pointwise}
+-- The lines and columns of a text's offsets (Language Server Protocol 3.17, "Position" and "Text
+-- Documents"). A line ends at LF, CR LF or CR, and a column counts the UTF-16 code units of the
+-- text's UTF-8.
+use Rattle.std.specs.Prelude.{◌≡◌, ℕ, zero, suc, ◌+◌, ◌≤◌, ◌==◌, Bool, true, not, ◌&&◌, ◌||◌, cond, List, [], ◌∷◌, length, drop, map, min, sum, slice_index, slice_range, nat_lt, Option, Some, None}
 use Rattle.pq_lex.specs.declared.position.Position.{Position}
+use Rattle.pq_lex.specs.Ascii.{line_feed, carriage_return}
 use Rattle.pq_lex.specs.Classes.{is_continuation}
 
--- whether a line starts at the offset: the text's start, behind an LF, and behind a CR that no LF follows
+-- `starts_line text offset` is whether a line starts at `offset`: 0, after an LF, and after a CR
+-- that no LF follows.
 unfoldable pub starts_line : List ℕ → ℕ → Bool
 starts_line text zero = true
-starts_line text (suc i) = slice_index text i == 10 || (slice_index text i == 13 && not (slice_index text (suc i) == 10))
+starts_line text (suc i) =
+    slice_index text i == line_feed
+    || (slice_index text i == carriage_return && not (slice_index text (suc i) == line_feed))
 
--- the number of the offset's line: how many lines start behind the text's start, up to the offset
+-- `line_number text offset` is the number of the line of `offset`: how many lines start after 0, up
+-- to `offset`.
 unfoldable pub line_number : List ℕ → ℕ → ℕ
 line_number text zero = 0
 line_number text (suc i) = cond (starts_line text (suc i)) (suc (line_number text i)) (line_number text i)
 
--- where the offset's line starts
+-- `line_start text offset` is the offset at which the line of `offset` starts.
 unfoldable pub line_start : List ℕ → ℕ → ℕ
 line_start text zero = 0
 line_start text (suc i) = cond (starts_line text (suc i)) (suc i) (line_start text i)
 
--- how many bytes stand before the first LF or CR
+-- `line_len bytes` is how many of `bytes` come before the first LF or CR.
 unfoldable pub line_len : List ℕ → ℕ
 line_len [] = 0
-line_len (b ∷ bs) = cond (b == 10 || b == 13) 0 (suc (line_len bs))
+line_len (b ∷ bs) = cond (b == line_feed || b == carriage_return) 0 (suc (line_len bs))
 
--- where the line that starts there ends, before its terminator
+-- `end_of_line text start` is the offset before the terminator of the line that starts at offset
+-- `start`.
 abbrev pub end_of_line : List ℕ → ℕ → ℕ
 end_of_line text start = start + line_len (drop start text)
 
--- where the offset's line ends, before its terminator
+-- `line_end text offset` is the offset before the terminator of the line of `offset`.
 abbrev pub line_end : List ℕ → ℕ → ℕ
 line_end text offset = end_of_line text (line_start text offset)
 
--- the first byte of the offset's character
+-- `character_start text offset` is the offset of the first byte of the character at `offset`.
 unfoldable pub character_start : List ℕ → ℕ → ℕ
 character_start text zero = 0
 character_start text (suc i) = cond (is_continuation (slice_index text (suc i))) (character_start text i) (suc i)
 
--- the UTF-16 units that a byte stands for: a character's first byte for all of them, its other bytes for none
+-- `units_of b` is the UTF-16 units of the character whose first byte is `b`, and 0 for a later byte
+-- of a character. In UTF-8 (RFC 3629) a later byte is 80 to BF, and a character of two units has
+-- four bytes, the first F0 or more.
 abbrev pub units_of : ℕ → ℕ
-units_of b = cond (nat_lt b 128) 1 (cond (nat_lt b 192) 0 (cond (nat_lt b 240) 1 2))
+units_of b = cond (nat_lt b 0x80) 1 (cond (nat_lt b 0xC0) 0 (cond (nat_lt b 0xF0) 1 2))
 
+-- `units bytes` is the UTF-16 units of the characters whose first bytes are among `bytes`.
 abbrev pub units : List ℕ → ℕ
 units bytes = sum (map units_of bytes)
 
--- the position of an offset: its line, and the units from the line's start to its character, at most to the line's end
+-- `position_of text offset` is the position of `offset`: its line, and the units from that line's
+-- start to its character. An offset inside the line's terminator counts as the terminator's.
 abbrev pub position_of : List ℕ → ℕ → Position
-position_of text offset = record { line = line_number text offset; character = units (slice_range text (line_start text offset) (character_start text (min offset (line_end text offset)))) }
+position_of text offset = record {
+  line = line_number text offset;
+  character = units (slice_range text (line_start text offset) (character_start text (min offset (line_end text offset))));
+}
 
--- the offset is the start of a character on the position's line, before its terminator, and not behind the position's column
+-- `IsBefore text p offset` is: `offset` is the start of a character or of the terminator on the
+-- line of the position `p`, and its column is that of `p` or before it.
 pub record IsBefore (text : List ℕ) (p : Position) (offset : ℕ) : Type 0 where
   pub within : offset ≤ length text
   pub start : character_start text offset ≡ offset
@@ -60,67 +71,8 @@ pub record IsBefore (text : List ℕ) (p : Position) (offset : ℕ) : Type 0 whe
   pub line : line_number text offset ≡ p.line
   pub column : (position_of text offset).character ≤ p.character
 
--- the offset of a position: the last one that is not behind it; none past the last line
+-- `IsOffset text p o` is: `o` is the largest offset at or before the position `p`, or `None` if
+-- `text` has no such line.
 abbrev pub IsOffset : List ℕ → Position → Option ℕ → Type 0
 IsOffset text p None = (o : ℕ) → o ≤ length text → line_number text o ≡ p.line → ⊥
 IsOffset text p (Some o) = IsBefore text p o × ((q : ℕ) → IsBefore text p q → q ≤ o)
-
--- What an index keeps of a text. It is a middle term: what it is for is said by `position_of` and `IsOffset`.
-
--- a line: its start, its end before the terminator and, if not all its characters are ASCII, the units of its bytes
-pub record LineMark : Type 0 where
-  pub start : ℕ
-  pub end : ℕ
-  pub units : List ℕ
-
-abbrev pub is_ascii : List ℕ → Bool
-is_ascii line = list_all (λ b. nat_lt b 128) line
-
-abbrev pub units_kept : List ℕ → List ℕ
-units_kept line = cond (is_ascii line) [] (map units_of line)
-
-abbrev pub mark : List ℕ → ℕ → LineMark
-mark text start = record { start = start; end = end_of_line text start; units = units_kept (slice_range text start (end_of_line text start)) }
-
--- where the lines start, up to the offset
-unfoldable pub starts_to : List ℕ → ℕ → List ℕ
-starts_to text zero = 0 ∷ []
-starts_to text (suc i) = cond (starts_line text (suc i)) (starts_to text i ++ suc i ∷ []) (starts_to text i)
-
-abbrev pub lines_of : List ℕ → List LineMark
-lines_of text = map (mark text) (starts_to text (length text))
-
--- whether two marks are the same, and whether two lists of them are
-abbrev pub same_mark : LineMark → LineMark → Bool
-same_mark = eq_of_both (on (λ m. m.start) ◌==◌) (eq_of_both (on (λ m. m.end) ◌==◌) (on (λ m. m.units) (pointwise ◌==◌)))
-
-abbrev pub same_lines : List LineMark → List LineMark → Bool
-same_lines = pointwise same_mark
-
-pub same_lines_equiv : IsEquivalence same_lines
-same_lines_equiv = lists_equiv (and_equiv (on_equiv (λ m. m.start) nat_eq_equiv) (and_equiv (on_equiv (λ m. m.end) nat_eq_equiv) (on_equiv (λ m. m.units) nat_list_eq_equiv)))
-
--- the lines of some text
-pub record IsIndexed (lines : List LineMark) : Type 0 where
-  pub text : List ℕ
-  pub small : length text < 2 ^ 63
-  pub is : lines ≡ lines_of text
-
--- The column of a byte of a line whose bytes have these units: those of the characters before its own.
-unfoldable pub floor : List ℕ → ℕ → ℕ
-floor units zero = 0
-floor units (suc i) = cond (nat_lt (suc i) (length units) && slice_index units (suc i) == 0) (floor units i) (suc i)
-
-abbrev pub column_of : List ℕ → ℕ → ℕ
-column_of units at = sum (take (floor units at) units)
-
--- the byte of a line at which the column stands: the last character start that is not behind it
-pub record IsByte (units : List ℕ) (column at : ℕ) : Type 0 where
-  pub within : at ≤ length units
-  pub start : at < length units → slice_index units at ≡ 0 → ⊥
-  pub fits : sum (take at units) ≤ column
-  pub most : (q : ℕ) → at < q → q ≤ length units → column < sum (take q units)
-
--- the column of a byte of a line whose units are kept so
-abbrev pub kept_column : List ℕ → ℕ → ℕ
-kept_column units at = cond (length units == 0) at (column_of units at)

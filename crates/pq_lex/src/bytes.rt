@@ -1,41 +1,58 @@
 //! The classes of bytes, and runs of bytes of one set.
+//! A byte's class is decided by comparisons alone, and a run is read once.
 ghost use Rattle.std.specs.Prelude.{◌≡◌, ◌≤◌, length};
 ghost use Rattle.pq_lex.specs.Classes.{byte, is_between, is_letter, is_digit, is_space, is_mark, class_of, in_set};
 ghost use Rattle.pq_lex.specs.Runs.{run_end};
 
 /// What a byte may begin.
-#[derive(Clone, Copy, Debug, PartialEq, Eq)]
-pub enum Class {
+#[derive(Clone, Copy)]
+pub(crate) enum Class {
+    /// An ASCII letter or `_`: an identifier.
     Letter,
+    /// An ASCII digit: a number.
     Digit,
+    /// A space, tab or line terminator: blanks.
     Space,
+    /// A quote: a string.
     Quote,
+    /// A point: a float or a symbol.
     Point,
+    /// A slash: a comment or a symbol.
     Slash,
+    /// Any other byte of a symbol.
     Mark,
+    /// A byte that begins no token.
     Other,
 }
 
-/// Bytes that may follow one another.
-#[derive(Clone, Copy, Debug, PartialEq, Eq)]
-pub enum Set {
+/// A set of bytes that may follow one another.
+#[derive(Clone, Copy)]
+pub(crate) enum Set {
+    /// The blanks.
     Spaces,
+    /// The bytes of an identifier after its first.
     Words,
+    /// The decimal digits.
     Digits,
+    /// The octal digits.
     Octals,
+    /// The hexadecimal digits.
     Hexes,
+    /// The bytes of a line comment: all but LF.
     Lines,
-    Tails,
+    /// The bytes of a character after its first, in UTF-8 (RFC 3629).
+    Continuations,
 }
 
-/// The byte at a place, or 0 behind the end.
+/// The byte at the offset `at`, or 0 at the end of `bytes` and after it.
 #[inline(always)]
-pub fn byte_at(bytes: &[u8], at: usize) -> u8
+pub(crate) fn byte_at(bytes: &[u8], at: usize) -> u8
     ensures { result ≡ byte bytes.now at }
 {
     if at < bytes.len() { bytes[at] } else { 0 }
 }
 
+/// Whether `b` is at least `low` and at most `high`.
 #[inline]
 fn is_between(low: u8, high: u8, b: u8) -> bool
     ensures { result ≡ is_between low high b }
@@ -43,43 +60,47 @@ fn is_between(low: u8, high: u8, b: u8) -> bool
     low <= b && b <= high
 }
 
+/// Whether `b` is an ASCII letter or `_`.
 #[inline]
 fn is_letter(b: u8) -> bool
     ensures { result ≡ is_letter b }
 {
-    is_between(97, 122, b) || is_between(65, 90, b) || b == 95
+    is_between(b'a', b'z', b) || is_between(b'A', b'Z', b) || b == b'_'
 }
 
+/// Whether `b` is an ASCII digit.
 #[inline]
 fn is_digit(b: u8) -> bool
     ensures { result ≡ is_digit b }
 {
-    is_between(48, 57, b)
+    is_between(b'0', b'9', b)
 }
 
+/// Whether `b` is a space, or one of tab, LF, VT, FF and CR, whose codes follow one another.
 #[inline]
 fn is_space(b: u8) -> bool
     ensures { result ≡ is_space b }
 {
-    b == 32 || is_between(9, 13, b)
+    b == b' ' || is_between(b'\t', b'\r', b)
 }
 
+/// Whether `b` is a symbol other than `.` and `/`, which may begin more.
 #[inline]
 fn is_mark(b: u8) -> bool
     ensures { result ≡ is_mark b }
 {
-    is_between(58, 62, b)
-        || is_between(40, 41, b)
-        || is_between(43, 45, b)
-        || b == 91
-        || b == 93
-        || b == 123
-        || b == 125
+    is_between(b':', b'>', b)
+        || is_between(b'(', b')', b)
+        || is_between(b'+', b'-', b)
+        || b == b'['
+        || b == b']'
+        || b == b'{'
+        || b == b'}'
 }
 
-/// What the byte may begin.
+/// The class of `b`.
 #[inline]
-pub fn class_of(b: u8) -> Class
+pub(crate) fn class_of(b: u8) -> Class
     ensures { result ≡ class_of b }
 {
     if is_letter(b) {
@@ -88,11 +109,11 @@ pub fn class_of(b: u8) -> Class
         Class::Digit
     } else if is_space(b) {
         Class::Space
-    } else if b == 34 || b == 39 {
+    } else if b == b'"' || b == b'\'' {
         Class::Quote
-    } else if b == 46 {
+    } else if b == b'.' {
         Class::Point
-    } else if b == 47 {
+    } else if b == b'/' {
         Class::Slash
     } else if is_mark(b) {
         Class::Mark
@@ -101,25 +122,25 @@ pub fn class_of(b: u8) -> Class
     }
 }
 
-/// Whether the byte is in the set.
+/// Whether `b` is in `set`.
 #[inline(always)]
-pub fn in_set(set: Set, b: u8) -> bool
+pub(crate) fn in_set(set: Set, b: u8) -> bool
     ensures { result ≡ in_set set b }
 {
     match set {
         Set::Spaces => is_space(b),
         Set::Words => is_letter(b) || is_digit(b),
         Set::Digits => is_digit(b),
-        Set::Octals => is_between(48, 55, b),
-        Set::Hexes => is_digit(b) || is_between(97, 102, b) || is_between(65, 70, b),
-        Set::Lines => b != 10,
-        Set::Tails => is_between(128, 191, b),
+        Set::Octals => is_between(b'0', b'7', b),
+        Set::Hexes => is_digit(b) || is_between(b'a', b'f', b) || is_between(b'A', b'F', b),
+        Set::Lines => b != b'\n',
+        Set::Continuations => is_between(0x80, 0xBF, b),
     }
 }
 
-/// The first place from `from` on where no byte of the set stands.
+/// The first offset from `from` on whose byte is not in `set`, or the end of `bytes`.
 #[inline(always)]
-pub fn run_end(set: Set, bytes: &[u8], from: usize) -> usize
+pub(crate) fn run_end(set: Set, bytes: &[u8], from: usize) -> usize
     requires { from ≤ length bytes.now }
     ensures end { result ≡ run_end set bytes.now from }
     ensures after { from ≤ result }

@@ -1,37 +1,48 @@
-//! What holds of the tokens and the places of every text.
-ghost use Rattle.std.specs.Prelude.{◌≡◌, ◌≤◌, List, ℕ, Option, Some, true, false, length, slice_index};
+//! The laws of the tokens and the positions of every text.
+//! Each is the contract of a function with an empty body.
+ghost use Rattle.std.specs.Prelude.{◌≡◌, ◌<◌, ◌≤◌, List, ℕ, Option, Some, true, false, length, slice_index};
 ghost use Rattle.pq_lex.specs.declared.token.Token.{Token};
 ghost use Rattle.pq_lex.specs.declared.token.Span.{Span};
 ghost use Rattle.pq_lex.specs.declared.token.Code.{Code};
 ghost use Rattle.pq_lex.specs.declared.position.Position.{Position};
 ghost use Rattle.pq_lex.specs.Classes.{is_continuation};
-ghost use Rattle.pq_lex.specs.Lines.{IsOffset, LineMark, line_end, position_of, same_lines};
+ghost use Rattle.pq_lex.specs.Lines.{IsOffset, line_end, position_of};
+ghost use Rattle.pq_lex.specs.aux.LineMarks.{LineMark, same_lines};
+ghost use Rattle.pq_lex.specs.Order.{InOrder};
 ghost use Rattle.pq_lex.specs.Tokens.{Lexes};
-ghost use Rattle.pq_lex.specs.Reading.{tokens_of};
+ghost use Rattle.pq_lex.specs.aux.Reading.{tokens_of};
 
-/// A text has one list of tokens and one fault.
+/// Each text has at most one lexing: one list of tokens, and one error or none.
 pub fn one_lexing()
     ensures { (text : List ℕ) (a b : List Token) (f g : Option (Span × Code)) → Lexes 0 text a f → Lexes 0 text b g → (a ≡ b) × (f ≡ g) }
 {}
 
-/// Each text has a list of tokens, and perhaps a fault.
+/// Each text has a lexing: the one that `tokens_of` computes.
 pub fn each_text()
     ensures { (text : List ℕ) → Lexes 0 text (tokens_of text).tokens (tokens_of text).fault }
 {}
 
-/// A position of a text has one offset, or none.
+/// The tokens lie in the text, in order and without overlap, and each has at least one byte.
+/// An error's span has at least one byte, lies in the text, and starts at the last token's end or
+/// after it.
+pub fn tokens_in_order()
+    ensures tokens { (text : List ℕ) (tokens : List Token) (fault : Option (Span × Code)) → Lexes 0 text tokens fault → InOrder 0 (length text) tokens }
+    ensures fault { (text : List ℕ) (tokens : List Token) (span : Span) (code : Code) → Lexes 0 text tokens (Some (span, code)) → InOrder 0 span.start tokens × (span.start < span.end) × (span.end ≤ length text) }
+{}
+
+/// A position of a text has one offset or none: `IsOffset` holds of at most one answer.
 pub fn one_offset()
     ensures { (text : List ℕ) (p : Position) (a b : Option ℕ) → IsOffset text p a → IsOffset text p b → a ≡ b }
 {}
 
-/// The offset of a character's start comes back from its position, but for one inside a line's terminator,
-/// whose position is the terminator's. A byte starts a character if it is no continuation byte (RFC 3629);
-/// so does the text's end.
+/// The position of an offset leads back to that offset, if a character starts there or the text
+/// ends. The exception is an offset inside a line's terminator: its position is the terminator's.
+/// A character starts at a byte that is not a continuation byte (RFC 3629).
 pub fn offset_comes_back()
     ensures { (text : List ℕ) (offset : ℕ) (answer : Option ℕ) → offset ≤ length text → is_continuation (slice_index text offset) ≡ false → offset ≤ line_end text offset → IsOffset text (position_of text offset) answer → answer ≡ Some offset }
 {}
 
-/// Equality of indexes, also where a bound asks for it, holds exactly of those that contracts see as the same.
+/// `==` of indexes, also through a `T: PartialEq` bound, is equality of what contracts see of them.
 pub fn equal_indexes()
     ensures equal_are_same { (a b : List LineMark) → same_lines a b ≡ true → a ≡ b }
     ensures same_are_equal { (a b : List LineMark) → a ≡ b → same_lines a b ≡ true }

@@ -1,16 +1,19 @@
-//! The tokens of a text, in one pass over its bytes.
+//! The lexer: one pass over the bytes of a text, a separator or a token at a time.
+//! It takes time linear in the text, and memory linear in the tokens.
 ghost use Rattle.std.specs.Prelude.{◌≡◌, IfOk};
 ghost use Rattle.pq_lex.specs.Tokens.{Lexes};
-ghost use Rattle.pq_lex.specs.Reading.{reading_of, tokens_of};
+ghost use Rattle.pq_lex.specs.aux.Reading.{reading_of, tokens_of};
 
 use crate::Memory;
 use crate::steps::step_at;
 use crate::token::{Lexed, Span, Step, Token};
 use std::alloc::Global;
 
-/// Cuts a text into tokens, each the longest that stands there, up to its end or its first fault, in one pass.
-/// Blanks, comments and a byte order mark at the start are passed over. Want of memory alone is refused.
+/// Returns the tokens of `text` up to its end or its first lexical error, and that error.
 /// (proto3 language specification, "Lexical elements".)
+///
+/// Each token is the longest at its offset. Blanks, comments and a byte order mark at the start
+/// separate tokens. The one error of the call is an allocation failure.
 pub fn lex(alloc: Global, text: &str) -> Result<Lexed, Memory>
     ensures lexes { IfOk result (λ l. Lexes 0 text.now l.tokens.items l.fault) }
     ensures exact { IfOk result (λ l. reading_of l ≡ tokens_of text.now) }

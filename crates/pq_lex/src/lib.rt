@@ -1,6 +1,9 @@
-//! The lexis of proto3: the tokens of a text up to its end or its first fault, the values of integers and
-//! strings, and the places of a text as lines and columns.
-//! `lex` reads a text; `one_lexing` and `each_text` say that a text has one reading.
+//! The lexis of proto3: the tokens of a text, the values of integers and strings, and the positions
+//! of offsets.
+//!
+//! `lex` reads a text up to its end or its first lexical error; `each_text` and `one_lexing` say
+//! that each text has one lexing, and `tokens_in_order` that its tokens lie in the text, in order.
+//! `LineIndex` converts byte offsets to positions in UTF-16 columns and back, without the text.
 #![tactic(auto)]
 
 mod bytes;
@@ -15,13 +18,12 @@ mod strings;
 mod token;
 mod values;
 
-pub use laws::{each_text, equal_indexes, offset_comes_back, one_lexing, one_offset};
+pub use laws::{
+    each_text, equal_indexes, offset_comes_back, one_lexing, one_offset, tokens_in_order,
+};
 pub use lexer::lex;
 pub use lines::LineIndex;
 pub use position::Position;
 pub use std::alloc::AllocError as Memory;
 pub use token::{Code, Kind, Lexed, Span, Token};
 pub use values::{integer_value, text_value};
-
-#[cfg(test)]
-mod tests;

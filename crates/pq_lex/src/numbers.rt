@@ -1,25 +1,27 @@
 //! Where numbers end.
+//! (proto3 language specification, "Integer literals" and "Floating-point literals".)
+//! Each byte of a number is read a fixed number of times.
 ghost use Rattle.std.specs.Prelude.{◌≡◌, ◌≤◌, ◌<◌, length};
-ghost use Rattle.pq_lex.specs.Scan.{integer_end, exponent_end, float_end};
-ghost use Rattle.pq_lex.specs.Tokens.{is_x, is_e, is_sign, behind_sign};
+ghost use Rattle.pq_lex.specs.aux.Scan.{integer_end, exponent_end, float_end};
+ghost use Rattle.pq_lex.specs.Tokens.{is_x, is_e, is_sign, exponent_digits};
 
 use crate::bytes::{Set, byte_at, run_end};
 
-/// Whether the letter makes a `0` before it hexadecimal.
+/// Whether `b`, after a 0, makes an integer hexadecimal.
 #[inline]
-pub fn is_x(b: u8) -> bool
+pub(crate) fn is_x(b: u8) -> bool
     ensures { result ≡ is_x b }
 {
-    b == 120 || b == 88
+    b == b'x' || b == b'X'
 }
 
-/// The end of the integer at a digit.
-#[tactic(auto, unfolding(crate::specs::Scan::integer_end))]
-pub fn integer_end(bytes: &[u8], from: usize) -> usize
+/// The end of the integer whose first digit is at `from`.
+#[tactic(auto, unfolding(crate::specs::aux::Scan::integer_end))]
+pub(crate) fn integer_end(bytes: &[u8], from: usize) -> usize
     requires { from < length bytes.now }
     ensures { result ≡ integer_end bytes.now from }
 {
-    if bytes[from] != 48 {
+    if bytes[from] != b'0' {
         return run_end(Set::Digits, bytes, from + 1);
     }
     if is_x(byte_at(bytes, from + 1)) {
@@ -31,22 +33,24 @@ pub fn integer_end(bytes: &[u8], from: usize) -> usize
     run_end(Set::Octals, bytes, from + 1)
 }
 
+/// Whether `b` begins an exponent.
 #[inline]
 fn is_e(b: u8) -> bool
     ensures { result ≡ is_e b }
 {
-    b == 101 || b == 69
+    b == b'e' || b == b'E'
 }
 
+/// Whether `b` is a sign.
 #[inline]
 fn is_sign(b: u8) -> bool
     ensures { result ≡ is_sign b }
 {
-    b == 43 || b == 45
+    b == b'+' || b == b'-'
 }
 
-/// The end of an exponent, or its place where there is none.
-#[tactic(auto, unfolding(crate::specs::Scan::exponent_end))]
+/// The end of the exponent at `from`, or `from` if there is none.
+#[tactic(auto, unfolding(crate::specs::aux::Scan::exponent_end))]
 fn exponent_end(bytes: &[u8], from: usize) -> usize
     requires { from ≤ length bytes.now }
     ensures { result ≡ exponent_end bytes.now from }
@@ -63,14 +67,14 @@ fn exponent_end(bytes: &[u8], from: usize) -> usize
     if digits < end { end } else { from }
 }
 
-/// The end of the float at a digit or a point, if there is one.
-#[tactic(auto, unfolding(crate::specs::Scan::float_end))]
-pub fn float_end(bytes: &[u8], from: usize) -> Option<usize>
+/// The end of the float at `from`, or `None` if there is none.
+#[tactic(auto, unfolding(crate::specs::aux::Scan::float_end))]
+pub(crate) fn float_end(bytes: &[u8], from: usize) -> Option<usize>
     requires { from < length bytes.now }
     ensures { result ≡ float_end bytes.now from }
 {
     let point = run_end(Set::Digits, bytes, from);
-    if byte_at(bytes, point) == 46 {
+    if byte_at(bytes, point) == b'.' {
         let digits = run_end(Set::Digits, bytes, point + 1);
         return if from + 1 < digits {
             Some(exponent_end(bytes, digits))

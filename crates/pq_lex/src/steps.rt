@@ -1,14 +1,17 @@
-//! What stands at a place of a text: a separator, a token or a fault.
+//! What begins at an offset of a text: a separator, a token or an error.
+//! The class of the first byte decides among them. A step takes time linear in the bytes up to its
+//! end; an error, after which `lex` stops, up to the end of the text.
 ghost use Rattle.std.specs.Prelude.{◌≡◌, ◌≤◌, ◌<◌, length};
 ghost use Rattle.pq_lex.specs.Tokens.{runs_on, closes};
-ghost use Rattle.pq_lex.specs.Scan.{close_at, number_step, slash_step, other_step, step_at};
+ghost use Rattle.pq_lex.specs.aux.Scan.{close_at, number_step, slash_step, other_step, step_at};
 
 use crate::bytes::{Class, Set, byte_at, class_of, in_set, run_end};
 use crate::numbers::{float_end, integer_end};
 use crate::strings::text_step;
 use crate::token::{Code, Kind, Span, Step};
 
-/// A number up to its end, unless a letter, digit or `_` stands behind it.
+/// The token of kind `kind` from `from` to `end`: an error if it is a number and a letter, digit or
+/// `_` follows.
 fn number_step(kind: Kind, bytes: &[u8], from: usize, end: usize) -> Step
     ensures { result ≡ number_step kind bytes.now from end }
 {
@@ -20,7 +23,7 @@ fn number_step(kind: Kind, bytes: &[u8], from: usize, end: usize) -> Step
     }
 }
 
-/// Whether `*/` stands at a place.
+/// Whether `*/` is at `at`.
 #[inline]
 fn closes(bytes: &[u8], at: usize) -> bool
     requires { at < length bytes.now }
@@ -29,7 +32,7 @@ fn closes(bytes: &[u8], at: usize) -> bool
     bytes[at] == b'*' && byte_at(bytes, at + 1) == b'/'
 }
 
-/// The place of the first `*/` from `from` on, or the end.
+/// The offset of the first `*/` from `from` on, or the end of `bytes`.
 fn close_at(bytes: &[u8], from: usize) -> usize
     requires { from ≤ length bytes.now }
     ensures { result ≡ close_at bytes.now from }
@@ -41,7 +44,7 @@ fn close_at(bytes: &[u8], from: usize) -> usize
     at
 }
 
-/// What stands at a slash.
+/// The comment or the symbol at the slash at `from`.
 fn slash_step(bytes: &[u8], from: usize) -> Step
     requires { from < length bytes.now }
     ensures { result ≡ slash_step bytes.now from }
@@ -66,7 +69,7 @@ fn slash_step(bytes: &[u8], from: usize) -> Step
     }
 }
 
-/// What stands at a byte that begins no token.
+/// The byte order mark at `from`, or the character there as an error.
 fn other_step(bytes: &[u8], from: usize) -> Step
     requires { from < length bytes.now }
     ensures { result ≡ other_step bytes.now from }
@@ -74,13 +77,13 @@ fn other_step(bytes: &[u8], from: usize) -> Step
     if from == 0 && bytes.starts_with(b"\xEF\xBB\xBF") {
         return Step::Pass(3);
     }
-    let end = run_end(Set::Tails, bytes, from + 1);
+    let end = run_end(Set::Continuations, bytes, from + 1);
     Step::Stop(Span { start: from, end }, Code::OtherCharacter)
 }
 
-/// What stands at a place: the longest piece there, or the fault.
-#[tactic(auto, unfolding(crate::specs::Scan::step_at))]
-pub fn step_at(bytes: &[u8], from: usize) -> Step
+/// The longest separator or token at `from`, or the error there.
+#[tactic(auto, unfolding(crate::specs::aux::Scan::step_at))]
+pub(crate) fn step_at(bytes: &[u8], from: usize) -> Step
     requires { from < length bytes.now }
     ensures { result ≡ step_at bytes.now from }
 {

@@ -1,22 +1,24 @@
-//! Strings: where one ends, or its first fault.
+//! Strings: where one ends, or its first error.
+//! (proto3 language specification, "String literals".)
+//! A string is read from left to right, a plain byte or an escape at a time, in linear time.
 ghost use Rattle.std.specs.Prelude.{◌≡◌, ◌+◌, ◌<◌, length, true};
 ghost use Rattle.pq_lex.specs.Classes.{byte, is_quote};
-ghost use Rattle.pq_lex.specs.Scan.{text_step};
+ghost use Rattle.pq_lex.specs.aux.Scan.{text_step};
 ghost use Rattle.pq_lex.specs.Tokens.{is_plain};
 
 use crate::escapes::escape_at;
 use crate::token::{Code, Kind, Span, Step};
 
-/// A byte of a string that stands for itself.
+/// Whether the byte `b` of a string with this `quote` means itself.
 #[inline]
-pub fn is_plain(quote: u8, b: u8) -> bool
+pub(crate) fn is_plain(quote: u8, b: u8) -> bool
     ensures { result ≡ is_plain quote b }
 {
-    !(b == quote || b == b'\\' || b == b'\n' || b == 0)
+    !(b == quote || b == b'\\' || b == b'\n' || b == b'\0')
 }
 
-/// The string that opens at `start`, or its first fault read from the left.
-pub fn text_step(bytes: &[u8], start: usize) -> Step
+/// The string that opens at `start`, or its first error from the left.
+pub(crate) fn text_step(bytes: &[u8], start: usize) -> Step
     requires inside { start < length bytes.now }
     requires quoted { is_quote (byte bytes.now start) ≡ true }
     ensures { result ≡ text_step (length bytes.now) (byte bytes.now start) start bytes.now (start + 1) }

@@ -1,4 +1,5 @@
-//! The values of tokens: an integer's number, a string's bytes.
+//! The values of tokens: the number that an integer writes, and the bytes that a string means.
+//! Each takes time linear in the token's spelling.
 ghost use Rattle.std.specs.Prelude.{◌≡◌, ◌++◌, ◌<◌, [], IfOk, None, length};
 ghost use Rattle.pq_lex.specs.Escapes.{meaning_bytes};
 ghost use Rattle.pq_lex.specs.Values.{spelling, integer_value_of, text_value_of};
@@ -11,7 +12,7 @@ use crate::strings::is_plain;
 use crate::token::{Kind, Span, Token};
 use std::alloc::Global;
 
-/// The bytes of a span, or none where it does not lie in the text.
+/// The bytes of `text` in `span`: empty if `span` does not lie in `text`.
 fn spelling(text: &str, span: Span) -> &[u8]
     ensures { result.now ≡ spelling text.now span }
 {
@@ -23,7 +24,7 @@ fn spelling(text: &str, span: Span) -> &[u8]
     }
 }
 
-/// The number that an integer's spelling writes, or `None` past 64 bits.
+/// The value of an integer that is spelled `word`, or `None` past 64 bits.
 #[tactic(auto, unfolding(crate::specs::Values::integer_value_of))]
 fn integer_value_of(word: &[u8]) -> Option<u64>
     ensures { result ≡ integer_value_of word.now }
@@ -37,7 +38,8 @@ fn integer_value_of(word: &[u8]) -> Option<u64>
     }
 }
 
-/// The value of an integer token of the text; `None` past 64 bits, or for a token of another kind.
+/// Returns the value of `token`, an integer of `text`: `None` past 64 bits, and for a token of
+/// another kind.
 /// (proto3 language specification, "Integer literals".)
 pub fn integer_value(text: &str, token: &Token) -> Option<u64>
     ensures integer { token.now.kind ≡ Kind.Integer → result ≡ integer_value_of (spelling text.now token.now.span) }
@@ -49,7 +51,7 @@ pub fn integer_value(text: &str, token: &Token) -> Option<u64>
     }
 }
 
-/// Adds the bytes that an escape stands for.
+/// Appends the bytes that `meaning` adds to a string.
 fn push_meaning(value: &mut Vec<u8>, meaning: Meaning) -> Result<(), Memory>
     ensures { IfOk result (λ _. value.new.items ≡ value.old.items ++ meaning_bytes meaning) }
 {
@@ -66,7 +68,7 @@ fn push_meaning(value: &mut Vec<u8>, meaning: Meaning) -> Result<(), Memory>
     Ok(())
 }
 
-/// The bytes that a string's spelling stands for.
+/// The bytes that the string spelled `word` means.
 fn text_value_of(alloc: Global, word: &[u8]) -> Result<Vec<u8>, Memory>
     ensures { IfOk result (λ v. v.items ≡ text_value_of word.now) }
 {
@@ -91,7 +93,8 @@ fn text_value_of(alloc: Global, word: &[u8]) -> Result<Vec<u8>, Memory>
     Ok(value)
 }
 
-/// The bytes that a string token of the text stands for, its escapes read; empty for a token of another kind.
+/// Returns the bytes that `token`, a string of `text`, means: empty for a token of another kind.
+/// The one error is an allocation failure.
 /// (proto3 language specification, "String literals".)
 pub fn text_value(alloc: Global, text: &str, token: &Token) -> Result<Vec<u8>, Memory>
     ensures string { token.now.kind ≡ Kind.Text → IfOk result (λ v. v.items ≡ text_value_of (spelling text.now token.now.span)) }

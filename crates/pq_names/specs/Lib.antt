@@ -1,1 +1,3 @@
-pub mod Index
+pub mod Limits
+pub mod TextOrder
+pub mod aux

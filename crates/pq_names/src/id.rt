@@ -3,7 +3,8 @@ ghost use Rattle.std.specs.Prelude.{◌≡◌};
 
 use std::marker::Model;
 
-/// The number of a name in the table that gave it: names are counted from 0, in the order in which they came.
+/// The number of a name in the table that gave it. The names of a table are counted from 0, in the
+/// order in which they came.
 #[derive(Clone, Copy, Debug, PartialEq, Eq, PartialOrd, Ord)]
 pub struct NameId {
     number: u32,
@@ -20,14 +21,14 @@ impl Model for NameId {
 }
 
 impl NameId {
-    // The id of this number.
+    /// The id with this `number`.
     pub(crate) fn of(number: u32) -> NameId
         ensures { result ≡ number }
     {
         NameId { number }
     }
 
-    /// The number, which is also the place of the name among all names of its table.
+    /// The number, which is also the index of the name in the list of the table's names.
     pub fn number(self) -> u32
         ensures { result ≡ self }
     {

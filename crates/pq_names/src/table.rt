@@ -1,82 +1,89 @@
 //! The table of names.
 ghost use Rattle.std.specs.Prelude.{◌≡◌, ◌≢◌, ℕ, ◌<◌, ◌≤◌, ◌↔◌, List, [], ◌∷◌, ◌++◌, length, slice_get, Some, IfOk, OnErr, IsErrOf, IsTrue, Contains};
+ghost use Rattle.pq_names.specs.Limits.{max_names};
 
 use crate::fault::NamesFault;
 use crate::id::NameId;
+use crate::order::{add, search};
+use crate::text::Text;
 use std::alloc::Global;
-use std::collections::BTreeMap;
 use std::marker::Model;
 
-/// How many names a table takes.
+/// The number of names that a table takes.
 pub const MAX_NAMES: usize = 1_048_576;
 
-/// Texts, each kept once and known by its number. Contracts see them as a list, in the order of their numbers.
+/// Names: texts, each kept once and known by its number.
+///
+/// Contracts see the list of the texts, in the order of their numbers.
 #[derive(Drop)]
 pub struct Names {
-    ids: BTreeMap<String, NameId>,
-    texts: Vec<String>,
+    texts: Vec<Text>,
+    order: Vec<NameId>,
 }
 
 impl Model for Names {
-    ghost use Rattle.std.specs.Prelude.{ℕ, List, length, map, string_bytes, ◌≤◌};
+    ghost use Rattle.std.specs.Prelude.{ℕ, List, length, ◌≤◌};
 
     ghost Value = { List (List ℕ) };
 
-    ghost use Rattle.pq_names.specs.Index.{IsIndexOf};
-    ghost use Rattle.pq_names.specs.declared.table.TheConstants.{MAX_NAMES};
+    ghost use Rattle.pq_names.specs.aux.Order.{IsOrderOf};
+    ghost use Rattle.pq_names.specs.Limits.{max_names};
 
-    ghost view = { λ n. map string_bytes n.texts.items };
+    ghost view = { λ n. n.texts.items };
 
-    ghost invariant = { λ n. IsIndexOf n.ids (map string_bytes n.texts.items) × (length n.texts.items ≤ MAX_NAMES) };
+    ghost invariant = { λ n. IsOrderOf n.order.items n.texts.items × (length n.texts.items ≤ max_names) };
 }
 
 impl Names {
-    /// A table without names. It takes its memory from `alloc`.
+    /// A table without names, which takes its memory from `alloc`.
     pub fn new(alloc: Global) -> Names
         ensures { result ≡ [] }
     {
         Names {
-            ids: BTreeMap::new(alloc),
             texts: Vec::new(alloc),
+            order: Vec::new(alloc),
         }
     }
 
-    /// The number of a text, which is put into the table where it is new.
+    /// The number of `text`, which becomes a name where it is new.
     ///
-    /// A known text gets the number that it has, and nothing changes. A new one gets the count of the names before it.
-    /// `Full` comes exactly for a new text where the table has `MAX_NAMES` names, `Memory` only for a new text. After
-    /// either the table is as it was.
+    /// A known text has its number already, and the table stays unchanged. The number of a new text
+    /// is the number of names before it. A refusal leaves the table unchanged.
+    ///
+    /// # Errors
+    ///
+    /// - `Full` exactly where the text is new and the table has `MAX_NAMES` names.
+    /// - `Memory` where the text is new and an allocation fails.
     pub fn intern(&mut self, text: &str) -> Result<NameId, NamesFault>
-        ensures known { (id : ℕ) → slice_get self.old id ≡ Some text.now → (result ≡ Ok id) × (self.new ≡ self.old) }
+        ensures known { (id : ℕ) → slice_get self.old id ≡ Some text.now →
+            (result ≡ Ok id) × (self.new ≡ self.old) }
         ensures added { ¬ Contains self.old text.now →
             IfOk result (λ id. (id ≡ length self.old) × (self.new ≡ self.old ++ text.now ∷ [])) }
-        ensures full { IsErrOf result NamesFault.Full ↔ ((length self.old ≡ MAX_NAMES) × ¬ Contains self.old text.now) }
+        ensures full { IsErrOf result NamesFault.Full ↔
+            ((length self.old ≡ max_names) × ¬ Contains self.old text.now) }
         ensures refused { OnErr result (self.new ≡ self.old) }
     {
-        if let Some(id) = self.find(text) {
-            return Ok(id);
-        }
+        let place = match search(&self.order, &self.texts, text) {
+            Ok(place) => return Ok(self.order[place]),
+            Err(place) => place,
+        };
         if self.texts.len() >= MAX_NAMES {
             return Err(NamesFault::Full);
         }
-        let id = NameId::of(self.texts.len() as u32);
-        let alloc = *self.texts.allocator();
-        let key = String::from_str(alloc, text)?;
-        let name = String::from_str(alloc, text)?;
-        self.texts.reserve(1)?;
-        self.ids.insert(key, id)?;
-        self.texts.push_reserved(name);
-        Ok(id)
+        Ok(add(&mut self.order, &mut self.texts, place, text)?)
     }
 
-    /// The number of a text, or `None` where it is no name of the table. It takes no memory.
+    /// The number of `text`, or `None` where the table has no such name. It takes no memory.
     pub fn find(&self, text: &str) -> Option<NameId>
         ensures { (id : ℕ) → (result ≡ Some id) ↔ (slice_get self.now id ≡ Some text.now) }
     {
-        self.ids.get(text).copied()
+        match search(&self.order, &self.texts, text) {
+            Ok(place) => Some(self.order[place]),
+            Err(_) => None,
+        }
     }
 
-    /// The text of a number that this table gave.
+    /// The text of the name with the number `id`.
     pub fn text(&self, id: NameId) -> &str
         requires { id < length self.now }
         ensures text { slice_get self.now id ≡ Some result.now }
@@ -85,15 +92,15 @@ impl Names {
         self.texts[id.number() as usize].as_str()
     }
 
-    /// How many names there are.
+    /// The number of names.
     pub fn len(&self) -> usize
         ensures count { result ≡ length self.now }
-        ensures within { result ≤ MAX_NAMES }
+        ensures within { result ≤ max_names }
     {
         self.texts.len()
     }
 
-    /// Whether there is no name.
+    /// Whether the table has no names.
     pub fn is_empty(&self) -> bool
         ensures { IsTrue result ↔ (self.now ≡ []) }
     {

@@ -1,16 +1,19 @@
--- The keys of the stack from a place on are a ring.
+-- A ring closes: the frames from a place on, where the last asked the key of the first, become
+-- answers, and the evaluator's invariant holds on.
 use Rattle.std.proofs.Common.{◌≡◌, ℕ, ◌+◌, ◌<◌, List, [], ◌∷◌, ◌++◌, length, drop, get_or, refl, sym, ap, subst, ◌∙◌, inl, inr, arith, length-append}
 use Rattle.pq_rules.specs.declared.turn.Answer.TheVariants.{Cycle}
-use Rattle.pq_rules.specs.Found.{Finished, done_keys}
+use Rattle.pq_rules.specs.aux.AnswerTable.{Finished, done_keys}
 use Rattle.pq_rules.specs.declared.scratch.Frame.{Frame}
-use Rattle.pq_rules.specs.Turns.{Setting}
+use Rattle.pq_rules.specs.Turns.{Instance}
 use Rattle.pq_rules.specs.Laws.{Laws}
-use Rattle.pq_rules.specs.Value.{Each, In, Means, Waits, Chain, Round}
-use Rattle.pq_rules.specs.Search.{frame_keys, seen, Going, GoesOn, Linked, Sits, Distinct, Turned, ring_entries}
-use Rattle.pq_rules.specs.Rule.{means_ring, each_append, round_turned}
+use Rattle.pq_rules.specs.Relations.{Each, In, Chain, Round}
+use Rattle.pq_rules.specs.Value.{Means, Waits}
+use Rattle.pq_rules.specs.aux.Evaluator.{frame_keys, seen, IsInvariant, GoesOn, Linked, Sits, Distinct, RotatedToLeast, ring_entries}
+use Rattle.pq_rules.proofs.Characterisation.{means_ring, each_append, round_turned}
 use Rattle.pq_rules.proofs.Order.{strict}
-use Rattle.pq_rules.specs.Rings.{each_in}
-use Rattle.pq_rules.specs.Lists.{frame_keys_append, done_keys_append, in_append, in_append_left, in_append_right, in_keys}
+use Rattle.pq_rules.proofs.Rings.{each_in}
+use Rattle.pq_rules.specs.aux.Lists.{in_append, in_append_left, in_append_right}
+use Rattle.pq_rules.proofs.ListLemmas.{frame_keys_append, done_keys_append, in_keys}
 use Rattle.pq_rules.proofs.Weight.{Exact, unseen_le, weight_lt}
 use Rattle.pq_rules.proofs.Stack.{linked_front, linked_back, LastAsks, last_asks, waiting, distinct_front, each_front}
 
@@ -29,12 +32,12 @@ last_of (r ∷ []) [] f x xs e = cc
 last_of (r ∷ (q ∷ qs)) [] f x xs e = cc
 last_of (r ∷ rs) (s ∷ ss) f x xs e = last_of rs ss f x xs (let t : ss ++ f ∷ [] ≡ rs ++ x ∷ xs = cc in t)
 
-linked_each : {K P V : Type 0} (m : Setting K P V) (fs : List (Frame K P)) → Linked m fs → Each (Sits m) fs
+linked_each : {K P V : Type 0} (m : Instance K P V) (fs : List (Frame K P)) → Linked m fs → Each (Sits m) fs
 unfolding Linked
 linked_each m [] l = tt
 linked_each m (f ∷ fs) l = (l.0, linked_each m fs l.2)
 
-each_entry : {K P V : Type 0} (m : Setting K P V) (ring : List K) (fs : List (Frame K P))
+each_entry : {K P V : Type 0} (m : Instance K P V) (ring : List K) (fs : List (Frame K P))
     → ((k : K) → In k (frame_keys fs) → Means m k (Cycle ring))
     → Each (λ (e : Finished K V). Means m e.key e.answer) (ring_entries ring fs)
 unfolding ring_entries
@@ -43,7 +46,7 @@ each_entry {K} {P} {V} m ring (x ∷ xs) f =
     each_append (λ (e : Finished K V). Means m e.key e.answer) (ring_entries ring xs) (record { key = x.key; answer = Cycle ring } ∷ [])
     (each_entry m ring xs (λ k i. f k (inr i))) (f x.key (inl refl), tt)
 
-entry_keys : {K P V : Type 0} (m : Setting K P V) (ring : List K) (fs : List (Frame K P)) (k : K) → In k (frame_keys fs)
+entry_keys : {K P V : Type 0} (m : Instance K P V) (ring : List K) (fs : List (Frame K P)) (k : K) → In k (frame_keys fs)
     → In k (done_keys (ring_entries {V = V} ring fs))
 unfolding ring_entries
 entry_keys m ring [] k i = absurd i
@@ -63,11 +66,11 @@ turned_in front z back k i =
       | inr (inr j) ↦ inr (in_append_left k back front j)
     ]
 
-module _ {K P V : Type 0} (m : Setting K P V) (reach : K → List K) (laws : Laws m reach) (exact : Exact m.order) (root : K) where
+module _ {K P V : Type 0} (m : Instance K P V) (reach : K → List K) (laws : Laws m reach) (exact : Exact m.order) (root : K) where
   ring_means : (stack : List (Frame K P)) (f : Frame K P) (rest : List (Frame K P)) (x : Frame K P) (xs : List (Frame K P)) (ring : List K)
       → Linked m (stack ++ f ∷ []) → stack ++ f ∷ [] ≡ rest ++ x ∷ xs → x.key ≡ f.asked
-      → Turned m.order (frame_keys (x ∷ xs)) ring → (k : K) → In k (frame_keys (x ∷ xs)) → Means m k (Cycle ring)
-  unfolding Turned Round
+      → RotatedToLeast m.order (frame_keys (x ∷ xs)) ring → (k : K) → In k (frame_keys (x ∷ xs)) → Means m k (Cycle ring)
+  unfolding RotatedToLeast Round
   ring_means stack f rest x xs ring all whole key t k i =
       let linked : Linked m (x ∷ xs) = linked_back m rest (x ∷ xs) (subst (λ (fs : List (Frame K P)). Linked m fs) whole all) in
       let level : m.level x.key ≡ m.level f.asked = ap m.level key in
@@ -86,9 +89,9 @@ module _ {K P V : Type 0} (m : Setting K P V) (reach : K → List K) (laws : Law
 
   pub close_popped : (done : List (Finished K V)) (stack : List (Frame K P)) (f : Frame K P) (place : ℕ) (ring : List K)
       (after : List (Finished K V)) (rest popped : List (Frame K P))
-      → Going m (reach root) root done (stack ++ f ∷ []) → place < length (stack ++ f ∷ [])
+      → IsInvariant m (reach root) root done (stack ++ f ∷ []) → place < length (stack ++ f ∷ [])
       → ((d : Frame K P) → (get_or (stack ++ f ∷ []) place d).key ≡ f.asked)
-      → Turned m.order (frame_keys (drop place (stack ++ f ∷ []))) ring
+      → RotatedToLeast m.order (frame_keys (drop place (stack ++ f ∷ []))) ring
       → stack ++ f ∷ [] ≡ rest ++ popped → length rest ≡ place → after ≡ done ++ ring_entries ring popped
       → GoesOn m (reach root) root done (stack ++ f ∷ []) after rest
   close_popped done stack f place ring after rest [] go within at t whole long added =
@@ -104,7 +107,7 @@ module _ {K P V : Type 0} (m : Setting K P V) (reach : K → List K) (laws : Law
       subst (λ (n : ℕ). get_or all n f ≡ x) long
       (subst (λ (fs : List (Frame K P)). get_or fs (length rest) f ≡ x) (sym whole) (at_front rest x xs f)) in
       let key : x.key ≡ f.asked = subst (λ (g : Frame K P). g.key ≡ f.asked) item (at f) in
-      let turned : Turned m.order (frame_keys (x ∷ xs)) ring = subst (λ (fs : List (Frame K P)). Turned m.order (frame_keys fs) ring) left t in
+      let turned : RotatedToLeast m.order (frame_keys (x ∷ xs)) ring = subst (λ (fs : List (Frame K P)). RotatedToLeast m.order (frame_keys fs) ring) left t in
       let means = ring_means stack f rest x xs ring go.linked whole key turned in
       let entries : List (Finished K V) = ring_entries ring (x ∷ xs) in
       let linked : Linked m rest = linked_front m rest (x ∷ xs) (subst (λ (fs : List (Frame K P)). Linked m fs) whole go.linked) in

@@ -1,5 +1,5 @@
--- What the places of keys tell of their answers.
-use Rattle.std.proofs.Common.{◌≡◌, ℕ, zero, suc, ◌⊎◌, ◌<◌, List, [], ◌∷◌, ◌++◌, length, slice_get, refl, sym, ap, subst, ◌∙◌, inl, inr, arith, Bool, true, false, Option, Some, None}
+-- The table of answers: what looking up, adding and pointing do to the keys and their answers.
+use Rattle.std.proofs.Common.{◌≡◌, ℕ, zero, suc, ◌⊎◌, ◌<◌, List, [], ◌∷◌, ◌++◌, length, slice_get, refl, sym, ap, subst, ◌∙◌, inl, inr, arith, length-append, Bool, true, false, Option, Some, None}
 use Rattle.std.specs.Map.{lookup}
 use Rattle.std.specs.BTreeMap.{is_at, insert_entry}
 use Rattle.std.specs.Cmp.{Equal-is, tied_itself}
@@ -7,20 +7,22 @@ use Rattle.std.specs.declared.cmp.Ordering.{Ordering}
 use Rattle.std.specs.declared.cmp.Ordering.TheVariants.{Less, Equal, Greater}
 use Rattle.std.specs.Ordering.{is_eq}
 use Rattle.pq_rules.specs.declared.turn.Answer.{Answer}
-use Rattle.pq_rules.specs.Turns.{Setting}
-use Rattle.pq_rules.specs.Value.{In, Means}
-use Rattle.pq_rules.specs.Found.{Finished, Places, Within, Covers, entry, finished, finished_at, finished_in, done_keys}
-use Rattle.pq_rules.specs.Search.{Grows}
-use Rattle.pq_rules.specs.Rings.{each_in}
-use Rattle.pq_rules.specs.Rule.{each_append}
-use Rattle.pq_rules.specs.Lists.{each_from, in_append, in_append_left, in_append_right, done_keys_append}
+use Rattle.pq_rules.specs.Turns.{Instance}
+use Rattle.pq_rules.specs.Relations.{In}
+use Rattle.pq_rules.specs.Value.{Means}
+use Rattle.pq_rules.specs.aux.AnswerTable.{Finished, Places, Within, Covers, entry, finished, finished_at, finished_in, done_keys}
+use Rattle.pq_rules.specs.aux.Evaluator.{Grows}
+use Rattle.pq_rules.proofs.Rings.{each_in}
+use Rattle.pq_rules.proofs.Characterisation.{each_append}
+use Rattle.pq_rules.specs.aux.Lists.{in_append, in_append_left, in_append_right}
+use Rattle.pq_rules.proofs.ListLemmas.{each_from, done_keys_append}
 use Rattle.pq_rules.proofs.Weight.{Exact}
 
 either : (b : Bool) → (b ≡ true) ⊎ (b ≡ false)
 either true = inl refl
 either false = inr refl
 
--- an entry that stands in the list
+-- an entry of the list
 entry_in : {K V : Type 0} (k : K) (a : Answer K V) (o : Option (Answer K V)) (fs : List (Finished K V)) → o ≡ Some a
     → In (record { key = k; answer = a }) (finished_at k o ++ fs)
 entry_in k a None fs e = cc
@@ -234,7 +236,7 @@ given {K} {V} k i a old middle new h p q w then =
     subst (λ (x : List (Finished K V)). Covers (x ++ entry k a ∷ []) (finished new)) (same_finished a old middle p q w)
     (then a (last_answer i a old middle h p))
 
-pub grows_by : {K P V : Type 0} (m : Setting K P V) (before after : List (Finished K V)) (k x : K) (a : Answer K V)
+pub grows_by : {K P V : Type 0} (m : Instance K P V) (before after : List (Finished K V)) (k x : K) (a : Answer K V)
     → k ≡ x → Means m x a → Covers (before ++ entry k a ∷ []) after → Grows m before after
 grows_by {K} {P} {V} m before after k x a same means c =
     let here : Means m k a = subst (λ (y : K). Means m y a) (sym same) means in
@@ -246,8 +248,23 @@ grows_by {K} {P} {V} m before after k x a same means c =
           (in_append_left y (done_keys before) (k ∷ []) i));
     }
 
-pub grows_not : {K P V : Type 0} (m : Setting K P V) (fs : List (Finished K V)) → Grows m fs fs
+pub grows_not : {K P V : Type 0} (m : Instance K P V) (fs : List (Finished K V)) → Grows m fs fs
 grows_not m fs = record { right = λ e. e; keys = λ k i. i }
 
 pub no_places : {K V : Type 0} (p : Places K V) → p.places ≡ [] → finished p ≡ []
 no_places p e = rw e refl
+
+-- an answer that was added, in a table with the same answers: its place is within, and has it
+pub placed_within : {K V : Type 0} (i : ℕ) (a : Answer K V) (old middle new : Places K V)
+    → i ≡ length old.answers → middle.answers ≡ old.answers ++ a ∷ [] → new.answers ≡ middle.answers
+    → i < length new.answers
+placed_within {K} {V} i a old middle new at added same =
+    rw (same, added, at, length-append old.answers (a ∷ [])) (omega arith)
+
+pub placed_is : {K V : Type 0} (i : ℕ) (a b : Answer K V) (old middle new : Places K V)
+    → i ≡ length old.answers → middle.answers ≡ old.answers ++ a ∷ [] → new.answers ≡ middle.answers
+    → slice_get new.answers i ≡ Some b → a ≡ b
+placed_is {K} {V} i a b old middle new at added same is =
+    let there : slice_get new.answers i ≡ Some a =
+    ap (λ (xs : List (Answer K V)). slice_get xs i) same ∙ last_answer i a old middle at added in
+    let both : Some a ≡ Some b = sym there ∙ is in cc

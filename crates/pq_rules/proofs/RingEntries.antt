@@ -1,11 +1,12 @@
--- The entries of a ring's keys.
+-- The entries of a ring's keys, as the loop over the popped frames adds them.
 use Rattle.std.proofs.Common.{◌≡◌, List, [], ◌∷◌, ◌++◌, sym, ap, subst, ◌∙◌, append-nil, append_assoc, inl, inr}
 use Rattle.pq_rules.specs.declared.turn.Answer.TheVariants.{Cycle}
 use Rattle.pq_rules.specs.declared.scratch.Frame.{Frame}
-use Rattle.pq_rules.specs.Found.{Finished, Covers, done_keys, entry}
-use Rattle.pq_rules.specs.Value.{In}
-use Rattle.pq_rules.specs.Search.{ring_entries}
-use Rattle.pq_rules.specs.Lists.{in_append, in_append_left, in_append_right, done_keys_append}
+use Rattle.pq_rules.specs.aux.AnswerTable.{Finished, Covers, done_keys, entry}
+use Rattle.pq_rules.specs.Relations.{In}
+use Rattle.pq_rules.specs.aux.Evaluator.{ring_entries}
+use Rattle.pq_rules.specs.aux.Lists.{in_append, in_append_left, in_append_right}
+use Rattle.pq_rules.proofs.ListLemmas.{done_keys_append}
 
 pub covers_same : {K V : Type 0} (fs gs : List (Finished K V)) → fs ≡ gs → Covers fs gs
 covers_same {K} {V} fs gs e = record {

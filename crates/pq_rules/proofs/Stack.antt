@@ -1,35 +1,36 @@
--- The stack of waiting keys.
+-- The stack of frames: its parts and its keys, when frames are added, popped and replaced.
 use Rattle.std.proofs.Common.{◌≡◌, ℕ, zero, suc, ◌≤◌, List, [], ◌∷◌, ◌++◌, drop, sym, ap, subst, ◌∙◌, inl, inr, arith}
 use Rattle.pq_rules.specs.declared.scratch.Frame.{Frame}
-use Rattle.pq_rules.specs.Turns.{Setting}
+use Rattle.pq_rules.specs.Turns.{Instance}
 use Rattle.pq_rules.specs.Laws.{Laws}
-use Rattle.pq_rules.specs.Value.{Each, In, Waits, Chain}
-use Rattle.pq_rules.specs.Search.{frame_keys, Linked, Sits, Distinct}
-use Rattle.pq_rules.specs.Lists.{in_append_left}
+use Rattle.pq_rules.specs.Relations.{Each, In, Chain}
+use Rattle.pq_rules.specs.Value.{Waits}
+use Rattle.pq_rules.specs.aux.Evaluator.{frame_keys, Linked, Sits, Distinct}
+use Rattle.pq_rules.specs.aux.Lists.{in_append_left}
 
-pub linked_front : {K P V : Type 0} (m : Setting K P V) (fs gs : List (Frame K P)) → Linked m (fs ++ gs) → Linked m fs
+pub linked_front : {K P V : Type 0} (m : Instance K P V) (fs gs : List (Frame K P)) → Linked m (fs ++ gs) → Linked m fs
 unfolding Linked
 linked_front m [] gs l = tt
 linked_front m (f ∷ []) gs l = (l.0, tt, tt)
 linked_front m (f ∷ (x ∷ xs)) gs l = (l.0, l.1, linked_front m (x ∷ xs) gs l.2)
 
-pub linked_back : {K P V : Type 0} (m : Setting K P V) (fs gs : List (Frame K P)) → Linked m (fs ++ gs) → Linked m gs
+pub linked_back : {K P V : Type 0} (m : Instance K P V) (fs gs : List (Frame K P)) → Linked m (fs ++ gs) → Linked m gs
 unfolding Linked
 linked_back m [] gs l = l
 linked_back m (f ∷ fs) gs l = linked_back m fs gs l.2
 
-pub linked_last : {K P V : Type 0} (m : Setting K P V) (fs : List (Frame K P)) (f : Frame K P) → Linked m (fs ++ f ∷ []) → Sits m f
+pub linked_last : {K P V : Type 0} (m : Instance K P V) (fs : List (Frame K P)) (f : Frame K P) → Linked m (fs ++ f ∷ []) → Sits m f
 unfolding Linked
 linked_last m fs f l = (linked_back m fs (f ∷ []) l).0
 
-pub linked_swap : {K P V : Type 0} (m : Setting K P V) (fs : List (Frame K P)) (f g : Frame K P) → f.key ≡ g.key → Sits m g
+pub linked_swap : {K P V : Type 0} (m : Instance K P V) (fs : List (Frame K P)) (f g : Frame K P) → f.key ≡ g.key → Sits m g
     → Linked m (fs ++ f ∷ []) → Linked m (fs ++ g ∷ [])
 unfolding Linked
 linked_swap m [] f g e s l = (s, tt, tt)
 linked_swap m (x ∷ []) f g e s l = (l.0, l.1 ∙ e, (s, tt, tt))
 linked_swap m (x ∷ (y ∷ ys)) f g e s l = (l.0, l.1, linked_swap m (y ∷ ys) f g e s l.2)
 
-pub linked_push : {K P V : Type 0} (m : Setting K P V) (fs : List (Frame K P)) (f g : Frame K P) → f.asked ≡ g.key → Sits m g
+pub linked_push : {K P V : Type 0} (m : Instance K P V) (fs : List (Frame K P)) (f g : Frame K P) → f.asked ≡ g.key → Sits m g
     → Linked m (fs ++ f ∷ []) → Linked m ((fs ++ f ∷ []) ++ g ∷ [])
 unfolding Linked
 linked_push m [] f g e s l = (l.0, e, (s, tt, tt))
@@ -49,7 +50,7 @@ last_asks x [] (y ∷ (w ∷ ws)) f z a e = cc
 last_asks x (y ∷ ys) [] f z a e = cc
 last_asks x (y ∷ ys) (w ∷ ws) f z a e = last_asks y ys ws f z a (let t : y ∷ ys ≡ ws ++ f ∷ [] = cc in t)
 
-module _ {K P V : Type 0} (m : Setting K P V) (reach : K → List K) (laws : Laws m reach) where
+module _ {K P V : Type 0} (m : Instance K P V) (reach : K → List K) (laws : Laws m reach) where
   -- none below is lower than what the last asked
   pub at_least : (z : K) (f : Frame K P) (fs : List (Frame K P)) → Linked m (f ∷ fs) → LastAsks z f fs → m.level z ≤ m.level f.key
   unfolding Linked
@@ -67,7 +68,8 @@ module _ {K P V : Type 0} (m : Setting K P V) (reach : K → List K) (laws : Law
   waits_for f q s a level =
       subst (λ (x : K). (m.level x ≡ m.level f.key) → Waits m f.key x) a (λ h. (h, (f.part, s.comes))) level
 
-  -- keys that wait for each other, and the last for a key of a level that is none lower than the first's
+  -- keys that wait for each other, and the last for a key of a level that is none lower than the
+  -- first's
   pub waiting : (z : K) (f : Frame K P) (fs : List (Frame K P)) → Linked m (f ∷ fs) → LastAsks z f fs
       → m.level f.key ≤ m.level z → Chain (Waits m) f.key (frame_keys fs) z
   unfolding Linked Chain

@@ -1,18 +1,20 @@
--- Each step of the evaluator keeps what it knows, and leaves less to do.
+-- Each step of the evaluator keeps its invariant and lowers its weight.
 use Rattle.std.proofs.Common.{◌≡◌, ℕ, ◌+◌, ◌*◌, ◌^◌, ◌<◌, ◌≤◌, List, [], ◌∷◌, ◌++◌, length, refl, sym, ap, subst, ◌∙◌, inl, inr, arith, length-append}
 use Rattle.pq_rules.specs.declared.turn.Turn.{Turn}
 use Rattle.pq_rules.specs.declared.turn.Turn.TheVariants.{Ask, Done}
 use Rattle.pq_rules.specs.declared.turn.Answer.{Answer}
 use Rattle.pq_rules.specs.declared.turn.Answer.TheVariants.{Value}
-use Rattle.pq_rules.specs.Found.{Finished, Covers, done_keys}
+use Rattle.pq_rules.specs.aux.AnswerTable.{Finished, Covers, done_keys}
 use Rattle.pq_rules.specs.declared.scratch.Frame.{Frame}
-use Rattle.pq_rules.specs.Turns.{Setting, IsLower}
+use Rattle.pq_rules.specs.Turns.{Instance, IsLower}
 use Rattle.pq_rules.specs.Laws.{Laws}
-use Rattle.pq_rules.specs.Value.{Each, In, Means, Told, ComesTo}
-use Rattle.pq_rules.specs.Search.{frame_keys, seen, Going, GoesOn, Grows, Distinct, weight, top_left, left_number, unseen}
-use Rattle.pq_rules.specs.Rule.{means_done, comes_start, comes_on, each_append}
-use Rattle.pq_rules.specs.Rings.{each_in}
-use Rattle.pq_rules.specs.Lists.{each_from, frame_keys_append, done_keys_append, in_append, in_append_left, in_append_right}
+use Rattle.pq_rules.specs.Relations.{Each, In}
+use Rattle.pq_rules.specs.Value.{Means, RightRead, ComesTo}
+use Rattle.pq_rules.specs.aux.Evaluator.{frame_keys, seen, IsInvariant, GoesOn, Grows, Distinct, weight, top_left, left_number, unseen}
+use Rattle.pq_rules.proofs.Characterisation.{means_done, comes_start, comes_on, each_append}
+use Rattle.pq_rules.proofs.Rings.{each_in}
+use Rattle.pq_rules.specs.aux.Lists.{in_append, in_append_left, in_append_right}
+use Rattle.pq_rules.proofs.ListLemmas.{each_from, frame_keys_append, done_keys_append}
 use Rattle.pq_rules.proofs.Weight.{Exact, unseen_le, unseen_lt, top_is, weight_lt}
 use Rattle.pq_rules.proofs.Stack.{linked_front, linked_last, linked_swap, linked_push, distinct_front, distinct_push, each_front}
 
@@ -56,9 +58,9 @@ then_less a b c h j = omega arith
 last_length : {A : Type 0} (xs : List A) (x : A) → length (xs ++ x ∷ []) ≡ length xs + 1
 last_length xs x = simp length-append
 
-module _ {K P V : Type 0} (m : Setting K P V) (reach : K → List K) (laws : Laws m reach) (exact : Exact m.order) (root : K) where
+module _ {K P V : Type 0} (m : Instance K P V) (reach : K → List K) (laws : Laws m reach) (exact : Exact m.order) (root : K) where
   pub covered_going : (before after : List (Finished K V)) (stack : List (Frame K P)) → Covers before after
-      → Going m (reach root) root before stack → Going m (reach root) root after stack
+      → IsInvariant m (reach root) root before stack → IsInvariant m (reach root) root after stack
   covered_going before after stack c go = record {
     answered = each_from (λ (f : Finished K V). Means m f.key f.answer) after
         (λ f i. each_in (λ (g : Finished K V). Means m g.key g.answer) f before go.answered (c.from f i));
@@ -68,7 +70,7 @@ module _ {K P V : Type 0} (m : Setting K P V) (reach : K → List K) (laws : Law
     within = go.within;
   }
 
-  -- the answers found stand in another list
+  -- another list with the same answers
   pub covered : (done : List (Finished K V)) (stack : List (Frame K P)) (before after : List (Finished K V)) (rest : List (Frame K P))
       → Covers before after → GoesOn m (reach root) root done stack before rest → GoesOn m (reach root) root done stack after rest
   unfolding weight
@@ -81,7 +83,7 @@ module _ {K P V : Type 0} (m : Setting K P V) (reach : K → List K) (laws : Law
 
   -- more is known before a step
   pub grown_going : (before after : List (Finished K V)) (stack : List (Frame K P)) → Grows m before after
-      → Going m (reach root) root before stack → Going m (reach root) root after stack
+      → IsInvariant m (reach root) root before stack → IsInvariant m (reach root) root after stack
   grown_going before after stack g go = record {
     answered = g.right go.answered;
     linked = go.linked;
@@ -102,7 +104,7 @@ module _ {K P V : Type 0} (m : Setting K P V) (reach : K → List K) (laws : Law
 
   -- the last key of the stack has its answer
   pub finish : (done : List (Finished K V)) (stack : List (Frame K P)) (f : Frame K P) (a : Answer K V)
-      → Going m (reach root) root done (stack ++ f ∷ []) → Means m f.key a
+      → IsInvariant m (reach root) root done (stack ++ f ∷ []) → Means m f.key a
       → GoesOn m (reach root) root done (stack ++ f ∷ []) (done ++ record { key = f.key; answer = a } ∷ []) stack
   finish done stack f a go means =
       let e : Finished K V = record { key = f.key; answer = a } in
@@ -122,7 +124,7 @@ module _ {K P V : Type 0} (m : Setting K P V) (reach : K → List K) (laws : Law
 
   -- the last key of the stack asks further
   pub ask_on : (done : List (Finished K V)) (stack : List (Frame K P)) (f : Frame K P) (a : Answer K V) (q : K) (p : P)
-      → Going m (reach root) root done (stack ++ f ∷ []) → Told m (m.level f.key) (f.asked, a)
+      → IsInvariant m (reach root) root done (stack ++ f ∷ []) → RightRead m (m.level f.key) (f.asked, a)
       → m.advance f.part a ≡ Ask q p → ((m.left p).0 < 2 ^ 32) × ((m.left p).1 < 2 ^ 64)
       → GoesOn m (reach root) root done (stack ++ f ∷ []) done (stack ++ record { key = f.key; asked = q; part = p } ∷ [])
   unfolding weight
@@ -147,7 +149,7 @@ module _ {K P V : Type 0} (m : Setting K P V) (reach : K → List K) (laws : Law
 
   -- a key is asked for the first time
   pub start_ask : (done : List (Finished K V)) (stack : List (Frame K P)) (f : Frame K P) (q : K) (p : P)
-      → Going m (reach root) root done (stack ++ f ∷ []) → 0 < m.level f.asked
+      → IsInvariant m (reach root) root done (stack ++ f ∷ []) → 0 < m.level f.asked
       → (In f.asked (done_keys done) → ⊥) → (In f.asked (frame_keys (stack ++ f ∷ [])) → ⊥)
       → m.start f.asked ≡ Ask q p → ((m.left p).0 < 2 ^ 32) × ((m.left p).1 < 2 ^ 64)
       → GoesOn m (reach root) root done (stack ++ f ∷ []) done ((stack ++ f ∷ []) ++ record { key = f.asked; asked = q; part = p } ∷ [])
@@ -187,7 +189,7 @@ module _ {K P V : Type 0} (m : Setting K P V) (reach : K → List K) (laws : Law
       )
 
   pub start_done : (done : List (Finished K V)) (stack : List (Frame K P)) (f : Frame K P) (v : V)
-      → Going m (reach root) root done (stack ++ f ∷ []) → 0 < m.level f.asked
+      → IsInvariant m (reach root) root done (stack ++ f ∷ []) → 0 < m.level f.asked
       → (In f.asked (done_keys done) → ⊥) → (In f.asked (frame_keys (stack ++ f ∷ [])) → ⊥)
       → m.start f.asked ≡ Done v
       → GoesOn m (reach root) root done (stack ++ f ∷ []) (done ++ record { key = f.asked; answer = Value v } ∷ []) (stack ++ f ∷ [])

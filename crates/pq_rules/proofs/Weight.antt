@@ -1,14 +1,14 @@
--- What falls with each step of the evaluator.
+-- The number that each step of the evaluator lowers.
 use Rattle.std.proofs.Common.{◌≡◌, ℕ, ◌+◌, ◌*◌, ◌^◌, ◌<◌, ◌≤◌, ◌⊎◌, List, [], ◌∷◌, ◌++◌, length, refl, sym, subst, inl, inr, arith, Bool, true, false, cond}
 use Rattle.std.specs.Cmp.{IsTotalOrder, Equal-is, tied_itself}
 use Rattle.std.specs.declared.cmp.Ordering.{Ordering}
 use Rattle.std.specs.declared.cmp.Ordering.TheVariants.{Equal}
 use Rattle.std.specs.Ordering.{is_eq}
-use Rattle.pq_rules.specs.Found.{Finished}
+use Rattle.pq_rules.specs.aux.AnswerTable.{Finished}
 use Rattle.pq_rules.specs.declared.scratch.Frame.{Frame}
-use Rattle.pq_rules.specs.Turns.{Setting}
-use Rattle.pq_rules.specs.Value.{In}
-use Rattle.pq_rules.specs.Search.{has, unseen, weight, top_left, left_number, seen, Linked}
+use Rattle.pq_rules.specs.Turns.{Instance}
+use Rattle.pq_rules.specs.Relations.{In}
+use Rattle.pq_rules.specs.aux.Evaluator.{has, unseen, weight, top_left, left_number, seen, Linked}
 
 pub record Exact {K : Type 0} (order : K → K → Ordering) : Type 0 where
   pub total : IsTotalOrder order
@@ -70,7 +70,7 @@ unseen_lt order o (x ∷ xs) ys zs q f (inr i) n j =
     let a = one_le (has order x ys) (has order x zs) (λ e. in_has order o x zs (f x (has_in order o x ys e))) in
     let b = unseen_lt order o xs ys zs q f i n j in omega arith
 
-pub top_is : {K P V : Type 0} (m : Setting K P V) (stack : List (Frame K P)) (f : Frame K P)
+pub top_is : {K P V : Type 0} (m : Instance K P V) (stack : List (Frame K P)) (f : Frame K P)
     → top_left m (stack ++ f ∷ []) ≡ left_number (m.left f.part)
 unfolding top_left
 top_is m [] f = refl
@@ -80,7 +80,7 @@ top_is m (x ∷ (y ∷ ys)) f = top_is m (y ∷ ys) f
 number_below : (a b : ℕ) → a < 2 ^ 32 → b < 2 ^ 64 → a * (2 ^ 64) + b < 2 ^ 97
 number_below a b h j = omega arith
 
-pub top_below : {K P V : Type 0} (m : Setting K P V) (stack : List (Frame K P)) → Linked m stack → top_left m stack < 2 ^ 97
+pub top_below : {K P V : Type 0} (m : Instance K P V) (stack : List (Frame K P)) → Linked m stack → top_left m stack < 2 ^ 97
 unfolding top_left Linked
 top_below m [] l = omega arith
 top_below m (x ∷ []) l = number_below (m.left x.part).0 (m.left x.part).1 l.0.fits.0 l.0.fits.1
@@ -90,7 +90,7 @@ less_work : (u l t v k s : ℕ) → 2 * v + k < 2 * u + l → s < 2 ^ 97
     → (2 * v + k) * (2 ^ 97) + s < (2 * u + l) * (2 ^ 97) + t
 less_work u l t v k s h j = omega arith
 
-pub weight_lt : {K P V : Type 0} (m : Setting K P V) (reach : List K)
+pub weight_lt : {K P V : Type 0} (m : Instance K P V) (reach : List K)
     (done : List (Finished K V)) (stack : List (Frame K P)) (after : List (Finished K V)) (rest : List (Frame K P))
     → 2 * unseen m.order reach (seen after rest) + length rest < 2 * unseen m.order reach (seen done stack) + length stack
     → Linked m rest → weight m reach after rest < weight m reach done stack

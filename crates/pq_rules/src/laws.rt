@@ -1,33 +1,48 @@
 //! Laws of answers, each as the contract of a function that does nothing.
-ghost use Rattle.std.specs.Prelude.{◌≡◌, ◌<◌, ◌∷◌, ℕ, List};
+//!
+//! A law holds for every rule set, at all sources. The last says that the words for lists of
+//! `specs/Relations` are those of std.
+ghost use Rattle.std.specs.Prelude.{◌≡◌, ◌<◌, ◌∷◌, ◌↔◌, ℕ, List, Bool, IsTrue};
+ghost use Rattle.std.specs.List.{All, Contains};
 ghost use Rattle.std.specs.declared.cmp.Ordering.TheVariants.{Less};
 ghost use Rattle.pq_inputs.specs.Sources.{Sources};
 ghost use Rattle.pq_rules.specs.declared.turn.Answer.{Answer};
 ghost use Rattle.pq_rules.specs.declared.turn.Answer.TheVariants.{Cycle};
 ghost use Rattle.pq_rules.specs.Turns.{over};
-ghost use Rattle.pq_rules.specs.Value.{Each, In, IsRing, Means, Round, Waits};
+ghost use Rattle.pq_rules.specs.Relations.{Each, In, IsRing, Round};
+ghost use Rattle.pq_rules.specs.Value.{Means, Waits};
 
 use crate::rules::Rules;
 
-/// A key has one answer.
+/// A key has at most one answer.
 pub fn one_value<R: Rules>(_rules: &R)
     ensures one { (files : Sources) (key : R.Key) (a b : Answer R.Key R.Value) → Means (over R.Key.cmp (R.machine _rules.now) files) key a → Means (over R.Key.cmp (R.machine _rules.now) files) key b → a ≡ b }
 {}
 
-/// Keys above the inputs' level each of which waits for the next, and the last for the first, have that ring as their answer,
-/// from the least of them on.
+/// Keys above the inputs' level that wait round, each for the one after it and the last for the
+/// first, are a cycle: the answer of each is their ring, the least key first.
 pub fn keys_that_wait_round<R: Rules>(_rules: &R)
     ensures ring { (files : Sources) (z : R.Key) (zs : List R.Key) → 0 < (R.machine _rules.now).level z → Round (Waits (over R.Key.cmp (R.machine _rules.now) files)) (z ∷ zs) → Each (λ x. R.Key.cmp z x ≡ Less) zs → (x : R.Key) → In x (z ∷ zs) → Means (over R.Key.cmp (R.machine _rules.now) files) x (Cycle (z ∷ zs)) }
 {}
 
-/// A key above the inputs' level that waits for a key of its level with a cycle has that cycle.
+/// A key above the inputs' level that waits for a key whose answer is a cycle has that cycle as its
+/// answer.
 pub fn cycle_passes_on<R: Rules>(_rules: &R)
     ensures passed { (files : Sources) (k q : R.Key) (r : List R.Key) → 0 < (R.machine _rules.now).level k → Waits (over R.Key.cmp (R.machine _rules.now) files) k q → Means (over R.Key.cmp (R.machine _rules.now) files) q (Cycle r) → Means (over R.Key.cmp (R.machine _rules.now) files) k (Cycle r) }
 {}
 
-/// A key above the inputs' level with a cycle waits for a key of its level with that cycle, and the keys of the cycle wait round,
-/// from the least of them on.
+/// A key above the inputs' level whose answer is a cycle waits for a key with the same answer. The
+/// keys of the cycle wait round, the least key first.
 pub fn cycle_waits_round<R: Rules>(_rules: &R)
     ensures waits { (files : Sources) (k : R.Key) (r : List R.Key) → 0 < (R.machine _rules.now).level k → Means (over R.Key.cmp (R.machine _rules.now) files) k (Cycle r) → (q : R.Key) × Waits (over R.Key.cmp (R.machine _rules.now) files) k q × Means (over R.Key.cmp (R.machine _rules.now) files) q (Cycle r) }
     ensures round { (files : Sources) (k : R.Key) (r : List R.Key) → 0 < (R.machine _rules.now).level k → Means (over R.Key.cmp (R.machine _rules.now) files) k (Cycle r) → IsRing R.Key.cmp (Waits (over R.Key.cmp (R.machine _rules.now) files)) r }
+{}
+
+/// `Each` of this crate is `All` of std, and `In` is `Contains`. Both forms exist since a proof
+/// takes the recursive one apart by cases, and std's speak of indexes. A clause cannot range over
+/// all predicates, so the first is stated of tests; the lemma `each_all` of `proofs/ListLemmas` is
+/// of every predicate.
+pub fn lists_of_std<A>()
+    ensures each { (test : A → Bool) (xs : List A) → Each (λ x. IsTrue (test x)) xs ↔ All (λ x. IsTrue (test x)) xs }
+    ensures has { (x : A) (xs : List A) → In x xs ↔ Contains xs x }
 {}

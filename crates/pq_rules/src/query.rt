@@ -1,4 +1,4 @@
-//! One query of a computation, generic over the sum of queries in which it stands.
+//! One query of a computation, generic over the rule set in which it is used.
 ghost use Rattle.std.specs.Prelude.{◌≡◌, ℕ, IfOk, IfErr};
 ghost use Rattle.pq_rules.specs.declared.turn.Turn.{Turn};
 ghost use Rattle.pq_rules.specs.declared.turn.Turn.TheVariants.{Ask};
@@ -7,9 +7,9 @@ ghost use Rattle.pq_rules.specs.Turns.{IsLower};
 use crate::turn::{Memory, Turn};
 use std::alloc::Global;
 
-/// One query: the rule for the keys of one kind (the Salsa book, "Defining the query groups"). It does not know the sum in which
-/// it stands: the keys that it asks and the answers that it is told are types of the sum, which a small trait of its own crate
-/// makes and reads.
+/// One query: the rule for the keys of one kind (the Salsa book, "Defining the query groups"). It
+/// does not know the rule set in which it is used. The keys that it asks and the answers that it
+/// gets are types of that rule set; a small trait of the query's own crate makes and reads them.
 pub trait Query {
     type Key;
 
@@ -26,16 +26,16 @@ pub trait Query {
 
     ghost LEVEL: { ℕ };
 
-    /// The first turn of a key.
+    /// The first turn of a key, as a function.
     ghost starts: { Self → Self.Key → Turn Self.AnyKey Self.Part Self.Value };
 
-    /// The turn that follows an answer.
+    /// The turn after an answer, as a function.
     ghost advances: { Self → Self.Part → Self.AnyAnswer → Turn Self.AnyKey Self.Part Self.Value };
 
-    /// What falls with each further question.
+    /// What is left to ask, as a function.
     ghost lefts: { Self → Self.Part → ℕ × ℕ };
 
-    /// Starts the rule of a key. `Memory` leaves nothing behind.
+    /// Starts the rule of `key`: its first turn.
     fn start(
         &self,
         alloc: Global,
@@ -43,7 +43,8 @@ pub trait Query {
     ) -> Result<Turn<Self::AnyKey, Self::Part, Self::Value>, Memory>
         ensures turn { IfOk result (λ t. t ≡ starts self.now key.now) };
 
-    /// Goes on from a part with the answer to the key that it asked. For want of memory the part comes back as it was.
+    /// Goes on from `part` with the answer to the key that it asked: the next turn. If an
+    /// allocation fails, `part` comes back unchanged.
     fn advance(
         &self,
         alloc: Global,
@@ -53,7 +54,8 @@ pub trait Query {
         ensures turn { IfOk result (λ t. t ≡ advances self.now part answer.now) }
         ensures back { IfErr result (λ p. p ≡ part) };
 
-    /// A pair that falls, in lexicographic order, with each further question.
+    /// What is left for the rule to ask at `part`: a pair that each further question lowers, in
+    /// lexicographic order.
     fn left(&self, part: &Self::Part) -> (u32, u64)
         ensures left { (result.0, result.1) ≡ lefts self.now part.now };
 

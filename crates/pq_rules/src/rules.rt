@@ -7,9 +7,9 @@ ghost use Rattle.pq_rules.specs.Laws.{Laws};
 use crate::turn::{Answer, Memory, Turn};
 use std::alloc::Global;
 
-/// A rule set: the sum of the queries of a computation (the Salsa book, "Defining the query groups"). What it computes is one
-/// value of contracts, `machine`, so that `start` and `advance` depend on their arguments alone. Keys are ordered lawfully, and
-/// values have a lawful equality.
+/// A rule set: the queries of a computation, put together (the Salsa book, "Defining the query
+/// groups"). Contracts see what it computes as one value, `machine`, so `start` and `advance`
+/// depend on their arguments alone. Keys have a lawful order, values a lawful equality.
 pub trait Rules: Copy {
     type Key: Ord + Drop;
 
@@ -17,25 +17,26 @@ pub trait Rules: Copy {
 
     type Part: Drop;
 
-    /// The levels, files, values of inputs, turns and what is left, as functions.
+    /// What the rule set computes: its methods as functions.
     ghost machine: { Self → Machine Self.Key Self.Part Self.Value };
 
-    /// Over the sources, a list that has the key and all keys that are asked on its behalf.
+    /// A finite list of keys, for given sources: it has the key and every key that its evaluation
+    /// asks.
     ghost reach: { Self → Sources → Self.Key → List Self.Key };
 
-    /// The level of a key: 0 for an input. A rule asks keys of its own level or of a lower one.
+    /// The level of `key`: 0 for an input. A rule asks keys of its own level or of a lower one.
     fn level(&self, key: &Self::Key) -> u8
         ensures level { result ≡ (machine self.now).level key.now };
 
-    /// The file of an input key, and `None` for a key with a rule.
+    /// The name of the file of the input `key`. It is `None` for a key with a rule.
     fn file<'a>(&self, key: &'a Self::Key) -> Option<&'a str>
         ensures file { option_copied result ≡ (machine self.now).file key.now };
 
-    /// The value of an input: of the text of its file, or of its absence.
+    /// Makes the value of an input whose file has `text`, `None` for an absent file.
     fn text(&self, alloc: Global, text: Option<&str>) -> Result<Self::Value, Memory>
         ensures value { IfOk result (λ v. v ≡ (machine self.now).text (option_copied text.entry)) };
 
-    /// Starts the rule of a key.
+    /// Starts the rule of `key`: its first turn.
     fn start(
         &self,
         alloc: Global,
@@ -43,7 +44,8 @@ pub trait Rules: Copy {
     ) -> Result<Turn<Self::Key, Self::Part, Self::Value>, Memory>
         ensures turn { IfOk result (λ t. t ≡ (machine self.now).start key.now) };
 
-    /// Goes on from a part with the answer to the key that it asked. For want of memory the part comes back as it was.
+    /// Goes on from `part` with the answer to the key that it asked: the next turn. If an
+    /// allocation fails, `part` comes back unchanged.
     fn advance(
         &self,
         alloc: Global,
@@ -53,22 +55,23 @@ pub trait Rules: Copy {
         ensures turn { IfOk result (λ t. t ≡ (machine self.now).advance part answer.now) }
         ensures back { IfErr result (λ p. p ≡ part) };
 
-    /// A pair that falls, in lexicographic order, with each further question.
+    /// What is left for the rule to ask at `part`: a pair that each further question lowers, in
+    /// lexicographic order.
     fn left(&self, part: &Self::Part) -> (u32, u64)
         ensures left { (result.0, result.1) ≡ (machine self.now).left part.now };
 
-    /// A copy of a key.
+    /// Copies `key`.
     fn copy_key(&self, alloc: Global, key: &Self::Key) -> Result<Self::Key, Memory>
         ensures copy { IfOk result (λ k. k ≡ key.now) };
 
-    /// A copy of a value, which may share it.
+    /// Copies `value`. A copy may share memory with it.
     fn copy_value(&self, alloc: Global, value: &Self::Value) -> Result<Self::Value, Memory>
         ensures copy { IfOk result (λ v. v ≡ value.now) };
 
-    /// The laws, over any sources.
+    /// The laws of `specs/Laws`, at any sources.
     ghost lawful: { (rules : Self) (files : Sources) → Laws (over Self.Key.cmp (machine rules) files) (reach rules files) };
 
-    /// A key is of a file exactly where its level is 0.
+    /// A key has a file exactly if its level is 0.
     ghost inputs: { (rules : Self) (key : Self.Key) → ((machine rules).level key ≡ 0) ↔ IsSome ((machine rules).file key) };
 
     /// Values that compare as equal are equal.

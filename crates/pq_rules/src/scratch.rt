@@ -1,42 +1,51 @@
-//! The slow evaluator: depth first, with a stack of the keys whose rules wait.
-ghost use Rattle.std.specs.Prelude.{◌≡◌, ◌<◌, ◌≤◌, ◌↔◌, ◌++◌, ◌∷◌, ◌&&◌, [], ℕ, List, length, nat_eq, slice_get, Some, IfOk, IfSome, IfNone, IsTrue, HoldsAt, option_copied};
+//! The slow evaluator: the answer of a key, with nothing kept from before.
+//!
+//! It goes depth first. A stack has a frame for each key whose rule waits for the answer of
+//! another; each frame but the last waits for the key of the frame above it. A step takes the last
+//! frame and looks for the answer of the key that it asked:
+//! - the answer is known, or the key is an input: the frame's rule goes on by it, or has a cycle of
+//!   its own level as its answer too (`deliver`);
+//! - the key is on the stack: the frames from it on are a cycle, and the ring of their keys is the
+//!   answer of each;
+//! - otherwise the rule of the key starts, in a frame of its own.
+//!
+//! Each key is evaluated once. An answer is found in logarithmic time. The stack is searched from
+//! its bottom, once for each key, so `n` keys in a stack of depth `d` cost `n * d` comparisons at
+//! most.
+ghost use Rattle.std.specs.Prelude.{◌≡◌, ◌<◌, ◌≤◌, ◌++◌, ◌∷◌, ◌&&◌, [], ℕ, List, length, nat_eq, slice_get, Some, IfOk, IfSome, IfNone, HoldsAt, option_copied};
 ghost use Rattle.pq_inputs.specs.Sources.{Sources};
 ghost use Rattle.pq_rules.specs.declared.turn.Answer.{Answer};
 ghost use Rattle.pq_rules.specs.declared.turn.Answer.TheVariants.{Cycle};
 ghost use Rattle.pq_rules.specs.Turns.{over, text_at};
-ghost use Rattle.pq_rules.specs.Value.{In, Each, Means};
-ghost use Rattle.pq_rules.specs.Found.{Finished, Covers, entry, finished, is_cycle};
-ghost use Rattle.pq_rules.specs.Search.{frame_keys, IsLeastAt, Turned, Distinct, RingDone, Kept, Going, GoesOn, Grows, IsNew};
+ghost use Rattle.pq_rules.specs.Relations.{In, Each};
+ghost use Rattle.pq_rules.specs.Value.{Means};
+ghost use Rattle.pq_rules.specs.aux.AnswerTable.{Finished, Covers, entry, finished, is_cycle};
+ghost use Rattle.pq_rules.specs.aux.Evaluator.{frame_keys, IsLeastAt, RotatedToLeast, Distinct, RingDone, Applies, Holds, Proceeds, Grows, IsNew};
 
-use crate::found::Found;
+use crate::answer_table::AnswerTable;
+use crate::answers::is_same_key;
 use crate::rules::Rules;
 use crate::turn::{Answer, Memory, Ring, Turn};
 use pq_inputs::Inputs;
 use std::alloc::Global;
 
-/// A key whose rule waits for the answer of another.
+/// A key whose rule waits for the answer of the key that it asked, and the part to go on from.
 #[derive(Drop)]
-pub struct Frame<K, P> {
-    pub key: K,
-    pub asked: K,
-    pub part: P,
+pub(crate) struct Frame<K, P> {
+    key: K,
+    asked: K,
+    part: P,
 }
 
+/// Adds `item` at the end of `items`.
 fn push<T: Drop>(items: &mut Vec<T>, item: T) -> Result<(), Memory>
     ensures { IfOk result (λ _. items.new.items ≡ items.old.items ++ item ∷ []) }
 {
-    match items.push(item) {
-        Ok(()) => Ok(()),
-        Err(_) => Err(Memory),
-    }
+    items.push(item)?;
+    Ok(())
 }
 
-fn is_same_key<R: Rules>(_rules: &R, a: &R::Key, b: &R::Key) -> bool
-    ensures { IsTrue result ↔ (a.now ≡ b.now) }
-{
-    a.cmp(b).is_eq()
-}
-
+/// Finds the frame of `key` in the stack, from its bottom up.
 fn place_of<R: Rules>(rules: &R, stack: &[Frame<R::Key, R::Part>], key: &R::Key) -> Option<usize>
     ensures found { IfSome result (λ i. (i < length stack.now) × HoldsAt (λ f. f.key ≡ key.now) stack.now i) }
     ensures none { IfNone result (In key.now (frame_keys stack.now) → ⊥) }
@@ -49,6 +58,7 @@ fn place_of<R: Rules>(rules: &R, stack: &[Frame<R::Key, R::Part>], key: &R::Key)
     None
 }
 
+/// Finds the frame of the least key.
 fn least_place<R: Rules>(_rules: &R, frames: &[Frame<R::Key, R::Part>]) -> usize
     requires { 0 < length frames.now }
     ensures within { result < length frames.now }
@@ -63,6 +73,7 @@ fn least_place<R: Rules>(_rules: &R, frames: &[Frame<R::Key, R::Part>]) -> usize
     least
 }
 
+/// Adds copies of the keys of `frames` to `keys`.
 fn copy_frame_keys<R: Rules>(
     alloc: Global,
     rules: &R,
@@ -78,7 +89,7 @@ fn copy_frame_keys<R: Rules>(
     Ok(())
 }
 
-// The keys of the frames, from the least one on.
+/// Copies the keys of `frames`, rotated so that the least is the first.
 fn ring_of<R: Rules>(
     alloc: Global,
     rules: &R,
@@ -86,7 +97,7 @@ fn ring_of<R: Rules>(
 ) -> Result<Vec<R::Key>, Memory>
     requires some { 0 < length frames.now }
     requires distinct { Distinct (frame_keys frames.now) }
-    ensures { IfOk result (λ v. Turned R.Key.cmp (frame_keys frames.now) v.items) }
+    ensures { IfOk result (λ v. RotatedToLeast R.Key.cmp (frame_keys frames.now) v.items) }
 {
     let at = least_place(rules, frames);
     let mut ring = Vec::new(alloc);
@@ -95,10 +106,10 @@ fn ring_of<R: Rules>(
     Ok(ring)
 }
 
-// Gives a key the answer at a place.
-fn share<R: Rules>(
+/// Gives `key` the answer at `place`.
+fn assign<R: Rules>(
     _rules: &R,
-    found: &mut Found<R::Key, R::Value>,
+    found: &mut AnswerTable<R::Key, R::Value>,
     key: R::Key,
     place: usize,
 ) -> Result<(), Memory>
@@ -106,28 +117,26 @@ fn share<R: Rules>(
     ensures given { IfOk result (λ _. (a : Answer R.Key R.Value) → slice_get found.old.answers place ≡ Some a → Covers (finished found.old ++ entry key a ∷ []) (finished found.new)) }
     ensures answers { found.new.answers ≡ found.old.answers }
 {
-    found.point(key, place)?;
-    Ok(())
+    found.point(key, place)
 }
 
-// Gives a key an answer.
+/// Adds `answer` and gives it to `key`.
 fn finish<R: Rules>(
     rules: &R,
-    found: &mut Found<R::Key, R::Value>,
+    found: &mut AnswerTable<R::Key, R::Value>,
     key: R::Key,
     answer: Answer<R::Key, R::Value>,
 ) -> Result<(), Memory>
     ensures { IfOk result (λ _. Covers (finished found.old ++ entry key answer ∷ []) (finished found.new)) }
 {
     let place = found.add(answer)?;
-    share(rules, found, key, place)?;
-    Ok(())
+    assign(rules, found, key, place)
 }
 
-// Gives the answer at a place to the keys of the stack from another place on.
+/// Pops the frames from `place` on, and gives their keys the answer at `answer`.
 fn finish_ring<R: Rules>(
     rules: &R,
-    found: &mut Found<R::Key, R::Value>,
+    found: &mut AnswerTable<R::Key, R::Value>,
     stack: &mut Vec<Frame<R::Key, R::Part>>,
     place: usize,
     answer: usize,
@@ -138,71 +147,66 @@ fn finish_ring<R: Rules>(
 {
     'ring: while stack.len() > place {
         if let Some(frame) = stack.pop() {
-            share(rules, found, frame.key, answer)?;
+            assign(rules, found, frame.key, answer)?;
         }
     }
     Ok(())
 }
 
-// Puts a key's turn to use.
-fn keep<R: Rules>(
+/// Applies a turn of `key`: a question becomes a frame, a value its answer.
+fn apply_turn<R: Rules>(
     rules: &R,
-    found: &mut Found<R::Key, R::Value>,
+    found: &mut AnswerTable<R::Key, R::Value>,
     stack: &mut Vec<Frame<R::Key, R::Part>>,
     key: R::Key,
     turn: Turn<R::Key, R::Part, R::Value>,
 ) -> Result<(), Memory>
-    ensures { IfOk result (λ _. (files : Sources) → Kept (over R.Key.cmp (R.machine rules.now) files) key turn (finished found.old) stack.old.items (finished found.new) stack.new.items) }
+    ensures { IfOk result (λ _. (files : Sources) → Applies (over R.Key.cmp (R.machine rules.now) files) key turn (finished found.old) stack.old.items (finished found.new) stack.new.items) }
 {
     match turn {
         Turn::Ask(asked, part) => {
+            // Called for its contract alone: what is left fits in its machine integers, which
+            // bounds the steps.
             let _left = rules.left(&part);
-            push(stack, Frame { key, asked, part })?;
-            Ok(())
+            push(stack, Frame { key, asked, part })
         }
-        Turn::Done(value) => {
-            finish(rules, found, key, Answer::Value(value))?;
-            Ok(())
-        }
+        Turn::Done(value) => { finish(rules, found, key, Answer::Value(value)) }
     }
 }
 
-// Goes on with a key's rule, by the answer at a place.
+/// Goes on with the rule of a frame, by the answer at `place`.
 fn resume<R: Rules>(
     alloc: Global,
     rules: &R,
-    found: &mut Found<R::Key, R::Value>,
+    found: &mut AnswerTable<R::Key, R::Value>,
     stack: &mut Vec<Frame<R::Key, R::Part>>,
     frame: Frame<R::Key, R::Part>,
     place: usize,
 ) -> Result<(), Memory>
     requires { place < length found.old.answers }
-    ensures { IfOk result (λ _. (files : Sources) (a : Answer R.Key R.Value) → slice_get found.old.answers place ≡ Some a → Kept (over R.Key.cmp (R.machine rules.now) files) frame.key ((R.machine rules.now).advance frame.part a) (finished found.old) stack.old.items (finished found.new) stack.new.items) }
+    ensures { IfOk result (λ _. (files : Sources) (a : Answer R.Key R.Value) → slice_get found.old.answers place ≡ Some a → Applies (over R.Key.cmp (R.machine rules.now) files) frame.key ((R.machine rules.now).advance frame.part a) (finished found.old) stack.old.items (finished found.new) stack.new.items) }
 {
     match rules.advance(alloc, frame.part, found.answer(place)) {
-        Ok(turn) => {
-            keep(rules, found, stack, frame.key, turn)?;
-            Ok(())
-        }
+        Ok(turn) => { apply_turn(rules, found, stack, frame.key, turn) }
         Err(_) => Err(Memory),
     }
 }
 
-// Starts a key's rule.
+/// Starts the rule of `key`.
 fn begin<R: Rules>(
     alloc: Global,
     rules: &R,
-    found: &mut Found<R::Key, R::Value>,
+    found: &mut AnswerTable<R::Key, R::Value>,
     stack: &mut Vec<Frame<R::Key, R::Part>>,
     key: R::Key,
 ) -> Result<(), Memory>
-    ensures { IfOk result (λ _. (files : Sources) → Kept (over R.Key.cmp (R.machine rules.now) files) key ((R.machine rules.now).start key) (finished found.old) stack.old.items (finished found.new) stack.new.items) }
+    ensures { IfOk result (λ _. (files : Sources) → Applies (over R.Key.cmp (R.machine rules.now) files) key ((R.machine rules.now).start key) (finished found.old) stack.old.items (finished found.new) stack.new.items) }
 {
     let turn = rules.start(alloc, &key)?;
-    keep(rules, found, stack, key, turn)?;
-    Ok(())
+    apply_turn(rules, found, stack, key, turn)
 }
 
+/// Looks up the text of the file of `key`. `None` is for a key of no file too.
 fn text_of<'a, R: Rules>(rules: &R, inputs: &'a Inputs, key: &R::Key) -> Option<&'a str>
     ensures { option_copied result ≡ text_at inputs.now.files ((R.machine rules.now).file key.now) }
 {
@@ -212,6 +216,7 @@ fn text_of<'a, R: Rules>(rules: &R, inputs: &'a Inputs, key: &R::Key) -> Option<
     }
 }
 
+/// Makes the answer of the input `key`.
 fn input_answer<R: Rules>(
     alloc: Global,
     rules: &R,
@@ -225,12 +230,12 @@ fn input_answer<R: Rules>(
     Ok(Answer::Value(value))
 }
 
-// Reads an input, and keeps its answer at the place that is returned.
+/// Reads the input `key`, adds its answer and returns its place.
 fn read_input<R: Rules>(
     alloc: Global,
     rules: &R,
     inputs: &Inputs,
-    found: &mut Found<R::Key, R::Value>,
+    found: &mut AnswerTable<R::Key, R::Value>,
     key: &R::Key,
 ) -> Result<usize, Memory>
     requires { (R.machine rules.now).level key.now ≡ 0 }
@@ -241,16 +246,17 @@ fn read_input<R: Rules>(
     let answer = input_answer(alloc, rules, inputs, key)?;
     let place = found.add(answer)?;
     let copy = rules.copy_key(alloc, key)?;
-    share(rules, found, copy, place)?;
+    assign(rules, found, copy, place)?;
     Ok(place)
 }
 
-// The place of the answer of a key that has one or is an input.
+/// Finds the place of the answer of `key`, which it has already or gets as an input. `None` is for
+/// a key whose rule has to run.
 fn known<R: Rules>(
     alloc: Global,
     rules: &R,
     inputs: &Inputs,
-    found: &mut Found<R::Key, R::Value>,
+    found: &mut AnswerTable<R::Key, R::Value>,
     key: &R::Key,
 ) -> Result<Option<usize>, Memory>
     requires { Each (λ (f : Finished R.Key R.Value). Means (over R.Key.cmp (R.machine rules.now) inputs.now.files) f.key f.answer) (finished found.old) }
@@ -271,7 +277,8 @@ fn known<R: Rules>(
     }
 }
 
-// Whether the reader has its read's answer as its own: a cycle of its own level.
+/// Whether `answer`, to the question of `frame`, is the frame's own answer too: a cycle of its own
+/// level.
 fn passes_on<R: Rules>(
     rules: &R,
     frame: &Frame<R::Key, R::Part>,
@@ -285,86 +292,80 @@ fn passes_on<R: Rules>(
     }
 }
 
-// The last key of the stack is told the answer at a place.
-fn told<R: Rules>(
+/// Delivers the answer at `place` to `frame`, the last one, which was popped. `_inputs` and `_root`
+/// are for the contract.
+fn deliver<R: Rules>(
     alloc: Global,
     rules: &R,
     _inputs: &Inputs,
     _root: &R::Key,
-    found: &mut Found<R::Key, R::Value>,
+    found: &mut AnswerTable<R::Key, R::Value>,
     stack: &mut Vec<Frame<R::Key, R::Part>>,
     frame: Frame<R::Key, R::Part>,
     place: usize,
 ) -> Result<(), Memory>
     requires within { place < length found.old.answers }
-    requires going { let m = over R.Key.cmp (R.machine rules.now) _inputs.now.files in Going m (R.reach rules.now _inputs.now.files _root.now) _root.now (finished found.old) (stack.old.items ++ frame ∷ []) }
+    requires going { Holds R.Key.cmp (R.machine rules.now) (R.reach rules.now) _inputs.now.files _root.now found.old (stack.old.items ++ frame ∷ []) }
     requires means { (a : Answer R.Key R.Value) → slice_get found.old.answers place ≡ Some a → Means (over R.Key.cmp (R.machine rules.now) _inputs.now.files) frame.asked a }
-    ensures { IfOk result (λ _. let m = over R.Key.cmp (R.machine rules.now) _inputs.now.files in GoesOn m (R.reach rules.now _inputs.now.files _root.now) _root.now (finished found.old) (stack.old.items ++ frame ∷ []) (finished found.new) stack.new.items) }
+    ensures { IfOk result (λ _. Proceeds R.Key.cmp (R.machine rules.now) (R.reach rules.now) _inputs.now.files _root.now found.old (stack.old.items ++ frame ∷ []) found.new stack.new.items) }
 {
     if passes_on(rules, &frame, found.answer(place)) {
-        share(rules, found, frame.key, place)?;
-        Ok(())
+        assign(rules, found, frame.key, place)
     } else {
-        resume(alloc, rules, found, stack, frame, place)?;
-        Ok(())
+        resume(alloc, rules, found, stack, frame, place)
     }
 }
 
-// The last key of the stack asks a key that has no answer yet.
+/// Evaluates the question of `frame`, the last one, which was popped: its key has no answer yet.
+/// `_inputs` and `_root` are for the contract.
 fn ask_first<R: Rules>(
     alloc: Global,
     rules: &R,
     _inputs: &Inputs,
     _root: &R::Key,
-    found: &mut Found<R::Key, R::Value>,
+    found: &mut AnswerTable<R::Key, R::Value>,
     stack: &mut Vec<Frame<R::Key, R::Part>>,
     frame: Frame<R::Key, R::Part>,
 ) -> Result<(), Memory>
-    requires going { let m = over R.Key.cmp (R.machine rules.now) _inputs.now.files in Going m (R.reach rules.now _inputs.now.files _root.now) _root.now (finished found.old) (stack.old.items ++ frame ∷ []) }
+    requires going { Holds R.Key.cmp (R.machine rules.now) (R.reach rules.now) _inputs.now.files _root.now found.old (stack.old.items ++ frame ∷ []) }
     requires new { IsNew (R.machine rules.now) frame.asked (finished found.old) }
-    ensures { IfOk result (λ _. let m = over R.Key.cmp (R.machine rules.now) _inputs.now.files in GoesOn m (R.reach rules.now _inputs.now.files _root.now) _root.now (finished found.old) (stack.old.items ++ frame ∷ []) (finished found.new) stack.new.items) }
+    ensures { IfOk result (λ _. Proceeds R.Key.cmp (R.machine rules.now) (R.reach rules.now) _inputs.now.files _root.now found.old (stack.old.items ++ frame ∷ []) found.new stack.new.items) }
 {
     let asked = rules.copy_key(alloc, &frame.asked)?;
     push(stack, frame)?;
     match place_of(rules, stack, &asked) {
         Some(place) => {
-            let ring = ring_of(alloc, rules, &stack[place..])?;
-            let answer = found.add(Answer::Cycle(Ring::new(ring)))?;
-            finish_ring(rules, found, stack, place, answer)?;
-            Ok(())
+            let keys = ring_of(alloc, rules, &stack[place..])?;
+            let ring = Ring::new(alloc, keys)?;
+            let answer = found.add(Answer::Cycle(ring))?;
+            finish_ring(rules, found, stack, place, answer)
         }
-        None => {
-            begin(alloc, rules, found, stack, asked)?;
-            Ok(())
-        }
+        None => { begin(alloc, rules, found, stack, asked) }
     }
 }
 
+/// Takes a step for `frame`, the last one, which was popped.
 fn step<R: Rules>(
     alloc: Global,
     rules: &R,
     inputs: &Inputs,
     root: &R::Key,
-    found: &mut Found<R::Key, R::Value>,
+    found: &mut AnswerTable<R::Key, R::Value>,
     stack: &mut Vec<Frame<R::Key, R::Part>>,
     frame: Frame<R::Key, R::Part>,
 ) -> Result<(), Memory>
-    requires { let m = over R.Key.cmp (R.machine rules.now) inputs.now.files in Going m (R.reach rules.now inputs.now.files root.now) root.now (finished found.old) (stack.old.items ++ frame ∷ []) }
-    ensures { IfOk result (λ _. let m = over R.Key.cmp (R.machine rules.now) inputs.now.files in GoesOn m (R.reach rules.now inputs.now.files root.now) root.now (finished found.old) (stack.old.items ++ frame ∷ []) (finished found.new) stack.new.items) }
+    requires { Holds R.Key.cmp (R.machine rules.now) (R.reach rules.now) inputs.now.files root.now found.old (stack.old.items ++ frame ∷ []) }
+    ensures { IfOk result (λ _. Proceeds R.Key.cmp (R.machine rules.now) (R.reach rules.now) inputs.now.files root.now found.old (stack.old.items ++ frame ∷ []) found.new stack.new.items) }
 {
     match known(alloc, rules, inputs, found, &frame.asked)? {
-        Some(place) => {
-            told(alloc, rules, inputs, root, found, stack, frame, place)?;
-            Ok(())
-        }
-        None => {
-            ask_first(alloc, rules, inputs, root, found, stack, frame)?;
-            Ok(())
-        }
+        Some(place) => { deliver(alloc, rules, inputs, root, found, stack, frame, place) }
+        None => { ask_first(alloc, rules, inputs, root, found, stack, frame) }
     }
 }
 
-/// The answer of a key, with nothing kept from before. Each key is answered once; `Memory` leaves nothing behind.
+/// Evaluates `key` at the sources of `inputs`, with nothing kept from before: its answer, as
+/// `Means` defines it. Each key is evaluated once. If an allocation fails, it answers `Memory` and
+/// keeps nothing.
 pub fn from_scratch<R: Rules>(
     alloc: Global,
     rules: &R,
@@ -376,7 +377,7 @@ pub fn from_scratch<R: Rules>(
     if rules.level(key) == 0 {
         return input_answer(alloc, rules, inputs, key);
     }
-    let mut found = Found::new(alloc);
+    let mut found = AnswerTable::new(alloc);
     let mut stack = Vec::new(alloc);
     begin(
         alloc,

@@ -1,15 +1,22 @@
-//! The sums over the names in texts: a sum of two queries, as an example of a rule set and for tests.
+//! The example of a rule set: two queries over the names in texts, put together.
+//!
+//! The sum of a file is 1 and the sums of the names in its text. The total of a file is its sum, or
+//! 0 where that is a cycle. Modules: `names` (the names in a text), `queries` (the two queries);
+//! here they become one rule set, `Sums`.
 ghost use Rattle.std.specs.Prelude.{◌≡◌, ℕ, List, Option, Some, None, IfOk, option_copied};
-ghost use Rattle.pq_rules.specs.Sums.{text_read, number_read, sum_turn, total_turn};
+ghost use Rattle.pq_rules.specs.sums.RuleSet.{text_read, number_read, sum_turn, total_turn};
+
+mod names;
+mod queries;
 
 use crate::query::Query;
 use crate::rules::Rules;
-use crate::sum_queries::{SumKeys, SumPart, SumQuery, TotalQuery};
-use crate::text::Text;
 use crate::turn::{Answer, Memory, Turn};
+use pq_names::Text;
+use queries::{SumKeys, SumPart, SumQuery, TotalQuery};
 use std::alloc::Global;
 
-/// A key, of the file of a name: its text, its sum (`L`), or its total (`T`).
+/// A key: the text, the sum or the total of the file of a name.
 #[derive(Drop, PartialEq, Eq, PartialOrd, Ord)]
 pub enum SumsKey {
     Input(Text),
@@ -17,14 +24,14 @@ pub enum SumsKey {
     Total(Text),
 }
 
-/// What a key's rule ends in: the text of a file, or `None` where it is absent, or a number.
+/// A value: the text of a file, `None` where it is absent, or a number.
 #[derive(Drop, PartialEq, Eq)]
 pub enum SumsValue {
     Source(Option<Text>),
     Number(u32),
 }
 
-/// Where a key's rule stands.
+/// What a key's rule does with the next answer.
 #[derive(Drop)]
 pub enum SumsPart {
     Adding(SumPart),
@@ -76,7 +83,7 @@ impl SumKeys for Sums {
     }
 }
 
-// A turn of the sum query as a turn of the sum of queries.
+/// Makes a turn of the sum query one of the rule set.
 fn of_sum(turn: Turn<SumsKey, SumPart, u32>) -> Turn<SumsKey, SumsPart, SumsValue>
     ensures { result ≡ sum_turn turn }
 {
@@ -86,7 +93,7 @@ fn of_sum(turn: Turn<SumsKey, SumPart, u32>) -> Turn<SumsKey, SumsPart, SumsValu
     }
 }
 
-// A turn of the total query as a turn of the sum of queries.
+/// Makes a turn of the total query one of the rule set.
 fn of_total(turn: Turn<SumsKey, (), u32>) -> Turn<SumsKey, SumsPart, SumsValue>
     ensures { result ≡ total_turn turn }
 {
@@ -97,9 +104,9 @@ fn of_total(turn: Turn<SumsKey, (), u32>) -> Turn<SumsKey, SumsPart, SumsValue>
 }
 
 impl Rules for Sums {
-    ghost use Rattle.pq_rules.specs.Sums.{sums, sums_reach};
-    ghost use Rattle.pq_rules.specs.SumsLaws.{sums_lawful};
-    ghost use Rattle.pq_rules.specs.SumsExact.{sums_inputs, key_exact, value_exact};
+    ghost use Rattle.pq_rules.specs.sums.RuleSet.{sums, sums_reach};
+    ghost use Rattle.pq_rules.specs.aux.sums.Laws.{sums_lawful};
+    ghost use Rattle.pq_rules.specs.aux.sums.Exact.{sums_inputs, key_exact, value_exact};
 
     type Key = SumsKey;
 
@@ -177,17 +184,17 @@ impl Rules for Sums {
         }
     }
 
-    fn copy_key(&self, alloc: Global, key: &SumsKey) -> Result<SumsKey, Memory> {
+    fn copy_key(&self, _alloc: Global, key: &SumsKey) -> Result<SumsKey, Memory> {
         match key {
-            SumsKey::Input(name) => Ok(SumsKey::Input(name.copy(alloc)?)),
-            SumsKey::Sum(name) => Ok(SumsKey::Sum(name.copy(alloc)?)),
-            SumsKey::Total(name) => Ok(SumsKey::Total(name.copy(alloc)?)),
+            SumsKey::Input(name) => Ok(SumsKey::Input(name.copy()?)),
+            SumsKey::Sum(name) => Ok(SumsKey::Sum(name.copy()?)),
+            SumsKey::Total(name) => Ok(SumsKey::Total(name.copy()?)),
         }
     }
 
-    fn copy_value(&self, alloc: Global, value: &SumsValue) -> Result<SumsValue, Memory> {
+    fn copy_value(&self, _alloc: Global, value: &SumsValue) -> Result<SumsValue, Memory> {
         match value {
-            SumsValue::Source(Some(text)) => Ok(SumsValue::Source(Some(text.copy(alloc)?))),
+            SumsValue::Source(Some(text)) => Ok(SumsValue::Source(Some(text.copy()?))),
             SumsValue::Source(None) => Ok(SumsValue::Source(None)),
             SumsValue::Number(number) => Ok(SumsValue::Number(*number)),
         }

@@ -1,8 +1,8 @@
-//! The command line. `script` is the one subcommand yet.
+//! The command line. `script` is its one subcommand.
 use clap::{Command, Error};
 use std::alloc::Global;
 
-/// The command line of the program, as `clap` knows it.
+/// The command line of the program, as `clap` describes it.
 fn command<'a>(alloc: Global) -> Result<Command<'a>, Error> {
     let script = Command::new(alloc, "script").about(
         "answers the frames of standard input on standard output",
@@ -14,14 +14,11 @@ fn command<'a>(alloc: Global) -> Result<Command<'a>, Error> {
     Ok(whole)
 }
 
-/// What `clap` says where the words, of which the first is the program's name, are no command of the program, and
-/// where they ask for help; None where they are one.
+/// The error of `clap` if `words`, of which the first is the program's name, is not a command line
+/// of the program; also if they ask for help.
 pub fn refusal(words: &[String], alloc: Global) -> Option<Error> {
     match command(alloc) {
         Err(error) => Some(error),
-        Ok(command) => match command.try_get_matches_from(words) {
-            Ok(_) => None,
-            Err(error) => Some(error),
-        },
+        Ok(command) => command.try_get_matches_from(words).err(),
     }
 }

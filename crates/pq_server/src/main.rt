@@ -1,5 +1,6 @@
 //! pq_server: a compile server for proto3 that speaks the Language Server Protocol.
-//! Here: the command line, and the standard streams. `status`: what a script's outcome means to the caller of the program.
+//! Here are the words of the command line and the standard streams; `command` reads the words, and
+//! `status` maps the outcome of a script to the exit status and the line of standard error.
 #![tactic(auto)]
 
 mod command;
@@ -8,21 +9,34 @@ mod status;
 mod tests;
 
 use command::refusal;
-use status::{COMMAND_LINE_FAULT, run_script};
+use pq_session::Counted;
+use status::{COMMAND_LINE, run_script, unread};
 use std::process::ExitCode;
 use std::rt::Env;
 use std::{env, io};
 
-fn main(rt: HostRuntime) -> io::Result<ExitCode> {
+/// The words of the command line, from the program's name on; `InvalidData` if one is not UTF-8.
+fn words(rt: &(impl Env + AllocGlobal)) -> io::Result<Vec<String>> {
+    Ok(env::args(rt)?.collect(rt.alloc())?)
+}
+
+/// Runs the command line. A failed write to standard error is ignored, since the status says it.
+fn main(rt: HostRuntime) -> ExitCode {
     let alloc = rt.alloc();
-    let words: Vec<String> = env::args(&rt)?.collect(alloc)?;
+    let words = match words(&rt) {
+        Ok(words) => words,
+        Err(error) => {
+            let (status, line) = unread(error.kind());
+            let _ = eprint!(rt; "{line}");
+            return ExitCode::from(status);
+        }
+    };
     if let Some(error) = refusal(words.as_slice(), alloc) {
-        // A failed write of the text changes nothing: the status stands.
         let _ = eprint!(rt; "{error}");
-        return Ok(ExitCode::from(COMMAND_LINE_FAULT));
+        return ExitCode::from(COMMAND_LINE);
     }
-    let mut input = rt.stdin();
-    let mut output = rt.stdout();
-    let mut errors = rt.stderr();
-    Ok(ExitCode::from(run_script(alloc, &mut input, &mut output, &mut errors)))
+    let mut input = Counted::new(rt.stdin());
+    let mut output = Counted::new(rt.stdout());
+    let mut errors = Counted::new(rt.stderr());
+    ExitCode::from(run_script(alloc, &mut input, &mut output, &mut errors))
 }

@@ -1,115 +1,147 @@
-//! What a script's outcome means to the caller of the program: an exit status, and mostly a line of standard error.
+//! The exit status of `pq_server script`, and its line of standard error.
 //!
 //! | Status | Cause |
 //! |---|---|
 //! | 0 | `exit` after `shutdown` |
 //! | 1 | `exit` without it; the input ends between frames |
-//! | 2 | a frame fault; the input ends inside a frame |
-//! | 3 | an edit was refused, or its parameters could not be read |
+//! | 2 | a frame error; the input ends inside a frame |
+//! | 3 | an edit was refused, or its parameters were unreadable |
 //! | 4 | a read or a write failed, or there were too many reads |
-//! | 5 | want of memory outside a reply |
+//! | 5 | out of memory outside a reply |
 //! | 64 | the command line |
-ghost use Rattle.std.specs.Prelude.{◌≡◌};
+//!
+//! `specs/Status` has this table for the outcomes of a script, with the lines. [`run_script`] is
+//! proved to follow it.
+ghost use Rattle.std.specs.Prelude.{◌≡◌, ◌+◌, ◌<◌, ◌^◌, ℕ, List, Result};
+ghost use Rattle.std.specs.Io.KnownBytes.{Appends, Consumes, IsAtEnd};
+ghost use Rattle.pq_session.specs.Counts.{inner_of, failed_of, reads_of};
+ghost use Rattle.pq_session.specs.Script.{Scripts};
+ghost use Rattle.pq_session.specs.declared.fault.ScriptFault.{ScriptFault};
+ghost use Rattle.pq_server.specs.Status.{status_of, line_of, frame_line, edit_line, unread_status, unread_line};
 
 use pq_frame::FrameFault;
 use pq_inputs::InputFault;
-use pq_session::{Counted, ScriptFault, script};
+use pq_session::{Counted, ScriptFault, UNREADABLE_PARAMETERS, script};
 use std::alloc::Global;
-use std::io::{Read, Write};
+use std::io::{ErrorKind, Read, Write};
 
-/// The status where the words are no command of the program: `EX_USAGE` of BSD's sysexits.
-pub const COMMAND_LINE_FAULT: u8 = 64;
+/// The status of a refused command line: `EX_USAGE` of BSD's sysexits.
+pub(crate) const COMMAND_LINE: u8 = 64;
 
-// The status where an edit was refused, or its parameters could not be read.
+/// The status when memory ran out outside a reply.
+const OUT_OF_MEMORY: u8 = 5;
+
+/// The status when an edit was refused.
 const EDIT_REFUSED: u8 = 3;
 
-/// The number that the program's user sees for a fault of the frames, where it is one of the bytes.
-fn frame_number(fault: FrameFault) -> Option<u8> {
-    match fault {
-        FrameFault::HeaderTooLong => Some(1),
-        FrameFault::NoLength => Some(2),
-        FrameFault::BadLength => Some(3),
-        FrameFault::TooLong => Some(4),
-        FrameFault::Memory => None,
+/// The exit status and the line of standard error if the words of the command line could not be
+/// read: memory ran out, or one is not UTF-8.
+pub(crate) fn unread(kind: ErrorKind) -> (u8, &'static str)
+    ensures status { result.0 ≡ unread_status kind }
+    ensures line { result.1.now ≡ unread_line kind }
+{
+    match kind {
+        ErrorKind::OutOfMemory => (OUT_OF_MEMORY, "pq_server: out of memory\n"),
+        _ => (COMMAND_LINE, "pq_server: the command line is not UTF-8\n"),
     }
 }
 
-/// The number that the program's user sees for a refused edit, where it is the edit's own.
-fn edit_number(fault: InputFault) -> Option<u8> {
+/// The line for a frame error.
+fn frame_line(fault: FrameFault) -> &'static str
+    ensures { result.now ≡ frame_line fault }
+{
     match fault {
-        InputFault::TextTooLong => Some(1),
-        InputFault::TooManyFiles => Some(2),
-        InputFault::RevisionsUsedUp => Some(3),
-        InputFault::Memory => None,
+        FrameFault::HeaderTooLong => "pq_server: frame fault 1\n",
+        FrameFault::NoLength => "pq_server: frame fault 2\n",
+        FrameFault::BadLength => "pq_server: frame fault 3\n",
+        FrameFault::TooLong => "pq_server: frame fault 4\n",
+        FrameFault::Memory => "pq_server: out of memory\n",
     }
 }
 
-/// Why the program ends as it does, as its user is told.
-#[derive(Clone, Copy)]
-enum End {
-    /// The session said so, or the input ended between frames.
-    Session(u8),
-    /// The bytes are no frame, by the fault's number.
-    Frame(u8),
-    /// The input ends inside a frame.
-    Cut,
-    /// An edit was refused, by the fault's number, or 0 where its parameters could not be read.
-    Edit(u8),
-    /// A read failed, or there were too many.
-    Read,
-    /// A write failed.
-    Write,
-    /// Want of memory.
-    Memory,
+/// The line for a refused edit.
+fn edit_line(fault: InputFault) -> &'static str
+    ensures { result.now ≡ edit_line fault }
+{
+    match fault {
+        InputFault::TextTooLong => "pq_server: edit refused 1\n",
+        InputFault::TooManyFiles => "pq_server: edit refused 2\n",
+        InputFault::RevisionsUsedUp => "pq_server: edit refused 3\n",
+        InputFault::Memory => "pq_server: out of memory\n",
+    }
 }
 
-fn end_of(outcome: Result<u8, ScriptFault>) -> End {
+/// The line of standard error after a script with this outcome, or an empty text.
+pub(crate) fn line_of(outcome: Result<u8, ScriptFault>) -> &'static str
+    ensures { result.now ≡ line_of outcome }
+{
     match outcome {
-        Ok(status) if status == EDIT_REFUSED => End::Edit(0),
-        Ok(status) => End::Session(status),
-        Err(ScriptFault::Frame(fault)) => frame_number(fault).map_or(End::Memory, End::Frame),
-        Err(ScriptFault::Cut) => End::Cut,
-        Err(ScriptFault::Edit(fault)) => edit_number(fault).map_or(End::Memory, End::Edit),
-        Err(ScriptFault::Read | ScriptFault::TooManyReads) => End::Read,
-        Err(ScriptFault::Write) => End::Write,
-        Err(ScriptFault::Memory) => End::Memory,
+        Ok(status) if status == UNREADABLE_PARAMETERS => "pq_server: edit refused 0\n",
+        Ok(_) => "",
+        Err(ScriptFault::Frame(fault)) => frame_line(fault),
+        Err(ScriptFault::Cut) => "pq_server: input ends inside a frame\n",
+        Err(ScriptFault::Edit(fault)) => edit_line(fault),
+        Err(ScriptFault::Read) => "pq_server: read failed\n",
+        Err(ScriptFault::TooManyReads) => "pq_server: read failed\n",
+        Err(ScriptFault::Write) => "pq_server: write failed\n",
+        Err(ScriptFault::Memory) => "pq_server: out of memory\n",
     }
 }
 
-fn status_of(end: &End) -> u8 {
-    match end {
-        End::Session(status) => *status,
-        End::Frame(_) | End::Cut => 2,
-        End::Edit(_) => EDIT_REFUSED,
-        End::Read | End::Write => 4,
-        End::Memory => 5,
+/// The exit status after a script with this outcome.
+pub(crate) fn status_of(outcome: Result<u8, ScriptFault>) -> u8
+    ensures { result ≡ status_of outcome }
+{
+    match outcome {
+        Ok(status) => status,
+        Err(ScriptFault::Frame(FrameFault::Memory)) => OUT_OF_MEMORY,
+        Err(ScriptFault::Frame(_)) => 2,
+        Err(ScriptFault::Cut) => 2,
+        Err(ScriptFault::Edit(InputFault::Memory)) => OUT_OF_MEMORY,
+        Err(ScriptFault::Edit(_)) => EDIT_REFUSED,
+        Err(ScriptFault::Read) => 4,
+        Err(ScriptFault::TooManyReads) => 4,
+        Err(ScriptFault::Write) => 4,
+        Err(ScriptFault::Memory) => OUT_OF_MEMORY,
     }
 }
 
-/// Writes the end's line, where it has one. A write that fails is passed over: there is no one left to tell.
-fn tell<E: Write>(errors: &mut E, end: &End) {
-    let _ = match end {
-        End::Session(_) => Ok(()),
-        End::Frame(number) => writeln!(errors, "pq_server: frame fault {number}"),
-        End::Cut => writeln!(errors, "pq_server: input ends inside a frame"),
-        End::Edit(number) => writeln!(errors, "pq_server: edit refused {number}"),
-        End::Read => writeln!(errors, "pq_server: read failed"),
-        End::Write => writeln!(errors, "pq_server: write failed"),
-        End::Memory => writeln!(errors, "pq_server: out of memory"),
-    };
+/// Writes `line`, up to the first call that fails.
+fn write_line<E: Write>(errors: &mut Counted<E>, line: &[u8])
+    requires { failed_of errors.old < 2 ^ 63 }
+    ensures { failed_of errors.new ≡ failed_of errors.old → Appends (E.contents (inner_of errors.old)) (E.contents (inner_of errors.new)) line.now }
+{
+    let mut rest = line;
+    'bytes: while !rest.is_empty() {
+        match errors.write(rest) {
+            Ok(count) if count > 0 => rest = &rest[count..],
+            _ => return,
+        }
+    }
 }
 
-/// Answers the frames of the reader on the writer, writes one line on `errors` where the table above has one, and
-/// gives the exit status. What was read and what was written is [`script`]'s.
+/// Serves one client from `reader` to `writer`, writes the line of the outcome to `errors`, and
+/// returns the exit status. A failed write of the line is ignored.
 pub fn run_script<R: Read, W: Write, E: Write>(
     alloc: Global,
-    reader: &mut R,
-    writer: &mut W,
-    errors: &mut E,
-) -> u8 {
-    let mut reader = Counted::new(reader);
-    let mut writer = Counted::new(writer);
-    let end = end_of(script(alloc, &mut reader, &mut writer));
-    tell(errors, &end);
-    status_of(&end)
+    reader: &mut Counted<R>,
+    writer: &mut Counted<W>,
+    errors: &mut Counted<E>,
+) -> u8
+    requires reads_left { reads_of reader.old < 2 ^ 63 }
+    requires reader_left { failed_of reader.old < 2 ^ 63 }
+    requires writer_left { failed_of writer.old < 2 ^ 63 }
+    requires errors_left { failed_of errors.old < 2 ^ 63 }
+    // The script theorem, for an outcome whose status is the result. The line of that outcome was
+    // written, unless a write of it failed.
+    ensures serves { (bytes : List ℕ) × (out : List ℕ) × (outcome : Result ℕ ScriptFault)
+        × Scripts (IsAtEnd (R.remaining (inner_of reader.new))) (reads_of reader.new ≡ reads_of reader.old + 4294967296) bytes out outcome
+        × Consumes (R.remaining (inner_of reader.old)) (R.remaining (inner_of reader.new)) bytes
+        × Appends (W.contents (inner_of writer.old)) (W.contents (inner_of writer.new)) out
+        × (result ≡ status_of outcome)
+        × (failed_of errors.new ≡ failed_of errors.old → Appends (E.contents (inner_of errors.old)) (E.contents (inner_of errors.new)) (line_of outcome)) }
+{
+    let outcome = script(alloc, reader, writer);
+    write_line(errors, line_of(outcome).as_bytes());
+    status_of(outcome)
 }

@@ -1,4 +1,4 @@
--- What an edit of the sources tells.
+-- The response to an edit of the sources.
 use Rattle.std.proofs.Common.{◌≡◌, ℕ, ◌+◌, List, Option, Some, None, refl, sym, ◌∙◌, ap, subst}
 use Rattle.std.specs.Prelude.{unwrap_or}
 use Rattle.pq_inputs.specs.declared.durability.Durability.TheVariants.{Low}
@@ -6,9 +6,9 @@ use Rattle.pq_inputs.specs.declared.fault.InputFault.{InputFault}
 use Rattle.pq_inputs.specs.declared.fault.InputFault.TheVariants.{Memory}
 use Rattle.pq_inputs.specs.Sources.{Sources, Table, with_file}
 use Rattle.pq_inputs.specs.Refusal.{refusal}
-use Rattle.pq_session.specs.declared.items.Phase.{Phase}
+use Rattle.pq_session.specs.declared.state.outcome.Phase.{Phase}
 use Rattle.pq_session.specs.Session.{edits}
-use Rattle.pq_session.specs.Told.{ScriptState, Told, silent, refuses, edit_told, edit_refusal, edited, TellsMeant}
+use Rattle.pq_session.specs.Responses.{ScriptState, Response, silent, refuses, edit_response, edit_refusal, edited, RespondsTo}
 
 stands : Phase → Sources → ℕ → ScriptState
 stands phase files revision = record { phase = phase; files = files; revision = revision }
@@ -17,11 +17,11 @@ same_refusal : (phase : Phase) (table : Table) (name : List ℕ) (text : Option 
 unfolding stands
 same_refusal phase table name text = refl
 
-told_by_refusal : (before after : ScriptState) (name : List ℕ) (text : Option (List ℕ)) (told : Told) (why : Option InputFault) → edit_refusal before name text ≡ why → told ≡ edit_told why → after ≡ edited before name text why → TellsMeant before (edits name text) told after
-told_by_refusal before after name text told why e t a = subst (λ (o : Option InputFault). (told ≡ edit_told o) × (after ≡ edited before name text o)) (sym e) (t, a)
+told_by_refusal : (before after : ScriptState) (name : List ℕ) (text : Option (List ℕ)) (told : Response) (why : Option InputFault) → edit_refusal before name text ≡ why → told ≡ edit_response why → after ≡ edited before name text why → RespondsTo before (edits name text) told after
+told_by_refusal before after name text told why e t a = subst (λ (o : Option InputFault). (told ≡ edit_response o) × (after ≡ edited before name text o)) (sym e) (t, a)
 
 pub edit_made : (phase : Phase) (old new : Table) (name : List ℕ) (text : Option (List ℕ)) → refusal old name text ≡ None → new.files ≡ with_file old.files name (record { text = text; durability = Low }) → new.revision ≡ old.revision + 1
-    → TellsMeant (record { phase = phase; files = old.files; revision = old.revision }) (edits name text) silent (record { phase = phase; files = new.files; revision = new.revision })
+    → RespondsTo (record { phase = phase; files = old.files; revision = old.revision }) (edits name text) silent (record { phase = phase; files = new.files; revision = new.revision })
 unfolding stands
 edit_made phase old new name text accepted files revision =
     told_by_refusal (stands phase old.files old.revision) (stands phase new.files new.revision) name text silent None (same_refusal phase old name text ∙ accepted) refl
@@ -32,7 +32,7 @@ fault_stands None fault e other = absurd (other e)
 fault_stands (Some f) fault e other = ap (λ (g : InputFault). Some g) (sym e)
 
 pub edit_refused : (phase : Phase) (old new : Table) (name : List ℕ) (text : Option (List ℕ)) (fault : InputFault) → fault ≡ unwrap_or (refusal old name text) Memory → (fault ≡ Memory → ⊥) → new ≡ old
-    → TellsMeant (record { phase = phase; files = old.files; revision = old.revision }) (edits name text) (refuses fault) (record { phase = phase; files = new.files; revision = new.revision })
+    → RespondsTo (record { phase = phase; files = old.files; revision = old.revision }) (edits name text) (refuses fault) (record { phase = phase; files = new.files; revision = new.revision })
 unfolding stands
 edit_refused phase old new name text fault e other same =
     told_by_refusal (stands phase old.files old.revision) (stands phase new.files new.revision) name text (refuses fault) (Some fault) (same_refusal phase old name text ∙ fault_stands (refusal old name text) fault e other) refl

@@ -1,9 +1,10 @@
--- Known bytes, over several calls.
+-- Known bytes, over several calls, and counts of failed calls.
 use Rattle.std.proofs.Common.{◌≡◌, ℕ, List, [], ◌++◌, Option, Some, None, refl, sym, ◌∙◌, ap, append_assoc, ◌-◌, length, take, drop}
 use Rattle.std.proofs.lemmas.List.{append-nil, take_rest, take-append-drop}
-use Rattle.std.proofs.Common.{◌<◌, arith}
+use Rattle.std.proofs.Common.{◌+◌, ◌<◌, arith}
 use Rattle.std.proofs.lemmas.Bool.Decides.{nat_tests}
-use Rattle.std.specs.Prelude.{if◌then◌else◌, ◌==◌}
+use Rattle.std.specs.Prelude.{◌^◌, if◌then◌else◌, ◌==◌}
+use Rattle.std.proofs.Math.Nat.{min-eq_left}
 use Rattle.pq_session.specs.Counts.{one_more}
 use Rattle.std.specs.Io.KnownBytes.{Appends, Keeps, Consumes}
 
@@ -41,6 +42,9 @@ consumes_kept (Some a) (Some b) (Some c) xs h k = h ∙ ap (λ (s : List ℕ). x
 
 pub sent_more : (all done rest : List ℕ) (count : ℕ) → all ≡ done ++ rest → all ≡ (done ++ take count rest) ++ take (length rest - count) (drop count rest)
 sent_more all done rest count e = rw (take_rest rest count, append_assoc done (take count rest) (drop count rest), take-append-drop count rest) e
+
+pub one_failed : (n : ℕ) → n < 2 ^ 63 → one_more n ≡ n + 1
+one_failed n h = min-eq_left (omega arith)
 
 pub none_failed : (n count : ℕ) → 0 < count → (if count == 0 then one_more n else n) ≡ n
 none_failed n count h = grind (arith, nat_tests)

@@ -6,7 +6,9 @@ pub mod EditLemmas
 pub mod OutputLemmas
 pub mod TakeLemmas
 pub mod MemoryLemmas
-pub mod FrontLemmas
+pub mod PrefixLemmas
 pub mod ScriptLemmas
 pub mod GatherLemmas
 pub mod PlaceLemmas
+pub mod InOrder
+pub mod FindingSpans

@@ -1,4 +1,4 @@
--- Want of memory is no fault of frames and no refusal of an edit.
+-- An allocation failure is neither an error of frames nor the refusal of an edit.
 use Rattle.std.proofs.Common.{◌≡◌, ◌≢◌, ℕ, List, [], ◌∷◌, ◌++◌, Bool, true, false, Option, Some, None, Result, Ok, Err, refl, sym, ◌∙◌, ap, subst}
 use Rattle.std.specs.Prelude.{MatchResult, if◌then◌else◌}
 use Rattle.pq_frame.specs.Frames.{Frames, State, Failed}
@@ -11,12 +11,12 @@ use Rattle.pq_inputs.specs.Sources.{Table}
 use Rattle.pq_inputs.specs.Refusal.{refusal}
 use Rattle.pq_session.specs.declared.fault.ScriptFault.{ScriptFault}
 use Rattle.pq_session.specs.declared.fault.ScriptFault.TheVariants.{Write, Memory, Frame, Cut, Edit, Read, TooManyReads}
-use Rattle.pq_frame.specs.Messages.{said}
-use Rattle.pq_session.specs.Session.{Meant, asks, says, edits, ignores, ends, meant, next_phase}
-use Rattle.pq_session.specs.Told.{ScriptState, replies, silent, finishes, refuses, edit_told, edit_refusal, in_phase, TellsMeant, Tells}
+use Rattle.pq_frame.specs.Messages.{message_of}
+use Rattle.pq_session.specs.Session.{Meaning, asks, says, edits, ignores, ends, meaning_of, next_phase}
+use Rattle.pq_session.specs.Responses.{ScriptState, replies, silent, finishes, refuses, edit_response, edit_refusal, in_phase, RespondsTo, Responds}
 use Rattle.pq_session.specs.Output.{Ending, exits, refused, Output, Outputs, ended}
 use Rattle.pq_session.specs.Script.{IsMemoryAlone}
-use Rattle.pq_session.specs.Steps.{Takes}
+use Rattle.pq_session.specs.aux.Steps.{Takes}
 
 by_tests : Bool → Bool → Bool → Option InputFault
 by_tests long many last = if long then Some TextTooLong else (if many then Some TooManyFiles else (if last then Some RevisionsUsedUp else None))
@@ -32,20 +32,20 @@ never_refused : (table : Table) (name : List ℕ) (text : Option (List ℕ)) →
 unfolding by_tests
 never_refused table name text e = never_by_tests _ _ _ e
 
-never_edit : (why : Option InputFault) → (why ≡ Some input.Memory → ⊥) → edit_told why ≡ refuses input.Memory → ⊥
+never_edit : (why : Option InputFault) → (why ≡ Some input.Memory → ⊥) → edit_response why ≡ refuses input.Memory → ⊥
 never_edit None other e = absurd (cc e)
 never_edit (Some fault) other e = let same : fault ≡ input.Memory = cc e in other (ap (λ (f : InputFault). Some f) same)
 
-never_meant : (state : ScriptState) (message : Meant) (after : ScriptState) → TellsMeant state message (refuses input.Memory) after → ⊥
+never_meant : (state : ScriptState) (message : Meaning) (after : ScriptState) → RespondsTo state message (refuses input.Memory) after → ⊥
 never_meant state (asks label query) after (text, is, e, same) = absurd (cc e)
 never_meant state (says text) after (e, same) = absurd (cc e)
 never_meant state (edits name text) after (e, same) = never_edit (edit_refusal state name text) (never_refused (record { files = state.files; revision = state.revision; history = [] }) name text) (sym e)
 never_meant state ignores after (e, same) = absurd (cc e)
 never_meant state (ends status) after (e, same) = absurd (cc e)
 
-never_told : (state : ScriptState) (body : List ℕ) (after : ScriptState) → Tells state body (refuses input.Memory) after → ⊥
-unfolding Tells
-never_told state body after (json, is, tells) = never_meant (in_phase (next_phase state.phase (said json)) state) (meant state.phase (said json)) after tells
+never_told : (state : ScriptState) (body : List ℕ) (after : ScriptState) → Responds state body (refuses input.Memory) after → ⊥
+unfolding Responds
+never_told state body after (json, is, tells) = never_meant (in_phase (next_phase state.phase (message_of json)) state) (meaning_of state.phase (message_of json)) after tells
 
 never_ends : (state : ScriptState) (bodies : List (List ℕ)) (o : Output) → Outputs state bodies o → o.ending ≡ Some (refused input.Memory) → ⊥
 never_ends state [] o is e = let bad : ◌≡◌ {A = Option Ending} None (Some (refused input.Memory)) = sym (ap (λ (p : Output). p.ending) is) ∙ e in absurd (cc bad)
@@ -55,7 +55,7 @@ never_ends state (body ∷ bodies) o (finishes status, after, tells, is) e = let
 never_ends state (body ∷ bodies) o (refuses fault, after, tells, is) e =
     let same : Some (refused fault) ≡ Some (refused input.Memory) = sym (ap (λ (p : Output). p.ending) is) ∙ e in
     let memory : fault ≡ input.Memory = cc same in
-    never_told state body after (subst (λ (f : InputFault). Tells state body (refuses f) after) memory tells)
+    never_told state body after (subst (λ (f : InputFault). Responds state body (refuses f) after) memory tells)
 
 never_failed : (bytes : List ℕ) (bodies : List (List ℕ)) → Frames bytes bodies (Failed frame.Memory) → ⊥
 never_failed bytes [] h = absurd h

@@ -1,4 +1,4 @@
--- What is written for some bodies, and then for others.
+-- What is written for bodies, and then for the bodies after them.
 use Rattle.std.proofs.Common.{◌≡◌, ℕ, ◌+◌, ◌<◌, List, [], ◌∷◌, ◌++◌, Option, Some, None, length, take, drop, get_or, refl, sym, ◌∙◌, ap, subst, append_assoc}
 use Rattle.std.proofs.lemmas.List.{take_more, map-append, take-append-drop, append-nil}
 use Rattle.std.specs.declared.alloc.Global.{Global}
@@ -7,15 +7,21 @@ use Rattle.pq_frame.specs.Written.{written}
 use Rattle.pq_inputs.specs.declared.fault.InputFault.{InputFault}
 use Rattle.pq_session.specs.declared.fault.ScriptFault.{ScriptFault}
 use Rattle.pq_session.specs.declared.fault.ScriptFault.TheVariants.{Write, Memory, Frame, Cut, Edit, Read, TooManyReads}
-use Rattle.pq_session.specs.Told.{Told, replies, silent, finishes, refuses, ScriptState, Tells}
-use Rattle.pq_session.specs.Output.{Ending, exits, refused, Output, Outputs, After, no_output, prefixed, ended, Answered, Stopped, IsPrefixOf}
+use Rattle.pq_session.specs.Responses.{Response, replies, silent, finishes, refuses, ScriptState, Responds}
+use Rattle.std.specs.Io.{StartsWith}
+use Rattle.std.proofs.Transfers.{starts_with_of_append}
+use Rattle.pq_session.specs.Output.{Ending, exits, refused, Output, Outputs, After, no_output, prefixed, ended, Stopped}
+use Rattle.pq_session.specs.aux.Answered.{Answered}
 use Rattle.std.specs.Prelude.{Err}
-use Rattle.pq_session.specs.Script.{IsShownIf}
-use Rattle.pq_session.specs.Steps.{Refuses, Fails}
-use Rattle.pq_session.specs.Bodies.{bodies_of}
+use Rattle.pq_session.specs.Script.{FailsToWrite}
+use Rattle.pq_session.specs.aux.Steps.{Refuses, Fails}
+use Rattle.pq_frame.specs.Bodies.{bodies_of}
 use Rattle.pq_session.proofs.Total.{tells_some}
 
 -- ---- an output that begins
+
+starts_rest : (out bytes : List ℕ) → StartsWith bytes out → bytes ≡ out ++ drop (length out) bytes
+starts_rest out bytes h = sym (take-append-drop (length out) bytes) ∙ ap (λ (s : List ℕ). s ++ drop (length out) bytes) h
 
 with_bytes : List ℕ → Output → Output
 with_bytes bytes o = record { bytes = bytes; ending = o.ending }
@@ -30,7 +36,7 @@ prefixed_nil how out = ap (λ (bytes : List ℕ). with_bytes bytes (ended how)) 
 
 -- ---- there is always some output
 
-after_some : (told : Told) (P : Output → Type 0) → ((o : Output) × P o) → (o : Output) × After told P o
+after_some : (told : Response) (P : Output → Type 0) → ((o : Output) × P o) → (o : Output) × After told P o
 after_some (replies reply) P (rest, holds) = (prefixed (written reply) rest, (rest, holds, refl))
 after_some silent P some = some
 after_some (finishes status) P some = (ended (exits status), refl)
@@ -58,7 +64,7 @@ stopped_append start mid xs ys out also h k more =
     let rest = k more in (
       prefixed out rest.0,
       subst (λ (bodies : List (List ℕ)). Outputs start bodies (prefixed out rest.0)) (sym (append_assoc xs ys more)) (h (ys ++ more) rest.0 rest.1),
-      (rest.2.0, ap (λ (s : List ℕ). out ++ s) rest.2.1 ∙ sym (append_assoc out also rest.2.0)),
+      starts_with_of_append (out ++ rest.0.bytes) (out ++ also) (drop (length also) rest.0.bytes) (ap (λ (s : List ℕ). out ++ s) (starts_rest also rest.0.bytes rest.2) ∙ sym (append_assoc out also (drop (length also) rest.0.bytes))),
     )
 
 -- the end stays the end, whatever bodies come after it
@@ -67,12 +73,12 @@ ended_append start end later xs ys out how h more o left =
     subst (λ (bodies : List (List ℕ)). Outputs start bodies (prefixed out o)) (sym (append_assoc xs ys more)) (h (ys ++ more) o left)
 
 pub stopped_more : (start : ScriptState) (xs ys : List (List ℕ)) (out : List ℕ) → Stopped start xs out → Stopped start (xs ++ ys) out
-stopped_more start xs ys out h more = subst (λ (bodies : List (List ℕ)). (o : Output) × Outputs start bodies o × IsPrefixOf out o.bytes) (sym (append_assoc xs ys more)) (h (ys ++ more))
+stopped_more start xs ys out h more = subst (λ (bodies : List (List ℕ)). (o : Output) × Outputs start bodies o × StartsWith o.bytes out) (sym (append_assoc xs ys more)) (h (ys ++ more))
 
 pub answered_stops : (n m : ScriptState) (bodies : List (List ℕ)) (out : List ℕ) → Answered n bodies out None m → Stopped n bodies out
 answered_stops n m bodies out h more =
     let rest = some_output m more in
-    (prefixed out rest.0, h more rest.0 rest.1, (rest.0.bytes, refl))
+    (prefixed out rest.0, h more rest.0 rest.1, starts_with_of_append (out ++ rest.0.bytes) out rest.0.bytes refl)
 
 -- ---- nothing more comes
 
@@ -90,29 +96,29 @@ no_more_after start m bodies out how h =
 
 -- ---- one body
 
-pub one_says : (n m : ScriptState) (body reply : List ℕ) → Tells n body (replies reply) m → Answered n (body ∷ []) (written reply) None m
+pub one_says : (n m : ScriptState) (body reply : List ℕ) → Responds n body (replies reply) m → Answered n (body ∷ []) (written reply) None m
 one_says n m body reply h more o left = (replies reply, m, h, (o, left, refl))
 
-pub one_quiet : (n m : ScriptState) (body : List ℕ) → Tells n body silent m → Answered n (body ∷ []) [] None m
+pub one_quiet : (n m : ScriptState) (body : List ℕ) → Responds n body silent m → Answered n (body ∷ []) [] None m
 one_quiet n m body h more o left = (silent, m, h, left)
 
-pub one_ends : (n m later : ScriptState) (body : List ℕ) (status : ℕ) → Tells n body (finishes status) m → Answered n (body ∷ []) [] (Some (exits status)) later
+pub one_ends : (n m later : ScriptState) (body : List ℕ) (status : ℕ) → Responds n body (finishes status) m → Answered n (body ∷ []) [] (Some (exits status)) later
 one_ends n m later body status h more o left = (finishes status, m, h, left)
 
-pub one_refuses : (n m later : ScriptState) (body : List ℕ) (fault : InputFault) → Tells n body (refuses fault) m → Answered n (body ∷ []) [] (Some (refused fault)) later
+pub one_refuses : (n m later : ScriptState) (body : List ℕ) (fault : InputFault) → Responds n body (refuses fault) m → Answered n (body ∷ []) [] (Some (refused fault)) later
 one_refuses n m later body fault h more o left = (refuses fault, m, h, left)
 
 pub stopped_none : (n : ScriptState) (bodies : List (List ℕ)) → Stopped n bodies []
 stopped_none n bodies more =
     let all = some_output n (bodies ++ more) in
-    (all.0, all.1, (all.0.bytes, refl))
+    (all.0, all.1, starts_with_of_append all.0.bytes [] all.0.bytes refl)
 
-pub one_stopped : (n m : ScriptState) (body reply out : List ℕ) → Tells n body (replies reply) m → IsPrefixOf out (written reply) → Stopped n (body ∷ []) out
+pub one_stopped : (n m : ScriptState) (body reply out : List ℕ) → Responds n body (replies reply) m → StartsWith (written reply) out → Stopped n (body ∷ []) out
 one_stopped n m body reply out h part more =
     let rest = some_output m more in (
       prefixed (written reply) rest.0,
       (replies reply, m, h, (rest.0, rest.1, refl)),
-      (part.0 ++ rest.0.bytes, ap (λ (s : List ℕ). s ++ rest.0.bytes) part.1 ∙ append_assoc out part.0 rest.0.bytes),
+      starts_with_of_append (written reply ++ rest.0.bytes) out (drop (length out) (written reply) ++ rest.0.bytes) (ap (λ (s : List ℕ). s ++ rest.0.bytes) (starts_rest out (written reply) part) ∙ append_assoc out (drop (length out) (written reply)) rest.0.bytes),
     )
 
 -- ---- the bodies in the vector
@@ -161,7 +167,7 @@ refused_fails n m body Cut h = absurd h
 refused_fails n m body Read h = absurd h
 refused_fails n m body TooManyReads h = absurd h
 
-pub refused_counts : (n m : ScriptState) (body : List ℕ) (fault : ScriptFault) (a : ℕ) → Refuses n body fault m → IsShownIf {A = Option ℕ} (Err fault) a a
+pub refused_counts : (n m : ScriptState) (body : List ℕ) (fault : ScriptFault) (a : ℕ) → Refuses n body fault m → FailsToWrite {A = Option ℕ} (Err fault) a a
 refused_counts n m body (Edit fault) a h = refl
 refused_counts n m body Memory a h = refl
 refused_counts n m body Write a h = absurd h

@@ -1,13 +1,16 @@
 -- A script, piece by piece.
-use Rattle.std.proofs.Common.{◌<◌, ◌≡◌, ◌≢◌, ℕ, List, [], ◌∷◌, ◌++◌, Option, Some, None, Result, Ok, Err, sym, ◌∙◌, ap, subst, inr, append_assoc}
+use Rattle.std.proofs.lemmas.List.{length-take}
+use Rattle.std.proofs.Math.Nat.{min-le_right}
+use Rattle.std.proofs.Common.{◌+◌, ◌≤◌, length, take, arith, refl, ◌≡◌, ◌≢◌, ℕ, List, [], ◌∷◌, ◌++◌, Option, Some, None, Result, Ok, Err, sym, ◌∙◌, ap, subst, inr, append_assoc}
 use Rattle.std.specs.Prelude.{MatchResult}
 use Rattle.pq_frame.specs.Frames.{Frames, State, Reading, Failed}
 use Rattle.pq_session.specs.declared.fault.ScriptFault.{ScriptFault}
 use Rattle.pq_session.specs.declared.fault.ScriptFault.TheVariants.{Write, Memory, Frame, Cut, Edit, Read, TooManyReads}
-use Rattle.pq_session.specs.Told.{ScriptState, fresh}
-use Rattle.pq_session.specs.Output.{exits, refused, Answered}
-use Rattle.pq_session.specs.Script.{StopsWithin, Ended, Scripts, FailsToRead, IsShownIf}
-use Rattle.pq_session.specs.Steps.{Takes}
+use Rattle.pq_session.specs.Responses.{ScriptState, fresh}
+use Rattle.pq_session.specs.Output.{exits, refused}
+use Rattle.pq_session.specs.aux.Answered.{Answered}
+use Rattle.pq_session.specs.Script.{StopsWithin, Ended, Scripts, FailsToRead, FailsToWrite, ShowsInLastPiece, max_piece}
+use Rattle.pq_session.specs.aux.Steps.{Takes}
 use Rattle.pq_session.proofs.OutputLemmas.{answered_append, stopped_append, no_more, no_more_after}
 
 -- the frames before a rest, after which others may come
@@ -29,31 +32,38 @@ frames_grow bytes seen rest piece others state h k =
     subst (λ (s : List ℕ). Frames s (seen ++ others) state) (sym (grown bytes t.0 rest piece t.1)) (t.2 (rest ++ piece) others state k)
 
 script_stops : (bytes : List ℕ) (seen : List (List ℕ)) (rest piece out also : List ℕ) (n : ScriptState) → Frames bytes seen (Reading rest) → Answered fresh seen out None n → StopsWithin (rest ++ piece) n also → StopsWithin (bytes ++ piece) fresh (out ++ also)
-script_stops bytes seen rest piece out also n h answered (front, later, bodies, state, whole, framed, stopped) =
+script_stops bytes seen rest piece out also n h answered (prefix, later, bodies, state, whole, framed, stopped) =
     let t = frames_head bytes seen rest h in (
-      t.0 ++ front,
+      t.0 ++ prefix,
       later,
       seen ++ bodies,
       state,
-      grown bytes t.0 rest piece t.1 ∙ ap (λ (s : List ℕ). t.0 ++ s) whole ∙ sym (append_assoc t.0 front later),
-      t.2 front bodies state framed,
+      grown bytes t.0 rest piece t.1 ∙ ap (λ (s : List ℕ). t.0 ++ s) whole ∙ sym (append_assoc t.0 prefix later),
+      t.2 prefix bodies state framed,
       stopped_append fresh n seen bodies out also answered stopped,
     )
 
-pub script_fault : (P Q : Type 0) (bytes : List ℕ) (seen : List (List ℕ)) (rest piece out also : List ℕ) (n m : ScriptState) (new : State) (e : ScriptFault) → Frames bytes seen (Reading rest) → Answered fresh seen out None n → Takes (rest ++ piece) n also (Err e) new m → Scripts P Q (bytes ++ piece) (out ++ also) (Err e)
-script_fault P Q bytes seen rest piece out also n m new (Frame f) h answered (bodies, framed, more) =
-    (seen ++ bodies, frames_grow bytes seen rest piece bodies (Failed f) h framed, no_more fresh m (seen ++ bodies) (out ++ also) (answered_append fresh n m seen bodies out also None answered more))
-script_fault P Q bytes seen rest piece out also n m new (Edit f) h answered (bodies, state, framed, more) =
-    (seen ++ bodies, state, frames_grow bytes seen rest piece bodies state h framed, no_more_after fresh n (seen ++ bodies) (out ++ also) (refused f) (answered_append fresh n n seen bodies out also (Some (refused f)) answered more))
-script_fault P Q bytes seen rest piece out also n m new Write h answered stop = script_stops bytes seen rest piece out also n h answered stop
-script_fault P Q bytes seen rest piece out also n m new Memory h answered stop = script_stops bytes seen rest piece out also n h answered stop
-script_fault P Q bytes seen rest piece out also n m new Cut h answered stop = absurd stop
-script_fault P Q bytes seen rest piece out also n m new Read h answered stop = absurd stop
-script_fault P Q bytes seen rest piece out also n m new TooManyReads h answered stop = absurd stop
+pub piece_fits : (count : ℕ) (buffer : List ℕ) → length buffer ≡ max_piece → length (take count buffer) ≤ max_piece
+piece_fits count buffer e = omega (arith, length-take count buffer, min-le_right count (length buffer), e)
 
-pub script_ended : (bytes : List ℕ) (seen : List (List ℕ)) (rest piece out also : List ℕ) (n m : ScriptState) (new : State) (status : ℕ) → Frames bytes seen (Reading rest) → Answered fresh seen out None n → Takes (rest ++ piece) n also (Ok (Some status)) new m → Ended (bytes ++ piece) (out ++ also) (exits status)
-script_ended bytes seen rest piece out also n m new status h answered (bodies, state, framed, more) =
-    (seen ++ bodies, state, frames_grow bytes seen rest piece bodies state h framed, no_more_after fresh m (seen ++ bodies) (out ++ also) (exits status) (answered_append fresh n m seen bodies out also (Some (exits status)) answered more))
+-- what ended the script came with the last piece
+shown_last : (bytes : List ℕ) (seen : List (List ℕ)) (rest piece out : List ℕ) (n : ScriptState) → length piece ≤ max_piece → Frames bytes seen (Reading rest) → Answered fresh seen out None n → ShowsInLastPiece (bytes ++ piece)
+shown_last bytes seen rest piece out n fits h answered = (bytes, piece, out, rest, refl, fits, (seen, h, no_more fresh n seen out answered))
+
+pub script_fault : (P Q : Type 0) (bytes : List ℕ) (seen : List (List ℕ)) (rest piece out also : List ℕ) (n m : ScriptState) (new : State) (e : ScriptFault) → length piece ≤ max_piece → Frames bytes seen (Reading rest) → Answered fresh seen out None n → Takes (rest ++ piece) n also (Err e) new m → Scripts P Q (bytes ++ piece) (out ++ also) (Err e)
+script_fault P Q bytes seen rest piece out also n m new (Frame f) fits h answered (bodies, framed, more) =
+    ((seen ++ bodies, frames_grow bytes seen rest piece bodies (Failed f) h framed, no_more fresh m (seen ++ bodies) (out ++ also) (answered_append fresh n m seen bodies out also None answered more)), shown_last bytes seen rest piece out n fits h answered)
+script_fault P Q bytes seen rest piece out also n m new (Edit f) fits h answered (bodies, state, framed, more) =
+    (seen ++ bodies, state, frames_grow bytes seen rest piece bodies state h framed, no_more_after fresh n (seen ++ bodies) (out ++ also) (refused f) (answered_append fresh n n seen bodies out also (Some (refused f)) answered more), shown_last bytes seen rest piece out n fits h answered)
+script_fault P Q bytes seen rest piece out also n m new Write fits h answered stop = script_stops bytes seen rest piece out also n h answered stop
+script_fault P Q bytes seen rest piece out also n m new Memory fits h answered stop = script_stops bytes seen rest piece out also n h answered stop
+script_fault P Q bytes seen rest piece out also n m new Cut fits h answered stop = absurd stop
+script_fault P Q bytes seen rest piece out also n m new Read fits h answered stop = absurd stop
+script_fault P Q bytes seen rest piece out also n m new TooManyReads fits h answered stop = absurd stop
+
+pub script_ended : (bytes : List ℕ) (seen : List (List ℕ)) (rest piece out also : List ℕ) (n m : ScriptState) (new : State) (status : ℕ) → length piece ≤ max_piece → Frames bytes seen (Reading rest) → Answered fresh seen out None n → Takes (rest ++ piece) n also (Ok (Some status)) new m → Ended (bytes ++ piece) (out ++ also) (exits status)
+script_ended bytes seen rest piece out also n m new status fits h answered (bodies, state, framed, more) =
+    (seen ++ bodies, state, frames_grow bytes seen rest piece bodies state h framed, no_more_after fresh m (seen ++ bodies) (out ++ also) (exits status) (answered_append fresh n m seen bodies out also (Some (exits status)) answered more), shown_last bytes seen rest piece out n fits h answered)
 
 pub script_at_end : (P Q : Type 0) (bytes : List ℕ) (bodies : List (List ℕ)) (rest out : List ℕ) (n : ScriptState) (result : Result ℕ ScriptFault) → Frames bytes bodies (Reading rest) → Answered fresh bodies out None n → MatchResult result (λ status. (status ≡ 1) × (rest ≡ [])) (λ e. (e ≡ Cut) × (rest ≢ [])) → P → Scripts P Q bytes out result
 script_at_end P Q bytes bodies rest out n (Ok status) h answered (one, none) end =
@@ -65,11 +75,11 @@ pub end_reads : (result : Result ℕ ScriptFault) (rest : List ℕ) (a b : ℕ) 
 end_reads (Ok status) rest a b h e = e
 end_reads (Err f) rest a b h e = subst (λ (g : ScriptFault). FailsToRead {A = ℕ} (Err g) a b) (sym h.0) e
 
-pub end_writes : (result : Result ℕ ScriptFault) (rest : List ℕ) (a b : ℕ) → MatchResult result (λ status. (status ≡ 1) × (rest ≡ [])) (λ e. (e ≡ Cut) × (rest ≢ [])) → b ≡ a → IsShownIf result a b
+pub end_writes : (result : Result ℕ ScriptFault) (rest : List ℕ) (a b : ℕ) → MatchResult result (λ status. (status ≡ 1) × (rest ≡ [])) (λ e. (e ≡ Cut) × (rest ≢ [])) → b ≡ a → FailsToWrite result a b
 end_writes (Ok status) rest a b h e = e
-end_writes (Err f) rest a b h e = subst (λ (g : ScriptFault). IsShownIf {A = ℕ} (Err g) a b) (sym h.0) e
+end_writes (Err f) rest a b h e = subst (λ (g : ScriptFault). FailsToWrite {A = ℕ} (Err g) a b) (sym h.0) e
 
--- a piece's fault that is no read's
+-- the error of a piece is not `Read`
 pub take_reads : (bytes out : List ℕ) (n m : ScriptState) (new : State) (e : ScriptFault) (a b : ℕ) → Takes bytes n out (Err e) new m → b ≡ a → FailsToRead {A = ℕ} (Err e) a b
 take_reads bytes out n m new (Frame f) a b h e = e
 take_reads bytes out n m new (Edit f) a b h e = e
@@ -79,10 +89,10 @@ take_reads bytes out n m new Cut a b h e = e
 take_reads bytes out n m new Read a b h e = absurd h
 take_reads bytes out n m new TooManyReads a b h e = e
 
-pub shown_by : (e : ScriptFault) (a b c : ℕ) → b ≡ a → IsShownIf {A = Option ℕ} (Err e) b c → IsShownIf {A = ℕ} (Err e) a c
+pub shown_by : (e : ScriptFault) (a b c : ℕ) → b ≡ a → FailsToWrite {A = Option ℕ} (Err e) b c → FailsToWrite {A = ℕ} (Err e) a c
 shown_by (Frame f) a b c h k = k ∙ h
 shown_by (Edit f) a b c h k = k ∙ h
-shown_by Write a b c h k = subst (λ (n : ℕ). n < c) h k
+shown_by Write a b c h k = k ∙ ap (λ (n : ℕ). n + 1) h
 shown_by Memory a b c h k = k ∙ h
 shown_by Cut a b c h k = k ∙ h
 shown_by Read a b c h k = k ∙ h

@@ -1,5 +1,5 @@
 -- What one piece does.
-use Rattle.std.proofs.Common.{◌≡◌, ℕ, List, [], ◌∷◌, ◌++◌, Option, None, Ok, Err, length, refl, sym, subst, arith}
+use Rattle.std.proofs.Common.{◌≡◌, ℕ, List, [], ◌∷◌, ◌++◌, Option, Some, None, Ok, Err, length, refl, sym, subst, arith}
 use Rattle.std.proofs.lemmas.List.{append-nil}
 use Rattle.pq_frame.specs.Frames.{Frames, State, Reading, Failed, Feeds, HasFault}
 use Rattle.pq_frame.specs.declared.fault.FrameFault.{FrameFault}
@@ -9,10 +9,11 @@ use Rattle.pq_frame.proofs.RunLemmas.{at_first}
 use Rattle.pq_frame.proofs.OneReading.{frames_same}
 use Rattle.pq_session.specs.declared.fault.ScriptFault.{ScriptFault}
 use Rattle.pq_session.specs.declared.fault.ScriptFault.TheVariants.{Write, Memory, Frame, Cut, Edit, Read, TooManyReads}
-use Rattle.pq_session.specs.Told.{ScriptState}
-use Rattle.pq_session.specs.Output.{Answered, Stopped}
-use Rattle.pq_session.specs.Script.{StopsWithin, IsShownIf}
-use Rattle.pq_session.specs.Steps.{Takes, Fails}
+use Rattle.pq_session.specs.Responses.{ScriptState}
+use Rattle.pq_session.specs.Output.{exits, Stopped}
+use Rattle.pq_session.specs.aux.Answered.{Answered}
+use Rattle.pq_session.specs.Script.{StopsWithin, FailsToWrite}
+use Rattle.pq_session.specs.aux.Steps.{Takes, Fails}
 use Rattle.pq_session.specs.Faults.{fault_of}
 use Rattle.pq_session.proofs.OutputLemmas.{answered_none, stopped_none, answered_stops}
 
@@ -33,6 +34,9 @@ pub take_none : (rest piece : List ℕ) (n : ScriptState) (bodies : List (List �
 take_none rest piece n [] (Reading r) fed none = ([], r, fed.0, refl, answered_none n)
 take_none rest piece n [] (Failed f) fed none = let bad = fed.1 f refl in absurd (omega (arith, bad))
 take_none rest piece n (body ∷ bodies) new fed none = absurd (omega (arith, none))
+
+pub take_ends : (rest piece : List ℕ) (n m : ScriptState) (bodies : List (List ℕ)) (mid : State) (out : List ℕ) (status : ℕ) → Feeds (Reading rest) piece (Ok bodies) mid → Answered n bodies out (Some (exits status)) m → Takes (rest ++ piece) n out (Ok (Some status)) mid m
+take_ends rest piece n m bodies mid out status fed ends = (bodies, mid, fed.0, ends)
 
 pub take_fails : (rest piece : List ℕ) (n m : ScriptState) (bodies : List (List ℕ)) (mid : State) (out : List ℕ) (e : ScriptFault) → Feeds (Reading rest) piece (Ok bodies) mid → Fails n bodies out e → Takes (rest ++ piece) n out (Err e) mid m
 take_fails rest piece n m bodies mid out Write fed fails = stops_after (rest ++ piece) n bodies mid out fed.0 fails
@@ -76,7 +80,7 @@ take_waiting rest piece n m bodies (Reading r) new NoLength out fed answered aga
 take_waiting rest piece n m bodies (Reading r) new BadLength out fed answered again = absurd (never (rest ++ piece) bodies r BadLength fed.0 again.0)
 take_waiting rest piece n m bodies (Reading r) new TooLong out fed answered again = absurd (never (rest ++ piece) bodies r TooLong fed.0 again.0)
 
-pub none_shown : (f : FrameFault) (a b : ℕ) → b ≡ a → IsShownIf {A = Option ℕ} (Err (fault_of f)) a b
+pub none_shown : (f : FrameFault) (a b : ℕ) → b ≡ a → FailsToWrite {A = Option ℕ} (Err (fault_of f)) a b
 none_shown frame.Memory a b e = e
 none_shown HeaderTooLong a b e = e
 none_shown NoLength a b e = e
@@ -84,5 +88,5 @@ none_shown BadLength a b e = e
 none_shown TooLong a b e = e
 
 -- counts of failed calls, over two calls of which the first had none
-pub shown_later : (e : ScriptFault) (a b c : ℕ) → b ≡ a → IsShownIf {A = Option ℕ} (Err e) b c → IsShownIf {A = Option ℕ} (Err e) a c
-shown_later e a b c h k = subst (λ (n : ℕ). IsShownIf {A = Option ℕ} (Err e) n c) h k
+pub shown_later : (e : ScriptFault) (a b c : ℕ) → b ≡ a → FailsToWrite {A = Option ℕ} (Err e) b c → FailsToWrite {A = Option ℕ} (Err e) a c
+shown_later e a b c h k = subst (λ (n : ℕ). FailsToWrite {A = Option ℕ} (Err e) n c) h k

@@ -1,13 +1,13 @@
--- A script can tell something to each body, in each state.
+-- A script has a response to each body, in each state.
 use Rattle.std.proofs.Common.{◌≡◌, ℕ, List, Option, Some, None, Bool, true, false, refl, sym, ◌∙◌, inl}
 use Rattle.std.specs.Str.{is_utf8}
 use Rattle.std.proofs.lemmas.Str.{IsUtf8-from_is_utf8, is_utf8-from_IsUtf8}
 use Rattle.serde_json.specs.Data.{Data}
 use Rattle.serde_json.specs.Read.{read}
 use Rattle.pq_frame.specs.Json.{IsJson}
-use Rattle.pq_frame.specs.Messages.{said}
-use Rattle.pq_session.specs.Session.{Meant, asks, says, edits, ignores, ends, meant, next_phase}
-use Rattle.pq_session.specs.Told.{Told, replies, silent, finishes, edit_told, edit_refusal, edited, answer_text, in_phase, ScriptState, TellsMeant, Tells}
+use Rattle.pq_frame.specs.Messages.{message_of}
+use Rattle.pq_session.specs.Session.{Meaning, asks, says, edits, ignores, ends, meaning_of, next_phase}
+use Rattle.pq_session.specs.Responses.{Response, replies, silent, finishes, edit_response, edit_refusal, edited, answer_text, in_phase, ScriptState, RespondsTo, Responds}
 
 none_some : (d : Data) → ◌≡◌ {A = Option Data} None (Some d) → ⊥
 none_some d e = absurd (cc e)
@@ -17,20 +17,20 @@ json_by bytes true (Some d) u e = (Some d, (IsUtf8-from_is_utf8 bytes u, e))
 json_by bytes true None u e = (None, λ d utf8 is. none_some d (sym e ∙ is))
 json_by bytes false value u e = (None, λ d utf8 is. let bad : true ≡ false = sym (is_utf8-from_IsUtf8 bytes utf8) ∙ u in absurd (cc bad))
 
--- bytes are JSON, or they are none
+-- bytes are JSON, or they are not
 json_some : (bytes : List ℕ) → (json : Option Data) × IsJson bytes json
 json_some bytes = json_by bytes (is_utf8 bytes) (read bytes) refl refl
 
-meant_some : (state : ScriptState) (message : Meant) → (told : Told) × (after : ScriptState) × TellsMeant state message told after
+meant_some : (state : ScriptState) (message : Meaning) → (told : Response) × (after : ScriptState) × RespondsTo state message told after
 meant_some state (asks label query) = (replies (answer_text state label query), state, (answer_text state label query, inl refl, refl, refl))
 meant_some state (says text) = (replies text, state, (refl, refl))
-meant_some state (edits name text) = (edit_told (edit_refusal state name text), edited state name text (edit_refusal state name text), (refl, refl))
+meant_some state (edits name text) = (edit_response (edit_refusal state name text), edited state name text (edit_refusal state name text), (refl, refl))
 meant_some state ignores = (silent, state, (refl, refl))
 meant_some state (ends status) = (finishes status, state, (refl, refl))
 
-pub tells_some : (state : ScriptState) (body : List ℕ) → (told : Told) × (after : ScriptState) × Tells state body told after
-unfolding Tells
+pub tells_some : (state : ScriptState) (body : List ℕ) → (told : Response) × (after : ScriptState) × Responds state body told after
+unfolding Responds
 tells_some state body =
     let json = json_some body in
-    let one = meant_some (in_phase (next_phase state.phase (said json.0)) state) (meant state.phase (said json.0)) in
+    let one = meant_some (in_phase (next_phase state.phase (message_of json.0)) state) (meaning_of state.phase (message_of json.0)) in
     (one.0, one.1, (json.0, json.1, one.2))

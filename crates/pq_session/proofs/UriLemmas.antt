@@ -6,15 +6,15 @@ use Rattle.std.proofs.lemmas.Str.{len_utf8_ascii, is_utf8-from_IsUtf8, IsUtf8-fr
 use Rattle.std.proofs.lemmas.Str.Pattern.{starts_text, drop_at_char, strip_prefix_char}
 use Rattle.std.proofs.lemmas.Bool.{cond-true, cond-false, eqb-true, false_from_ne_true}
 use Rattle.percent_encoding.specs.Percent.{percent_decode}
-use Rattle.pq_session.specs.Uri.{behind, without_slashes, text_of}
+use Rattle.pq_session.specs.Uri.{strip_prefix, without_slashes, text_of}
 
 -- what `strip_prefix` says
-pub behind_is : (front text : List ℕ) (r : Option (Bor (List ℕ))) → MatchOption r (FindsTextPrefix front text None) (λ x. StripsPrefix (FindsTextPrefix front) text x.now) → option_map (λ rest. rest.now) r ≡ behind front text
-behind_is front text None h = sym (cond-false _ _ _ (sym (starts_text false front text h)))
-behind_is front text (Some x) h =
+pub strip_prefix_is : (prefix text : List ℕ) (r : Option (Bor (List ℕ))) → MatchOption r (FindsTextPrefix prefix text None) (λ x. StripsPrefix (FindsTextPrefix prefix) text x.now) → option_map (λ rest. rest.now) r ≡ strip_prefix prefix text
+strip_prefix_is prefix text None h = sym (cond-false _ _ _ (sym (starts_text false prefix text h)))
+strip_prefix_is prefix text (Some x) h =
     let boundary = subst (λ k. IsCharBoundary text k) (sym h.1.0) h.1.2 in
-    let starts = starts_text true front text (h.0, h.1, boundary) in
-    let rest : x.now ≡ drop (length front) text = h.2 ∙ ap (λ k. drop k text) h.1.0 in
+    let starts = starts_text true prefix text (h.0, h.1, boundary) in
+    let rest : x.now ≡ drop (length prefix) text = h.2 ∙ ap (λ k. drop k text) h.1.0 in
     ap Some rest ∙ sym (cond-true _ _ _ (sym starts))
 
 cuts_kept : (s ns r : List ℕ) → CutsPrefixes (FindsCharPrefix 47) s ns r → without_slashes r ≡ without_slashes s

@@ -3,12 +3,9 @@ pub mod Uri
 pub mod Session
 pub mod Reply
 pub mod Findings
-pub mod InOrder
 pub mod Compile
-pub mod Told
-pub mod Served
+pub mod Responses
 pub mod Output
-pub mod Bodies
 pub mod Script
-pub mod Steps
 pub mod Faults
+pub mod aux

@@ -1,53 +1,47 @@
--- What a script may write for a list of bodies: the frames of the replies in order, up to the first end or refused edit.
+-- What a script may write for a list of bodies: the frames of the responses in order, up to the
+-- first message that ends the session and the first edit that is refused.
 use Rattle.std.specs.Prelude.{◌≡◌, ℕ, List, [], ◌∷◌, ◌++◌, Option, Some, None}
+use Rattle.std.specs.Io.{StartsWith}
 use Rattle.pq_frame.specs.Written.{written}
 use Rattle.pq_inputs.specs.declared.fault.InputFault.{InputFault}
-use Rattle.pq_session.specs.Told.{Told, replies, silent, finishes, refuses, ScriptState, Tells}
+use Rattle.pq_session.specs.Responses.{Response, replies, silent, finishes, refuses, ScriptState, Responds}
 
--- how the messages of a session ended: by `exit` with a status, or by an edit that was refused
+-- The ending of a session: by `exit` with a status, or by the refusal of an edit.
 pub data Ending : Type 0 where
   exits : ℕ → Ending
   refused : InputFault → Ending
 
--- the bytes that are written, and the ending, where there is one
+-- An output: the bytes that are written, and the ending, if there is one.
 pub record Output : Type 0 where
   pub bytes : List ℕ
   pub ending : Option Ending
 
+-- `no_output` is the output for no bodies.
 abbrev pub no_output : Output
 no_output = record { bytes = []; ending = None }
 
+-- `ended how` is the output for a body that ends the session by `how`.
 abbrev pub ended : Ending → Output
 ended how = record { bytes = []; ending = Some how }
 
--- out is written, and then the rest
+-- `prefixed out rest` is the output `rest` after the bytes `out`.
 abbrev pub prefixed : List ℕ → Output → Output
 prefixed out rest = record { bytes = out ++ rest.bytes; ending = rest.ending }
 
--- a body was told this first, and P is what holds of the output for the bodies after it
-abbrev pub After : Told → (Output → Type 0) → Output → Type 0
+-- `After response P o` is that `o` is the output for a body with this response and the bodies after
+-- it, for which `P` holds of the output.
+abbrev pub After : Response → (Output → Type 0) → Output → Type 0
 After (replies text) P o = (rest : Output) × P rest × (o ≡ prefixed (written text) rest)
 After silent P o = P o
 After (finishes status) P o = o ≡ ended (exits status)
 After (refuses fault) P o = o ≡ ended (refused fault)
 
--- a script in this state may write this for these bodies
+-- `Outputs state bodies o` is that a script in `state` may write `o` for `bodies`.
 abbrev pub Outputs : ScriptState → List (List ℕ) → Output → Type 0
 Outputs state [] o = o ≡ no_output
-Outputs state (body ∷ bodies) o = (told : Told) × (after : ScriptState) × Tells state body told after × After told (Outputs after bodies) o
+Outputs state (body ∷ bodies) o = (response : Response) × (after : ScriptState) × Responds state body response after × After response (Outputs after bodies) o
 
--- what is left to be written, after bodies that ended the session or did not
-abbrev pub LeftAfter : Option Ending → ScriptState → List (List ℕ) → Output → Type 0
-LeftAfter None state bodies o = Outputs state bodies o
-LeftAfter (Some how) state bodies o = o ≡ ended how
-
--- these bodies were answered by out, and the script stands in state, or has ended: whatever completes the rest completes the whole
-abbrev pub Answered : ScriptState → List (List ℕ) → List ℕ → Option Ending → ScriptState → Type 0
-Answered start bodies out ending state = (more : List (List ℕ)) (o : Output) → LeftAfter ending state more o → Outputs start (bodies ++ more) (prefixed out o)
-
-abbrev pub IsPrefixOf : List ℕ → List ℕ → Type 0
-IsPrefixOf xs ys = (rest : List ℕ) × (ys ≡ xs ++ rest)
-
--- whatever follows these bodies, out is a front of some output for all
+-- `Stopped start bodies out` is that `out` is a prefix of some output for `bodies` and any bodies
+-- after them.
 abbrev pub Stopped : ScriptState → List (List ℕ) → List ℕ → Type 0
-Stopped start bodies out = (more : List (List ℕ)) → (o : Output) × Outputs start (bodies ++ more) o × IsPrefixOf out o.bytes
+Stopped start bodies out = (more : List (List ℕ)) → (o : Output) × Outputs start (bodies ++ more) o × StartsWith o.bytes out

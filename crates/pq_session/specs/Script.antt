@@ -1,29 +1,49 @@
--- What a script does with its input.
-use Rattle.std.specs.Prelude.{◌≡◌, ◌≢◌, ℕ, ◌<◌, ◌⊎◌, List, [], ◌++◌, Some, None, Result, Ok, Err}
+-- What a script does with its input: the relation between the bytes that were read, the bytes that
+-- were written and the result.
+use Rattle.std.specs.Prelude.{◌≡◌, ◌≢◌, ℕ, ◌≤◌, ◌+◌, ◌⊎◌, List, [], ◌++◌, length, Some, None, Result, Ok, Err}
 use Rattle.pq_frame.specs.Frames.{Frames, State, Reading, Failed}
 use Rattle.pq_frame.specs.declared.fault.FrameFault.TheVariants as frame
 use Rattle.pq_inputs.specs.declared.fault.InputFault.TheVariants as input
 use Rattle.pq_session.specs.declared.fault.ScriptFault.{ScriptFault}
 use Rattle.pq_session.specs.declared.fault.ScriptFault.TheVariants.{Write, Memory, Frame, Cut, Edit, Read, TooManyReads}
-use Rattle.pq_session.specs.Told.{ScriptState, fresh}
+use Rattle.pq_session.specs.Responses.{ScriptState, fresh}
 use Rattle.pq_session.specs.Output.{Ending, exits, refused, Outputs, Stopped}
 
--- some bodies at the front of the bytes were answered in part, and out is a front of what may be written for all
-abbrev pub StopsWithin : List ℕ → ScriptState → List ℕ → Type 0
-StopsWithin bytes start out = (front : List ℕ) × (later : List ℕ) × (bodies : List (List ℕ)) × (state : State) × (bytes ≡ front ++ later) × Frames front bodies state × Stopped start bodies out
+-- `max_reads` is the largest number of reads of one script: 2^32.
+abbrev pub max_reads : ℕ
+max_reads = 4294967296
 
--- all frames of the bytes were answered, out was written, and no body ended the session
+-- `max_piece` is the largest number of bytes of one read.
+abbrev pub max_piece : ℕ
+max_piece = 16384
+
+-- `StopsWithin bytes start out` is that a script stopped while it answered the bodies of a prefix
+-- of `bytes`, and that `out` is a prefix of an output for them and for any bodies after them.
+abbrev pub StopsWithin : List ℕ → ScriptState → List ℕ → Type 0
+StopsWithin bytes start out = (prefix : List ℕ) × (later : List ℕ) × (bodies : List (List ℕ)) × (state : State) × (bytes ≡ prefix ++ later) × Frames prefix bodies state × Stopped start bodies out
+
+-- `AnsweredAll bytes out state` is that all bodies of `bytes` were answered by `out`, and that none
+-- ended the session. The rest of `bytes` leaves a reader in `state`.
 abbrev pub AnsweredAll : List ℕ → List ℕ → State → Type 0
 AnsweredAll bytes out state = (bodies : List (List ℕ)) × Frames bytes bodies state × Outputs fresh bodies (record { bytes = out; ending = None })
 
--- a body ended the session or the script, out being written before
-abbrev pub Ended : List ℕ → List ℕ → Ending → Type 0
-Ended bytes out how = (bodies : List (List ℕ)) × (state : State) × Frames bytes bodies state × Outputs fresh bodies (record { bytes = out; ending = Some how })
+-- `ShowsInLastPiece bytes` is that the input showed the reason to stop in its `last` bytes, at most
+-- `max_piece` of them: all bodies of the bytes before were answered, none ended the session, and the
+-- frames had no error.
+abbrev pub ShowsInLastPiece : List ℕ → Type 0
+ShowsInLastPiece bytes = (before : List ℕ) × (last : List ℕ) × (out : List ℕ) × (rest : List ℕ) × (bytes ≡ before ++ last) × (length last ≤ max_piece) × AnsweredAll before out (Reading rest)
 
--- of the bytes that were read, out was written, and this was answered; AtEnd says that the input ended there, and UsedUp that no read is left
+-- `Ended bytes out how` is that a body of `bytes` ended the session by `how`, after `out` was
+-- written for those before it. The end of that body is among the last `max_piece` bytes of `bytes`.
+abbrev pub Ended : List ℕ → List ℕ → Ending → Type 0
+Ended bytes out how = (bodies : List (List ℕ)) × (state : State) × Frames bytes bodies state × Outputs fresh bodies (record { bytes = out; ending = Some how }) × ShowsInLastPiece bytes
+
+-- `Scripts AtEnd UsedUp bytes out result` is that a script that read `bytes` may write `out` and
+-- return `result`. `AtEnd` is that the input ended after `bytes`, and `UsedUp` that all reads were
+-- made.
 abbrev pub Scripts : Type 0 → Type 0 → List ℕ → List ℕ → Result ℕ ScriptFault → Type 0
 Scripts AtEnd UsedUp bytes out (Ok status) = Ended bytes out (exits status) ⊎ ((status ≡ 1) × AtEnd × AnsweredAll bytes out (Reading []))
-Scripts AtEnd UsedUp bytes out (Err (Frame fault)) = AnsweredAll bytes out (Failed fault)
+Scripts AtEnd UsedUp bytes out (Err (Frame fault)) = AnsweredAll bytes out (Failed fault) × ShowsInLastPiece bytes
 Scripts AtEnd UsedUp bytes out (Err Cut) = (rest : List ℕ) × (rest ≢ []) × AtEnd × AnsweredAll bytes out (Reading rest)
 Scripts AtEnd UsedUp bytes out (Err (Edit fault)) = Ended bytes out (refused fault)
 Scripts AtEnd UsedUp bytes out (Err Read) = (rest : List ℕ) × AnsweredAll bytes out (Reading rest)
@@ -31,35 +51,21 @@ Scripts AtEnd UsedUp bytes out (Err TooManyReads) = (rest : List ℕ) × UsedUp 
 Scripts AtEnd UsedUp bytes out (Err Write) = StopsWithin bytes fresh out
 Scripts AtEnd UsedUp bytes out (Err Memory) = StopsWithin bytes fresh out
 
--- want of memory is told as Memory alone, never within a fault of frames or edits
+-- `IsMemoryAlone result` is that an allocation failure is `Memory` alone, never the error of a
+-- frame or an edit.
 abbrev pub IsMemoryAlone : {A : Type 0} → Result A ScriptFault → Type 0
-IsMemoryAlone (Ok x) = Unit {0}
 IsMemoryAlone (Err (Frame fault)) = fault ≢ frame.Memory
 IsMemoryAlone (Err (Edit fault)) = fault ≢ input.Memory
-IsMemoryAlone (Err Cut) = Unit {0}
-IsMemoryAlone (Err Read) = Unit {0}
-IsMemoryAlone (Err TooManyReads) = Unit {0}
-IsMemoryAlone (Err Write) = Unit {0}
-IsMemoryAlone (Err Memory) = Unit {0}
+IsMemoryAlone _ = Unit {0}
 
--- a write fault is answered exactly where the count of the writer's failed calls rose
-abbrev pub IsShownIf : {A : Type 0} → Result A ScriptFault → ℕ → ℕ → Type 0
-IsShownIf (Ok x) before after = after ≡ before
-IsShownIf (Err Write) before after = before < after
-IsShownIf (Err Memory) before after = after ≡ before
-IsShownIf (Err (Frame fault)) before after = after ≡ before
-IsShownIf (Err Cut) before after = after ≡ before
-IsShownIf (Err (Edit fault)) before after = after ≡ before
-IsShownIf (Err Read) before after = after ≡ before
-IsShownIf (Err TooManyReads) before after = after ≡ before
+-- `FailsToWrite result before after` is that the count of the writer's failed calls went from
+-- `before` to `after`: one call failed if `result` is `Write`, and none otherwise.
+abbrev pub FailsToWrite : {A : Type 0} → Result A ScriptFault → ℕ → ℕ → Type 0
+FailsToWrite (Err Write) before after = after ≡ before + 1
+FailsToWrite _ before after = after ≡ before
 
--- a read fault is answered exactly where the count of the reader's failed calls rose
+-- `FailsToRead result before after` is that the count of the reader's failed calls went from
+-- `before` to `after`: one call failed if `result` is `Read`, and none otherwise.
 abbrev pub FailsToRead : {A : Type 0} → Result A ScriptFault → ℕ → ℕ → Type 0
-FailsToRead (Ok x) before after = after ≡ before
-FailsToRead (Err Read) before after = before < after
-FailsToRead (Err Write) before after = after ≡ before
-FailsToRead (Err Memory) before after = after ≡ before
-FailsToRead (Err (Frame fault)) before after = after ≡ before
-FailsToRead (Err Cut) before after = after ≡ before
-FailsToRead (Err (Edit fault)) before after = after ≡ before
-FailsToRead (Err TooManyReads) before after = after ≡ before
+FailsToRead (Err Read) before after = after ≡ before + 1
+FailsToRead _ before after = after ≡ before

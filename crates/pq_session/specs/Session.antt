@@ -1,125 +1,136 @@
--- What the messages of a client mean in a session (LSP 3.17, "Server lifecycle", "Text Document Synchronization", "Document
--- Diagnostics"; JSON-RPC 2.0, "Request object", "Notification").
-use Rattle.std.specs.Prelude.{◌≡◌, ℕ, List, codes, Bool, true, false, if◌then◌else◌, Option, Some, None, option_map, option_and_then, string_bytes}
+-- What the messages of a client mean, by the phase of the session (LSP 3.17, "Server lifecycle",
+-- "Text Document Synchronization", "Document Diagnostics"; JSON-RPC 2.0, "Request object",
+-- "Notification").
+use Rattle.std.specs.Prelude.{ℕ, List, codes, if◌then◌else◌, Option, Some, None, option_and_then}
 use Rattle.std.specs.Str.{bytes_eq}
 use Rattle.serde_json.specs.Data.{Data}
 use Rattle.serde_json.specs.Find.{get, as_str}
-use Rattle.pq_frame.specs.Labels.{SaidLabel, no_label, said_label}
-use Rattle.pq_frame.specs.Messages.{Said, bad_json, invalid, ask, notice, response}
-use Rattle.pq_session.specs.declared.methods.RequestMethod.{RequestMethod}
-use Rattle.pq_session.specs.declared.methods.RequestMethod.TheVariants.{Initialize, Shutdown, DocumentDiagnostic}
-use Rattle.pq_session.specs.declared.methods.NoticeMethod.{NoticeMethod}
-use Rattle.pq_session.specs.declared.methods.NoticeMethod.TheVariants.{Exit, DidOpen}
-use Rattle.pq_session.specs.declared.items.Phase.{Phase}
-use Rattle.pq_session.specs.declared.items.Phase.TheVariants.{Fresh, Serving, Closing}
-use Rattle.pq_session.specs.declared.items.Query.{Query}
-use Rattle.pq_session.specs.declared.items.Query.TheVariants.{Diagnostics}
-use Rattle.pq_session.specs.declared.items.Want.{Want}
-use Rattle.pq_session.specs.declared.items.Want.TheVariants.{Demand, Fixed}
-use Rattle.pq_session.specs.declared.items.Request.{Request}
-use Rattle.pq_session.specs.declared.items.Item.{Item}
-use Rattle.pq_session.specs.declared.items.Item.TheVariants.{Ask, Say, Edit, Ignore, End}
-use Rattle.pq_session.specs.declared.refusals.Refusal.TheVariants.{ParseError, InvalidRequest, MethodNotFound, InvalidParams, NotInitialized}
+use Rattle.pq_frame.specs.Labels.{LabelModel, no_label}
+use Rattle.pq_frame.specs.Messages.{MessageModel, bad_json, invalid, ask, notice, response}
+use Rattle.pq_session.specs.declared.protocol.methods.RequestMethod.{RequestMethod}
+use Rattle.pq_session.specs.declared.protocol.methods.RequestMethod.TheVariants.{Initialize, Shutdown, DocumentDiagnostic}
+use Rattle.pq_session.specs.declared.protocol.methods.NotificationMethod.{NotificationMethod}
+use Rattle.pq_session.specs.declared.protocol.methods.NotificationMethod.TheVariants.{Exit, DidOpen}
+use Rattle.pq_session.specs.declared.state.outcome.Phase.{Phase}
+use Rattle.pq_session.specs.declared.state.outcome.Phase.TheVariants.{Fresh, Serving, Closing}
+use Rattle.pq_session.specs.declared.protocol.refusals.Refusal.TheVariants.{ParseError, InvalidRequest, MethodNotFound, InvalidParams, NotInitialized}
 use Rattle.pq_session.specs.Uri.{file_of}
 use Rattle.pq_session.specs.Reply.{refusal_text, initialized_text, null_text}
 
--- what a request asks of a file, by the file's name
-pub data SaidQuery : Type 0 where
-  file_diagnostics : List ℕ → SaidQuery
+-- A query of a request: the diagnostics of the file of a name.
+pub data QueryModel : Type 0 where
+  file_diagnostics : List ℕ → QueryModel
 
--- what a message means
-pub data Meant : Type 0 where
-  -- an answer is asked for, which the sources give
-  asks : SaidLabel → SaidQuery → Meant
-  -- the reply of this text, whatever the sources are
-  says : List ℕ → Meant
-  -- the file of this name has this text from now on, or is absent
-  edits : List ℕ → Option (List ℕ) → Meant
-  ignores : Meant
-  -- the session ends with this status
-  ends : ℕ → Meant
+-- The meaning of a message.
+pub data Meaning : Type 0 where
+  -- The response to the request of this label is the answer to this query by the sources.
+  asks : LabelModel → QueryModel → Meaning
+  -- The response has this text, whatever the sources are.
+  says : List ℕ → Meaning
+  -- The file of this name gets this text, or is removed.
+  edits : List ℕ → Option (List ℕ) → Meaning
+  ignores : Meaning
+  -- The session ends with this status.
+  ends : ℕ → Meaning
 
 -- ---- the methods
 
--- those of requests; every other one is unknown there, also one of a notice
+-- `request_method name` is the method of a request of this name. Any other name is unknown in a
+-- request.
 abbrev pub request_method : List ℕ → Option RequestMethod
 request_method name =
     if bytes_eq name (codes "initialize") then Some Initialize else
     (if bytes_eq name (codes "shutdown") then Some Shutdown else
     (if bytes_eq name (codes "textDocument/diagnostic") then Some DocumentDiagnostic else None))
 
--- those of notices; every other one is unknown there, also one of a request
-abbrev pub notice_method : List ℕ → Option NoticeMethod
-notice_method name =
+-- `notification_method name` is the method of a notification of this name. Any other name is
+-- unknown in a notification.
+abbrev pub notification_method : List ℕ → Option NotificationMethod
+notification_method name =
     if bytes_eq name (codes "exit") then Some Exit else
     (if bytes_eq name (codes "textDocument/didOpen") then Some DidOpen else None)
 
 -- ---- the parameters (LSP 3.17, "TextDocumentIdentifier", "TextDocumentItem")
 
--- a text of `params.textDocument`
+-- `document_text name params` is the string member `name` of the member `textDocument` of `params`.
 abbrev pub document_text : List ℕ → Option Data → Option (List ℕ)
 document_text name params = option_and_then as_str (option_and_then (get name) (option_and_then (get (codes "textDocument")) params))
 
--- the root of this session is empty
+-- `root` is the root folder of a session. It is empty: a path names itself.
 abbrev pub root : List ℕ
 root = codes ""
 
+-- `file_named uri` is the name of the file of `uri`, if there is a `uri` that names a file.
 abbrev pub file_named : Option (List ℕ) → Option (List ℕ)
 file_named uri = option_and_then (file_of root) uri
 
 -- ---- requests, by phase and method
 
--- a file's diagnostics, or that the file is not named
-abbrev pub meant_by_file : SaidLabel → Option (List ℕ) → Meant
-meant_by_file label None = says (refusal_text label InvalidParams)
-meant_by_file label (Some file) = asks label (file_diagnostics file)
+-- `file_meaning label file` is the meaning of a request for the diagnostics of `file`, or of one
+-- that names no file.
+abbrev pub file_meaning : LabelModel → Option (List ℕ) → Meaning
+file_meaning label None = says (refusal_text label InvalidParams)
+file_meaning label (Some file) = asks label (file_diagnostics file)
 
--- before `initialize` nothing else is answered, nor after `shutdown` anything; `initialize` comes once
-abbrev pub meant_request : Phase → SaidLabel → Option RequestMethod → Option Data → Meant
-meant_request Fresh label (Some Initialize) params = says (initialized_text label)
-meant_request Fresh label (Some Shutdown) params = says (refusal_text label NotInitialized)
-meant_request Fresh label (Some DocumentDiagnostic) params = says (refusal_text label NotInitialized)
-meant_request Fresh label None params = says (refusal_text label NotInitialized)
-meant_request Serving label (Some Initialize) params = says (refusal_text label InvalidRequest)
-meant_request Serving label (Some Shutdown) params = says (null_text label)
-meant_request Serving label (Some DocumentDiagnostic) params = meant_by_file label (file_named (document_text (codes "uri") params))
-meant_request Serving label None params = says (refusal_text label MethodNotFound)
-meant_request Closing label method params = says (refusal_text label InvalidRequest)
+-- `request_meaning phase label method params` is the meaning of a request. All but `initialize` is
+-- refused before it, all after `shutdown`, and a second `initialize`.
+abbrev pub request_meaning : Phase → LabelModel → Option RequestMethod → Option Data → Meaning
+request_meaning Fresh label (Some Initialize) params = says (initialized_text label)
+request_meaning Fresh label (Some Shutdown) params = says (refusal_text label NotInitialized)
+request_meaning Fresh label (Some DocumentDiagnostic) params = says (refusal_text label NotInitialized)
+request_meaning Fresh label None params = says (refusal_text label NotInitialized)
+request_meaning Serving label (Some Initialize) params = says (refusal_text label InvalidRequest)
+request_meaning Serving label (Some Shutdown) params = says (null_text label)
+request_meaning Serving label (Some DocumentDiagnostic) params = file_meaning label (file_named (document_text (codes "uri") params))
+request_meaning Serving label None params = says (refusal_text label MethodNotFound)
+request_meaning Closing label method params = says (refusal_text label InvalidRequest)
 
--- ---- notices, by phase and method
+-- ---- notifications, by phase and method
 
+-- `exit_status phase` is the status of a session that `exit` ends in `phase`: 0 after `shutdown`,
+-- else 1.
 abbrev pub exit_status : Phase → ℕ
 exit_status Fresh = 1
 exit_status Serving = 1
 exit_status Closing = 0
 
--- a text for a file, or for a URI that names none
-abbrev pub meant_by_edit : Option (List ℕ) → List ℕ → Meant
-meant_by_edit None text = ignores
-meant_by_edit (Some file) text = edits file (Some text)
+-- `unreadable_parameters` is the status of a session that an edit of unreadable parameters ends.
+abbrev pub unreadable_parameters : ℕ
+unreadable_parameters = 3
 
--- an open file: its URI and text have to be there, each a text
-abbrev pub meant_by_open : Option (List ℕ) → Option (List ℕ) → Meant
-meant_by_open None text = ends 3
-meant_by_open (Some uri) None = ends 3
-meant_by_open (Some uri) (Some text) = meant_by_edit (file_of root uri) text
+-- `edit_meaning file text` is the meaning of an edit: `file` gets `text`. A URI that names no file
+-- is ignored.
+abbrev pub edit_meaning : Option (List ℕ) → List ℕ → Meaning
+edit_meaning None text = ignores
+edit_meaning (Some file) text = edits file (Some text)
 
-abbrev pub meant_notice : Phase → Option NoticeMethod → Option Data → Meant
-meant_notice phase (Some Exit) params = ends (exit_status phase)
-meant_notice Fresh (Some DidOpen) params = ignores
-meant_notice Serving (Some DidOpen) params = meant_by_open (document_text (codes "uri") params) (document_text (codes "text") params)
-meant_notice Closing (Some DidOpen) params = ignores
-meant_notice phase None params = ignores
+-- `open_meaning uri text` is the meaning of `textDocument/didOpen`. Its parameters are unreadable
+-- if `uri` or `text` is absent or not a string.
+abbrev pub open_meaning : Option (List ℕ) → Option (List ℕ) → Meaning
+open_meaning None text = ends unreadable_parameters
+open_meaning (Some uri) None = ends unreadable_parameters
+open_meaning (Some uri) (Some text) = edit_meaning (file_of root uri) text
+
+-- `notification_meaning phase method params` is the meaning of a notification. Between `initialize`
+-- and `shutdown` edits count, and `exit` always does.
+abbrev pub notification_meaning : Phase → Option NotificationMethod → Option Data → Meaning
+notification_meaning phase (Some Exit) params = ends (exit_status phase)
+notification_meaning Fresh (Some DidOpen) params = ignores
+notification_meaning Serving (Some DidOpen) params = open_meaning (document_text (codes "uri") params) (document_text (codes "text") params)
+notification_meaning Closing (Some DidOpen) params = ignores
+notification_meaning phase None params = ignores
 
 -- ---- messages
 
-unfoldable pub meant : Phase → Said → Meant
-meant phase bad_json = says (refusal_text no_label ParseError)
-meant phase (invalid label) = says (refusal_text label InvalidRequest)
-meant phase (ask label method params) = meant_request phase label (request_method method) params
-meant phase (notice method params) = meant_notice phase (notice_method method) params
-meant phase response = ignores
+-- `meaning_of phase message` is the meaning of `message` in a session of this phase.
+unfoldable pub meaning_of : Phase → MessageModel → Meaning
+meaning_of phase bad_json = says (refusal_text no_label ParseError)
+meaning_of phase (invalid label) = says (refusal_text label InvalidRequest)
+meaning_of phase (ask label method params) = request_meaning phase label (request_method method) params
+meaning_of phase (notice method params) = notification_meaning phase (notification_method method) params
+meaning_of phase response = ignores
 
+-- `phase_after phase method` is the phase after a request of this method.
 abbrev pub phase_after : Phase → Option RequestMethod → Phase
 phase_after Fresh (Some Initialize) = Serving
 phase_after Fresh (Some Shutdown) = Fresh
@@ -130,59 +141,10 @@ phase_after Serving (Some DocumentDiagnostic) = Serving
 phase_after Closing (Some method) = Closing
 phase_after phase None = phase
 
-unfoldable pub next_phase : Phase → Said → Phase
+-- `next_phase phase message` is the phase after `message`. Requests alone change it.
+unfoldable pub next_phase : Phase → MessageModel → Phase
 next_phase phase bad_json = phase
 next_phase phase (invalid label) = phase
 next_phase phase (ask label method params) = phase_after phase (request_method method)
 next_phase phase (notice method params) = phase
 next_phase phase response = phase
-
--- the label of the reply to a message, where it has one
-abbrev pub reply_label : Said → Option SaidLabel
-reply_label bad_json = Some no_label
-reply_label (invalid label) = Some label
-reply_label (ask label method params) = Some label
-reply_label (notice method params) = None
-reply_label response = None
-
--- ---- items
-
-abbrev pub said_query : Query → SaidQuery
-said_query (Diagnostics file) = file_diagnostics (string_bytes file)
-
-abbrev pub meant_by_want : SaidLabel → Want → Meant
-meant_by_want label (Demand query) = asks label (said_query query)
-meant_by_want label (Fixed text) = says (string_bytes text)
-
-abbrev pub meant_by_request : Request → Meant
-meant_by_request request = meant_by_want (said_label request.label) request.want
-
-abbrev pub meant_by : Item → Meant
-meant_by (Ask request) = meant_by_request request
-meant_by (Say request) = meant_by_request request
-meant_by (Edit change) = edits (string_bytes change.file) (option_map string_bytes change.text)
-meant_by Ignore = ignores
-meant_by (End status) = ends status
-
-abbrev pub item_label : Item → Option SaidLabel
-item_label (Ask request) = Some (said_label request.label)
-item_label (Say request) = Some (said_label request.label)
-item_label (Edit change) = None
-item_label Ignore = None
-item_label (End status) = None
-
-abbrev pub is_demand : Want → Bool
-is_demand (Demand query) = true
-is_demand (Fixed text) = false
-
--- what is asked is a demand, and what is said is fixed
-abbrev pub HasFittingWant : Item → Type 0
-HasFittingWant (Ask request) = is_demand request.want ≡ true
-HasFittingWant (Say request) = is_demand request.want ≡ false
-HasFittingWant (Edit change) = Unit {0}
-HasFittingWant Ignore = Unit {0}
-HasFittingWant (End status) = Unit {0}
-
--- an item of a meaning and a label. A middle term for the parts of a session
-abbrev pub IsItemOf : Meant → Option SaidLabel → Item → Type 0
-IsItemOf meaning label item = (meant_by item ≡ meaning) × (item_label item ≡ label) × HasFittingWant item

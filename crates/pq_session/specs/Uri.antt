@@ -4,38 +4,47 @@ use Rattle.std.specs.List.{starts_with}
 use Rattle.std.specs.Str.{is_utf8}
 use Rattle.percent_encoding.specs.Percent.{percent_decode}
 
--- what stands behind this front, where the text begins with it
-abbrev pub behind : List ℕ → List ℕ → Option (List ℕ)
-behind front text = if starts_with nat_eq text front then Some (drop (length front) text) else None
+-- `slash` is the byte between the parts of a path.
+abbrev pub slash : ℕ
+slash = 47
 
--- the path of a URI of scheme `file` without a host, its escapes as they stand. It begins with `/`; `?` and `#` belong to it
+-- `strip_prefix prefix text` is `text` after `prefix`, if `text` begins with it.
+abbrev pub strip_prefix : List ℕ → List ℕ → Option (List ℕ)
+strip_prefix prefix text = if starts_with nat_eq text prefix then Some (drop (length prefix) text) else None
+
+-- `absolute path` is `path`, if it begins with `/`.
 abbrev pub absolute : List ℕ → Option (List ℕ)
-absolute path = if is_some (behind (codes "/") path) then Some path else None
+absolute path = if is_some (strip_prefix (codes "/") path) then Some path else None
 
+-- `path_of uri` is the path of `uri`, with its escapes, if `uri` has the scheme `file` and no host.
+-- `?` and `#` belong to the path.
 abbrev pub path_of : List ℕ → Option (List ℕ)
-path_of uri = option_and_then absolute (behind (codes "file://") uri)
+path_of uri = option_and_then absolute (strip_prefix (codes "file://") uri)
 
--- the text of a path, each escape in the place of its byte
+-- `text_of path` is `path` with each escape replaced by its byte, if that is UTF-8.
 abbrev pub text_of : List ℕ → Option (List ℕ)
 text_of path = if is_utf8 (percent_decode path) then Some (percent_decode path) else None
 
+-- `without_slashes path` is `path` from its first byte that is not `/`.
 abbrev pub without_slashes : List ℕ → List ℕ
 without_slashes [] = []
-without_slashes (b ∷ rest) = if b == 47 then without_slashes rest else b ∷ rest
+without_slashes (b ∷ rest) = if b == slash then without_slashes rest else b ∷ rest
 
--- a name is not empty
+-- `name_of text` is `text`, if it is not empty.
 abbrev pub name_of : List ℕ → Option (List ℕ)
 name_of [] = None
 name_of (b ∷ rest) = Some (b ∷ rest)
 
--- the file at a path, by what stands behind the root and `/`: a path below the root names the rest, another one itself
+-- `file_below path below` is the name of the file at `path`: the path `below` the root, or `path`
+-- itself if it is not there.
 abbrev pub file_below : List ℕ → Option (List ℕ) → Option (List ℕ)
 file_below path None = Some path
 file_below path (Some rest) = name_of (without_slashes rest)
 
+-- `file_at root path` is the name of the file at `path`.
 abbrev pub file_at : List ℕ → List ℕ → Option (List ℕ)
-file_at root path = file_below path (option_and_then (behind (codes "/")) (behind root path))
+file_at root path = file_below path (option_and_then (strip_prefix (codes "/")) (strip_prefix root path))
 
--- the file that a URI names, for a root without `/` at its end
+-- `file_of root uri` is the name of the file of `uri`, if it names one. `root` does not end in `/`.
 unfoldable pub file_of : List ℕ → List ℕ → Option (List ℕ)
 file_of root uri = option_and_then (file_at root) (option_and_then text_of (path_of uri))

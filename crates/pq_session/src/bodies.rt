@@ -1,69 +1,71 @@
 //! The bodies of messages, answered in order.
+//!
+//! Each body is handled, and its response is written and flushed, before the next one. The first
+//! body that ends the session, and the first error, end the list.
 ghost use Rattle.std.specs.Prelude.{◌≡◌, ◌<◌, ◌^◌, ◌∷◌, [], ℕ, List, IfOk, IfErr};
 ghost use Rattle.std.specs.Io.KnownBytes.{Appends};
+ghost use Rattle.pq_frame.specs.Bodies.{bodies_of};
 ghost use Rattle.pq_session.specs.Counts.{inner_of, failed_of};
-ghost use Rattle.pq_session.specs.Output.{Answered};
-ghost use Rattle.pq_session.specs.Script.{IsShownIf};
-ghost use Rattle.pq_session.specs.Steps.{Fails, exit_of};
-ghost use Rattle.pq_session.specs.Served.{state_of};
-ghost use Rattle.pq_session.specs.Bodies.{bodies_of};
+ghost use Rattle.pq_session.specs.Script.{FailsToWrite};
+ghost use Rattle.pq_session.specs.aux.Answered.{Answered};
+ghost use Rattle.pq_session.specs.aux.ServerState.{state_of};
+ghost use Rattle.pq_session.specs.aux.Steps.{Fails, exit_of};
 
 use crate::counted::Counted;
 use crate::fault::ScriptFault;
 use crate::send::send;
-use crate::tell::{Served, Step};
+use crate::state::server_state::{ServerState, Step};
 use std::alloc::Global;
 use std::io::Write;
 
-/// Answers one body: its reply is written and flushed.
-fn answer_one<W: Write>(
+/// Answers one body: its response is written and flushed. Returns the status, if the body ends the
+/// session.
+fn answer_body<W: Write>(
     alloc: Global,
-    served: &mut Served,
+    server: &mut ServerState,
     writer: &mut Counted<W>,
     body: &[u8],
 ) -> Result<Option<u8>, ScriptFault>
     requires { failed_of writer.old < 2 ^ 63 }
-    ensures ok { IfOk result (λ status. (out : List ℕ) × Answered (state_of served.old) (body.now ∷ []) out (exit_of status) (state_of served.new)
+    ensures ok { IfOk result (λ status. (out : List ℕ)
+        × Answered (state_of server.old) (body.now ∷ []) out (exit_of status) (state_of server.new)
         × Appends (W.contents (inner_of writer.old)) (W.contents (inner_of writer.new)) out) }
-    ensures err { IfErr result (λ e. (out : List ℕ) × Fails (state_of served.old) (body.now ∷ []) out e
+    ensures err { IfErr result (λ e. (out : List ℕ)
+        × Fails (state_of server.old) (body.now ∷ []) out e
         × Appends (W.contents (inner_of writer.old)) (W.contents (inner_of writer.new)) out) }
-    ensures counts { IsShownIf result (failed_of writer.old) (failed_of writer.new) }
+    ensures counts { FailsToWrite result (failed_of writer.old) (failed_of writer.new) }
 {
-    match served.tell(alloc, body) {
-        Err(fault) => Err(fault),
-        Ok(Step::Silence) => Ok(None),
-        Ok(Step::Finish(status)) => Ok(Some(status)),
-        Ok(Step::Reply(reply)) => {
-            let Ok(text) = pq_frame::frame(alloc, reply.as_bytes()) else {
-                return Err(ScriptFault::Memory);
-            };
-            match send(writer, &text) {
-                Ok(()) => Ok(None),
-                Err(fault) => Err(fault),
-            }
+    match server.handle(alloc, body)? {
+        Step::Silence => Ok(None),
+        Step::Finish(status) => Ok(Some(status)),
+        Step::Reply(reply) => {
+            let text = pq_frame::frame(alloc, reply.as_bytes())?;
+            send(writer, &text)?;
+            Ok(None)
         }
     }
 }
 
-/// Answers bodies in order, up to one that ends the session or whose edit is refused.
-pub(crate) fn answer_all<W: Write>(
+/// Answers `bodies` in order, up to the first that ends the session. Returns its status, if there is
+/// one.
+pub(crate) fn answer_bodies<W: Write>(
     alloc: Global,
-    served: &mut Served,
+    server: &mut ServerState,
     writer: &mut Counted<W>,
     bodies: &[Vec<u8>],
 ) -> Result<Option<u8>, ScriptFault>
     requires { failed_of writer.old < 2 ^ 63 }
-    ensures ok { IfOk result (λ status. (out : List ℕ) × Answered (state_of served.old) (bodies_of bodies.now) out (exit_of status) (state_of served.new)
+    ensures ok { IfOk result (λ status. (out : List ℕ)
+        × Answered (state_of server.old) (bodies_of bodies.now) out (exit_of status) (state_of server.new)
         × Appends (W.contents (inner_of writer.old)) (W.contents (inner_of writer.new)) out) }
-    ensures err { IfErr result (λ e. (out : List ℕ) × Fails (state_of served.old) (bodies_of bodies.now) out e
+    ensures err { IfErr result (λ e. (out : List ℕ)
+        × Fails (state_of server.old) (bodies_of bodies.now) out e
         × Appends (W.contents (inner_of writer.old)) (W.contents (inner_of writer.new)) out) }
-    ensures counts { IsShownIf result (failed_of writer.old) (failed_of writer.new) }
+    ensures counts { FailsToWrite result (failed_of writer.old) (failed_of writer.new) }
 {
     for body in bodies {
-        match answer_one(alloc, served, writer, body) {
-            Err(fault) => return Err(fault),
-            Ok(Some(status)) => return Ok(Some(status)),
-            Ok(None) => {}
+        if let Some(status) = answer_body(alloc, server, writer, body)? {
+            return Ok(Some(status));
         }
     }
     Ok(None)

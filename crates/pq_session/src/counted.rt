@@ -1,4 +1,4 @@
-//! Readers and writers that count their calls: so that a fault of a device is told only where a call failed.
+//! Readers and writers that count their calls, so that a contract can name the calls that failed.
 ghost use Rattle.std.specs.Prelude.{◌≡◌, ◌+◌, ◌<◌, ◌≤◌, ℕ, length, IfOk};
 ghost use Rattle.std.specs.Io.{ReadsAtMost, WritesAtMost};
 ghost use Rattle.std.specs.Io.KnownBytes.{Keeps, ReadConsumes, WriteAppends};
@@ -7,7 +7,8 @@ ghost use Rattle.pq_session.specs.Counts.{one_more, failed_after_read, failed_af
 use std::io;
 use std::io::{Read, Write};
 
-/// A reader or a writer whose reads and failed calls are counted, each from 0; a count stays at its last value.
+/// A reader or a writer whose reads and failed calls are counted, each from 0. A count stays at the
+/// largest number of 64 bits.
 ///
 /// A write that takes no bytes counts as a failed call.
 #[derive(Drop)]
@@ -18,7 +19,7 @@ pub struct Counted<T> {
 }
 
 impl<T> Counted<T> {
-    /// A reader or a writer of which no call was made.
+    /// Counts the calls of `inner` from now on.
     pub fn new(inner: T) -> Counted<T>
         ensures inner { inner_of result ≡ inner }
         ensures reads { reads_of result ≡ 0 }
@@ -31,14 +32,14 @@ impl<T> Counted<T> {
         }
     }
 
-    /// How many reads were made.
+    /// The number of reads.
     pub fn reads(&self) -> u64
         ensures { result ≡ reads_of self.now }
     {
         self.reads
     }
 
-    /// How many calls failed.
+    /// The number of failed calls.
     pub fn failed(&self) -> u64
         ensures { result ≡ failed_of self.now }
     {
@@ -49,6 +50,7 @@ impl<T> Counted<T> {
 impl<R: Read> Read for Counted<R> {
     ghost remaining = { λ c. R.remaining c.inner };
 
+    /// Reads, and counts the read.
     fn read(&mut self, buf: &mut [u8]) -> io::Result<usize>
         ensures bound { ReadsAtMost result buf.new }
         ensures bytes { ReadConsumes (R.remaining (inner_of self.old)) (R.remaining (inner_of self.new)) result buf.new }
@@ -67,6 +69,7 @@ impl<R: Read> Read for Counted<R> {
 impl<W: Write> Write for Counted<W> {
     ghost contents = { λ c. W.contents c.inner };
 
+    /// Writes, and counts a failed write.
     fn write(&mut self, buf: &[u8]) -> io::Result<usize>
         ensures bound { WritesAtMost result buf.now }
         ensures bytes { WriteAppends (W.contents (inner_of self.old)) (W.contents (inner_of self.new)) result buf.now }
@@ -83,6 +86,7 @@ impl<W: Write> Write for Counted<W> {
         result
     }
 
+    /// Flushes, and counts a failed flush.
     fn flush(&mut self) -> io::Result<()>
         ensures bytes { Keeps (W.contents (inner_of self.old)) (W.contents (inner_of self.new)) }
         ensures failed { failed_of self.new ≡ failed_after_flush (failed_of self.old) result }

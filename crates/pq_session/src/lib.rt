@@ -1,40 +1,30 @@
-//! A session of the language server: what each message of a client means, the texts of the replies, and the script that
-//! serves one client from a reader to a writer. What is written for some bytes is said by `specs/Output` and `specs/Script`;
-//! `specs/Session` says what a message means, `specs/Told` what may be told to it, `specs/Compile` a file's diagnostics, and
-//! `specs/Findings` what is told of its tree.
+//! A session of the language server, and the script that serves one client from a reader to a
+//! writer.
+//!
+//! `script` reads frames (`run`), handles the bodies of each piece in order (`bodies`), and writes
+//! the response to a request before it reads on (`send`). `state` has the server's state and what
+//! each message asks of it, `protocol` the methods, parameters and responses on the wire, and
+//! `diagnose` the diagnostics of a file. `counted` has the readers and writers whose calls are
+//! counted.
+//!
+//! `specs/Script` and `specs/Output` say which bytes are written for which input, `specs/Session`
+//! what a message means, `specs/Responses` what the response to it may be, and `specs/Compile` with
+//! `specs/Findings` the diagnostics of a file. `laws` has the theorems about all of them.
 #![tactic(auto)]
 
 mod bodies;
-mod compile;
 mod counted;
-mod diagnostics;
+mod diagnose;
 mod fault;
-mod findings;
-mod items;
 mod laws;
-mod methods;
-mod notices;
-mod params;
-mod refusals;
-mod replies;
-mod requests;
+mod protocol;
 mod run;
 mod send;
-mod sessions;
-mod tell;
-mod uris;
+mod state;
 
 pub use counted::Counted;
 pub use fault::ScriptFault;
 pub use laws::{each_output, findings_in_order, stops_at_a_front};
 pub use run::{MAX_READS, script};
+pub use state::notifications::UNREADABLE_PARAMETERS;
 pub use std::alloc::AllocError as Memory;
-
-#[cfg(test)]
-mod device_tests;
-#[cfg(test)]
-mod finding_tests;
-#[cfg(test)]
-mod message_tests;
-#[cfg(test)]
-mod script_tests;

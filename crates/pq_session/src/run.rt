@@ -1,65 +1,54 @@
 //! The script: one client, served from a reader to a writer on one thread.
+//!
+//! It reads pieces of at most 16,384 bytes, splits them into frames, and answers the bodies of each
+//! piece before it reads the next. It keeps the sources and at most one unfinished frame.
 ghost use Rattle.std.specs.Prelude.{◌≡◌, ◌≢◌, ◌+◌, ◌<◌, ◌≤◌, ◌^◌, ◌++◌, ◌⊎◌, ◌∷◌, [], ℕ, List, Option, Some, None, length, take, IfOk, IfErr, OnOk, MatchResult};
 ghost use Rattle.std.specs.Io.KnownBytes.{Appends, Consumes, IsAtEnd};
 ghost use Rattle.pq_frame.specs.Frames.{Frames, Feeds, State, Reading, Failed};
 ghost use Rattle.pq_session.specs.Counts.{inner_of, failed_of, reads_of};
-ghost use Rattle.pq_session.specs.Script.{Scripts, IsMemoryAlone, IsShownIf, FailsToRead};
-ghost use Rattle.pq_session.specs.Steps.{Takes};
-ghost use Rattle.pq_session.specs.Served.{state_of};
-ghost use Rattle.pq_session.specs.Faults.{fault_of};
+ghost use Rattle.pq_session.specs.Script.{Scripts, IsMemoryAlone, FailsToWrite, FailsToRead, max_reads};
+ghost use Rattle.pq_session.specs.aux.ServerState.{state_of};
+ghost use Rattle.pq_session.specs.aux.Steps.{Takes};
 
-use crate::bodies::answer_all;
+use crate::bodies::answer_bodies;
 use crate::counted::Counted;
 use crate::fault::ScriptFault;
-use crate::tell::Served;
-use pq_frame::{FrameFault, FrameReader};
+use crate::state::server_state::ServerState;
+use pq_frame::FrameReader;
 use std::alloc::Global;
 use std::io::{Read, Write};
 
-fn frame_fault(fault: FrameFault) -> ScriptFault
-    ensures { result ≡ fault_of fault }
-{
-    match fault {
-        FrameFault::Memory => ScriptFault::Memory,
-        _ => ScriptFault::Frame(fault),
-    }
-}
-
-/// Answers the bodies that are whole with the next piece.
+/// Answers the bodies that `piece` completes. Returns the status, if one of them ends the session.
 fn take_piece<W: Write>(
     alloc: Global,
     frames: &mut FrameReader,
-    served: &mut Served,
+    server: &mut ServerState,
     writer: &mut Counted<W>,
     piece: &[u8],
 ) -> Result<Option<u8>, ScriptFault>
     requires { failed_of writer.old < 2 ^ 63 }
-    ensures takes { (rest : List ℕ) → frames.old ≡ Reading rest → (out : List ℕ) × Takes (rest ++ piece.now) (state_of served.old) out result frames.new (state_of served.new)
+    ensures takes { (rest : List ℕ) → frames.old ≡ Reading rest → (out : List ℕ)
+        × Takes (rest ++ piece.now) (state_of server.old) out result frames.new (state_of server.new)
         × Appends (W.contents (inner_of writer.old)) (W.contents (inner_of writer.new)) out }
-    ensures counts { IsShownIf result (failed_of writer.old) (failed_of writer.new) }
+    ensures counts { FailsToWrite result (failed_of writer.old) (failed_of writer.new) }
 {
-    let bodies = match frames.feed(piece) {
-        Ok(bodies) => bodies,
-        Err(fault) => return Err(frame_fault(fault)),
-    };
+    let bodies = frames.feed(piece)?;
     if bodies.is_empty() {
         return Ok(None);
     }
-    match answer_all(alloc, served, writer, &bodies) {
-        Err(fault) => return Err(fault),
-        Ok(Some(status)) => return Ok(Some(status)),
-        Ok(None) => {}
+    if let Some(status) = answer_bodies(alloc, server, writer, &bodies)? {
+        return Ok(Some(status));
     }
-    // A fault that stands behind the bodies is told now.
-    match frames.feed(&[]) {
-        Ok(_) => Ok(None),
-        Err(fault) => Err(frame_fault(fault)),
-    }
+    // An error after the bodies comes with the next call.
+    frames.feed(&[])?;
+    Ok(None)
 }
 
-/// The input ends here.
+/// The result where the input ends: 1 between two frames.
 fn at_end(frames: &FrameReader) -> Result<u8, ScriptFault>
-    ensures { (rest : List ℕ) → frames.now ≡ Reading rest → MatchResult result (λ status. (status ≡ 1) × (rest ≡ [])) (λ e. (e ≡ ScriptFault.Cut) × (rest ≢ [])) }
+    ensures { (rest : List ℕ) → frames.now ≡ Reading rest → MatchResult result
+        (λ status. (status ≡ 1) × (rest ≡ []))
+        (λ e. (e ≡ ScriptFault.Cut) × (rest ≢ [])) }
 {
     if frames.at_rest() {
         Ok(1)
@@ -68,20 +57,26 @@ fn at_end(frames: &FrameReader) -> Result<u8, ScriptFault>
     }
 }
 
-/// How many reads one script makes at most.
+/// The largest number of reads of one script: 2^32.
 pub const MAX_READS: u64 = 4_294_967_296;
 
-/// Serves one client: reads frames to the end of the input, and writes and flushes each reply as soon as its request
-/// has been read. (LSP 3.17, "Base Protocol", "Server lifecycle".)
+/// Serves one client: reads frames to the end of the input, and writes and flushes the response to
+/// each request before the next read (LSP 3.17, "Base Protocol", "Server lifecycle").
 ///
-/// It answers the status with which `exit` ended the session, after which it reads nothing more, or 1 where the input
-/// ends between two frames. It starts a session of its own, without files; a query is answered at once by the sources
-/// that the edits before it made. A query for which there is no memory has a reply that says so.
+/// Returns the status with which `exit` ended the session, or 1 if the input ends between two
+/// frames. An edit of unreadable parameters ends the session with `UNREADABLE_PARAMETERS`. The
+/// script starts a session of its own, without files. A query is answered by the sources that the
+/// edits before it made. If an allocation fails for it, its response says so.
 ///
-/// `Frame`, `Cut` and `Edit` come where the input shows them, after the replies to all messages before; `Read` where a
-/// read failed, also one that was interrupted; `TooManyReads` after `MAX_READS` reads; `Write` where a write or a flush
-/// failed or a write took no bytes; `Memory` where there was no memory outside of a reply to a query. After `Write` and
-/// `Memory` a front of an output was written. Nothing is written or read after a fault.
+/// `Frame` and `Edit` are errors of the input, and `Cut` is an end inside a frame. They are returned
+/// after the responses to all messages before. `Read` is a failed read, also an interrupted one.
+/// `TooManyReads` comes after `MAX_READS` reads. `Write` is a write or a flush that failed, or a
+/// write that took no bytes. `Memory` is an allocation failure outside of the answer to a query.
+/// After `Write` and `Memory` a prefix of an output was written.
+///
+/// The end of the message that ended the session, and the byte that shows an error of the input, are
+/// among the last 16,384 bytes that were read. `Read` and `Write` are answered if exactly one call
+/// failed.
 pub fn script<R: Read, W: Write>(
     alloc: Global,
     reader: &mut Counted<R>,
@@ -90,23 +85,23 @@ pub fn script<R: Read, W: Write>(
     requires reads_left { reads_of reader.old < 2 ^ 63 }
     requires reader_left { failed_of reader.old < 2 ^ 63 }
     requires writer_left { failed_of writer.old < 2 ^ 63 }
-    // Of the bytes that were read, what was written is what the session may say to them, and the result is shown by them.
+    // The bytes that were written are what the session may respond to the bytes that were read,
+    // and the bytes that were read show the result.
     ensures writes { (bytes : List ℕ) × (out : List ℕ)
-        × Scripts (IsAtEnd (R.remaining (inner_of reader.new))) (reads_of reader.new ≡ reads_of reader.old + MAX_READS) bytes out result
+        × Scripts (IsAtEnd (R.remaining (inner_of reader.new)))
+        (reads_of reader.new ≡ reads_of reader.old + max_reads) bytes out result
         × Consumes (R.remaining (inner_of reader.old)) (R.remaining (inner_of reader.new)) bytes
         × Appends (W.contents (inner_of writer.old)) (W.contents (inner_of writer.new)) out }
-    // A fault of a read or a write is answered exactly where a call failed.
+    // One read failed if the result is `Read`, and none otherwise.
     ensures read_failed { FailsToRead result (failed_of reader.old) (failed_of reader.new) }
-    ensures write_failed { IsShownIf result (failed_of writer.old) (failed_of writer.new) }
+    // One write or flush failed if the result is `Write`, and none otherwise.
+    ensures write_failed { FailsToWrite result (failed_of writer.old) (failed_of writer.new) }
     ensures memory_alone { IsMemoryAlone result }
-    ensures bound { reads_of reader.new ≤ reads_of reader.old + MAX_READS }
+    ensures bound { reads_of reader.new ≤ reads_of reader.old + max_reads }
 {
     let mut buffer = [0u8; 16384];
     let mut frames = FrameReader::new(alloc);
-    let mut served = match Served::new(alloc) {
-        Ok(served) => served,
-        Err(_) => return Err(ScriptFault::Memory),
-    };
+    let mut server = ServerState::new(alloc)?;
     'reads: for _turn in 0..MAX_READS {
         let count = match reader.read(&mut buffer) {
             Ok(count) => count,
@@ -115,10 +110,9 @@ pub fn script<R: Read, W: Write>(
         if count == 0 {
             return at_end(&frames);
         }
-        match take_piece(alloc, &mut frames, &mut served, writer, &buffer[..count]) {
-            Err(fault) => return Err(fault),
-            Ok(Some(status)) => return Ok(status),
-            Ok(None) => {}
+        let ending = take_piece(alloc, &mut frames, &mut server, writer, &buffer[..count])?;
+        if let Some(status) = ending {
+            return Ok(status);
         }
     }
     Err(ScriptFault::TooManyReads)

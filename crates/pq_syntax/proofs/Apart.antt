@@ -1,9 +1,11 @@
 -- Terminals that are apart have no word in common.
 use Rattle.std.proofs.Common.{◌≡◌, ℕ, ◌==◌, Bool, true, false, not, ◌&&◌, List, [], ◌∷◌, refl, ap, sym, ◌∙◌, inl, inr}
-use Rattle.std.proofs.lemmas.Bool.{and_parts, and_from, both_ways, eqb-true, not-true, or_cases}
+use Rattle.std.specs.Str.{bytes_eq}
+use Rattle.std.proofs.lemmas.Slice.Eq.{bytes_eq-Decides}
+use Rattle.std.proofs.lemmas.Bool.{and_parts, and_from, both_ways, not-true, or_cases}
 use Rattle.pq_lex.specs.declared.token.Kind.{Kind}
 use Rattle.pq_lex.specs.declared.token.Kind.TheVariants.{Identifier, Integer, Float, Text, Symbol}
-use Rattle.pq_syntax.specs.Words.{Word, Class, Named, Keyword, OneOf, NameBut, Whole, Real, Str, Valued, Sign, NoBracket, class, accepts, accepts_class, among, brackets, is_float, is_identifier, is_integer, is_symbol, is_text, same}
+use Rattle.pq_syntax.specs.Words.{Word, Class, Named, Keyword, OneOf, NameBut, Whole, Real, Str, Valued, Sign, NoBracket, class, accepts, accepts_class, among, brackets, is_float, is_identifier, is_integer, is_symbol, is_text}
 use Rattle.pq_syntax.specs.declared.terminal.Terminal.{Terminal}
 
 at_identifier : (k : Kind) → is_identifier k ≡ true → k ≡ Identifier
@@ -50,31 +52,24 @@ abbrev none_in : List (List ℕ) → List (List ℕ) → Bool
 none_in [] bs = true
 none_in (a ∷ as') bs = not (among a bs) && none_in as' bs
 
-same_is : (xs ys : List ℕ) → same xs ys ≡ true → xs ≡ ys
-same_is [] [] h = refl
-same_is [] (y ∷ ys) h = cc
-same_is (x ∷ xs) [] h = cc
-same_is (x ∷ xs) (y ∷ ys) h =
-    let p = and_parts (x == y) (same xs ys) h in
-    let head : x ≡ y = eqb-true x y p.0 in
-    let tail : xs ≡ ys = same_is xs ys p.1 in
-    cc
+same_is : (xs ys : List ℕ) → bytes_eq xs ys ≡ true → xs ≡ ys
+same_is xs ys h = (bytes_eq-Decides xs ys).0 h
 
 -- what holds of a spelling holds of the text that is the same
-of_text : (f : List ℕ → Bool) (t xs : List ℕ) → same t xs ≡ true → f t ≡ f xs
+of_text : (f : List ℕ → Bool) (t xs : List ℕ) → bytes_eq t xs ≡ true → f t ≡ f xs
 of_text f t xs e = ap f (same_is t xs e)
 
 among_all : (t : List ℕ) (as' bs : List (List ℕ)) → all_in as' bs ≡ true → among t as' ≡ true → among t bs ≡ true
 among_all t [] bs h e = cc
 among_all t (a ∷ as') bs h e =
     let p = and_parts (among a bs) (all_in as' bs) h in
-    elim (or_cases (same t a) (among t as') e) [ inl g ↦ of_text (λ x. among x bs) t a g ∙ p.0 | inr g ↦ among_all t as' bs p.1 g ]
+    elim (or_cases (bytes_eq t a) (among t as') e) [ inl g ↦ of_text (λ x. among x bs) t a g ∙ p.0 | inr g ↦ among_all t as' bs p.1 g ]
 
 among_none : (t : List ℕ) (as' bs : List (List ℕ)) → none_in as' bs ≡ true → among t as' ≡ true → among t bs ≡ true → ⊥
 among_none t [] bs h e f = cc
 among_none t (a ∷ as') bs h e f =
     let p = and_parts (not (among a bs)) (none_in as' bs) h in
-    elim (or_cases (same t a) (among t as') e) [
+    elim (or_cases (bytes_eq t a) (among t as') e) [
       | inl g ↦ both_ways (among a bs) (not-true _ p.0) (sym (of_text (λ x. among x bs) t a g) ∙ f)
       | inr g ↦ among_none t as' bs p.1 g f
     ]
@@ -125,12 +120,12 @@ differ c d w p q n e f = n (sym (kind_is c w p e) ∙ kind_is d w q f)
 
 -- no word is of both classes: by their spellings, or by their kinds
 abbrev apart_classes : Class → Class → Bool
-apart_classes (Sign a) (Sign b) = not (same (a ∷ []) (b ∷ []))
-apart_classes NoBracket (Sign c) = among (c ∷ []) brackets
-apart_classes (Sign c) NoBracket = among (c ∷ []) brackets
+apart_classes (Sign a) (Sign b) = not (bytes_eq a b)
+apart_classes NoBracket (Sign c) = among c brackets
+apart_classes (Sign c) NoBracket = among c brackets
 apart_classes NoBracket d = false
 apart_classes c NoBracket = false
-apart_classes (Keyword a) (Keyword b) = not (same a b)
+apart_classes (Keyword a) (Keyword b) = not (bytes_eq a b)
 apart_classes (Keyword a) (NameBut bs) = among a bs
 apart_classes (NameBut bs) (Keyword a) = among a bs
 apart_classes (Keyword a) (OneOf bs) = not (among a bs)
@@ -142,12 +137,12 @@ apart_classes c d = not (number (kind_of c) == number (kind_of d))
 
 apart_classes_sound : (c d : Class) (w : Word) → apart_classes c d ≡ true → accepts_class c w ≡ true → accepts_class d w ≡ true → ⊥
 apart_classes_sound (Sign a) (Sign b) w h e f =
-    both_ways (same (a ∷ []) (b ∷ [])) (not-true _ h) (sym (of_text (λ x. same x (b ∷ [])) w.text (a ∷ []) (second _ _ e)) ∙ second _ _ f)
+    both_ways (bytes_eq a b) (not-true _ h) (sym (of_text (λ x. bytes_eq x b) w.text a (second _ _ e)) ∙ second _ _ f)
 apart_classes_sound NoBracket (Sign c) w h e f =
-    both_ways (is_symbol w.kind && among w.text brackets) (not-true _ e) (and_from _ _ (first _ _ f) (of_text (λ x. among x brackets) w.text (c ∷ []) (second _ _ f) ∙ h))
+    both_ways (is_symbol w.kind && among w.text brackets) (not-true _ e) (and_from _ _ (first _ _ f) (of_text (λ x. among x brackets) w.text c (second _ _ f) ∙ h))
 apart_classes_sound (Sign c) NoBracket w h e f =
-    both_ways (is_symbol w.kind && among w.text brackets) (not-true _ f) (and_from _ _ (first _ _ e) (of_text (λ x. among x brackets) w.text (c ∷ []) (second _ _ e) ∙ h))
-apart_classes_sound (Keyword a) (Keyword b) w h e f = both_ways (same a b) (not-true _ h) (sym (of_text (λ x. same x b) w.text a (second _ _ e)) ∙ second _ _ f)
+    both_ways (is_symbol w.kind && among w.text brackets) (not-true _ f) (and_from _ _ (first _ _ e) (of_text (λ x. among x brackets) w.text c (second _ _ e) ∙ h))
+apart_classes_sound (Keyword a) (Keyword b) w h e f = both_ways (bytes_eq a b) (not-true _ h) (sym (of_text (λ x. bytes_eq x b) w.text a (second _ _ e)) ∙ second _ _ f)
 apart_classes_sound (Keyword a) (NameBut bs) w h e f = both_ways (among w.text bs) (not-true _ (second _ _ f)) (of_text (λ x. among x bs) w.text a (second _ _ e) ∙ h)
 apart_classes_sound (NameBut bs) (Keyword a) w h e f = both_ways (among w.text bs) (not-true _ (second _ _ e)) (of_text (λ x. among x bs) w.text a (second _ _ f) ∙ h)
 apart_classes_sound (Keyword a) (OneOf bs) w h e f = both_ways (among a bs) (not-true _ h) (sym (of_text (λ x. among x bs) w.text a (second _ _ e)) ∙ second _ _ f)

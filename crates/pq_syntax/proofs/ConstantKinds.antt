@@ -2,58 +2,58 @@
 use Rattle.std.proofs.Common.{◌≡◌, ℕ, List, refl, true, false}
 use Rattle.pq_lex.specs.declared.token.Token.{Token}
 use Rattle.pq_syntax.specs.Rule.{Rule, Parse}
-use Rattle.pq_syntax.specs.Rule.Rule.{One, Then, Or}
+use Rattle.pq_syntax.specs.Rule.Rule.{Single, Seq, Alt}
 use Rattle.pq_syntax.specs.Rule.Parse.{Pair, Left, Right}
-use Rattle.pq_syntax.specs.Takes.{starts_at}
+use Rattle.pq_syntax.specs.aux.Takes.{starts_at}
 use Rattle.pq_syntax.specs.Words.{Word, words, accepts}
 use Rattle.pq_syntax.specs.Grammar.{constant, full, strs, block, unsigned}
 use Rattle.pq_syntax.specs.Parts.{kind_of, unsigned_kind}
-use Rattle.pq_syntax.specs.Steps.{TakesToken, Reads, Fails}
+use Rattle.pq_syntax.specs.aux.Steps.{TakesToken, Reads, Fails}
 use Rattle.pq_syntax.specs.declared.failure.Failure.{Failure}
 use Rattle.pq_syntax.specs.declared.parts.ConstantKind.{ConstantKind}
 use Rattle.pq_syntax.specs.declared.terminal.Terminal.{Terminal}
-use Rattle.pq_syntax.specs.declared.terminal.Terminal.TheVariants.{AnyName, Minus, Plus, WholeNumber, RealNumber, StringLiteral, NotFinite}
+use Rattle.pq_syntax.specs.declared.terminal.Terminal.TheVariants.{AnyIdentifier, Minus, Plus, AnyInteger, AnyFloat, AnyText, InfOrNan}
 use Rattle.pq_syntax.proofs.Choices.{Chooses, by_first, by_token, by_word, chooses_first, chooses_itself, chooses_past}
 use Rattle.pq_syntax.proofs.Rules.{takes_then, starts_neither}
 use Rattle.pq_syntax.proofs.Steps.{fails_then, fails_first}
 
--- what stands behind a sign
+-- what follows a sign
 module _ {text : List ℕ} {x : List Token} where
-  pub unsigned_whole : starts_at accepts (One WholeNumber) (words text x) ≡ true → Chooses text unsigned (One WholeNumber) x (λ p. Left p)
+  pub unsigned_whole : starts_at accepts (Single AnyInteger) (words text x) ≡ true → Chooses text unsigned (Single AnyInteger) x (λ p. Left p)
   unsigned_whole h = chooses_first by_token h
 
-  pub unsigned_real : starts_at accepts (One WholeNumber) (words text x) ≡ false
-      → starts_at accepts (One RealNumber) (words text x) ≡ true
-      → Chooses text unsigned (One RealNumber) x (λ p. Right (Left p))
+  pub unsigned_real : starts_at accepts (Single AnyInteger) (words text x) ≡ false
+      → starts_at accepts (Single AnyFloat) (words text x) ≡ true
+      → Chooses text unsigned (Single AnyFloat) x (λ p. Right (Left p))
   unsigned_real e h = chooses_past by_token e (chooses_first by_token h)
 
-  pub unsigned_not_finite : starts_at accepts (One WholeNumber) (words text x) ≡ false
-      → starts_at accepts (One RealNumber) (words text x) ≡ false
-      → Chooses text unsigned (One NotFinite) x (λ p. Right (Right p))
+  pub unsigned_not_finite : starts_at accepts (Single AnyInteger) (words text x) ≡ false
+      → starts_at accepts (Single AnyFloat) (words text x) ≡ false
+      → Chooses text unsigned (Single InfOrNan) x (λ p. Right (Right p))
   unsigned_not_finite e h = chooses_past by_token e (chooses_past by_token h chooses_itself)
 
 abbrev pub sign : Rule Terminal
-sign = Or (One Minus) (One Plus)
+sign = Alt (Single Minus) (Single Plus)
 
 abbrev pub signed : Rule Terminal
-signed = Then sign unsigned
+signed = Seq sign unsigned
 
 -- the alternatives of a constant, in their order
 module _ (n : ℕ) (text : List ℕ) (x : List Token) where
-  pub chooses_name : starts_at accepts (One AnyName) (words text x) ≡ true → Chooses text (constant n) full x (λ p. Left p)
+  pub chooses_name : starts_at accepts (Single AnyIdentifier) (words text x) ≡ true → Chooses text (constant n) full x (λ p. Left p)
   chooses_name h = chooses_first by_word h
 
-  module _ (name : starts_at accepts (One AnyName) (words text x) ≡ false) where
+  module _ (name : starts_at accepts (Single AnyIdentifier) (words text x) ≡ false) where
     chooses_signed : {c : Terminal} {within : Parse Word → Parse Word}
-        → Chooses text sign (One c) x within
-        → starts_at accepts (One c) (words text x) ≡ true
+        → Chooses text sign (Single c) x within
+        → starts_at accepts (Single c) (words text x) ≡ true
         → Chooses text (constant n) signed x (λ p. Right (Left p))
-    chooses_signed s h = chooses_past by_word name (chooses_first (by_first refl) (s.starts h))
+    chooses_signed s h = chooses_past by_word name (chooses_first (by_first refl) (s.in_first h))
 
-    -- a sign and what stands behind it, where the sign begins the constant
+    -- a sign and what follows it, where the sign begins the constant
     signed_reads : {c : Terminal} {within : Parse Word → Parse Word} {y z : List Token} {t : Token} {v : ConstantKind}
-        → Chooses text sign (One c) x within
-        → starts_at accepts (One c) (words text x) ≡ true
+        → Chooses text sign (Single c) x within
+        → starts_at accepts (Single c) (words text x) ≡ true
         → TakesToken text c x y t
         → Reads text unsigned unsigned_kind y z v
         → Reads text (constant n) kind_of x z v
@@ -63,10 +63,10 @@ module _ (n : ℕ) (text : List ℕ) (x : List Token) where
       is = r.is;
     }
 
-    -- a fault behind the sign
+    -- an error after the sign
     signed_fails : {c : Terminal} {within : Parse Word → Parse Word} {y : List Token} {t : Token} {e : Failure}
-        → Chooses text sign (One c) x within
-        → starts_at accepts (One c) (words text x) ≡ true
+        → Chooses text sign (Single c) x within
+        → starts_at accepts (Single c) (words text x) ≡ true
         → TakesToken text c x y t
         → Fails text unsigned y e
         → Fails text (constant n) x e
@@ -74,13 +74,13 @@ module _ (n : ℕ) (text : List ℕ) (x : List Token) where
 
     -- a fault at the sign
     sign_fails : {c : Terminal} {within : Parse Word → Parse Word} {e : Failure}
-        → Chooses text sign (One c) x within
-        → starts_at accepts (One c) (words text x) ≡ true
-        → Fails text (One c) x e
+        → Chooses text sign (Single c) x within
+        → starts_at accepts (Single c) (words text x) ≡ true
+        → Fails text (Single c) x e
         → Fails text (constant n) x e
     sign_fails {e = e} s h f = (chooses_signed s h).fails e (fails_first (s.fails e f))
 
-    module _ (h : starts_at accepts (One Minus) (words text x) ≡ true) where
+    module _ (h : starts_at accepts (Single Minus) (words text x) ≡ true) where
       pub minus_reads : {y z : List Token} {t : Token} {v : ConstantKind}
           → TakesToken text Minus x y t
           → Reads text unsigned unsigned_kind y z v
@@ -90,11 +90,11 @@ module _ (n : ℕ) (text : List ℕ) (x : List Token) where
       pub minus_unread : {y : List Token} {t : Token} {e : Failure} → TakesToken text Minus x y t → Fails text unsigned y e → Fails text (constant n) x e
       minus_unread t f = signed_fails (chooses_first by_token h) h t f
 
-      pub minus_fails : {e : Failure} → Fails text (One Minus) x e → Fails text (constant n) x e
+      pub minus_fails : {e : Failure} → Fails text (Single Minus) x e → Fails text (constant n) x e
       minus_fails f = sign_fails (chooses_first by_token h) h f
 
-    module _ (minus : starts_at accepts (One Minus) (words text x) ≡ false) where
-      module _ (h : starts_at accepts (One Plus) (words text x) ≡ true) where
+    module _ (minus : starts_at accepts (Single Minus) (words text x) ≡ false) where
+      module _ (h : starts_at accepts (Single Plus) (words text x) ≡ true) where
         pub plus_reads : {y z : List Token} {t : Token} {v : ConstantKind}
             → TakesToken text Plus x y t
             → Reads text unsigned unsigned_kind y z v
@@ -104,30 +104,30 @@ module _ (n : ℕ) (text : List ℕ) (x : List Token) where
         pub plus_unread : {y : List Token} {t : Token} {e : Failure} → TakesToken text Plus x y t → Fails text unsigned y e → Fails text (constant n) x e
         plus_unread t f = signed_fails (chooses_past by_token minus chooses_itself) h t f
 
-        pub plus_fails : {e : Failure} → Fails text (One Plus) x e → Fails text (constant n) x e
+        pub plus_fails : {e : Failure} → Fails text (Single Plus) x e → Fails text (constant n) x e
         plus_fails f = sign_fails (chooses_past by_token minus chooses_itself) h f
 
-      module _ (plus : starts_at accepts (One Plus) (words text x) ≡ false) where
-        -- an alternative behind names and signs
+      module _ (plus : starts_at accepts (Single Plus) (words text x) ≡ false) where
+        -- an alternative after names and signs
         behind_signs : {a : Rule Terminal} {within : Parse Word → Parse Word}
-            → Chooses text (Or (One WholeNumber) (Or (One RealNumber) (Or strs (block n)))) a x within
+            → Chooses text (Alt (Single AnyInteger) (Alt (Single AnyFloat) (Alt strs (block n)))) a x within
             → Chooses text (constant n) a x (λ p. Right (Right (within p)))
-        behind_signs a = chooses_past by_word name (chooses_past (by_first refl) (starts_neither accepts (One Minus) (One Plus) (words text x) minus plus) a)
+        behind_signs a = chooses_past by_word name (chooses_past (by_first refl) (starts_neither accepts (Single Minus) (Single Plus) (words text x) minus plus) a)
 
-        pub chooses_whole : starts_at accepts (One WholeNumber) (words text x) ≡ true
-            → Chooses text (constant n) (One WholeNumber) x (λ p. Right (Right (Left p)))
+        pub chooses_whole : starts_at accepts (Single AnyInteger) (words text x) ≡ true
+            → Chooses text (constant n) (Single AnyInteger) x (λ p. Right (Right (Left p)))
         chooses_whole h = behind_signs (chooses_first by_token h)
 
-        module _ (whole : starts_at accepts (One WholeNumber) (words text x) ≡ false) where
-          pub chooses_real : starts_at accepts (One RealNumber) (words text x) ≡ true
-              → Chooses text (constant n) (One RealNumber) x (λ p. Right (Right (Right (Left p))))
+        module _ (whole : starts_at accepts (Single AnyInteger) (words text x) ≡ false) where
+          pub chooses_real : starts_at accepts (Single AnyFloat) (words text x) ≡ true
+              → Chooses text (constant n) (Single AnyFloat) x (λ p. Right (Right (Right (Left p))))
           chooses_real h = behind_signs (chooses_past by_token whole (chooses_first by_token h))
 
-          module _ (real : starts_at accepts (One RealNumber) (words text x) ≡ false) where
-            pub chooses_strings : starts_at accepts (One StringLiteral) (words text x) ≡ true
+          module _ (real : starts_at accepts (Single AnyFloat) (words text x) ≡ false) where
+            pub chooses_strings : starts_at accepts (Single AnyText) (words text x) ≡ true
                 → Chooses text (constant n) strs x (λ p. Right (Right (Right (Right (Left p)))))
             chooses_strings h = behind_signs (chooses_past by_token whole (chooses_past by_token real (chooses_first by_word h)))
 
-            pub chooses_block : starts_at accepts (One StringLiteral) (words text x) ≡ false
+            pub chooses_block : starts_at accepts (Single AnyText) (words text x) ≡ false
                 → Chooses text (constant n) (block n) x (λ p. Right (Right (Right (Right (Right p)))))
             chooses_block h = behind_signs (chooses_past by_token whole (chooses_past by_token real (chooses_past by_word h chooses_itself)))

@@ -1,8 +1,8 @@
 -- Whether another grammar goes on at the fault of a first, by where its own fault lies.
 use Rattle.std.proofs.Common.{◌≡◌, ℕ, ◌<◌, ◌≤◌, Bool, true, List, [], ◌∷◌, ◌++◌, length, Ok, Err, sym, ap, ◌∙◌, subst, arith, length-append, append_assoc}
 use Rattle.pq_syntax.specs.Rule.{Rule, Parse, IsSentence, IsFaultPlace, GoesOn}
-use Rattle.pq_syntax.specs.Machine.{run}
-use Rattle.pq_syntax.specs.Clear.{AllClear}
+use Rattle.pq_syntax.specs.aux.Machine.{run}
+use Rattle.pq_syntax.specs.aux.LL1.{AreLL1}
 use Rattle.pq_syntax.proofs.Place.{whole, stopped}
 
 -- where the second part is shorter, the first is longer
@@ -19,7 +19,7 @@ longer (a ∷ as') w ws (b ∷ bs) from2 e h =
     let s = longer as' w ws bs from2 tails h in
     (s.0, ap (λ l. b ∷ l) s.1 ∙ ap (λ x. x ∷ (as' ++ w ∷ s.0)) (sym heads))
 
-module _ {A W : Type 0} (accepts : A → W → Bool) (samples : (c : A) → (w : W) × (accepts c w ≡ true)) (k : List (Rule A)) (clear : AllClear accepts k) (before : List W) (w : W) (ws : List W) where
+module _ {A W : Type 0} (accepts : A → W → Bool) (samples : (c : A) → (w : W) × (accepts c w ≡ true)) (k : List (Rule A)) (clear : AreLL1 accepts k) (before : List W) (w : W) (ws : List W) where
   pub deeper_whole : (l : List (Parse W)) → run accepts k (before ++ w ∷ ws) ≡ Ok l → GoesOn accepts k before w
   deeper_whole l h = (ws, (l, whole accepts k (before ++ w ∷ ws) l h))
 
@@ -57,7 +57,7 @@ module _ {A W : Type 0} (accepts : A → W → Bool) (k : List (Rule A)) (before
       place.none s.0 (subst (IsSentence accepts k) s.1 on.1)
 
   pub deeper_not : (samples : (c : A) → (w : W) × (accepts c w ≡ true))
-      → AllClear accepts k
+      → AreLL1 accepts k
       → (n : ℕ)
       → run accepts k (before ++ w ∷ ws) ≡ Err n
       → length (w ∷ ws) ≤ n

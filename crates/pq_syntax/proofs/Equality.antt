@@ -14,6 +14,7 @@ use denote.Enum.Declared as enums
 use denote.Enum.Declared.{Declared, Choice}
 use denote.Enum.Bare.{Bare, sameb, same_true, true_same}
 use Rattle.pq_lex.specs.contracts.token as token
+use Rattle.pq_syntax.specs.contracts.fault as fault
 use Rattle.pq_syntax.specs.contracts.parts as parts
 use Rattle.pq_syntax.specs.contracts.tree as tree
 
@@ -22,17 +23,17 @@ Told {A} E = (a b : A) → Decides (E a b) (a ≡ b)
 
 -- ---- fields
 
-no_field : Told (λ (x y : Unit {0}). true)
+pub no_field : Told (λ (x y : Unit {0}). true)
 no_field x y = (λ _. refl, λ _. refl)
 
-one_field : {A : Type 0} {E : A → A → Bool} → Told E → Told (λ (x y : A × Unit {0}). E x.0 y.0)
+pub one_field : {A : Type 0} {E : A → A → Bool} → Told E → Told (λ (x y : A × Unit {0}). E x.0 y.0)
 one_field told x y = (λ t i. ((told x.0 y.0).0 t i, tt), λ e. (told x.0 y.0).1 (λ i. (e i).0))
 
-fields : {A B : Type 0} {E : A → A → Bool} {F : B → B → Bool} → Told E → Told F → Told (λ (x y : A × B). E x.0 y.0 && F x.1 y.1)
+pub fields : {A B : Type 0} {E : A → A → Bool} {F : B → B → Bool} → Told E → Told F → Told (λ (x y : A × B). E x.0 y.0 && F x.1 y.1)
 fields {E = E} {F = F} first others x y =
     Decides-like (E x.0 y.0 && F x.1 y.1) (λ p i. (p.0 i, p.1 i)) (λ e. (λ i. (e i).0, λ i. (e i).1)) (Decides-and (E x.0 y.0) (F x.1 y.1) (first x.0 y.0) (others x.1 y.1))
 
-of_struct : (N : structs.Record)
+pub of_struct : (N : structs.Record)
     → structs.Propositions N
     → {E : Values N.parts → Values N.parts → Bool}
     → Told E
@@ -41,27 +42,27 @@ of_struct N alone {E} told x y = Decides-like (E (N.as_values x) (N.as_values y)
 
 -- ---- variants
 
-no_variant : Told (λ (c d : ⊥). absurd {A = Bool} c)
+pub no_variant : Told (λ (c d : ⊥). absurd {A = Bool} c)
 no_variant c d = absurd c
 
-abbrev sides : {A B : Type 0} → (A → A → Bool) → (B → B → Bool) → A ⊎ B → A ⊎ B → Bool
+abbrev pub sides : {A B : Type 0} → (A → A → Bool) → (B → B → Bool) → A ⊎ B → A ⊎ B → Bool
 sides E F c d = ⊎_elim (λ x. ⊎_elim (λ y. E x y) (λ _. false) d) (λ x. ⊎_elim (λ _. false) (λ y. F x y) d) c
 
-variants : {A B : Type 0} {E : A → A → Bool} {F : B → B → Bool} → Told E → Told F → Told (sides E F)
+pub variants : {A B : Type 0} {E : A → A → Bool} {F : B → B → Bool} → Told E → Told F → Told (sides E F)
 variants first others (inl x) (inl y) = (λ t. ap inl ((first x y).0 t), λ e. (first x y).1 cc)
 variants first others (inl x) (inr y) = (λ t. absurd (true≢false (sym t)), λ e. cc)
 variants first others (inr x) (inl y) = (λ t. absurd (true≢false (sym t)), λ e. cc)
 variants first others (inr x) (inr y) = (λ t. ap inr ((others x y).0 t), λ e. (others x y).1 cc)
 
-of_enum : (N : enums.Record) → {E : Choice N.parts → Choice N.parts → Bool} → Told E → Told (λ (x y : N.D). E (N.as_values x) (N.as_values y))
+pub of_enum : (N : enums.Record) → {E : Choice N.parts → Choice N.parts → Bool} → Told E → Told (λ (x y : N.D). E (N.as_values x) (N.as_values y))
 of_enum N {E} told x y = Decides-like (E (N.as_values x) (N.as_values y)) (enums.values_one N x y) (ap N.as_values) (told (N.as_values x) (N.as_values y))
 
-of_bare : (D : Declared) → Bare D.parts → Told (sameb D)
+pub of_bare : (D : Declared) → Bare D.parts → Told (sameb D)
 of_bare D bare a b = (same_true D bare a b, true_same D a b)
 
 -- ---- options
 
-option : {A : Type 0} {E : A → A → Bool} → Told E → Told (option_eq E)
+pub option : {A : Type 0} {E : A → A → Bool} → Told E → Told (option_eq E)
 option told None None = (λ _. refl, λ _. refl)
 option told None (Some y) = (λ t. absurd (true≢false (sym t)), λ e. cc)
 option told (Some x) None = (λ t. absurd (true≢false (sym t)), λ e. cc)
@@ -132,3 +133,14 @@ node = of_struct tree.Node.struct tree.Node.the_propositions (fields unsigned_De
 
 pub nodes : Told (pointwise tree.NodePartialEq.TheImpl.ghosts.eq)
 nodes = pointwise_decides node
+
+-- ---- errors and outcomes
+
+pub lexical_code : Told token.CodePartialEq.TheImpl.ghosts.eq
+lexical_code = of_bare token.Code.the_type tt
+
+pub code : Told fault.CodePartialEq.TheImpl.ghosts.eq
+code = of_enum fault.Code.enum (variants (one_field lexical_code) (variants no_field (variants no_field (variants no_field (variants no_field no_variant)))))
+
+pub parsed : Told fault.ParsedPartialEq.TheImpl.ghosts.eq
+parsed = of_enum fault.Parsed.enum (variants (one_field nodes) (variants (fields span (one_field code)) no_variant))

@@ -5,23 +5,23 @@ use Rattle.std.proofs.lemmas.List.{length-map, map-append}
 use Rattle.pq_lex.specs.declared.token.Code.{Code as LexicalCode}
 use Rattle.pq_lex.specs.declared.token.Span.{Span}
 use Rattle.pq_lex.specs.declared.token.Token.{Token}
-use Rattle.pq_lex.specs.Reading.{Reading, tokens_of}
+use Rattle.pq_lex.specs.aux.Reading.{Reading, tokens_of}
 use Rattle.pq_lex.specs.Tokens.{Lexes}
 use Rattle.pq_syntax.specs.Rule.{Parse, Derives, IsFaultPlace}
-use Rattle.pq_syntax.specs.Machine.{on_ok, run}
+use Rattle.pq_syntax.specs.aux.Machine.{on_ok, run}
 use Rattle.pq_syntax.specs.Grammar.{proto_file, deeper_file}
 use Rattle.pq_syntax.specs.Tree.{file_nodes}
 use Rattle.pq_syntax.specs.Words.{Word, word, words, accepts}
-use Rattle.pq_syntax.specs.Reading.{nodes_of, reading, passes}
-use Rattle.pq_syntax.specs.FaultPlace.{IsTree, IsFault, FaultStands, GoesDeeper, is_version_fault}
+use Rattle.pq_syntax.specs.aux.Reading.{nodes_of, reading, passes}
+use Rattle.pq_syntax.specs.FaultPlace.{IsTree, IfTree, IfFaulty, IsFault, FaultStands, GoesDeeper, is_version_fault}
 use Rattle.pq_syntax.specs.FaultPlace.IsFault.{other_version, by_depth, unexpected, not_lexed, at_end}
 use Rattle.pq_syntax.specs.FaultPlace.FaultStands.{syntactic, lexical}
-use Rattle.pq_syntax.specs.Parsed.{answer, at_fault, fault_of, parsed, token_code, whole, IfTree, IfFaulty}
+use Rattle.pq_syntax.specs.aux.Parsed.{answer, at_fault, fault_of, parsed, token_code, whole}
 use Rattle.pq_syntax.specs.declared.fault.Code.{Code}
 use Rattle.pq_syntax.specs.declared.fault.Code.TheVariants.{OnlyProto3, TooDeep, UnexpectedToken}
 use Rattle.pq_syntax.specs.declared.fault.Parsed.{Parsed}
 use Rattle.pq_syntax.specs.declared.fault.Parsed.TheVariants.{Tree, Fault}
-use Rattle.pq_syntax.specs.Steps.{IfFault}
+use Rattle.pq_syntax.specs.aux.Steps.{IfFault}
 use Rattle.pq_syntax.specs.declared.failure.Failure.{Failure}
 use Rattle.pq_syntax.specs.declared.failure.Failure.TheVariants.{Fault as FaultAt}
 use Rattle.pq_syntax.specs.declared.tree.Node.{Node}
@@ -29,7 +29,7 @@ use Rattle.pq_syntax.proofs.Sound.{long}
 use Rattle.pq_syntax.proofs.Place.{whole as run_whole, read, stopped}
 use Rattle.pq_syntax.proofs.OnePlace.{run_stops}
 use Rattle.pq_syntax.proofs.Deeper.{deeper_whole, deeper_later, deeper_not}
-use Rattle.pq_syntax.proofs.Clearness.{clear, deeper_clear, samples}
+use Rattle.pq_syntax.proofs.GrammarIsLL1.{clear, deeper_clear, samples}
 
 abbrev IsRead : List ℕ → List Token → List Node → Type 0
 IsRead text tokens nodes = (p : Parse Word) × Derives accepts (proto_file ∷ []) (words text tokens) (p ∷ []) × (nodes ≡ file_nodes 63 p)
@@ -179,7 +179,8 @@ fault_split text b f stop =
     let deeper : Bool = passes (length f) (reading 64 64 text (b ++ f)) in
     ap (λ n. at_fault (fault_of text n (drop n (b ++ f)) stop deeper)) same ∙ ap (λ l. at_fault (fault_of text (length b) l stop deeper)) (drop_all b f)
 
-abbrev Stands : List ℕ → Parsed → Type 0
+-- the meaning of an outcome: its tree is the text's, or its error is the text's
+abbrev pub Stands : List ℕ → Parsed → Type 0
 Stands text p = IfTree (IsTree text) p × IfFaulty (FaultStands text) p
 
 whole_stands : (text : List ℕ) (tokens : List Token) (stop : Option (Span × LexicalCode)) (nodes : List Node)
@@ -219,16 +220,35 @@ EachText = (t : List ℕ) → Lexes 0 t (tokens_of t).tokens (tokens_of t).fault
 abbrev pub OneLexing : Type 0
 OneLexing = (t : List ℕ) (a b : List Token) (f g : Option (Span × LexicalCode)) → Lexes 0 t a f → Lexes 0 t b g → (a ≡ b) × (f ≡ g)
 
-parsed_stands : EachText → (text : List ℕ) → Stands text (parsed text)
+pub parsed_stands : EachText → (text : List ℕ) → Stands text (parsed text)
 parsed_stands each text = answer_stands text (tokens_of text) (each text) (reading 63 63 text (tokens_of text).tokens) refl
 
-pub if_tree : {E : Type 0} (each : EachText) (text : List ℕ) (r : Result Parsed E) → IfOk r (λ p. p ≡ parsed text) → IfOk r (IfTree (IsTree text))
-if_tree each text (Ok p) h = subst (IfTree (IsTree text)) (sym h) (parsed_stands each text).0
-if_tree each text (Err e) h = tt
+-- what follows from the meaning of the outcome of an answer
+pub if_tree : {E : Type 0} (text : List ℕ) (P : List Node → Type 0)
+    → ((nodes : List Node) → IsTree text nodes → P nodes)
+    → Stands text (parsed text)
+    → (r : Result Parsed E)
+    → IfOk r (λ p. p ≡ parsed text)
+    → IfOk r (IfTree P)
+if_tree text P f stands (Ok p) h = of_tree p (subst (IfTree (IsTree text)) (sym h) stands.0)
+  where
+    of_tree : (p : Parsed) → IfTree (IsTree text) p → IfTree P p
+    of_tree (Tree nodes) t = f nodes t
+    of_tree (Fault span code) t = tt
+if_tree text P f stands (Err e) h = tt
 
-pub if_faulty : {E : Type 0} (each : EachText) (text : List ℕ) (r : Result Parsed E) → IfOk r (λ p. p ≡ parsed text) → IfOk r (IfFaulty (FaultStands text))
-if_faulty each text (Ok p) h = subst (IfFaulty (FaultStands text)) (sym h) (parsed_stands each text).1
-if_faulty each text (Err e) h = tt
+pub if_faulty : {E : Type 0} (text : List ℕ) (P : Span → Code → Type 0)
+    → ((span : Span) (code : Code) → FaultStands text span code → P span code)
+    → Stands text (parsed text)
+    → (r : Result Parsed E)
+    → IfOk r (λ p. p ≡ parsed text)
+    → IfOk r (IfFaulty P)
+if_faulty text P f stands (Ok p) h = of_fault p (subst (IfFaulty (FaultStands text)) (sym h) stands.1)
+  where
+    of_fault : (p : Parsed) → IfFaulty (FaultStands text) p → IfFaulty P p
+    of_fault (Tree nodes) t = tt
+    of_fault (Fault span code) t = f span code t
+if_faulty text P f stands (Err e) h = tt
 
 -- where the tokens are those of the text, the answer at a fault is what the text is read as
 pub fault_parsed : {E : Type 0} (text : List ℕ) (r : Reading) (tokens : List Token) (e : Failure) (left : ℕ) (x : Result Parsed E)

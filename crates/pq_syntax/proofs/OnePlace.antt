@@ -3,13 +3,13 @@ use Rattle.std.proofs.Common.{◌≡◌, inl, inr, ℕ, ◌<◌, Bool, true, Lis
 use Rattle.std.proofs.lemmas.Bool.{cases_order}
 use Rattle.std.proofs.lemmas.List.{append-nil}
 use Rattle.pq_syntax.specs.Rule.{Rule, Parse, IsSentence, IsFaultPlace}
-use Rattle.pq_syntax.specs.Machine.{run}
-use Rattle.pq_syntax.specs.Clear.{AllClear}
+use Rattle.pq_syntax.specs.aux.Machine.{run}
+use Rattle.pq_syntax.specs.aux.LL1.{AreLL1}
 use Rattle.pq_syntax.proofs.Place.{whole, stopped}
 use Rattle.pq_syntax.proofs.Deeper.{longer}
 
 module _ {A W : Type 0} (accepts : A → W → Bool) (k : List (Rule A)) where
-  -- no fault place stands in front of another
+  -- no error place comes before another
   not_ahead : (b1 f1 b2 f2 : List W) → b1 ++ f1 ≡ b2 ++ f2 → length f2 < length f1 → IsFaultPlace accepts k b1 f1 → IsFaultPlace accepts k b2 f2 → ⊥
   not_ahead b1 [] b2 f2 e h p q = absurd (omega (arith, h))
   not_ahead b1 (w ∷ ws) b2 f2 e h p q =
@@ -30,7 +30,7 @@ module _ {A W : Type 0} (accepts : A → W → Bool) (k : List (Rule A)) where
 
   -- so the machine stops at the fault place
   pub run_stops : (samples : (c : A) → (w : W) × (accepts c w ≡ true))
-      → AllClear accepts k
+      → AreLL1 accepts k
       → (before from : List W)
       → IsFaultPlace accepts k before from
       → run accepts k (before ++ from) ≡ Err (length from)

@@ -1,9 +1,9 @@
 -- Where the machine stops is the fault place, and what it reads is what is derived.
 use Rattle.std.proofs.Common.{◌≡◌, ℕ, Bool, true, List, [], ◌∷◌, ◌++◌, length, Option, Some, None, Result, Ok, Err, refl, sym, ap, ◌∙◌, subst, inl, inr}
 use Rattle.std.proofs.lemmas.Bool.{cond-true, cond-false, cases_Bool, both_ways}
-use Rattle.pq_syntax.specs.Rule.{Rule, Parse, Derives, IsSentence, Stuck, IsFaultPlace}
-use Rattle.pq_syntax.specs.Machine.{pop, push, all_skip, voids, on_ok, run}
-use Rattle.pq_syntax.specs.Clear.{AllClear}
+use Rattle.pq_syntax.specs.Rule.{Rule, Parse, Derives, IsSentence, HasNoContinuation, IsFaultPlace}
+use Rattle.pq_syntax.specs.aux.Machine.{pop, push, all_skip, empty_parses, on_ok, run}
+use Rattle.pq_syntax.specs.aux.LL1.{AreLL1}
 use Rattle.pq_syntax.proofs.Sound.{popped, all_skipped, some_words}
 use Rattle.pq_syntax.proofs.Complete.{step, pop_clear, ended}
 
@@ -35,15 +35,15 @@ module _ {A W : Type 0} (accepts : A → W → Bool) where
   unfolding run
   whole k [] l h = elim (cases_Bool (all_skip k)) [
     | inl e ↦
-        let is : ◌≡◌ {A = Result (List (Parse W)) ℕ} (Ok (voids k)) (Ok l) = sym (cond-true _ _ _ e) ∙ h in
-        let same : voids k ≡ l = cc in
+        let is : ◌≡◌ {A = Result (List (Parse W)) ℕ} (Ok (empty_parses k)) (Ok l) = sym (cond-true _ _ _ e) ∙ h in
+        let same : empty_parses k ≡ l = cc in
         subst (λ q. Derives accepts k [] q) same (all_skipped accepts k e)
     | inr e ↦ let no : ◌≡◌ {A = Result (List (Parse W)) ℕ} (Err 0) (Ok l) = sym (cond-false _ _ _ e) ∙ h in cc
   ]
   whole k (w ∷ ws) l h = whole_next k w ws l (pop accepts k w) refl (λ next ps. whole next ws ps) h
 
   -- what is derived, the machine reads so, where no choice is open
-  pub read : (k : List (Rule A)) (ws : List W) (l : List (Parse W)) → AllClear accepts k → Derives accepts k ws l → run accepts k ws ≡ Ok l
+  pub read : (k : List (Rule A)) (ws : List W) (l : List (Parse W)) → AreLL1 accepts k → Derives accepts k ws l → run accepts k ws ≡ Ok l
   unfolding run
   read k [] l ok d = let s = ended accepts k l ok d in cond-true _ _ _ s.0 ∙ ap (λ (q : List (Parse W)). Ok q) (sym s.1)
   read k (w ∷ ws) l ok d =
@@ -51,7 +51,7 @@ module _ {A W : Type 0} (accepts : A → W → Bool) where
       ap (From k w ws) s.1 ∙ ap (on_ok (push accepts k w)) (read s.0 ws s.2 (pop_clear accepts k w s.0 ok s.1) s.3) ∙ ap (λ (q : List (Parse W)). Ok q) (sym s.4)
 
   back : (k : List (Rule A)) (w : W) (ws : List W) (next : List (Rule A))
-      → AllClear accepts k
+      → AreLL1 accepts k
       → pop accepts k w ≡ Some next
       → IsSentence accepts k (w ∷ ws)
       → IsSentence accepts next ws
@@ -62,10 +62,10 @@ module _ {A W : Type 0} (accepts : A → W → Bool) where
       (s.2, subst (λ q. Derives accepts q ws s.2) same s.3)
 
   back_stuck : (k : List (Rule A)) (w : W) (next : List (Rule A)) (before from : List W)
-      → AllClear accepts k
+      → AreLL1 accepts k
       → pop accepts k w ≡ Some next
-      → Stuck accepts next before from
-      → Stuck accepts k (w ∷ before) from
+      → HasNoContinuation accepts next before from
+      → HasNoContinuation accepts k (w ∷ before) from
   back_stuck k w next before [] ok e h = λ d. h (back k w before next ok e d)
   back_stuck k w next before (x ∷ xs) ok e h = λ rest d. h rest (back k w (before ++ x ∷ rest) next ok e d)
 
@@ -77,10 +77,10 @@ module _ {A W : Type 0} (accepts : A → W → Bool) where
     begun_here k = let s = some_words accepts samples k in (s.0, (s.1, s.2))
 
     stopped_next : (k : List (Rule A)) (w : W) (ws : List W) (n : ℕ)
-        → AllClear accepts k
+        → AreLL1 accepts k
         → (p : Option (List (Rule A)))
         → pop accepts k w ≡ p
-        → ((next : List (Rule A)) → AllClear accepts next → run accepts next ws ≡ Err n → Stops next ws n)
+        → ((next : List (Rule A)) → AreLL1 accepts next → run accepts next ws ≡ Err n → Stops next ws n)
         → From k w ws p ≡ Err n
         → Stops k (w ∷ ws) n
     stopped_next k w ws n ok None e goes h =
@@ -98,10 +98,10 @@ module _ {A W : Type 0} (accepts : A → W → Bool) where
           },
         )
 
-    pub stopped : (k : List (Rule A)) (ws : List W) (n : ℕ) → AllClear accepts k → run accepts k ws ≡ Err n → Stops k ws n
+    pub stopped : (k : List (Rule A)) (ws : List W) (n : ℕ) → AreLL1 accepts k → run accepts k ws ≡ Err n → Stops k ws n
     unfolding run
     stopped k [] n ok h = elim (cases_Bool (all_skip k)) [
-      | inl e ↦ let no : ◌≡◌ {A = Result (List (Parse W)) ℕ} (Ok (voids k)) (Err n) = sym (cond-true _ _ _ e) ∙ h in cc
+      | inl e ↦ let no : ◌≡◌ {A = Result (List (Parse W)) ℕ} (Ok (empty_parses k)) (Err n) = sym (cond-true _ _ _ e) ∙ h in cc
       | inr e ↦
           let is : ◌≡◌ {A = Result (List (Parse W)) ℕ} (Err 0) (Err n) = sym (cond-false _ _ _ e) ∙ h in
           ([], [], refl, cc, record { some = begun_here k; none = λ d. both_ways _ e (ended accepts k d.0 ok d.1).0 })

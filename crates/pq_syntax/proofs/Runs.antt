@@ -1,10 +1,10 @@
 -- How the machine goes through a rule, whatever follows it.
 use Rattle.std.proofs.Common.{◌≡◌, ℕ, Bool, true, false, ◌&&◌, ◌||◌, cond, List, [], ◌∷◌, length, Option, Some, None, Result, Ok, Err, refl, sym, ap, ◌∙◌}
 use Rattle.pq_syntax.specs.Rule.{Rule, Parse}
-use Rattle.pq_syntax.specs.Rule.Rule.{One, Empty, Then, Or, Many}
+use Rattle.pq_syntax.specs.Rule.Rule.{Single, Empty, Seq, Alt, Star}
 use Rattle.pq_syntax.specs.Rule.Parse.{Leaf, Nil, Pair, Left, Right}
-use Rattle.pq_syntax.specs.Machine.{skips, void, starts, after, built, paired, lefted, righted, pop, push, all_skip, voids, on_ok, run}
-use Rattle.pq_syntax.specs.Takes.{starts_at}
+use Rattle.pq_syntax.specs.aux.Machine.{nullable, empty_parse, in_first, after, built, paired, lefted, righted, pop, push, all_skip, empty_parses, on_ok, run}
+use Rattle.pq_syntax.specs.aux.Takes.{starts_at}
 
 pub on_twice : {X Y Z : Type 0} (f : Y → Z) (g : X → Y) (r : Result X ℕ) → on_ok (λ x. f (g x)) r ≡ on_ok f (on_ok g r)
 on_twice f g (Ok x) = refl
@@ -49,13 +49,13 @@ module _ {A W : Type 0} (accepts : A → W → Bool) where
   both_go n false true false false m1 m2 o r u v f g h = refl
   both_go n false false y q m1 m2 o r u v f g h = refl
 
-  pub run_both : (a b : Rule A) (k : List (Rule A)) (ws : List W) → run accepts (Then a b ∷ k) ws ≡ on_ok paired (run accepts (a ∷ b ∷ k) ws)
+  pub run_both : (a b : Rule A) (k : List (Rule A)) (ws : List W) → run accepts (Seq a b ∷ k) ws ≡ on_ok paired (run accepts (a ∷ b ∷ k) ws)
   unfolding run
-  run_both a b k [] = both_end (skips a) (skips b) (all_skip k) (void a) (void b) (voids k)
+  run_both a b k [] = both_end (nullable a) (nullable b) (all_skip k) (empty_parse a) (empty_parse b) (empty_parses k)
   run_both a b k (w ∷ ws) =
-      go_is (Then a b ∷ k) w ws
-      ∙ both_go (length (w ∷ ws)) (starts accepts a w) (skips a) (starts accepts b w) (skips b) (after accepts a (b ∷ k) w) (after accepts b k w)
-      (pop accepts k w) (λ k'. run accepts k' ws) (void a) (void b) (built accepts a w) (built accepts b w) (push accepts k w)
+      go_is (Seq a b ∷ k) w ws
+      ∙ both_go (length (w ∷ ws)) (in_first accepts a w) (nullable a) (in_first accepts b w) (nullable b) (after accepts a (b ∷ k) w) (after accepts b k w)
+      (pop accepts k w) (λ k'. run accepts k' ws) (empty_parse a) (empty_parse b) (built accepts a w) (built accepts b w) (push accepts k w)
       ∙ ap (on_ok paired) (sym (go_is (a ∷ b ∷ k) w ws))
 
   left_go : {K : Type 0} (n : ℕ) (x y p : Bool) (m1 m2 : K) (o o' : Option K) (r : K → Result Readings ℕ) (f g h h' : Readings → Readings)
@@ -66,12 +66,12 @@ module _ {A W : Type 0} (accepts : A → W → Bool) where
 
   pub run_left : (a b : Rule A) (k : List (Rule A)) (ws : List W)
       → starts_at accepts a ws ≡ true
-      → run accepts (Or a b ∷ k) ws ≡ on_ok lefted (run accepts (a ∷ k) ws)
+      → run accepts (Alt a b ∷ k) ws ≡ on_ok lefted (run accepts (a ∷ k) ws)
   run_left a b k [] h = cc
   run_left a b k (w ∷ ws) h =
-      go_is (Or a b ∷ k) w ws
-      ∙ left_go (length (w ∷ ws)) (starts accepts a w) (starts accepts b w) (skips a) (after accepts a k w) (after accepts b k w) _ _
-      (λ k'. run accepts k' ws) (built accepts a w) (built accepts b w) (λ ps. void (Or a b) ∷ push accepts k w ps) (λ ps. void a ∷ push accepts k w ps) h
+      go_is (Alt a b ∷ k) w ws
+      ∙ left_go (length (w ∷ ws)) (in_first accepts a w) (in_first accepts b w) (nullable a) (after accepts a k w) (after accepts b k w) _ _
+      (λ k'. run accepts k' ws) (built accepts a w) (built accepts b w) (λ ps. empty_parse (Alt a b) ∷ push accepts k w ps) (λ ps. empty_parse a ∷ push accepts k w ps) h
       ∙ ap (on_ok lefted) (sym (go_is (a ∷ k) w ws))
 
   right_end : (p q z : Bool) (u v : Parse W) (vs : Readings)
@@ -96,14 +96,14 @@ module _ {A W : Type 0} (accepts : A → W → Bool) where
 
   pub run_right : (a b : Rule A) (k : List (Rule A)) (ws : List W)
       → starts_at accepts a ws ≡ false
-      → skips a ≡ false
-      → run accepts (Or a b ∷ k) ws ≡ on_ok righted (run accepts (b ∷ k) ws)
+      → nullable a ≡ false
+      → run accepts (Alt a b ∷ k) ws ≡ on_ok righted (run accepts (b ∷ k) ws)
   unfolding run
-  run_right a b k [] h e = right_end (skips a) (skips b) (all_skip k) (void a) (void b) (voids k) e
+  run_right a b k [] h e = right_end (nullable a) (nullable b) (all_skip k) (empty_parse a) (empty_parse b) (empty_parses k) e
   run_right a b k (w ∷ ws) h e =
-      go_is (Or a b ∷ k) w ws
-      ∙ right_go (length (w ∷ ws)) (starts accepts a w) (starts accepts b w) (skips a) (skips b) (after accepts a k w) (after accepts b k w)
-      (pop accepts k w) (λ k'. run accepts k' ws) (void a) (void b) (built accepts a w) (built accepts b w) (push accepts k w) h e
+      go_is (Alt a b ∷ k) w ws
+      ∙ right_go (length (w ∷ ws)) (in_first accepts a w) (in_first accepts b w) (nullable a) (nullable b) (after accepts a k w) (after accepts b k w)
+      (pop accepts k w) (λ k'. run accepts k' ws) (empty_parse a) (empty_parse b) (built accepts a w) (built accepts b w) (push accepts k w) h e
       ∙ ap (on_ok righted) (sym (go_is (b ∷ k) w ws))
 
   more_go : {K : Type 0} (n : ℕ) (x : Bool) (m : K) (o o' : Option K) (r : K → Result Readings ℕ) (f h h' : Readings → Readings)
@@ -114,13 +114,13 @@ module _ {A W : Type 0} (accepts : A → W → Bool) where
 
   pub run_more : (r : Rule A) (k : List (Rule A)) (ws : List W)
       → starts_at accepts r ws ≡ true
-      → run accepts (Many r ∷ k) ws ≡ on_ok paired (run accepts (r ∷ Many r ∷ k) ws)
+      → run accepts (Star r ∷ k) ws ≡ on_ok paired (run accepts (r ∷ Star r ∷ k) ws)
   run_more r k [] h = cc
   run_more r k (w ∷ ws) h =
-      go_is (Many r ∷ k) w ws
-      ∙ more_go (length (w ∷ ws)) (starts accepts r w) (after accepts r (Many r ∷ k) w) _ _ (λ k'. run accepts k' ws) (built accepts r w)
-      (λ ps. Nil ∷ push accepts k w ps) (λ ps. void r ∷ push accepts (Many r ∷ k) w ps) h
-      ∙ ap (on_ok paired) (sym (go_is (r ∷ Many r ∷ k) w ws))
+      go_is (Star r ∷ k) w ws
+      ∙ more_go (length (w ∷ ws)) (in_first accepts r w) (after accepts r (Star r ∷ k) w) _ _ (λ k'. run accepts k' ws) (built accepts r w)
+      (λ ps. Nil ∷ push accepts k w ps) (λ ps. empty_parse r ∷ push accepts (Star r ∷ k) w ps) h
+      ∙ ap (on_ok paired) (sym (go_is (r ∷ Star r ∷ k) w ws))
 
   stop_end : (z : Bool) (vs : Readings) → cond z (Ok (Nil ∷ vs)) (Err 0) ≡ on_ok (λ ps. Nil ∷ ps) (cond z (Ok vs) (Err 0))
   stop_end true vs = refl
@@ -135,12 +135,12 @@ module _ {A W : Type 0} (accepts : A → W → Bool) where
 
   pub run_stop : (r : Rule A) (k : List (Rule A)) (ws : List W)
       → starts_at accepts r ws ≡ false
-      → run accepts (Many r ∷ k) ws ≡ on_ok (λ ps. Nil ∷ ps) (run accepts k ws)
+      → run accepts (Star r ∷ k) ws ≡ on_ok (λ ps. Nil ∷ ps) (run accepts k ws)
   unfolding run
-  run_stop r k [] h = stop_end (all_skip k) (voids k)
+  run_stop r k [] h = stop_end (all_skip k) (empty_parses k)
   run_stop r k (w ∷ ws) h =
-      go_is (Many r ∷ k) w ws
-      ∙ stop_go (length (w ∷ ws)) (starts accepts r w) (after accepts r (Many r ∷ k) w) (pop accepts k w) (λ k'. run accepts k' ws)
+      go_is (Star r ∷ k) w ws
+      ∙ stop_go (length (w ∷ ws)) (in_first accepts r w) (after accepts r (Star r ∷ k) w) (pop accepts k w) (λ k'. run accepts k' ws)
       (λ ps. paired (built accepts r w ps)) (push accepts k w) h
       ∙ ap (on_ok (λ ps. Nil ∷ ps)) (sym (go_is k w ws))
 
@@ -152,17 +152,17 @@ module _ {A W : Type 0} (accepts : A → W → Bool) where
 
   pub run_one : (c : A) (k : List (Rule A)) (w : W) (ws : List W)
       → accepts c w ≡ true
-      → run accepts (One c ∷ k) (w ∷ ws) ≡ on_ok (λ ps. Leaf w ∷ ps) (run accepts k ws)
-  run_one c k w ws h = go_is (One c ∷ k) w ws ∙ one_go (length (w ∷ ws)) (accepts c w) k None (λ k'. run accepts k' ws) (λ ps. Leaf w ∷ ps) (λ ps. Nil ∷ push accepts k w ps) h
+      → run accepts (Single c ∷ k) (w ∷ ws) ≡ on_ok (λ ps. Leaf w ∷ ps) (run accepts k ws)
+  run_one c k w ws h = go_is (Single c ∷ k) w ws ∙ one_go (length (w ∷ ws)) (accepts c w) k None (λ k'. run accepts k' ws) (λ ps. Leaf w ∷ ps) (λ ps. Nil ∷ push accepts k w ps) h
 
   not_go : {K : Type 0} (n : ℕ) (x : Bool) (m : K) (r : K → Result Readings ℕ) (f : Readings → Readings) → x ≡ false → go n f r (cond x (Some m) None) ≡ Err n
   not_go n true m r f e = cc
   not_go n false m r f e = refl
 
-  pub run_not : (c : A) (k : List (Rule A)) (ws : List W) → starts_at accepts (One c) ws ≡ false → run accepts (One c ∷ k) ws ≡ Err (length ws)
+  pub run_not : (c : A) (k : List (Rule A)) (ws : List W) → starts_at accepts (Single c) ws ≡ false → run accepts (Single c ∷ k) ws ≡ Err (length ws)
   unfolding run
   run_not c k [] h = refl
-  run_not c k (w ∷ ws) h = go_is (One c ∷ k) w ws ∙ not_go (length (w ∷ ws)) (accepts c w) k (λ k'. run accepts k' ws) (push accepts (One c ∷ k) w) h
+  run_not c k (w ∷ ws) h = go_is (Single c ∷ k) w ws ∙ not_go (length (w ∷ ws)) (accepts c w) k (λ k'. run accepts k' ws) (push accepts (Single c ∷ k) w) h
 
   -- an optional part that is not there
   none_end : (p z : Bool) (u : Parse W) (vs : Readings)
@@ -183,14 +183,14 @@ module _ {A W : Type 0} (accepts : A → W → Bool) where
 
   pub run_none : (a : Rule A) (k : List (Rule A)) (ws : List W)
       → starts_at accepts a ws ≡ false
-      → skips a ≡ false
-      → run accepts (Or a Empty ∷ k) ws ≡ on_ok (λ ps. Right Nil ∷ ps) (run accepts k ws)
+      → nullable a ≡ false
+      → run accepts (Alt a Empty ∷ k) ws ≡ on_ok (λ ps. Right Nil ∷ ps) (run accepts k ws)
   unfolding run
-  run_none a k [] h e = none_end (skips a) (all_skip k) (void a) (voids k) e
+  run_none a k [] h e = none_end (nullable a) (all_skip k) (empty_parse a) (empty_parses k) e
   run_none a k (w ∷ ws) h e =
-      go_is (Or a Empty ∷ k) w ws
-      ∙ none_go (length (w ∷ ws)) (starts accepts a w) (skips a) (cond (starts accepts a w) (after accepts a k w) (after accepts Empty k w))
-      (pop accepts k w) (λ k'. run accepts k' ws) (void a) (λ ps. built accepts (Or a Empty) w ps) (push accepts k w) h e
+      go_is (Alt a Empty ∷ k) w ws
+      ∙ none_go (length (w ∷ ws)) (in_first accepts a w) (nullable a) (cond (in_first accepts a w) (after accepts a k w) (after accepts Empty k w))
+      (pop accepts k w) (λ k'. run accepts k' ws) (empty_parse a) (λ ps. built accepts (Alt a Empty) w ps) (push accepts k w) h e
       ∙ ap (on_ok (λ ps. Right Nil ∷ ps)) (sym (go_is k w ws))
 
   -- a rule that stands for no word alone
@@ -205,7 +205,7 @@ module _ {A W : Type 0} (accepts : A → W → Bool) where
 
   pub run_empty : (k : List (Rule A)) (ws : List W) → run accepts (Empty ∷ k) ws ≡ on_ok (λ ps. Nil ∷ ps) (run accepts k ws)
   unfolding run
-  run_empty k [] = empty_end (all_skip k) (voids k)
+  run_empty k [] = empty_end (all_skip k) (empty_parses k)
   run_empty k (w ∷ ws) =
       go_is (Empty ∷ k) w ws
       ∙ empty_go (length (w ∷ ws)) (pop accepts k w) (λ k'. run accepts k' ws) (push accepts k w)

@@ -2,10 +2,10 @@
 use Rattle.std.proofs.Common.{◌≡◌, suc, Bool, true, false, ◌||◌, List, [], ◌∷◌, length, Some, None, refl, sym, ap, ◌∙◌, subst, inl, inr, arith}
 use Rattle.std.proofs.lemmas.Bool.{and_parts, cond-true, cond-false, cases_Bool}
 use Rattle.pq_syntax.specs.Rule.{Rule, Parse, Derives}
-use Rattle.pq_syntax.specs.Rule.Rule.{One, Empty, Then, Or, Many}
+use Rattle.pq_syntax.specs.Rule.Rule.{Single, Empty, Seq, Alt, Star}
 use Rattle.pq_syntax.specs.Rule.Parse.{Leaf, Nil}
 use Rattle.pq_syntax.specs.Rule.Derives.{ends, one, empty, both, left, right, stop, more}
-use Rattle.pq_syntax.specs.Machine.{skips, void, starts, after, built, paired, lefted, righted, pop, push, all_skip, voids}
+use Rattle.pq_syntax.specs.aux.Machine.{nullable, empty_parse, in_first, after, built, paired, lefted, righted, pop, push, all_skip, empty_parses}
 
 -- the second of an "or" whose first is false
 or_second : (x y : Bool) → (x || y) ≡ true → x ≡ false → y ≡ true
@@ -26,24 +26,24 @@ module _ {A W : Type 0} (accepts : A → W → Bool) where
 
   both_of : (a b : Rule A) (k : List (Rule A)) (ws : List W) (ps : List (Parse W))
       → Derives accepts (a ∷ b ∷ k) ws ps
-      → Derives accepts (Then a b ∷ k) ws (paired ps)
+      → Derives accepts (Seq a b ∷ k) ws (paired ps)
   both_of a b k ws [] d = let e = long d in absurd (omega (arith, e))
   both_of a b k ws (x ∷ []) d = let e = long d in absurd (omega (arith, e))
   both_of a b k ws (x ∷ y ∷ ps) d = both d
 
-  left_of : (a b : Rule A) (k : List (Rule A)) (ws : List W) (ps : List (Parse W)) → Derives accepts (a ∷ k) ws ps → Derives accepts (Or a b ∷ k) ws (lefted ps)
+  left_of : (a b : Rule A) (k : List (Rule A)) (ws : List W) (ps : List (Parse W)) → Derives accepts (a ∷ k) ws ps → Derives accepts (Alt a b ∷ k) ws (lefted ps)
   left_of a b k ws [] d = let e = long d in absurd (omega (arith, e))
   left_of a b k ws (x ∷ ps) d = left d
 
   right_of : (a b : Rule A) (k : List (Rule A)) (ws : List W) (ps : List (Parse W))
       → Derives accepts (b ∷ k) ws ps
-      → Derives accepts (Or a b ∷ k) ws (righted ps)
+      → Derives accepts (Alt a b ∷ k) ws (righted ps)
   right_of a b k ws [] d = let e = long d in absurd (omega (arith, e))
   right_of a b k ws (x ∷ ps) d = right d
 
   more_of : (r : Rule A) (k : List (Rule A)) (ws : List W) (ps : List (Parse W))
-      → Derives accepts (r ∷ Many r ∷ k) ws ps
-      → Derives accepts (Many r ∷ k) ws (paired ps)
+      → Derives accepts (r ∷ Star r ∷ k) ws ps
+      → Derives accepts (Star r ∷ k) ws (paired ps)
   more_of r k ws [] d = let e = long d in absurd (omega (arith, e))
   more_of r k ws (x ∷ []) d = let e = long d in absurd (omega (arith, e))
   more_of r k ws (x ∷ y ∷ ps) d = more d
@@ -53,49 +53,49 @@ module _ {A W : Type 0} (accepts : A → W → Bool) where
   as_read {k} {ws} e d = subst (λ l. Derives accepts k ws l) e d
 
   or_skips : (a b : Rule A) (k : List (Rule A)) (ws : List W) (ps : List (Parse W))
-      → (skips a ≡ true → Derives accepts (a ∷ k) ws (void a ∷ ps))
-      → (skips a ≡ false → Derives accepts (b ∷ k) ws (void b ∷ ps))
-      → Derives accepts (Or a b ∷ k) ws (void (Or a b) ∷ ps)
-  or_skips a b k ws ps at_a at_b = elim (cases_Bool (skips a)) [
-    | inl e ↦ as_read (ap (λ (p : Parse W). p ∷ ps) (sym (cond-true (skips a) _ _ e))) (left (at_a e))
-    | inr e ↦ as_read (ap (λ (p : Parse W). p ∷ ps) (sym (cond-false (skips a) _ _ e))) (right (at_b e))
+      → (nullable a ≡ true → Derives accepts (a ∷ k) ws (empty_parse a ∷ ps))
+      → (nullable a ≡ false → Derives accepts (b ∷ k) ws (empty_parse b ∷ ps))
+      → Derives accepts (Alt a b ∷ k) ws (empty_parse (Alt a b) ∷ ps)
+  or_skips a b k ws ps at_a at_b = elim (cases_Bool (nullable a)) [
+    | inl e ↦ as_read (ap (λ (p : Parse W). p ∷ ps) (sym (cond-true (nullable a) _ _ e))) (left (at_a e))
+    | inr e ↦ as_read (ap (λ (p : Parse W). p ∷ ps) (sym (cond-false (nullable a) _ _ e))) (right (at_b e))
   ]
 
   -- a rule that may stand for nothing
   skipped : (r : Rule A) (k : List (Rule A)) (ws : List W) (ps : List (Parse W))
-      → skips r ≡ true
+      → nullable r ≡ true
       → Derives accepts k ws ps
-      → Derives accepts (r ∷ k) ws (void r ∷ ps)
-  skipped (One c) k ws ps h d = cc
+      → Derives accepts (r ∷ k) ws (empty_parse r ∷ ps)
+  skipped (Single c) k ws ps h d = cc
   skipped Empty k ws ps h d = empty d
-  skipped (Then a b) k ws ps h d =
-      let p = and_parts (skips a) (skips b) h in
-      both (skipped a (b ∷ k) ws (void b ∷ ps) p.0 (skipped b k ws ps p.1 d))
-  skipped (Or a b) k ws ps h d = or_skips a b k ws ps (λ e. skipped a k ws ps e d) (λ e. skipped b k ws ps (or_second _ _ h e) d)
-  skipped (Many r) k ws ps h d = stop d
+  skipped (Seq a b) k ws ps h d =
+      let p = and_parts (nullable a) (nullable b) h in
+      both (skipped a (b ∷ k) ws (empty_parse b ∷ ps) p.0 (skipped b k ws ps p.1 d))
+  skipped (Alt a b) k ws ps h d = or_skips a b k ws ps (λ e. skipped a k ws ps e d) (λ e. skipped b k ws ps (or_second _ _ h e) d)
+  skipped (Star r) k ws ps h d = stop d
 
   stepped : (r : Rule A) (k : List (Rule A)) (w : W) (ws : List W) (ps : List (Parse W))
-      → starts accepts r w ≡ true
+      → in_first accepts r w ≡ true
       → Derives accepts (after accepts r k w) ws ps
       → Derives accepts (r ∷ k) (w ∷ ws) (built accepts r w ps)
-  stepped (One c) k w ws ps h d = one h d
+  stepped (Single c) k w ws ps h d = one h d
   stepped Empty k w ws ps h d = cc
-  stepped (Then a b) k w ws ps h d =
-      elim (cases_Bool (starts accepts a w)) [
+  stepped (Seq a b) k w ws ps h d =
+      elim (cases_Bool (in_first accepts a w)) [
         | inl e ↦
             let d' = stepped a (b ∷ k) w ws ps e (subst (λ s. Derives accepts s ws ps) (cond-true _ _ _ e) d) in
             as_read (sym (cond-true _ _ _ e)) (both_of a b k (w ∷ ws) (built accepts a w ps) d')
         | inr e ↦
-            let h2 = and_parts (skips a) (starts accepts b w) (or_second _ _ h e) in
+            let h2 = and_parts (nullable a) (in_first accepts b w) (or_second _ _ h e) in
             let d' = stepped b k w ws ps h2.1 (subst (λ s. Derives accepts s ws ps) (cond-false _ _ _ e) d) in
-            as_read (sym (cond-false _ _ _ e)) (both_of a b k (w ∷ ws) (void a ∷ built accepts b w ps) (skipped a (b ∷ k) (w ∷ ws) (built accepts b w ps) h2.0 d'))
+            as_read (sym (cond-false _ _ _ e)) (both_of a b k (w ∷ ws) (empty_parse a ∷ built accepts b w ps) (skipped a (b ∷ k) (w ∷ ws) (built accepts b w ps) h2.0 d'))
       ]
-  stepped (Or a b) k w ws ps h d =
-      elim (cases_Bool (starts accepts a w)) [
+  stepped (Alt a b) k w ws ps h d =
+      elim (cases_Bool (in_first accepts a w)) [
         | inl e ↦ as_read (sym (cond-true _ _ _ e)) (left_of a b k (w ∷ ws) (built accepts a w ps) (stepped a k w ws ps e (subst (λ s. Derives accepts s ws ps) (cond-true _ _ _ e) d)))
         | inr e ↦ as_read (sym (cond-false _ _ _ e)) (right_of a b k (w ∷ ws) (built accepts b w ps) (stepped b k w ws ps (or_second _ _ h e) (subst (λ s. Derives accepts s ws ps) (cond-false _ _ _ e) d)))
       ]
-  stepped (Many r) k w ws ps h d = more_of r k (w ∷ ws) (built accepts r w ps) (stepped r (Many r ∷ k) w ws ps h d)
+  stepped (Star r) k w ws ps h d = more_of r k (w ∷ ws) (built accepts r w ps) (stepped r (Star r ∷ k) w ws ps h d)
 
   pub popped : (k : List (Rule A)) (w : W) (ws : List W) (next : List (Rule A)) (ps : List (Parse W))
       → pop accepts k w ≡ Some next
@@ -103,20 +103,20 @@ module _ {A W : Type 0} (accepts : A → W → Bool) where
       → Derives accepts k (w ∷ ws) (push accepts k w ps)
   popped [] w ws next ps h d = cc
   popped (r ∷ k) w ws next ps h d =
-      elim (cases_Bool (starts accepts r w)) [
+      elim (cases_Bool (in_first accepts r w)) [
         | inl e ↦
             let is : Some (after accepts r k w) ≡ Some next = sym (cond-true _ _ _ e) ∙ h in
             let same : after accepts r k w ≡ next = cc in
             as_read (sym (cond-true _ _ _ e)) (stepped r k w ws ps e (subst (λ s. Derives accepts s ws ps) (sym same) d))
-        | inr e ↦ elim (cases_Bool (skips r)) [
+        | inr e ↦ elim (cases_Bool (nullable r)) [
           | inl f ↦ as_read (sym (cond-false _ _ _ e)) (skipped r k (w ∷ ws) (push accepts k w ps) f (popped k w ws next ps (sym (cond-false _ _ _ e ∙ cond-true _ _ _ f) ∙ h) d))
           | inr f ↦ let no : None ≡ Some next = sym (cond-false _ _ _ e ∙ cond-false _ _ _ f) ∙ h in cc
         ]
       ]
 
-  pub all_skipped : (k : List (Rule A)) → all_skip k ≡ true → Derives accepts k [] (voids k)
+  pub all_skipped : (k : List (Rule A)) → all_skip k ≡ true → Derives accepts k [] (empty_parses k)
   all_skipped [] h = ends
-  all_skipped (r ∷ k) h = skipped r k [] (voids k) (and_parts (skips r) (all_skip k) h).0 (all_skipped k (and_parts (skips r) (all_skip k) h).1)
+  all_skipped (r ∷ k) h = skipped r k [] (empty_parses k) (and_parts (nullable r) (all_skip k) h).0 (all_skipped k (and_parts (nullable r) (all_skip k) h).1)
 
   -- each terminal accepts some word
   module _ (samples : (c : A) → (w : W) × (accepts c w ≡ true)) where
@@ -124,11 +124,11 @@ module _ {A W : Type 0} (accepts : A → W → Bool) where
     Words k = (ws : List W) × (ps : List (Parse W)) × Derives accepts k ws ps
 
     filled : (r : Rule A) (k : List (Rule A)) → Words k → Words (r ∷ k)
-    filled (One c) k rest = ((samples c).0 ∷ rest.0, Leaf (samples c).0 ∷ rest.1, one (samples c).1 rest.2)
+    filled (Single c) k rest = ((samples c).0 ∷ rest.0, Leaf (samples c).0 ∷ rest.1, one (samples c).1 rest.2)
     filled Empty k rest = (rest.0, Nil ∷ rest.1, empty rest.2)
-    filled (Then a b) k rest = let all = filled a (b ∷ k) (filled b k rest) in (all.0, paired all.1, both_of a b k all.0 all.1 all.2)
-    filled (Or a b) k rest = let all = filled a k rest in (all.0, lefted all.1, left_of a b k all.0 all.1 all.2)
-    filled (Many r) k rest = (rest.0, Nil ∷ rest.1, stop rest.2)
+    filled (Seq a b) k rest = let all = filled a (b ∷ k) (filled b k rest) in (all.0, paired all.1, both_of a b k all.0 all.1 all.2)
+    filled (Alt a b) k rest = let all = filled a k rest in (all.0, lefted all.1, left_of a b k all.0 all.1 all.2)
+    filled (Star r) k rest = (rest.0, Nil ∷ rest.1, stop rest.2)
 
     pub some_words : (k : List (Rule A)) → Words k
     some_words [] = ([], [], ends)

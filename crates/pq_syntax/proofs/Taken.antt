@@ -7,11 +7,11 @@ use Rattle.pq_lex.specs.declared.token.Token.{Token}
 use Rattle.pq_syntax.specs.Parts.{end_of, span_across}
 use Rattle.pq_syntax.specs.Words.{Word, word, words}
 
--- words in front of others are as many as their tokens
+-- the words before others are as many as their tokens
 pub as_many : (text : List ℕ) (tokens rest : List Token) (ws : List Word) → words text tokens ≡ ws ++ words text rest → length tokens ≡ length ws + length rest
 as_many text tokens rest ws e = sym (length-map tokens (word text)) ∙ ap length e ∙ length-append ws (words text rest) ∙ ap (λ n. length ws + n) (length-map rest (word text))
 
--- the first so many tokens are those of the words in front
+-- the first `length ws` tokens are those of the words `ws`
 pub taken_words : (text : List ℕ) (tokens rest : List Token) (ws : List Word)
     → words text tokens ≡ ws ++ words text rest
     → words text (take (length ws) tokens) ≡ ws

@@ -1,18 +1,20 @@
--- The grammar of proto3 (proto3 language specification, "Proto file"), and its sentences: the published rules, with keywords
--- decided by where they stand, and with the limits of nesting. Each rule reads as its published text in the comment before it.
+-- The grammar of proto3 as data (proto3 language specification, "Proto file"). The published rule
+-- is in the comment before each rule. A keyword is a name that its position makes a keyword: a
+-- field's type, for instance, does not begin with a keyword of another statement of a message.
+-- Messages and brackets nest up to a limit: `n` levels of brackets, `levels` of messages.
 use Rattle.std.specs.Prelude.{ℕ, zero, suc, Bool, true, false}
 use Rattle.pq_syntax.specs.Rule.{Rule}
-use Rattle.pq_syntax.specs.Rule.Rule.{One, Empty, Then, Or, Many}
+use Rattle.pq_syntax.specs.Rule.Rule.{Single, Empty, Seq, Alt, Star}
 use Rattle.pq_syntax.specs.declared.terminal.Terminal.{Terminal}
-use Rattle.pq_syntax.specs.declared.terminal.Terminal.TheVariants.{SyntaxWord, ImportWord, PackageWord, OptionWord, MessageWord, EnumWord, ServiceWord, MethodWord, ReturnsWord, StreamWord, OneofWord, MapWord, ReservedWord, ExtendWord, ToWord, MaxWord, ImportKindWord, LabelWord, KeyTypeName, NotFinite, AnyName, FieldTypeName, MemberTypeName, ValueName, MethodTypeName, WholeNumber, RealNumber, StringLiteral, Version, Semicolon, Equals, Comma, Dot, Minus, Plus, OpenBrace, CloseBrace, OpenBracket, CloseBracket, OpenParenthesis, CloseParenthesis, Less, Greater, Plain}
+use Rattle.pq_syntax.specs.declared.terminal.Terminal.TheVariants.{SyntaxWord, ImportWord, PackageWord, OptionWord, MessageWord, EnumWord, ServiceWord, MethodWord, ReturnsWord, StreamWord, OneofWord, MapWord, ReservedWord, ExtendWord, ToWord, MaxWord, ImportKindWord, LabelWord, KeyTypeName, InfOrNan, AnyIdentifier, FieldTypeName, MemberTypeName, ValueName, MethodTypeName, AnyInteger, AnyFloat, AnyText, Version, Semicolon, Equals, Comma, Dot, Minus, Plus, OpenBrace, CloseBrace, OpenBracket, CloseBracket, OpenParenthesis, CloseParenthesis, Less, Greater, Plain}
 
 infixr 30 ◌▸◌
 abbrev pub ◌▸◌ : Rule Terminal → Rule Terminal → Rule Terminal
-a ▸ b = Then a b
+a ▸ b = Seq a b
 
 infixr 20 ◌∣◌
 abbrev pub ◌∣◌ : Rule Terminal → Rule Terminal → Rule Terminal
-a ∣ b = Or a b
+a ∣ b = Alt a b
 
 -- [ a ]
 abbrev pub opt : Rule Terminal → Rule Terminal
@@ -20,120 +22,123 @@ opt a = a ∣ Empty
 
 -- dotted = { "." ident }
 abbrev pub dotted : Rule Terminal
-dotted = Many (One Dot ▸ One AnyName)
+dotted = Star (Single Dot ▸ Single AnyIdentifier)
 
 -- full = ident { "." ident }
 abbrev pub full : Rule Terminal
-full = One AnyName ▸ dotted
+full = Single AnyIdentifier ▸ dotted
 
 -- strs = string { string }
 abbrev pub strs : Rule Terminal
-strs = One StringLiteral ▸ Many (One StringLiteral)
+strs = Single AnyText ▸ Star (Single AnyText)
 
--- any token but a bracket, or two brackets that pair up, within which they pair up so many levels deep
+-- `nested n` is any token but a bracket, or a pair of brackets with balanced tokens between, `n`
+-- levels deep.
 unfoldable pub nested : ℕ → Rule Terminal
-nested zero = One Plain
+nested zero = Single Plain
 nested (suc n) =
-    One Plain ∣ (One OpenBrace ▸ Many (nested n) ▸ One CloseBrace) ∣ (One OpenBracket ▸ Many (nested n) ▸ One CloseBracket) ∣
-    (One OpenParenthesis ▸ Many (nested n) ▸ One CloseParenthesis)
+    Single Plain ∣ (Single OpenBrace ▸ Star (nested n) ▸ Single CloseBrace) ∣ (Single OpenBracket ▸ Star (nested n) ▸ Single CloseBracket) ∣
+    (Single OpenParenthesis ▸ Star (nested n) ▸ Single CloseParenthesis)
 
--- balanced: any tokens in which { }, [ ] and ( ) pair up, so many levels deep
+-- `balanced n` is any tokens in which { }, [ ] and ( ) are balanced, `n` levels deep.
 abbrev pub balanced : ℕ → Rule Terminal
-balanced n = Many (nested n)
+balanced n = Star (nested n)
 
--- "{" balanced "}", and the same with other brackets
+-- `paired_by open close n` is balanced tokens between two brackets; `block n` is "{" balanced "}".
 abbrev pub paired_by : Terminal → Terminal → ℕ → Rule Terminal
-paired_by open' close' n = One open' ▸ balanced n ▸ One close'
+paired_by open' close' n = Single open' ▸ balanced n ▸ Single close'
 
 abbrev pub block : ℕ → Rule Terminal
 block n = paired_by OpenBrace CloseBrace n
 
 -- type = [ "." ] full
 abbrev pub type' : Rule Terminal
-type' = opt (One Dot) ▸ full
+type' = opt (Single Dot) ▸ full
 
--- a type that does not begin by a keyword of its place
+-- `type_from t` is a type whose first name, if no dot precedes it, is accepted by `t`.
 abbrev pub type_from : Terminal → Rule Terminal
-type_from t = (One Dot ▸ full) ∣ (One t ▸ dotted)
+type_from t = (Single Dot ▸ full) ∣ (Single t ▸ dotted)
 
 -- optpart = ident | "(" [ "." ] full ")"
 abbrev pub optpart : Rule Terminal
-optpart = One AnyName ∣ (One OpenParenthesis ▸ type' ▸ One CloseParenthesis)
+optpart = Single AnyIdentifier ∣ (Single OpenParenthesis ▸ type' ▸ Single CloseParenthesis)
 
--- items, and a separator between them
+-- `separated separator item` is: item { separator item }
 abbrev pub separated : Terminal → Rule Terminal → Rule Terminal
-separated separator item = item ▸ Many (One separator ▸ item)
+separated separator item = item ▸ Star (Single separator ▸ item)
 
 -- optname = optpart { "." optpart }
 abbrev pub optname : Rule Terminal
 optname = separated Dot optpart
 
--- behind a sign: integer | float | "inf" | "nan"
+-- `unsigned` is what may follow a sign: integer | float | "inf" | "nan"
 abbrev pub unsigned : Rule Terminal
-unsigned = One WholeNumber ∣ One RealNumber ∣ One NotFinite
+unsigned = Single AnyInteger ∣ Single AnyFloat ∣ Single InfOrNan
 
--- constant = full | [ sign ] integer | [ sign ] float | sign ( "inf" | "nan" ) | strs | "{" balanced "}"
+-- constant = full | [ sign ] integer | [ sign ] float | sign ( "inf" | "nan" ) | strs | "{"
+-- balanced "}"
 abbrev pub constant : ℕ → Rule Terminal
-constant n = full ∣ ((One Minus ∣ One Plus) ▸ unsigned) ∣ One WholeNumber ∣ One RealNumber ∣ strs ∣ block n
+constant n = full ∣ ((Single Minus ∣ Single Plus) ▸ unsigned) ∣ Single AnyInteger ∣ Single AnyFloat ∣ strs ∣ block n
 
 -- optset = optname "=" constant
 abbrev pub optset : ℕ → Rule Terminal
-optset n = optname ▸ One Equals ▸ constant n
+optset n = optname ▸ Single Equals ▸ constant n
 
 -- option = "option" optset ";"
 abbrev pub option : ℕ → Rule Terminal
-option n = One OptionWord ▸ optset n ▸ One Semicolon
+option n = Single OptionWord ▸ optset n ▸ Single Semicolon
 
 -- opts = "[" optset { "," optset } "]"
 abbrev pub opts : ℕ → Rule Terminal
-opts n = One OpenBracket ▸ separated Comma (optset n) ▸ One CloseBracket
+opts n = Single OpenBracket ▸ separated Comma (optset n) ▸ Single CloseBracket
 
--- what each field ends by: ident "=" integer [ opts ] ";"
+-- `tail n` is the end of each field: ident "=" integer [ opts ] ";"
 abbrev pub tail : ℕ → Rule Terminal
-tail n = One AnyName ▸ One Equals ▸ One WholeNumber ▸ opt (opts n) ▸ One Semicolon
+tail n = Single AnyIdentifier ▸ Single Equals ▸ Single AnyInteger ▸ opt (opts n) ▸ Single Semicolon
 
--- field = [ "optional" | "repeated" ] type tail: without a label, and with one
+-- field = [ "optional" | "repeated" ] type tail: `field n` without a label, `labelled n` with one
 abbrev pub field : ℕ → Rule Terminal
 field n = type_from FieldTypeName ▸ tail n
 
 abbrev pub labelled : ℕ → Rule Terminal
-labelled n = One LabelWord ▸ type' ▸ tail n
+labelled n = Single LabelWord ▸ type' ▸ tail n
 
--- mapfield = "map" "<" keytype "," type ">" tail; where no "<" follows, map is a type's name
+-- mapfield = "map" "<" keytype "," type ">" tail; without the "<", `map` is the first name of a
+-- field's type
 abbrev pub entry_types : Rule Terminal
-entry_types = One Less ▸ One KeyTypeName ▸ One Comma ▸ type' ▸ One Greater
+entry_types = Single Less ▸ Single KeyTypeName ▸ Single Comma ▸ type' ▸ Single Greater
 
 abbrev pub mapped : ℕ → Rule Terminal
-mapped n = One MapWord ▸ ((entry_types ▸ tail n) ∣ (dotted ▸ tail n))
+mapped n = Single MapWord ▸ ((entry_types ▸ tail n) ∣ (dotted ▸ tail n))
 
--- a statement with a body: keyword ident "{" { item } "}"
+-- `bodied keyword item` is a statement with a body: keyword ident "{" { item } "}"
 abbrev pub head : Terminal → Rule Terminal
-head keyword = One keyword ▸ One AnyName ▸ One OpenBrace
+head keyword = Single keyword ▸ Single AnyIdentifier ▸ Single OpenBrace
 
 abbrev pub bodied : Terminal → Rule Terminal → Rule Terminal
-bodied keyword item = head keyword ▸ Many item ▸ One CloseBrace
+bodied keyword item = head keyword ▸ Star item ▸ Single CloseBrace
 
 -- oneof = "oneof" ident "{" { option | type tail | ";" } "}"
 abbrev pub member : ℕ → Rule Terminal
 member n = type_from MemberTypeName ▸ tail n
 
 abbrev pub oneof_item : ℕ → Rule Terminal
-oneof_item n = option n ∣ member n ∣ One Semicolon
+oneof_item n = option n ∣ member n ∣ Single Semicolon
 
 abbrev pub oneof : ℕ → Rule Terminal
 oneof n = bodied OneofWord (oneof_item n)
 
--- an integer, before which a minus may stand where signs are read
+-- `bound signs` is an integer, which a minus may precede if `signs` is true.
 abbrev pub sign_where : Bool → Rule Terminal
-sign_where true = opt (One Minus)
+sign_where true = opt (Single Minus)
 sign_where false = Empty
 
 abbrev pub bound : Bool → Rule Terminal
-bound signs = sign_where signs ▸ One WholeNumber
+bound signs = sign_where signs ▸ Single AnyInteger
 
 -- [ "to" ( integer | "max" ) ]
 abbrev pub range_end : Bool → Rule Terminal
-range_end signs = opt (One ToWord ▸ (bound signs ∣ One MaxWord))
+range_end signs = opt (Single ToWord ▸ (bound signs ∣ Single MaxWord))
 
 -- range = integer [ "to" ( integer | "max" ) ]
 abbrev pub range : Bool → Rule Terminal
@@ -143,60 +148,62 @@ abbrev pub ranges : Bool → Rule Terminal
 ranges signs = separated Comma (range signs)
 
 abbrev pub strings : Rule Terminal
-strings = separated Comma (One StringLiteral)
+strings = separated Comma (Single AnyText)
 
 -- reserved = "reserved" ( range { "," range } | string { "," string } ) ";", with signs in an enum
 abbrev pub reserved : Bool → Rule Terminal
-reserved signs = One ReservedWord ▸ (ranges signs ∣ strings) ▸ One Semicolon
+reserved signs = Single ReservedWord ▸ (ranges signs ∣ strings) ▸ Single Semicolon
 
 -- value = ident "=" [ "-" ] integer [ opts ] ";"
 abbrev pub value : ℕ → Rule Terminal
-value n = One ValueName ▸ One Equals ▸ bound true ▸ opt (opts n) ▸ One Semicolon
+value n = Single ValueName ▸ Single Equals ▸ bound true ▸ opt (opts n) ▸ Single Semicolon
 
 -- enum = "enum" ident "{" { option | reserved | value | ";" } "}"
 abbrev pub enum_item : ℕ → Rule Terminal
-enum_item n = option n ∣ reserved true ∣ value n ∣ One Semicolon
+enum_item n = option n ∣ reserved true ∣ value n ∣ Single Semicolon
 
 abbrev pub enum : ℕ → Rule Terminal
 enum n = bodied EnumWord (enum_item n)
 
--- [ "stream" ] type, where stream is always the keyword
+-- [ "stream" ] type, in which `stream` is always the keyword
 abbrev pub streamed : Rule Terminal
-streamed = (One StreamWord ▸ type') ∣ type_from MethodTypeName
+streamed = (Single StreamWord ▸ type') ∣ type_from MethodTypeName
 
--- rpc = "rpc" ident "(" [ "stream" ] type ")" "returns" "(" [ "stream" ] type ")" ( "{" { option | ";" } "}" | ";" )
+-- rpc = "rpc" ident "(" [ "stream" ] type ")" "returns" "(" [ "stream" ] type ")" ( "{" { option |
+-- ";" } "}" | ";" )
 abbrev pub method_item : ℕ → Rule Terminal
-method_item n = option n ∣ One Semicolon
+method_item n = option n ∣ Single Semicolon
 
 abbrev pub method_end : ℕ → Rule Terminal
-method_end n = (One OpenBrace ▸ Many (method_item n) ▸ One CloseBrace) ∣ One Semicolon
+method_end n = (Single OpenBrace ▸ Star (method_item n) ▸ Single CloseBrace) ∣ Single Semicolon
 
 abbrev pub in_parentheses : Rule Terminal
-in_parentheses = One OpenParenthesis ▸ streamed ▸ One CloseParenthesis
+in_parentheses = Single OpenParenthesis ▸ streamed ▸ Single CloseParenthesis
 
 abbrev pub method : ℕ → Rule Terminal
-method n = One MethodWord ▸ One AnyName ▸ in_parentheses ▸ One ReturnsWord ▸ in_parentheses ▸ method_end n
+method n = Single MethodWord ▸ Single AnyIdentifier ▸ in_parentheses ▸ Single ReturnsWord ▸ in_parentheses ▸ method_end n
 
 -- service = "service" ident "{" { option | rpc | ";" } "}"
 abbrev pub service_item : ℕ → Rule Terminal
-service_item n = option n ∣ method n ∣ One Semicolon
+service_item n = option n ∣ method n ∣ Single Semicolon
 
 abbrev pub service : ℕ → Rule Terminal
 service n = bodied ServiceWord (service_item n)
 
 -- extend = "extend" type "{" balanced "}"
 abbrev pub extend : ℕ → Rule Terminal
-extend n = One ExtendWord ▸ type' ▸ block n
+extend n = Single ExtendWord ▸ type' ▸ block n
 
--- a statement of a message that is no message
+-- `statement n` is a statement of a message other than a message.
 abbrev pub statement : ℕ → Rule Terminal
-statement n = enum n ∣ extend n ∣ option n ∣ oneof n ∣ reserved false ∣ labelled n ∣ mapped n ∣ One Semicolon ∣ field n
+statement n = enum n ∣ extend n ∣ option n ∣ oneof n ∣ reserved false ∣ labelled n ∣ mapped n ∣ Single Semicolon ∣ field n
 
--- message = "message" ident "{" { field | enum | message | extend | option | oneof | mapfield | reserved | ";" } "}"
+-- message = "message" ident "{" { field | enum | message | extend | option | oneof | mapfield |
+-- reserved | ";" } "}"
 abbrev pub message_of : Rule Terminal → Rule Terminal
 message_of item = bodied MessageWord item
 
--- a statement of a message within which messages stand so many levels deep
+-- `item n levels` is a statement of a message within which messages nest `levels` deep.
 unfoldable pub item : ℕ → ℕ → Rule Terminal
 item n zero = statement n
 item n (suc levels) = message_of (item n levels) ∣ statement n
@@ -206,28 +213,30 @@ message n levels = message_of (item n levels)
 
 -- import = "import" [ "public" | "weak" ] strs ";"
 abbrev pub import' : Rule Terminal
-import' = One ImportWord ▸ opt (One ImportKindWord) ▸ strs ▸ One Semicolon
+import' = Single ImportWord ▸ opt (Single ImportKindWord) ▸ strs ▸ Single Semicolon
 
 -- package = "package" full ";"
 abbrev pub package' : Rule Terminal
-package' = One PackageWord ▸ full ▸ One Semicolon
+package' = Single PackageWord ▸ full ▸ Single Semicolon
 
--- syntax = "syntax" "=" version ";", where the version is one string of the value proto3
+-- syntax = "syntax" "=" version ";", in which the version is one string of the value proto3
 abbrev pub syntax' : Rule Terminal
-syntax' = One SyntaxWord ▸ One Equals ▸ One Version ▸ One Semicolon
+syntax' = Single SyntaxWord ▸ Single Equals ▸ Single Version ▸ Single Semicolon
 
 -- file = syntax { import | package | option | message | enum | service | extend | ";" }
 abbrev pub file_item : ℕ → ℕ → Rule Terminal
-file_item n levels = import' ∣ package' ∣ option n ∣ message n levels ∣ enum n ∣ service n ∣ extend n ∣ One Semicolon
+file_item n levels = import' ∣ package' ∣ option n ∣ message n levels ∣ enum n ∣ service n ∣ extend n ∣ Single Semicolon
 
 abbrev pub file : ℕ → ℕ → Rule Terminal
-file n levels = syntax' ▸ Many (file_item n levels)
+file n levels = syntax' ▸ Star (file_item n levels)
 
--- The grammar of this project: messages stand 64 deep, the outermost being the first, and so do brackets of all three kinds in
--- an aggregate or an extend block, its outer brace being the first. So 63 levels stand within the first.
+-- `proto_file` is the grammar of this project. Messages nest 64 deep, the outermost being the first
+-- level, and so do the brackets of an aggregate or an extend block, its outer brace being the
+-- first. So 63 levels lie within the first.
 abbrev pub proto_file : Rule Terminal
 proto_file = file 63 63
 
--- 'Without the limit' means here: with each limit one higher. A fault that this grammar does not have is a fault by depth alone.
+-- `deeper_file` is the same grammar with each limit one higher. An error that it does not have is
+-- an error of depth alone.
 abbrev pub deeper_file : Rule Terminal
 deeper_file = file 64 64

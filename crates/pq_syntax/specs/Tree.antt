@@ -1,12 +1,13 @@
--- The tree that a parse stands for: the nodes of its statements in text order. One view for each statement of the grammar;
--- what is no parse of the statement stands for no node.
+-- The tree of a parse: the nodes of its statements, in text order. There is one view for each
+-- statement of the grammar, and the rule is in the comment before it. A view is a total function: a
+-- parse of another shape has no node. `depth` is the number of statements that contain the node.
 use Rattle.std.specs.Prelude.{ℕ, zero, suc, cond, List, [], ◌∷◌, Option, Some, None, codes}
+use Rattle.std.specs.Str.{bytes_eq}
 use Rattle.pq_lex.specs.declared.token.Span.{Span}
 use Rattle.pq_syntax.specs.Rule.{Parse}
 use Rattle.pq_syntax.specs.Rule.Parse.{Leaf, Pair, Left, Right}
-use Rattle.pq_syntax.specs.Loop.{list_of}
-use Rattle.pq_syntax.specs.Words.{Word, same}
-use Rattle.pq_syntax.specs.Parts.{span_of, name_of, strings_of, number_of, bound_of, setting_of, settings_of, range_of, enclosed_type_of, head_name, entry_of, listed}
+use Rattle.pq_syntax.specs.Words.{Word}
+use Rattle.pq_syntax.specs.Parts.{span_of, name_of, strings_of, number_of, bound_of, setting_of, settings_of, range_of, enclosed_type_of, head_name, entry_of, list_of, listed}
 use Rattle.pq_syntax.specs.declared.parts.Name.{Name}
 use Rattle.pq_syntax.specs.declared.parser.fields.Tail.{Tail}
 use Rattle.pq_syntax.specs.declared.tree.ImportKind.{ImportKind}
@@ -17,21 +18,22 @@ use Rattle.pq_syntax.specs.declared.tree.Node.{Node}
 use Rattle.pq_syntax.specs.declared.tree.Statement.{Statement}
 use Rattle.pq_syntax.specs.declared.tree.Statement.TheVariants.{Import, Package, Option as OptionStatement, Message, Field, MapField, Oneof, ReservedNumbers, ReservedNames, Enum, Value, Service, Method, Extend}
 
--- the nodes of one of two alternatives
+-- `either first second p` is the nodes of `p`, a parse of one of two alternatives, by the view of
+-- that alternative.
 abbrev pub either : (Parse Word → List Node) → (Parse Word → List Node) → Parse Word → List Node
 either first second (Left p) = first p
 either first second (Right p) = second p
 either first second _ = []
 
--- an empty statement is no node
+-- `no_nodes p` is the nodes of an empty statement: none.
 abbrev pub no_nodes : Parse Word → List Node
 no_nodes p = []
 
--- the node of a parse
+-- `node_of depth p s` is the node of the statement `s` with the span of `p`.
 abbrev pub node_of : ℕ → Parse Word → Statement → Node
 node_of depth p s = record { depth = depth; span = span_of p; statement = s }
 
--- the node with another span
+-- `spanning n span` is the node `n` with another span.
 abbrev pub spanning : Node → Span → Node
 spanning n span = record { depth = n.depth; span = span; statement = n.statement }
 
@@ -40,11 +42,12 @@ abbrev pub option_nodes : ℕ → Parse Word → List Node
 option_nodes depth (Pair keyword (Pair set semicolon)) = node_of depth (Pair keyword (Pair set semicolon)) (OptionStatement (setting_of set)) ∷ []
 option_nodes depth _ = []
 
--- the name, number and options of a field: ident "=" integer [ opts ] ";"
+-- `tail_of p` is the name, the number and the options of a field: ident "=" integer [ opts ] ";"
 abbrev pub tail_of : Parse Word → Tail
 tail_of (Pair name (Pair equals (Pair number (Pair options semicolon)))) = record { name = name_of name; number = number_of number; options = settings_of options }
 tail_of p = record { name = name_of p; number = number_of p; options = [] }
 
+-- `field_of label kind tail` is the field of a label, a type and a tail.
 abbrev pub field_of : Option Label → Parse Word → Parse Word → Statement
 field_of label kind tail = let t = tail_of tail in Field label (name_of kind) t.name t.number t.options
 
@@ -53,8 +56,9 @@ abbrev pub field_nodes : ℕ → Parse Word → List Node
 field_nodes depth (Pair kind tail) = node_of depth (Pair kind tail) (field_of None kind tail) ∷ []
 field_nodes depth _ = []
 
+-- `label_of p` is the label `p`: "optional" | "repeated".
 abbrev pub label_of : Parse Word → Label
-label_of (Leaf w) = cond (same w.text (codes "optional")) Optional Repeated
+label_of (Leaf w) = cond (bytes_eq w.text (codes "optional")) Optional Repeated
 label_of _ = Repeated
 
 -- label type tail
@@ -134,7 +138,8 @@ statement_nodes depth =
     either (enum_nodes depth) (either (extend_nodes depth) (either (option_nodes depth)
     (either (oneof_nodes depth) (either (reserved_nodes depth) (either (labelled_nodes depth) (either (mapped_nodes depth) (either no_nodes (field_nodes depth))))))))
 
--- message | statement, where messages stand so many levels deep
+-- `item_nodes levels depth p` is the nodes of a statement of a message within which messages nest
+-- `levels` deep: message | statement
 unfoldable pub item_nodes : ℕ → ℕ → Parse Word → List Node
 item_nodes zero depth = statement_nodes depth
 item_nodes (suc levels) depth = either (body_nodes depth (λ name. Message name) (item_nodes levels (suc depth))) (statement_nodes depth)
@@ -144,7 +149,7 @@ message_nodes levels depth = body_nodes depth (λ name. Message name) (item_node
 
 -- "import" [ "public" | "weak" ] strs ";"
 abbrev pub import_kind_of : Parse Word → ImportKind
-import_kind_of (Left (Leaf w)) = cond (same w.text (codes "public")) Public Weak
+import_kind_of (Left (Leaf w)) = cond (bytes_eq w.text (codes "public")) Public Weak
 import_kind_of _ = Plain
 
 abbrev pub import_nodes : Parse Word → List Node

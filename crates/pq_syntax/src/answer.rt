@@ -1,30 +1,43 @@
-//! From a text to its tree or its first fault.
+//! The entry point: from a text to its tree or its first error.
+//!
+//! `parse` lexes the text and parses its tokens. On a syntax error it parses them once more with
+//! each limit of nesting one higher, to recognise `TooDeep`. Both passes are linear in the number
+//! of tokens.
 
-ghost use Rattle.std.specs.Prelude.{◌≡◌, [], false, Err, IfOk};
-ghost use Rattle.pq_syntax.specs.FaultPlace.{FaultStands, IsTree, end_code, is_version_fault};
-ghost use Rattle.pq_syntax.specs.Parsed.{IfFaulty, IfTree, answer, fault_of, parsed, token_code};
-ghost use Rattle.pq_syntax.specs.Reading.{passes, reading};
+ghost use Rattle.std.specs.List.{All};
+ghost use Rattle.std.specs.Prelude.{◌≡◌, [], false, length, Err, IfOk};
+ghost use Rattle.pq_lex.specs.Tokens.{span};
+ghost use Rattle.pq_syntax.specs.FaultPlace.{FaultStands, IfFaulty, IfTree, IsTree, end_code, is_version_fault};
+ghost use Rattle.pq_syntax.specs.Spans.{IsPlaced, Within};
+ghost use Rattle.pq_syntax.specs.aux.Parsed.{answer, fault_of, parsed, token_code};
+ghost use Rattle.pq_syntax.specs.aux.Reading.{passes, reading};
 
 use crate::Memory;
 use crate::failure::Failure;
 use crate::fault::{Code, Parsed};
+use crate::laws::{each_parse, spans_within};
 use crate::parser::parse_file;
 use crate::parts::Items;
-use pq_lex::{Kind, Span, Token, each_text, lex};
+use pq_lex::{Kind, Span, Token, lex};
 use std::alloc::Global;
 
-/// Messages and brackets stand 64 deep, the outermost being the first: so many levels stand within the outermost.
+/// Messages and brackets nest 64 deep. The outermost is the first level, so 63 levels lie within
+/// it.
 const LEVELS: u8 = 63;
 
-/// One level more: what this lets through where `LEVELS` does not is a fault by depth alone.
+/// The raised limit. An error that the grammar with this limit does not have is `TooDeep`.
 const DEEPER_LEVELS: u8 = 64;
 
+/// Whether an error at a token of `kind` after `before` tokens is in the version: at the first
+/// token, or at a string in third place.
 fn is_version_fault(before: usize, kind: Kind) -> bool
     ensures { result ≡ is_version_fault before kind }
 {
     before == 0 || (before == 2 && matches!(kind, Kind::Text))
 }
 
+/// The code of an error at a token of `kind` after `before` tokens. `deeper` says whether the
+/// raised limits accept the token.
 fn token_code(before: usize, kind: Kind, deeper: bool) -> Code
     ensures { result ≡ token_code before kind deeper }
 {
@@ -37,6 +50,7 @@ fn token_code(before: usize, kind: Kind, deeper: bool) -> Code
     }
 }
 
+/// The code of an error at the end of a text of `before` tokens.
 fn end_code(before: usize) -> Code
     ensures { result ≡ end_code before }
 {
@@ -47,7 +61,7 @@ fn end_code(before: usize) -> Code
     }
 }
 
-/// Whether the grammar with higher limits goes on where so many tokens are left.
+/// Whether the parser with raised limits gets past the token at which `left` tokens remain.
 fn goes_deeper(alloc: Global, text: &str, tokens: &[Token], left: usize) -> Result<bool, Memory>
     ensures { IfOk result (λ b. b ≡ passes left (reading 64 64 text.now tokens.now)) }
 {
@@ -58,7 +72,8 @@ fn goes_deeper(alloc: Global, text: &str, tokens: &[Token], left: usize) -> Resu
     }
 }
 
-/// The fault where no token is left behind so many.
+/// The error after the last of `before` tokens: the lexical error `stop`, or else the end of the
+/// text.
 fn fault_at_end(text: &str, before: usize, stop: Option<(Span, pq_lex::Code)>) -> (Span, Code)
     ensures { result ≡ fault_of text.now before [] stop false }
 {
@@ -74,7 +89,7 @@ fn fault_at_end(text: &str, before: usize, stop: Option<(Span, pq_lex::Code)>) -
     }
 }
 
-/// The fault where so many tokens are left. Only at a token can it be one of depth.
+/// The error at which `left` tokens remain. Only an error at a token can be `TooDeep`.
 fn fault_at(
     alloc: Global,
     text: &str,
@@ -99,7 +114,7 @@ fn fault_at(
     }
 }
 
-/// The tree or the fault, as the function of the text.
+/// The outcome of `text` as the function `parsed` computes it.
 fn parse_exactly(alloc: Global, text: &str) -> Result<Parsed, Memory>
     ensures { IfOk result (λ p. p ≡ parsed text.now) }
 {
@@ -118,17 +133,22 @@ fn parse_exactly(alloc: Global, text: &str) -> Result<Parsed, Memory>
     }
 }
 
-/// The tree of a proto3 text, or its first fault (proto3 language specification, "Proto file").
+/// Parses a proto3 text: its tree, or its first error (proto3 language specification, "Proto
+/// file").
 ///
-/// A fault stands at the first token with which no sentence of the grammar goes on. Where the tokens end before that,
-/// it is the lexical fault that ended them, or the empty span at the end of the text. Where the tokens in front of a
-/// lexical fault are a whole sentence, it is that lexical fault. Where higher limits of nesting would let the token
-/// through, the code is `TooDeep`. `Memory` says that an allocation was refused.
+/// A syntax error is at the first token with which no sentence of the grammar continues. If the
+/// tokens end before that, the error is the lexical error after them, or the empty span at the end
+/// of the text. If the tokens before a lexical error are a whole sentence, the error is that
+/// lexical error. The code is `TooDeep` if the token is accepted once each limit of nesting is
+/// raised by one. `Memory` means that an allocation failed.
 pub fn parse(alloc: Global, text: &str) -> Result<Parsed, Memory>
     ensures exact { IfOk result (λ p. p ≡ parsed text.now) }
     ensures tree { IfOk result (IfTree (IsTree text.now)) }
     ensures fault { IfOk result (IfFaulty (FaultStands text.now)) }
+    ensures within { IfOk result (IfTree (All (IsPlaced (length text.now)))) }
+    ensures fault_within { IfOk result (IfFaulty (λ at code. Within at (span 0 (length text.now)))) }
 {
-    each_text();
+    each_parse();
+    spans_within();
     parse_exactly(alloc, text)
 }

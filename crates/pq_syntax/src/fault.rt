@@ -1,32 +1,34 @@
-//! What a text is read as, and the codes of its first fault.
+//! The outcome of parsing a text, and the codes of errors.
 
 use crate::tree::File;
 use pq_lex::Span;
 
-/// Why a text has no tree.
+/// The code of a text's first error.
 #[derive(Clone, Copy, Debug, PartialEq, Eq)]
 pub enum Code {
-    /// The text has no further tokens: a lexical fault stands where the next one should.
+    /// A lexical error: no token can be read here.
     Lexical(pq_lex::Code),
-    /// The text does not begin by `syntax`, or its version is a string of another value.
+    /// The text does not begin with `syntax`, or its version is a string other than `proto3`.
     OnlyProto3,
-    /// No sentence of the grammar goes on with this token, but one would if messages and brackets could stand deeper than 64.
+    /// No sentence of the grammar continues with this token, but one would if messages and brackets
+    /// could nest deeper than 64.
     TooDeep,
-    /// No sentence of the grammar goes on with this token.
+    /// No sentence of the grammar continues with this token.
     UnexpectedToken,
-    /// The text ends before a sentence is whole.
+    /// The text ends before a sentence is complete.
     UnexpectedEnd,
 }
 
-/// The tree of a text, or its first fault.
-#[derive(Debug, Drop)]
+/// The outcome of parsing a text: its tree, or its first error.
+#[derive(Debug, Drop, PartialEq, Eq)]
 pub enum Parsed {
     /// The whole text is a file of the grammar.
     Tree(File),
-    /// The first fault of the text, and the only one: nothing is read behind it.
+    /// The first error of the text. Later errors are not reported.
     Fault {
-        /// The token at fault, the lexical fault, or the empty span at the text's end.
+        /// The unexpected token, the lexical error, or the empty span at the end of the text.
         span: Span,
+        /// What is wrong there.
         code: Code,
     },
 }

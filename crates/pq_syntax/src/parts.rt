@@ -1,90 +1,13 @@
 //! The parts of statements: names, numbers, strings, option settings, reserved ranges.
 
-ghost use Rattle.std.proofs.Common.{rules};
-ghost use Rattle.std.specs.Cmp.Rules.{comparing};
-ghost use Rattle.std.specs.Prelude.{◌≡◌, string_bytes, IfOk};
+ghost use Rattle.std.specs.Prelude.{◌≡◌};
 ghost use Rattle.std.specs.Cmp.Lexicographic.{pointwise, lists_per, lists_equiv};
-ghost use Rattle.std.specs.Str.{bytes_eq};
 
-use crate::Memory;
-use arrayvec::ArrayString;
 use pq_lex::Span;
-use std::alloc::Global;
+use pq_names::Text;
 use std::marker::Model;
 
-/// So many bytes of a text lie in the value itself: most names are no longer, and take no allocation.
-const INLINE: usize = 24;
-
-/// Where the bytes of a text are.
-#[derive(Debug, Drop)]
-enum Bytes {
-    Inline(ArrayString<INLINE>),
-    Allocated(String),
-}
-
-/// A text of a tree. Contracts see its bytes, so that two texts are the same exactly where they compare as equal.
-#[derive(Debug, Drop)]
-pub struct Text {
-    bytes: Bytes,
-}
-
-impl Model for Text {
-    ghost use Rattle.std.specs.Prelude.{List, ℕ};
-    ghost use Rattle.pq_syntax.specs.Bytes.{bytes_of};
-
-    ghost Value = { List ℕ };
-
-    ghost view = { λ t. bytes_of t.bytes };
-}
-
-impl Text {
-    /// The text of a string, which it keeps.
-    pub(crate) fn new(text: String) -> Text
-        ensures { result ≡ string_bytes text }
-    {
-        Text {
-            bytes: Bytes::Allocated(text),
-        }
-    }
-
-    /// A copy of the text.
-    pub(crate) fn copied(alloc: Global, text: &str) -> Result<Text, Memory>
-        ensures { IfOk result (λ t. t ≡ text.now) }
-    {
-        match ArrayString::from(text) {
-            Ok(bytes) => Ok(Text {
-                bytes: Bytes::Inline(bytes),
-            }),
-            Err(_) => Ok(Text::new(String::from_str(alloc, text)?)),
-        }
-    }
-
-    /// The text.
-    pub fn as_str(&self) -> &str
-        ensures { result.now ≡ self.now }
-    {
-        match &self.bytes {
-            Bytes::Inline(bytes) => bytes.as_str(),
-            Bytes::Allocated(text) => text.as_str(),
-        }
-    }
-}
-
-impl PartialEq for Text {
-    ghost eq = { bytes_eq };
-
-    ghost laws = { Prim.search (comparing, rules) };
-
-    fn eq(&self, other: &Text) -> bool {
-        self.as_str() == other.as_str()
-    }
-}
-
-impl Eq for Text {
-    ghost laws = { Prim.search (comparing, rules) };
-}
-
-/// A list of a tree. Contracts see the list of its items, so that two lists are the same exactly where they compare as equal.
+/// A list in a tree. Contracts see the list of its items, and `==` compares exactly that list.
 #[derive(Debug, Drop)]
 pub struct Items<T> {
     items: Vec<T>,
@@ -99,7 +22,8 @@ impl<T> Model for Items<T> {
 }
 
 impl<T> Items<T> {
-    pub(crate) fn new(items: Vec<T>) -> Self
+    /// The list of `items`.
+    pub fn new(items: Vec<T>) -> Self
         ensures { result ≡ items.items }
     {
         Items { items }
@@ -127,61 +51,68 @@ impl<T: Eq> Eq for Items<T> {
     ghost laws = { lists_equiv T.Eq.laws };
 }
 
-/// A name, or names joined by dots, as written but for blanks and comments; and from its first token to its last.
-/// A leading dot of a type's name belongs to it.
+/// A name, or names joined by dots. A leading dot of a type's name belongs to it.
 #[derive(Debug, Drop, PartialEq, Eq)]
 pub struct Name {
+    /// The name as written, without blanks and comments.
     pub text: Text,
+    /// From its first token to its last.
     pub span: Span,
 }
 
-/// An integer, and where it is written, with its sign. It has no value past 64 bits.
+/// An integer.
 #[derive(Clone, Copy, Debug, PartialEq, Eq)]
 pub struct Number {
-    /// Whether `-` stands before it.
+    /// Whether it is written with `-`.
     pub negative: bool,
-    /// The value without its sign.
+    /// The value without its sign, or `None` if it does not fit 64 bits.
     pub value: Option<u64>,
+    /// The integer with its sign.
     pub span: Span,
 }
 
-/// One string or several that stand side by side: the bytes of their joined values, which may be no UTF-8, and from the first
-/// token to the last.
+/// A string, or adjacent strings that make one.
 #[derive(Debug, Drop, PartialEq, Eq)]
 pub struct Strings {
+    /// The bytes of the joined values. They need not be UTF-8.
     pub value: Items<u8>,
+    /// From the first string to the last.
     pub span: Span,
 }
 
-/// One part of an option's name (descriptor.proto, "UninterpretedOption.NamePart"): a name, or the name of an extension in
-/// parentheses. The text is without the parentheses, the span with them.
+/// One part of an option's name (descriptor.proto, "UninterpretedOption.NamePart").
 #[derive(Debug, Drop, PartialEq, Eq)]
 pub struct NamePart {
+    /// Whether it is the name of an extension, in parentheses.
     pub is_extension: bool,
+    /// The name as written, without parentheses, blanks and comments.
     pub text: Text,
+    /// The part with its parentheses.
     pub span: Span,
 }
 
-/// What a constant is (proto3 language specification, "Constant").
+/// The kind of a constant (proto3 language specification, "Constant").
 #[derive(Clone, Copy, Debug, PartialEq, Eq)]
 pub enum ConstantKind {
     /// A name, or names joined by dots: `true`, `SPEED`.
     Identifier,
     /// An integer, with a sign or without.
     Integer,
-    /// A float, with a sign or without, or `inf` or `nan` behind a sign.
+    /// A float, with a sign or without, or `inf` or `nan` after a sign.
     Float,
-    /// One string or several side by side.
+    /// A string, or adjacent strings.
     Text,
-    /// Tokens between braces.
+    /// Any tokens with balanced brackets, between braces.
     Aggregate,
 }
 
-/// The constant that an option is set to.
+/// The constant of an option.
 #[derive(Debug, Drop, PartialEq, Eq)]
 pub struct Constant {
+    /// Its kind.
     pub kind: ConstantKind,
-    /// Its tokens as written: with one space between those of strings and aggregates, else with nothing between.
+    /// Its tokens as written: those of strings and aggregates with one space between, those of
+    /// other constants with nothing between.
     pub text: Text,
     /// From its first token to its last, a sign included.
     pub span: Span,
@@ -190,37 +121,41 @@ pub struct Constant {
 /// An option with its constant (proto3 language specification, "Option").
 #[derive(Debug, Drop, PartialEq, Eq)]
 pub struct Setting {
-    /// The name, part by part.
+    /// The parts of the option's name, in text order.
     pub parts: Items<NamePart>,
+    /// The constant.
     pub constant: Constant,
     /// From the name's first token to the constant's last.
     pub span: Span,
 }
 
-/// Where a reserved range ends.
+/// The end of a reserved range.
 #[derive(Clone, Copy, Debug, PartialEq, Eq)]
 pub enum RangeEnd {
-    /// At its first number: it is a number alone.
+    /// No end is written: the range is its first number.
     Alone,
-    /// At this number, which belongs to it.
+    /// `to` a number, which is the last of the range.
     To(Number),
-    /// At the greatest number.
+    /// `to max`.
     Max,
 }
 
-/// Reserved numbers (proto3 language specification, "Reserved").
+/// A range of reserved numbers (proto3 language specification, "Reserved").
 #[derive(Clone, Copy, Debug, PartialEq, Eq)]
 pub struct Range {
+    /// The first number of the range.
     pub first: Number,
+    /// Its end.
     pub last: RangeEnd,
     /// From its first token to its last.
     pub span: Span,
 }
 
-/// The type that a method takes or gives (proto3 language specification, "Service definition").
+/// The type of a method's input or output (proto3 language specification, "Service definition").
 #[derive(Debug, Drop, PartialEq, Eq)]
 pub struct MethodType {
-    /// Whether `stream` stands before it.
+    /// Whether it is written with `stream`.
     pub is_stream: bool,
+    /// The name of the message type.
     pub type_name: Name,
 }

@@ -1,17 +1,23 @@
-//! The terminals of the grammar, and which tokens they accept.
+//! The terminals of the grammar, and the tokens that each accepts.
+//!
+//! A keyword of proto3 is a name that its position makes a keyword, so several terminals accept one
+//! token. `accepts` looks at a token's kind and spelling alone; only `is_version` reads the value
+//! of a string.
 
-ghost use Rattle.pq_syntax.specs.Words.{accepts, among, brackets, enum_words, is_float, is_identifier, is_integer, is_symbol, is_text, is_version, key_types, message_words, oneof_words, same, word};
+ghost use Rattle.pq_syntax.specs.Words.{accepts, among, brackets, enum_words, is_float, is_identifier, is_integer, is_symbol, is_text, is_version, key_types, message_words, oneof_words, word};
 ghost use Rattle.pq_syntax.specs.declared.terminal.Terminal.TheVariants.{Version};
 ghost use Rattle.pq_lex.specs.Values.{spelling};
 ghost use Rattle.std.specs.Prelude.{◌≡◌, IfOk, false};
+ghost use Rattle.std.specs.Str.{bytes_eq};
 
 use crate::Memory;
 use pq_lex::{Kind, Span, Token, text_value};
 use std::alloc::Global;
 
-/// What the grammar asks of one token. Keywords are names that their position makes keywords.
-#[derive(Clone, Copy, Debug, PartialEq, Eq)]
-pub enum Terminal {
+/// A terminal of the grammar. A terminal `XWord` accepts the keyword `x`, where nothing else is
+/// said.
+#[derive(Clone, Copy)]
+pub(crate) enum Terminal {
     SyntaxWord,
     ImportWord,
     PackageWord,
@@ -36,20 +42,25 @@ pub enum Terminal {
     /// A scalar type that a map's key may have.
     KeyTypeName,
     /// `inf` or `nan`.
-    NotFinite,
-    AnyName,
-    /// A name that begins no other statement of a message than a field.
+    InfOrNan,
+    /// A name, a keyword included.
+    AnyIdentifier,
+    /// A name that can begin the type of a field without a label: no keyword of a message's other
+    /// statements.
     FieldTypeName,
-    /// The same in a oneof.
+    /// A name that can begin the type of a field of a oneof.
     MemberTypeName,
-    /// A name that begins no other statement of an enum than a value.
+    /// A name that can begin a value of an enum.
     ValueName,
     /// A name other than `stream`.
     MethodTypeName,
-    WholeNumber,
-    RealNumber,
-    StringLiteral,
-    /// The string whose value is `proto3`.
+    /// An integer.
+    AnyInteger,
+    /// A float.
+    AnyFloat,
+    /// A string.
+    AnyText,
+    /// A string whose value is `proto3`.
     Version,
     Semicolon,
     Equals,
@@ -65,13 +76,13 @@ pub enum Terminal {
     CloseParenthesis,
     Less,
     Greater,
-    /// Any token but a brace, bracket or parenthesis.
+    /// Any token but a brace, a bracket or a parenthesis.
     Plain,
 }
 
-/// The bytes of the span, or none where it does not lie in the text.
+/// The bytes of `span`, or the empty slice if `span` does not lie in `text`.
 #[inline(always)]
-pub fn spelling(text: &str, span: Span) -> &[u8]
+pub(crate) fn spelling(text: &str, span: Span) -> &[u8]
     ensures { result.now ≡ spelling text.now span }
 {
     let bytes = text.as_bytes();
@@ -82,45 +93,51 @@ pub fn spelling(text: &str, span: Span) -> &[u8]
     }
 }
 
-/// Whether the two spellings are the same.
+/// Whether two spellings are equal.
 #[inline(always)]
-pub fn same(left: &[u8], right: &[u8]) -> bool
-    ensures { result ≡ same left.now right.now }
+pub(crate) fn same(left: &[u8], right: &[u8]) -> bool
+    ensures { result ≡ bytes_eq left.now right.now }
 {
     left == right
 }
 
+/// Whether `kind` is that of names.
 fn is_identifier(kind: Kind) -> bool
     ensures { result ≡ is_identifier kind }
 {
     matches!(kind, Kind::Identifier)
 }
 
+/// Whether `kind` is that of integers.
 fn is_integer(kind: Kind) -> bool
     ensures { result ≡ is_integer kind }
 {
     matches!(kind, Kind::Integer)
 }
 
+/// Whether `kind` is that of floats.
 fn is_float(kind: Kind) -> bool
     ensures { result ≡ is_float kind }
 {
     matches!(kind, Kind::Float)
 }
 
+/// Whether `kind` is that of strings.
 fn is_text(kind: Kind) -> bool
     ensures { result ≡ is_text kind }
 {
     matches!(kind, Kind::Text)
 }
 
+/// Whether `kind` is that of symbols.
 fn is_symbol(kind: Kind) -> bool
     ensures { result ≡ is_symbol kind }
 {
     matches!(kind, Kind::Symbol)
 }
 
-/// The first byte tells most names apart from the keywords at once.
+/// Whether a name is a keyword of a message's statements other than plain fields. The first byte
+/// rules out most names.
 fn is_message_word(spelled: &[u8]) -> bool
     ensures { result ≡ among spelled.now message_words }
 {
@@ -140,6 +157,7 @@ fn is_message_word(spelled: &[u8]) -> bool
     }
 }
 
+/// Whether a name cannot begin the type of a field of a oneof.
 fn is_oneof_word(spelled: &[u8]) -> bool
     ensures { result ≡ among spelled.now oneof_words }
 {
@@ -149,12 +167,14 @@ fn is_oneof_word(spelled: &[u8]) -> bool
         || same(spelled, b"required")
 }
 
+/// Whether a name is a keyword of an enum's statements.
 fn is_enum_word(spelled: &[u8]) -> bool
     ensures { result ≡ among spelled.now enum_words }
 {
     same(spelled, b"option") || same(spelled, b"reserved")
 }
 
+/// Whether a name is a scalar type that a map's key may have.
 fn is_key_type(spelled: &[u8]) -> bool
     ensures { result ≡ among spelled.now key_types }
 {
@@ -172,6 +192,7 @@ fn is_key_type(spelled: &[u8]) -> bool
         || same(spelled, b"string")
 }
 
+/// Whether a symbol is a brace, a bracket or a parenthesis.
 fn is_bracket(spelled: &[u8]) -> bool
     ensures { result ≡ among spelled.now brackets }
 {
@@ -183,9 +204,9 @@ fn is_bracket(spelled: &[u8]) -> bool
         || same(spelled, b")")
 }
 
-/// Whether the token is of the terminal; of the version `is_version` tells.
+/// Whether `terminal` accepts `token`. For `Version` see `is_version`.
 #[inline(always)]
-pub fn accepts(text: &str, token: Token, terminal: Terminal) -> bool
+pub(crate) fn accepts(text: &str, token: Token, terminal: Terminal) -> bool
     requires { is_version terminal ≡ false }
     ensures { result ≡ accepts terminal (word text.now token) }
 {
@@ -215,17 +236,17 @@ pub fn accepts(text: &str, token: Token, terminal: Terminal) -> bool
             is_identifier(kind) && (same(spelled, b"optional") || same(spelled, b"repeated"))
         }
         Terminal::KeyTypeName => is_identifier(kind) && is_key_type(spelled),
-        Terminal::NotFinite => {
+        Terminal::InfOrNan => {
             is_identifier(kind) && (same(spelled, b"inf") || same(spelled, b"nan"))
         }
-        Terminal::AnyName => is_identifier(kind),
+        Terminal::AnyIdentifier => is_identifier(kind),
         Terminal::FieldTypeName => is_identifier(kind) && !is_message_word(spelled),
         Terminal::MemberTypeName => is_identifier(kind) && !is_oneof_word(spelled),
         Terminal::ValueName => is_identifier(kind) && !is_enum_word(spelled),
         Terminal::MethodTypeName => is_identifier(kind) && !same(spelled, b"stream"),
-        Terminal::WholeNumber => is_integer(kind),
-        Terminal::RealNumber => is_float(kind),
-        Terminal::StringLiteral => is_text(kind),
+        Terminal::AnyInteger => is_integer(kind),
+        Terminal::AnyFloat => is_float(kind),
+        Terminal::AnyText => is_text(kind),
         Terminal::Version => unreachable!(),
         Terminal::Semicolon => is_symbol(kind) && same(spelled, b";"),
         Terminal::Equals => is_symbol(kind) && same(spelled, b"="),
@@ -245,8 +266,8 @@ pub fn accepts(text: &str, token: Token, terminal: Terminal) -> bool
     }
 }
 
-/// Whether the token is a string whose value is `proto3`.
-pub fn is_version(alloc: Global, text: &str, token: Token) -> Result<bool, Memory>
+/// Whether `token` is a string whose value is `proto3`.
+pub(crate) fn is_version(alloc: Global, text: &str, token: Token) -> Result<bool, Memory>
     ensures { IfOk result (λ b. b ≡ accepts Version (word text.now token)) }
 {
     if !matches!(token.kind, Kind::Text) {

@@ -1,4 +1,7 @@
-//! The tree of a file: the flat list of its statements in text order.
+//! The tree of a file: the flat list of its statements in text order, each with its depth.
+//!
+//! A statement's parent is the last statement before it that is less deep. So the list is the tree
+//! in pre-order, and a walk over it needs no pointers.
 
 use crate::parts::{Items, MethodType, Name, Number, Range, Setting, Strings};
 use pq_lex::Span;
@@ -6,35 +9,42 @@ use pq_lex::Span;
 /// How a file is imported (proto3 language specification, "Import Statement").
 #[derive(Clone, Copy, Debug, PartialEq, Eq)]
 pub enum ImportKind {
+    /// `import "a.proto";`.
     Plain,
+    /// `import public "a.proto";`.
     Public,
+    /// `import weak "a.proto";`.
     Weak,
 }
 
 /// The label of a field (proto3 language specification, "Fields").
 #[derive(Clone, Copy, Debug, PartialEq, Eq)]
 pub enum Label {
+    /// `optional`.
     Optional,
+    /// `repeated`.
     Repeated,
 }
 
-/// What a statement says.
+/// A statement without its place (proto3 language specification, "Proto file").
 #[derive(Debug, Drop, PartialEq, Eq)]
 pub enum Statement {
+    /// An import of `file`.
     Import {
         kind: ImportKind,
         file: Strings,
     },
+    /// The package of the file.
     Package {
         name: Name,
     },
-    /// An option of the statement that it stands in, or of the file.
+    /// An option of its parent statement, or of the file.
     Option(Setting),
-    /// A message. The statements of its body follow it, one deeper.
+    /// A message. The statements of its body follow it, one level deeper.
     Message {
         name: Name,
     },
-    /// A field of a message, or of the oneof that it stands in.
+    /// A field of its parent, a message or a oneof.
     Field {
         label: Option<Label>,
         type_name: Name,
@@ -42,7 +52,7 @@ pub enum Statement {
         number: Number,
         options: Items<Setting>,
     },
-    /// A map field of a message.
+    /// A map field of its parent message.
     MapField {
         key: Name,
         value: Name,
@@ -50,51 +60,54 @@ pub enum Statement {
         number: Number,
         options: Items<Setting>,
     },
-    /// A oneof. Its options and fields follow it, one deeper.
+    /// A oneof. Its options and fields follow it, one level deeper.
     Oneof {
         name: Name,
     },
+    /// Reserved numbers of a message or an enum.
     ReservedNumbers(Items<Range>),
+    /// Reserved names of a message or an enum.
     ReservedNames(Items<Strings>),
-    /// An enum. The statements of its body follow it, one deeper.
+    /// An enum. The statements of its body follow it, one level deeper.
     Enum {
         name: Name,
     },
-    /// A value of an enum.
+    /// A value of its parent enum.
     Value {
         name: Name,
         number: Number,
         options: Items<Setting>,
     },
-    /// A service. Its options and methods follow it, one deeper.
+    /// A service. Its options and methods follow it, one level deeper.
     Service {
         name: Name,
     },
-    /// A method of a service. Its options follow it, one deeper.
+    /// A method of its parent service. Its options follow it, one level deeper.
     Method {
         name: Name,
         input: MethodType,
         output: MethodType,
     },
-    /// An extend block, whose body is not read.
+    /// An extend block. Its body is skipped: it only has to have balanced brackets.
     Extend {
         type_name: Name,
     },
 }
 
-/// A statement of a file.
+/// A statement with its depth and its span.
 #[derive(Debug, Drop, PartialEq, Eq)]
 pub struct Node {
-    /// The number of statements that it stands in.
+    /// The number of statements that contain it.
     pub depth: u8,
     /// The whole statement, from its first token to its `;` or `}`.
     pub span: Span,
+    /// What the statement says.
     pub statement: Statement,
 }
 
-/// The tree of a file: its statements in text order, each before those that it holds, with the number of statements that
-/// it stands in. What a statement stands in is the last one before it that is less deep. Empty statements are none.
+/// The tree of a file: its statements in text order, each before the statements that it contains.
+/// An empty statement has no node.
 ///
-/// The tree has the names, and not the text: a change in a comment that moves nothing leaves an equal tree. Contracts see the
-/// list of the statements, so that two trees are the same exactly where they compare as equal.
+/// The tree keeps names and spans but not the text, so an edit of a comment that moves no token
+/// leaves it equal. Contracts see the list of statements, and `==` compares exactly that list.
 pub type File = Items<Node>;

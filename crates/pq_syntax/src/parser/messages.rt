@@ -1,14 +1,17 @@
-//! Messages, within which messages stand to a depth, and extend blocks.
+//! Messages, which nest to a limit, and extend blocks.
 
-ghost use Rattle.std.specs.Prelude.{◌≡◌, ◌+◌, ◌<◌, ◌≤◌, length, IfErr, IfNone, IfOk, IfSome, ℕ, suc};
+ghost use Rattle.std.specs.Prelude.{◌<◌, ◌≡◌, true, false, ◌+◌, ◌≤◌, IfErr, IfOk};
+ghost use Rattle.pq_syntax.specs.declared.parser.messages.ItemStart.TheVariants.{Message};
 ghost use Rattle.pq_syntax.specs.Grammar.{extend, item, message, statement};
-ghost use Rattle.pq_syntax.specs.Loop.{list_of};
-ghost use Rattle.pq_syntax.specs.Rule.Rule.{Many};
-ghost use Rattle.pq_syntax.specs.Steps.{Adds, Begins, Ends, Fails, FailsWithin};
+ghost use Rattle.pq_syntax.specs.Parts.{list_of};
+ghost use Rattle.pq_syntax.specs.Rule.Rule.{Star};
+ghost use Rattle.pq_syntax.specs.aux.Openings.{ItemLeads, ItemOpens, Leads, NoMessage, Opens, statement_lead};
+ghost use Rattle.pq_syntax.specs.aux.Steps.{Adds, Begins, Fails, FailsWithin};
 ghost use Rattle.pq_syntax.specs.Tree.{extend_nodes, item_nodes, message_nodes, statement_nodes};
 
 use crate::failure::Failure;
 use crate::parser::brackets::skip_block;
+use crate::parser::context::{Context, MAX_DEPTH};
 use crate::parser::enums::parse_enum;
 use crate::parser::fields::{parse_field, parse_labelled, parse_mapped};
 use crate::parser::names::parse_type;
@@ -17,161 +20,215 @@ use crate::parser::oneofs::parse_oneof;
 use crate::parser::options::parse_option;
 use crate::parser::reserved::parse_reserved;
 use crate::parser::texts::across;
-use crate::parser::tokens::{expect, looks_at, looks_at_type};
+use crate::parser::tokens::{expect, looks_at, looks_at_type, skip_empty};
 use crate::terminal::Terminal;
 use crate::tree::{Node, Statement};
 use pq_lex::Token;
-use std::alloc::Global;
 
-/// An extend block that stands in `depth` statements.
-pub fn parse_extend<'a>(
-    alloc: Global,
-    text: &str,
+/// Parses an extend block: `"extend" type "{" balanced "}"`. Its body is skipped.
+pub(crate) fn parse_extend<'a>(
+    context: Context,
     tokens: &'a [Token],
-    brackets: u8,
     depth: u8,
     nodes: &mut Vec<Node>,
 ) -> Result<&'a [Token], Failure>
-    ensures taken { IfOk result (λ rest. Adds text.now (extend brackets) (extend_nodes depth) tokens.now rest.now nodes.old.items nodes.new.items) }
-    ensures shorter { IfOk result (λ rest. length rest.now < length tokens.now) }
-    ensures fault { IfErr result (λ e. Fails text.now (extend brackets) tokens.now e) }
+    ensures taken { IfOk result (λ rest. Adds context.entry.text.now (extend context.entry.brackets) (extend_nodes depth) tokens.now rest.now nodes.old.items nodes.new.items) }
+    ensures fault { IfErr result (λ e. Fails context.entry.text.now (extend context.entry.brackets) tokens.now e) }
 {
-    let (_, rest) = expect(text, tokens, Terminal::ExtendWord)?;
-    let (type_name, rest) = parse_type(alloc, text, rest)?;
-    let rest = skip_block(text, rest, brackets)?;
+    let (_, rest) = expect(context.text, tokens, Terminal::ExtendWord)?;
+    let (type_name, rest) = parse_type(context, rest)?;
+    let rest = skip_block(context.text, rest, context.brackets)?;
     push_node(nodes, depth, tokens, rest, Statement::Extend { type_name })?;
     Ok(rest)
 }
 
-/// A statement of a message that is no message, where one begins there.
-fn parse_statement<'a>(
-    alloc: Global,
-    text: &str,
-    tokens: &'a [Token],
-    brackets: u8,
-    depth: u8,
-    nodes: &mut Vec<Node>,
-) -> Result<Option<&'a [Token]>, Failure>
-    requires { depth ≤ 200 }
-    ensures taken { IfOk result (λ found. IfSome found (λ rest. Begins text.now (statement brackets) (statement_nodes depth) tokens.now rest.now nodes.old.items nodes.new.items)) }
-    ensures shorter { IfOk result (λ found. IfSome found (λ rest. length rest.now < length tokens.now)) }
-    ensures none { IfOk result (λ found. IfNone found (Ends text.now (statement brackets) tokens.now nodes.old.items nodes.new.items)) }
-    ensures fault { IfErr result (λ e. FailsWithin text.now (statement brackets) tokens.now e) }
-{
-    // most statements are fields, and no other statement begins as one
-    if looks_at_type(text, tokens, Terminal::FieldTypeName) {
-        let field = Terminal::FieldTypeName;
-        let rest = parse_field(alloc, text, tokens, brackets, field, depth, nodes)?;
-        return Ok(Some(rest));
-    }
-    if looks_at(text, tokens, Terminal::EnumWord) {
-        let rest = parse_enum(alloc, text, tokens, brackets, depth, nodes)?;
-        return Ok(Some(rest));
-    }
-    if looks_at(text, tokens, Terminal::ExtendWord) {
-        let rest = parse_extend(alloc, text, tokens, brackets, depth, nodes)?;
-        return Ok(Some(rest));
-    }
-    if looks_at(text, tokens, Terminal::OptionWord) {
-        let rest = parse_option(alloc, text, tokens, brackets, depth, nodes)?;
-        return Ok(Some(rest));
-    }
-    if looks_at(text, tokens, Terminal::OneofWord) {
-        let rest = parse_oneof(alloc, text, tokens, brackets, depth, nodes)?;
-        return Ok(Some(rest));
-    }
-    if looks_at(text, tokens, Terminal::ReservedWord) {
-        let rest = parse_reserved(alloc, text, tokens, false, depth, nodes)?;
-        return Ok(Some(rest));
-    }
-    if looks_at(text, tokens, Terminal::LabelWord) {
-        let rest = parse_labelled(alloc, text, tokens, brackets, depth, nodes)?;
-        return Ok(Some(rest));
-    }
-    if looks_at(text, tokens, Terminal::MapWord) {
-        let rest = parse_mapped(alloc, text, tokens, brackets, depth, nodes)?;
-        return Ok(Some(rest));
-    }
-    if looks_at(text, tokens, Terminal::Semicolon) {
-        let (_, rest) = expect(text, tokens, Terminal::Semicolon)?;
-        return Ok(Some(rest));
-    }
-    Ok(None)
+/// The statements of a message other than messages, by what begins them.
+#[derive(Clone, Copy)]
+enum StatementStart {
+    /// A field without a label.
+    Field,
+    Enum,
+    Extend,
+    Option,
+    Oneof,
+    Reserved,
+    /// A field with a label.
+    Labelled,
+    /// A map field, or a field whose type begins with `map`.
+    Mapped,
+    /// `;`
+    Empty,
 }
 
-/// A statement of a message within which messages stand so many levels deep, where one begins there.
-#[cycle(messages)]
-fn parse_item<'a>(
-    alloc: Global,
-    text: &str,
+/// Which statement of a message other than a message begins at `tokens`, if one does. Most
+/// statements are fields, so a field is tested first.
+#[inline(always)]
+fn statement_at(context: Context, tokens: &[Token]) -> Option<StatementStart>
+    ensures { Opens context.entry.text.now (statement context.entry.brackets) statement_lead tokens.now result }
+{
+    if looks_at_type(context.text, tokens, Terminal::FieldTypeName) {
+        return Some(StatementStart::Field);
+    }
+    if looks_at(context.text, tokens, Terminal::EnumWord) {
+        return Some(StatementStart::Enum);
+    }
+    if looks_at(context.text, tokens, Terminal::ExtendWord) {
+        return Some(StatementStart::Extend);
+    }
+    if looks_at(context.text, tokens, Terminal::OptionWord) {
+        return Some(StatementStart::Option);
+    }
+    if looks_at(context.text, tokens, Terminal::OneofWord) {
+        return Some(StatementStart::Oneof);
+    }
+    if looks_at(context.text, tokens, Terminal::ReservedWord) {
+        return Some(StatementStart::Reserved);
+    }
+    if looks_at(context.text, tokens, Terminal::LabelWord) {
+        return Some(StatementStart::Labelled);
+    }
+    if looks_at(context.text, tokens, Terminal::MapWord) {
+        return Some(StatementStart::Mapped);
+    }
+    if looks_at(context.text, tokens, Terminal::Semicolon) {
+        return Some(StatementStart::Empty);
+    }
+    None
+}
+
+/// Parses the statement of a message, other than a message, that begins as `start` says.
+fn parse_statement<'a>(
+    context: Context,
     tokens: &'a [Token],
-    brackets: u8,
-    levels: u8,
+    start: StatementStart,
     depth: u8,
     nodes: &mut Vec<Node>,
-) -> Result<Option<&'a [Token]>, Failure>
-    requires { depth + levels ≤ 190 }
-    ensures taken { IfOk result (λ found. IfSome found (λ rest. Begins text.now (item brackets levels) (item_nodes levels depth) tokens.now rest.now nodes.old.items nodes.new.items)) }
-    ensures shorter { IfOk result (λ found. IfSome found (λ rest. length rest.now < length tokens.now)) }
-    ensures none { IfOk result (λ found. IfNone found (Ends text.now (item brackets levels) tokens.now nodes.old.items nodes.new.items)) }
-    ensures fault { IfErr result (λ e. FailsWithin text.now (item brackets levels) tokens.now e) }
+) -> Result<&'a [Token], Failure>
+    requires depth { depth ≤ MAX_DEPTH }
+    requires lead { Leads context.text.now statement_lead tokens.now start }
+    ensures taken { IfOk result (λ rest. Begins context.entry.text.now (statement context.entry.brackets) (statement_nodes depth) tokens.now rest.now nodes.old.items nodes.new.items) }
+    ensures fault { IfErr result (λ e. FailsWithin context.entry.text.now (statement context.entry.brackets) tokens.now e) }
+{
+    match start {
+        StatementStart::Field => parse_field(
+            context,
+            tokens,
+            Terminal::FieldTypeName,
+            depth,
+            nodes,
+        ),
+        StatementStart::Enum => parse_enum(context, tokens, depth, nodes),
+        StatementStart::Extend => parse_extend(context, tokens, depth, nodes),
+        StatementStart::Option => parse_option(context, tokens, depth, nodes),
+        StatementStart::Oneof => parse_oneof(context, tokens, depth, nodes),
+        StatementStart::Reserved => parse_reserved(context, tokens, false, depth, nodes),
+        StatementStart::Labelled => parse_labelled(context, tokens, depth, nodes),
+        StatementStart::Mapped => parse_mapped(context, tokens, depth, nodes),
+        StatementStart::Empty => skip_empty(context.text, tokens),
+    }
+}
+
+/// The statements of a message, by what begins them.
+#[derive(Clone, Copy)]
+enum ItemStart {
+    Message,
+    Statement(StatementStart),
+}
+
+/// Whether a message begins at `tokens`, where messages nest `levels` deep.
+#[inline(always)]
+fn looks_at_message(context: Context, tokens: &[Token], levels: u8) -> bool
+    ensures yes { result ≡ true → ItemLeads context.entry.text.now levels tokens.now Message }
+    ensures no { result ≡ false → NoMessage context.entry.text.now levels tokens.now }
 {
     if levels == 0 {
-        return parse_statement(alloc, text, tokens, brackets, depth, nodes);
+        return false;
     }
-    if looks_at(text, tokens, Terminal::MessageWord) {
-        let rest = parse_message(alloc, text, tokens, brackets, levels - 1, depth, nodes)?;
-        return Ok(Some(rest));
-    }
-    parse_statement(alloc, text, tokens, brackets, depth, nodes)
+    looks_at(context.text, tokens, Terminal::MessageWord)
 }
 
-/// The statements of a message.
+/// Which statement of a message begins at `tokens`, if one does. Messages nest in the message
+/// `levels` deep.
+#[inline(always)]
+fn item_at(context: Context, tokens: &[Token], levels: u8) -> Option<ItemStart>
+    ensures { ItemOpens context.entry.text.now context.entry.brackets levels tokens.now result }
+{
+    if looks_at_message(context, tokens, levels) {
+        return Some(ItemStart::Message);
+    }
+    match statement_at(context, tokens) {
+        Some(start) => Some(ItemStart::Statement(start)),
+        None => None,
+    }
+}
+
+/// Parses the statement of a message that begins as `start` says. Messages nest in the message
+/// `levels` deep.
 #[cycle(messages)]
-fn parse_items<'a>(
-    alloc: Global,
-    text: &str,
+fn parse_item<'a>(
+    context: Context,
     tokens: &'a [Token],
-    brackets: u8,
+    start: ItemStart,
     levels: u8,
     depth: u8,
     nodes: &mut Vec<Node>,
 ) -> Result<&'a [Token], Failure>
-    requires { depth + levels ≤ 190 }
-    ensures taken { IfOk result (λ rest. Adds text.now (Many (item brackets levels)) (list_of (item_nodes levels depth)) tokens.now rest.now nodes.old.items nodes.new.items) }
-    ensures within { IfOk result (λ rest. length rest.now ≤ length tokens.now) }
-    ensures fault { IfErr result (λ e. Fails text.now (Many (item brackets levels)) tokens.now e) }
+    requires depth { depth + levels ≤ MAX_DEPTH }
+    requires lead { ItemLeads context.text.now levels tokens.now start }
+    ensures taken { IfOk result (λ rest. Begins context.entry.text.now (item context.entry.brackets levels) (item_nodes levels depth) tokens.now rest.now nodes.old.items nodes.new.items) }
+    ensures fault { IfErr result (λ e. FailsWithin context.entry.text.now (item context.entry.brackets levels) tokens.now e) }
+{
+    match start {
+        ItemStart::Message => {
+            let within = levels - 1;
+            parse_message(context, tokens, within, depth, nodes)
+        }
+        ItemStart::Statement(start) => parse_statement(context, tokens, start, depth, nodes),
+    }
+}
+
+/// Parses the statements of a message, as many as follow each other. Messages nest in the message
+/// `levels` deep.
+#[cycle(messages)]
+fn parse_items<'a>(
+    context: Context,
+    tokens: &'a [Token],
+    levels: u8,
+    depth: u8,
+    nodes: &mut Vec<Node>,
+) -> Result<&'a [Token], Failure>
+    requires { depth + levels ≤ MAX_DEPTH }
+    ensures taken { IfOk result (λ rest. Adds context.entry.text.now (Star (item context.entry.brackets levels)) (list_of (item_nodes levels depth)) tokens.now rest.now nodes.old.items nodes.new.items) }
+    ensures fault { IfErr result (λ e. Fails context.entry.text.now (Star (item context.entry.brackets levels)) tokens.now e) }
 {
     let mut rest = tokens;
-    loop {
-        match parse_item(alloc, text, rest, brackets, levels, depth, nodes)? {
-            Some(after) => rest = after,
+    'items: loop {
+        match item_at(context, rest, levels) {
+            Some(start) => rest = parse_item(context, rest, start, levels, depth, nodes)?,
             None => return Ok(rest),
         }
     }
 }
 
-/// A message that stands in `depth` statements, within which messages stand so many levels deep.
+/// Parses a message and its statements: `"message" ident "{" { item } "}"`. Messages nest in it
+/// `levels` deep.
 #[cycle(messages)]
-pub fn parse_message<'a>(
-    alloc: Global,
-    text: &str,
+pub(crate) fn parse_message<'a>(
+    context: Context,
     tokens: &'a [Token],
-    brackets: u8,
     levels: u8,
     depth: u8,
     nodes: &mut Vec<Node>,
 ) -> Result<&'a [Token], Failure>
-    requires { depth + levels ≤ 189 }
-    ensures taken { IfOk result (λ rest. Adds text.now (message brackets levels) (message_nodes levels depth) tokens.now rest.now nodes.old.items nodes.new.items) }
-    ensures shorter { IfOk result (λ rest. length rest.now < length tokens.now) }
-    ensures fault { IfErr result (λ e. Fails text.now (message brackets levels) tokens.now e) }
+    requires { depth + levels < MAX_DEPTH }
+    ensures taken { IfOk result (λ rest. Adds context.entry.text.now (message context.entry.brackets levels) (message_nodes levels depth) tokens.now rest.now nodes.old.items nodes.new.items) }
+    ensures fault { IfErr result (λ e. Fails context.entry.text.now (message context.entry.brackets levels) tokens.now e) }
 {
-    let (name, rest) = parse_head(alloc, text, tokens, Terminal::MessageWord)?;
+    let (name, rest) = parse_head(context, tokens, Terminal::MessageWord)?;
     let index = nodes.len();
     push_node(nodes, depth, tokens, rest, Statement::Message { name })?;
-    let rest = parse_items(alloc, text, rest, brackets, levels, depth + 1, nodes)?;
-    let (_, rest) = expect(text, rest, Terminal::CloseBrace)?;
+    let rest = parse_items(context, rest, levels, depth + 1, nodes)?;
+    let (_, rest) = expect(context.text, rest, Terminal::CloseBrace)?;
     set_span(nodes, index, across(tokens, rest));
     Ok(rest)
 }

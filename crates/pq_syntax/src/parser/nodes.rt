@@ -1,16 +1,17 @@
-//! Nodes of the tree: pushing one, and what begins a statement with a body.
+//! Nodes of the tree: adding one, and the head of a statement with a body.
 
 ghost use Rattle.std.specs.Prelude.{◌≡◌, ◌<◌, ◌++◌, ◌∷◌, length, IfErr, IfOk, List, ℕ, [], false};
 ghost use Rattle.pq_lex.specs.declared.token.Span.{Span};
 ghost use Rattle.pq_syntax.specs.Grammar.{head};
 ghost use Rattle.pq_syntax.specs.Parts.{head_name, span_across};
-ghost use Rattle.pq_syntax.specs.Steps.{Fails, Reads};
+ghost use Rattle.pq_syntax.specs.aux.Steps.{Fails, Reads};
 ghost use Rattle.pq_syntax.specs.Tree.{spanning};
 ghost use Rattle.pq_syntax.specs.Words.{Word, is_version, words};
 ghost use Rattle.pq_syntax.specs.declared.tree.Node.{Node};
 
 use crate::Memory;
 use crate::failure::Failure;
+use crate::parser::context::Context;
 use crate::parser::names::parse_word;
 use crate::parser::texts::across;
 use crate::parser::tokens::expect;
@@ -18,10 +19,9 @@ use crate::parts::Name;
 use crate::terminal::Terminal;
 use crate::tree::{Node, Statement};
 use pq_lex::{Span, Token};
-use std::alloc::Global;
 
-/// Adds the node of a statement that is the tokens from `tokens` on that stand before `rest`.
-pub fn push_node(
+/// Adds the node of `statement`, which spans the tokens before `rest`.
+pub(crate) fn push_node(
     nodes: &mut Vec<Node>,
     depth: u8,
     tokens: &[Token],
@@ -38,28 +38,26 @@ pub fn push_node(
     Ok(())
 }
 
-/// Gives the node at the index its span.
-pub fn set_span(nodes: &mut Vec<Node>, index: usize, span: Span)
+/// Sets the span of the node at `index`.
+pub(crate) fn set_span(nodes: &mut Vec<Node>, index: usize, span: Span)
     requires { index < length nodes.old.items }
     ensures { (before after : List Node) (n : Node) → nodes.old.items ≡ before ++ n ∷ after → length before ≡ index → nodes.new.items ≡ before ++ spanning n span ∷ after }
 {
     nodes[index].span = span;
 }
 
-/// The name in what begins a statement with a body: `keyword ident "{"`.
-pub fn parse_head<'a>(
-    alloc: Global,
-    text: &str,
+/// Parses the head of a statement with a body, `keyword ident "{"`, and returns the name.
+pub(crate) fn parse_head<'a>(
+    context: Context,
     tokens: &'a [Token],
     keyword: Terminal,
 ) -> Result<(Name, &'a [Token]), Failure>
     requires { is_version keyword ≡ false }
-    ensures taken { IfOk result (λ x. Reads text.now (head keyword) head_name tokens.now x.1.now x.0) }
-    ensures shorter { IfOk result (λ x. length x.1.now < length tokens.now) }
-    ensures fault { IfErr result (λ e. Fails text.now (head keyword) tokens.now e) }
+    ensures taken { IfOk result (λ x. Reads context.entry.text.now (head keyword) head_name tokens.now x.1.now x.0) }
+    ensures fault { IfErr result (λ e. Fails context.entry.text.now (head keyword) tokens.now e) }
 {
-    let (_, rest) = expect(text, tokens, keyword)?;
-    let (name, rest) = parse_word(alloc, text, rest, Terminal::AnyName)?;
-    let (_, rest) = expect(text, rest, Terminal::OpenBrace)?;
+    let (_, rest) = expect(context.text, tokens, keyword)?;
+    let (name, rest) = parse_word(context, rest, Terminal::AnyIdentifier)?;
+    let (_, rest) = expect(context.text, rest, Terminal::OpenBrace)?;
     Ok((name, rest))
 }

@@ -1,23 +1,24 @@
-//! What taken tokens say: their span, their text, their values. The tokens taken are those from `tokens` on that stand before
-//! `rest`.
+//! What the tokens taken stand for: their span, their text, their values. The tokens taken are
+//! those of `tokens` before `rest`.
 
 ghost use Rattle.std.specs.Prelude.{◌≡◌, ◌++◌, List, ℕ, true, IfOk};
 ghost use Rattle.std.specs.Str.Lossy.{utf8_lossy};
 ghost use Rattle.pq_lex.specs.Values.{spelling, text_value_of};
-ghost use Rattle.pq_syntax.specs.Leaves.{leaves};
+ghost use Rattle.pq_syntax.specs.Yield.{yield_of};
 ghost use Rattle.pq_syntax.specs.Parts.{joined, name_of, number_of, spaced, span_across, strings_of, values};
 ghost use Rattle.pq_syntax.specs.Rule.{Parse};
 ghost use Rattle.pq_syntax.specs.Rule.Parse.{Leaf};
 ghost use Rattle.pq_syntax.specs.Words.{Word, is_integer, word, words};
 
 use crate::Memory;
-use crate::parts::{Items, Name, Number, Strings, Text};
+use crate::parts::{Items, Name, Number, Strings};
 use crate::terminal::spelling;
 use pq_lex::{Kind, Span, Token, integer_value, text_value};
+use pq_names::Text;
 use std::alloc::Global;
 
-/// From the first of the tokens taken to the last.
-pub fn across(tokens: &[Token], rest: &[Token]) -> Span
+/// The span from the first of the tokens taken to the last.
+pub(crate) fn across(tokens: &[Token], rest: &[Token]) -> Span
     ensures { (text : List ℕ) (ws : List Word) → words text tokens.now ≡ ws ++ words text rest.now → result ≡ span_across ws }
 {
     if tokens.len() <= rest.len() {
@@ -64,20 +65,21 @@ fn spaced(alloc: Global, text: &str, tokens: &[Token]) -> Result<Vec<u8>, Memory
     Ok(bytes)
 }
 
-/// One token as written. A span between characters needs no look at its bytes.
+/// The text of one token as written. A span that begins and ends between characters is copied
+/// without a look at its bytes.
 fn read_spelling(alloc: Global, text: &str, span: Span) -> Result<Text, Memory>
     ensures { IfOk result (λ t. t ≡ utf8_lossy (spelling text.now span)) }
 {
     let start = span.start;
     let end = span.end;
     if start <= end && text.is_char_boundary(start) && text.is_char_boundary(end) {
-        return Text::copied(alloc, &text[start..end]);
+        return Text::new(alloc, &text[start..end]);
     }
-    Ok(Text::new(String::from_utf8_lossy(alloc, spelling(text, span))?))
+    Text::from_string(alloc, String::from_utf8_lossy(alloc, spelling(text, span))?)
 }
 
-/// The tokens taken as written, with nothing between them.
-pub fn read_joined(
+/// The text of the tokens taken as written, with nothing between them.
+pub(crate) fn read_joined(
     alloc: Global,
     text: &str,
     tokens: &[Token],
@@ -90,11 +92,11 @@ pub fn read_joined(
         return read_spelling(alloc, text, taken[0].span);
     }
     let bytes = joined(alloc, text, taken)?;
-    Ok(Text::new(String::from_utf8_lossy(alloc, bytes.as_slice())?))
+    Text::from_string(alloc, String::from_utf8_lossy(alloc, bytes.as_slice())?)
 }
 
-/// The tokens taken as written, with one space between them.
-pub fn read_spaced(
+/// The text of the tokens taken as written, with one space between them.
+pub(crate) fn read_spaced(
     alloc: Global,
     text: &str,
     tokens: &[Token],
@@ -103,17 +105,17 @@ pub fn read_spaced(
     ensures { IfOk result (λ t. (ws : List Word) → words text.now tokens.now ≡ ws ++ words text.now rest.now → t ≡ utf8_lossy (spaced ws)) }
 {
     let bytes = spaced(alloc, text, taken(tokens, rest))?;
-    Ok(Text::new(String::from_utf8_lossy(alloc, bytes.as_slice())?))
+    Text::from_string(alloc, String::from_utf8_lossy(alloc, bytes.as_slice())?)
 }
 
-/// The name that the tokens taken make.
-pub fn read_name(
+/// The name that the tokens taken spell.
+pub(crate) fn read_name(
     alloc: Global,
     text: &str,
     tokens: &[Token],
     rest: &[Token],
 ) -> Result<Name, Memory>
-    ensures { IfOk result (λ n. (p : Parse Word) → words text.now tokens.now ≡ leaves p ++ words text.now rest.now → n ≡ name_of p) }
+    ensures { IfOk result (λ n. (p : Parse Word) → words text.now tokens.now ≡ yield_of p ++ words text.now rest.now → n ≡ name_of p) }
 {
     Ok(Name {
         text: read_joined(alloc, text, tokens, rest)?,
@@ -121,7 +123,7 @@ pub fn read_name(
     })
 }
 
-/// What a string of this spelling stands for.
+/// The value of the string that `span` spells.
 fn value_of(alloc: Global, text: &str, span: Span) -> Result<Vec<u8>, Memory>
     ensures { IfOk result (λ bytes. bytes.items ≡ text_value_of (spelling text.now span)) }
 {
@@ -143,14 +145,14 @@ fn joined_values(alloc: Global, text: &str, tokens: &[Token]) -> Result<Vec<u8>,
     Ok(bytes)
 }
 
-/// The strings that the tokens taken are.
-pub fn read_strings(
+/// The joined value of the strings taken, and their span.
+pub(crate) fn read_strings(
     alloc: Global,
     text: &str,
     tokens: &[Token],
     rest: &[Token],
 ) -> Result<Strings, Memory>
-    ensures { IfOk result (λ s. (p : Parse Word) → words text.now tokens.now ≡ leaves p ++ words text.now rest.now → s ≡ strings_of p) }
+    ensures { IfOk result (λ s. (p : Parse Word) → words text.now tokens.now ≡ yield_of p ++ words text.now rest.now → s ≡ strings_of p) }
 {
     let value = joined_values(alloc, text, taken(tokens, rest))?;
     Ok(Strings {
@@ -159,8 +161,8 @@ pub fn read_strings(
     })
 }
 
-/// The integer that the token is.
-pub fn read_number(text: &str, token: Token) -> Number
+/// The integer that `token` spells.
+pub(crate) fn read_number(text: &str, token: Token) -> Number
     requires { is_integer token.kind ≡ true }
     ensures { result ≡ number_of (Leaf (word text.now token)) }
 {

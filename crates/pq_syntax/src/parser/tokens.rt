@@ -1,12 +1,12 @@
-//! One token: which terminal it is of, and taking it.
+//! One token: whether a terminal accepts it, and taking it.
 
-ghost use Rattle.std.specs.Prelude.{◌≡◌, ◌<◌, ◌≤◌, length, IfErr, IfOk, false};
+ghost use Rattle.std.specs.Prelude.{◌≡◌, IfErr, IfOk, false};
 ghost use Rattle.pq_syntax.specs.Grammar.{opt, type_from};
-ghost use Rattle.pq_syntax.specs.Rule.Rule.{One};
-ghost use Rattle.pq_syntax.specs.Steps.{Fails, Passes, TakesToken};
-ghost use Rattle.pq_syntax.specs.Takes.{starts_at};
+ghost use Rattle.pq_syntax.specs.Rule.Rule.{Single};
+ghost use Rattle.pq_syntax.specs.aux.Steps.{Fails, Passes, TakesToken};
+ghost use Rattle.pq_syntax.specs.aux.Takes.{starts_at};
 ghost use Rattle.pq_syntax.specs.Words.{accepts, is_version, words};
-ghost use Rattle.pq_syntax.specs.declared.terminal.Terminal.TheVariants.{Version};
+ghost use Rattle.pq_syntax.specs.declared.terminal.Terminal.TheVariants.{Semicolon, Version};
 
 use crate::Memory;
 use crate::failure::Failure;
@@ -14,11 +14,11 @@ use crate::terminal::{Terminal, accepts, is_version};
 use pq_lex::Token;
 use std::alloc::Global;
 
-/// Whether the first token, if there is one, is of the terminal.
+/// Whether there is a first token and `terminal` accepts it.
 #[inline(always)]
-pub fn looks_at(text: &str, tokens: &[Token], terminal: Terminal) -> bool
+pub(crate) fn looks_at(text: &str, tokens: &[Token], terminal: Terminal) -> bool
     requires { is_version terminal ≡ false }
-    ensures { result ≡ starts_at accepts (One terminal) (words text.now tokens.now) }
+    ensures { result ≡ starts_at accepts (Single terminal) (words text.now tokens.now) }
 {
     if tokens.is_empty() {
         false
@@ -27,17 +27,16 @@ pub fn looks_at(text: &str, tokens: &[Token], terminal: Terminal) -> bool
     }
 }
 
-/// Takes a token of the terminal.
+/// Takes the first token if `terminal` accepts it, and fails otherwise.
 #[inline(always)]
-pub fn expect<'a>(
+pub(crate) fn expect<'a>(
     text: &str,
     tokens: &'a [Token],
     terminal: Terminal,
 ) -> Result<(Token, &'a [Token]), Failure>
     requires { is_version terminal ≡ false }
     ensures taken { IfOk result (λ x. TakesToken text.now terminal tokens.now x.1.now x.0) }
-    ensures shorter { IfOk result (λ x. length x.1.now < length tokens.now) }
-    ensures fault { IfErr result (λ e. Fails text.now (One terminal) tokens.now e) }
+    ensures fault { IfErr result (λ e. Fails text.now (Single terminal) tokens.now e) }
 {
     if looks_at(text, tokens, terminal) {
         Ok((tokens[0], &tokens[1..]))
@@ -46,12 +45,11 @@ pub fn expect<'a>(
     }
 }
 
-/// Takes a token of the terminal where one stands there.
+/// Takes the first token if there is one and `terminal` accepts it.
 #[inline(always)]
-pub fn skip_if<'a>(text: &str, tokens: &'a [Token], terminal: Terminal) -> &'a [Token]
+pub(crate) fn skip_if<'a>(text: &str, tokens: &'a [Token], terminal: Terminal) -> &'a [Token]
     requires { is_version terminal ≡ false }
-    ensures taken { Passes text.now (opt (One terminal)) tokens.now result.now }
-    ensures within { length result.now ≤ length tokens.now }
+    ensures { Passes text.now (opt (Single terminal)) tokens.now result.now }
 {
     if looks_at(text, tokens, terminal) {
         &tokens[1..]
@@ -60,18 +58,28 @@ pub fn skip_if<'a>(text: &str, tokens: &'a [Token], terminal: Terminal) -> &'a [
     }
 }
 
-/// Whether a type begins there that does not begin by a keyword of its place.
+/// Takes an empty statement: `";"`.
 #[inline(always)]
-pub fn looks_at_type(text: &str, tokens: &[Token], terminal: Terminal) -> bool
+pub(crate) fn skip_empty<'a>(text: &str, tokens: &'a [Token]) -> Result<&'a [Token], Failure>
+    ensures taken { IfOk result (λ rest. Passes text.now (Single Semicolon) tokens.now rest.now) }
+    ensures fault { IfErr result (λ e. Fails text.now (Single Semicolon) tokens.now e) }
+{
+    let (_, rest) = expect(text, tokens, Terminal::Semicolon)?;
+    Ok(rest)
+}
+
+/// Whether a type's name begins at `tokens`: with a dot, or with a name that `terminal` accepts.
+#[inline(always)]
+pub(crate) fn looks_at_type(text: &str, tokens: &[Token], terminal: Terminal) -> bool
     requires { is_version terminal ≡ false }
     ensures { result ≡ starts_at accepts (type_from terminal) (words text.now tokens.now) }
 {
     looks_at(text, tokens, Terminal::Dot) || looks_at(text, tokens, terminal)
 }
 
-/// Whether the first token, if there is one, is the string of the version.
+/// Whether there is a first token and it is the string `proto3`.
 fn looks_at_version(alloc: Global, text: &str, tokens: &[Token]) -> Result<bool, Memory>
-    ensures { IfOk result (λ b. b ≡ starts_at accepts (One Version) (words text.now tokens.now)) }
+    ensures { IfOk result (λ b. b ≡ starts_at accepts (Single Version) (words text.now tokens.now)) }
 {
     if tokens.is_empty() {
         Ok(false)
@@ -80,15 +88,14 @@ fn looks_at_version(alloc: Global, text: &str, tokens: &[Token]) -> Result<bool,
     }
 }
 
-/// Takes the string of the version.
-pub fn expect_version<'a>(
+/// Takes the first token if it is the string `proto3`, and fails otherwise.
+pub(crate) fn expect_version<'a>(
     alloc: Global,
     text: &str,
     tokens: &'a [Token],
 ) -> Result<&'a [Token], Failure>
-    ensures taken { IfOk result (λ rest. Passes text.now (One Version) tokens.now rest.now) }
-    ensures shorter { IfOk result (λ rest. length rest.now < length tokens.now) }
-    ensures fault { IfErr result (λ e. Fails text.now (One Version) tokens.now e) }
+    ensures taken { IfOk result (λ rest. Passes text.now (Single Version) tokens.now rest.now) }
+    ensures fault { IfErr result (λ e. Fails text.now (Single Version) tokens.now e) }
 {
     if looks_at_version(alloc, text, tokens)? {
         Ok(&tokens[1..])

@@ -1,5 +1,5 @@
 use Rattle.std.proofs.Common.{◌-◌, length}
-use Rattle.pq_lex.specs.Reading.{Sofar}
+use Rattle.pq_lex.specs.aux.Reading.{Sofar}
 use Rattle.pq_lex.proofs.lexer.lex.Given as goal
 
 abbrev pub invariant-loop-from : goal.invariant-loop-from

@@ -1,5 +1,5 @@
 use Rattle.std.proofs.Common.{◌<◌, ◌≤◌, ◌-◌, length, get_or}
-use Rattle.pq_lex.specs.Kept.{starts_of}
+use Rattle.pq_lex.specs.aux.Kept.{starts_of}
 use Rattle.pq_lex.proofs.lines.line_of.Given as goal
 
 abbrev pub invariant-loop-high : goal.invariant-loop-high

@@ -1,5 +1,5 @@
 use Rattle.std.proofs.Common.{◌≡◌, ◌≤◌, ◌+◌, ◌-◌, ℕ, length, get_or}
-use Rattle.pq_lex.specs.Scan.{text_step}
+use Rattle.pq_lex.specs.aux.Scan.{text_step}
 use Rattle.pq_lex.proofs.strings.text_step.Given as goal
 
 abbrev pub invariant-loop-at : goal.invariant-loop-at

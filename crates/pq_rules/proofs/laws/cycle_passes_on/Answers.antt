@@ -1,5 +1,5 @@
 use Rattle.pq_rules.specs.Turns.{over}
-use Rattle.pq_rules.specs.Rule.{means_passed}
+use Rattle.pq_rules.proofs.Characterisation.{means_passed}
 use Rattle.pq_rules.proofs.Order.{strict}
 use Rattle.pq_rules.proofs.laws.cycle_passes_on.Goals as goal
 

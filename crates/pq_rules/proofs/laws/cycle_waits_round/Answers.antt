@@ -1,5 +1,5 @@
 use Rattle.pq_rules.specs.Turns.{over}
-use Rattle.pq_rules.specs.Rule.{cycle_waits, cycle_round}
+use Rattle.pq_rules.proofs.Characterisation.{cycle_waits, cycle_round}
 use Rattle.pq_rules.proofs.laws.cycle_waits_round.Goals as goal
 
 pub returns-clause-waits : goal.returns-clause-waits

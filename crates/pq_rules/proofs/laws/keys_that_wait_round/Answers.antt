@@ -1,5 +1,5 @@
 use Rattle.pq_rules.specs.Turns.{over}
-use Rattle.pq_rules.specs.Rule.{means_ring}
+use Rattle.pq_rules.proofs.Characterisation.{means_ring}
 use Rattle.pq_rules.proofs.Order.{strict}
 use Rattle.pq_rules.proofs.laws.keys_that_wait_round.Goals as goal
 

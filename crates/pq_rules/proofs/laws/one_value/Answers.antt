@@ -1,5 +1,5 @@
 use Rattle.pq_rules.specs.Turns.{over}
-use Rattle.pq_rules.specs.One.{means_one}
+use Rattle.pq_rules.proofs.Uniqueness.{means_one}
 use Rattle.pq_rules.proofs.Order.{strict}
 use Rattle.pq_rules.proofs.laws.one_value.Goals as goal
 

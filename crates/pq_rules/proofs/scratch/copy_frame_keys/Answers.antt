@@ -1,5 +1,5 @@
 use Rattle.std.proofs.Common.{add-one}
-use Rattle.pq_rules.specs.Lists.{pushed_key}
+use Rattle.pq_rules.proofs.ListLemmas.{pushed_key}
 use Rattle.pq_rules.proofs.scratch.copy_frame_keys.Goals as goal
 
 pub loop-frame-preserved : goal.loop-frame-preserved

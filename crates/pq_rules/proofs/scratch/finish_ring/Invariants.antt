@@ -1,8 +1,8 @@
 use Rattle.std.proofs.Common.{◌≡◌, ◌≤◌, ◌++◌, List, length, slice_get, Some, vec_len}
 use Rattle.pq_rules.specs.declared.turn.Answer.TheVariants.{Cycle}
 use Rattle.pq_rules.specs.declared.scratch.Frame.{Frame}
-use Rattle.pq_rules.specs.Found.{Covers, finished}
-use Rattle.pq_rules.specs.Search.{ring_entries}
+use Rattle.pq_rules.specs.aux.AnswerTable.{Covers, finished}
+use Rattle.pq_rules.specs.aux.Evaluator.{ring_entries}
 use Rattle.pq_rules.proofs.scratch.finish_ring.Given as goal
 
 abbrev pub invariant-ring : goal.invariant-ring

@@ -2,8 +2,8 @@ use Rattle.std.proofs.Common.{[], ◌≡◌, ◌<◌, arith, sym}
 use Rattle.std.proofs.lemmas.Grind.{common_steps}
 use Rattle.pq_rules.specs.Turns.{over}
 use Rattle.pq_rules.specs.Value.{Means}
-use Rattle.pq_rules.specs.Found.{Finished, entry, finished}
-use Rattle.pq_rules.specs.Rings.{each_in}
+use Rattle.pq_rules.specs.aux.AnswerTable.{Finished, entry, finished}
+use Rattle.pq_rules.proofs.Rings.{each_in}
 use Rattle.pq_rules.proofs.Weight.{Exact}
 use Rattle.pq_rules.proofs.Finding.{found_in, not_found, no_places}
 use Rattle.pq_rules.proofs.Glue.{first, ended, above_zero}

@@ -1,6 +1,6 @@
 use Rattle.std.proofs.Common.{ap, ◌∙◌, List, ℕ, Option}
 use Rattle.pq_rules.specs.Turns.{over}
-use Rattle.pq_rules.specs.Rule.{means_input}
+use Rattle.pq_rules.proofs.Characterisation.{means_input}
 use Rattle.pq_rules.proofs.scratch.input_answer.Goals as goal
 
 pub returns : goal.returns

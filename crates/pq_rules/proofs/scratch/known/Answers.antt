@@ -1,8 +1,8 @@
 use Rattle.std.proofs.Common.{[], ◌<◌, ℕ, sym, subst}
 use Rattle.pq_rules.specs.Turns.{over}
 use Rattle.pq_rules.specs.Value.{Means}
-use Rattle.pq_rules.specs.Found.{Finished, entry, finished}
-use Rattle.pq_rules.specs.Rings.{each_in}
+use Rattle.pq_rules.specs.aux.AnswerTable.{Finished, entry, finished}
+use Rattle.pq_rules.proofs.Rings.{each_in}
 use Rattle.pq_rules.proofs.Weight.{Exact}
 use Rattle.pq_rules.proofs.Finding.{found_in, not_found}
 use Rattle.pq_rules.proofs.scratch.known.Goals as goal

@@ -1,6 +1,6 @@
 use Rattle.std.proofs.Common.{take}
-use Rattle.pq_rules.specs.Value.{In}
-use Rattle.pq_rules.specs.Search.{frame_keys}
+use Rattle.pq_rules.specs.Relations.{In}
+use Rattle.pq_rules.specs.aux.Evaluator.{frame_keys}
 use Rattle.pq_rules.proofs.scratch.place_of.Given as goal
 
 abbrev pub invariant-loop-i : goal.invariant-loop-i

@@ -1,12 +1,13 @@
 use Rattle.std.proofs.Common.{◌++◌, ◌∷◌, []}
+use Rattle.std.proofs.lemmas.Result.{IfOk-weaker}
 use Rattle.pq_rules.specs.Turns.{over}
-use Rattle.pq_rules.specs.Found.{finished}
+use Rattle.pq_rules.specs.aux.AnswerTable.{finished}
 use Rattle.pq_rules.proofs.Weight.{Exact}
 use Rattle.pq_rules.proofs.Steps.{grown_going, grown}
 use Rattle.pq_rules.proofs.scratch.step.Goals as goal
 
-pub told-requires-clause-going : goal.told-requires-clause-going
-told-requires-clause-going g c =
+pub deliver-requires-clause-going : goal.deliver-requires-clause-going
+deliver-requires-clause-going g c =
     let m = over g.R.Key.Ord.cmp (g.R.Rules.machine c.args.rules.now) c.args.inputs.now.files in
     let laws = g.met.R.Rules.lawful c.args.rules.now c.args.inputs.now.files in
     let exact : Exact g.R.Key.Ord.cmp = record { total = g.met.R.Key.Ord.total; exact = laws.exact } in
@@ -23,20 +24,22 @@ ask_first-requires-clause-going g c =
     (finished c.args.found.now) (finished c.known.new.found) (c.args.stack.now.items ++ c.args.frame ∷ [])
     c.in_ok-place.ensures.grown c.requires
 
-pub returns-in_ok-told-in-Some : goal.returns-in_ok-told-in-Some
-returns-in_ok-told-in-Some g c =
+pub returns-in-Some : goal.returns-in-Some
+returns-in-Some g c =
     let m = over g.R.Key.Ord.cmp (g.R.Rules.machine c.args.rules.now) c.args.inputs.now.files in
     let laws = g.met.R.Rules.lawful c.args.rules.now c.args.inputs.now.files in
     let exact : Exact g.R.Key.Ord.cmp = record { total = g.met.R.Key.Ord.total; exact = laws.exact } in
+    IfOk-weaker c.deliver.result _ _ (λ _ goes.
     grown m (g.R.Rules.reach c.args.rules.now c.args.inputs.now.files) laws exact c.args.root.now
     (finished c.args.found.now) (finished c.known.new.found) (c.args.stack.now.items ++ c.args.frame ∷ [])
-    (finished c.told.new.found) c.told.new.stack.items c.in_ok-place.ensures.grown (c.in_ok-told-in-Some.ensures {u = tt})
+    (finished c.deliver.new.found) c.deliver.new.stack.items c.in_ok-place.ensures.grown goes) c.deliver.ensures
 
-pub returns-in_ok-ask_first-in-None : goal.returns-in_ok-ask_first-in-None
-returns-in_ok-ask_first-in-None g c =
+pub returns-in-None : goal.returns-in-None
+returns-in-None g c =
     let m = over g.R.Key.Ord.cmp (g.R.Rules.machine c.args.rules.now) c.args.inputs.now.files in
     let laws = g.met.R.Rules.lawful c.args.rules.now c.args.inputs.now.files in
     let exact : Exact g.R.Key.Ord.cmp = record { total = g.met.R.Key.Ord.total; exact = laws.exact } in
+    IfOk-weaker c.ask_first.result _ _ (λ _ goes.
     grown m (g.R.Rules.reach c.args.rules.now c.args.inputs.now.files) laws exact c.args.root.now
     (finished c.args.found.now) (finished c.known.new.found) (c.args.stack.now.items ++ c.args.frame ∷ [])
-    (finished c.ask_first.new.found) c.ask_first.new.stack.items c.in_ok-place.ensures.grown (c.in_ok-ask_first-in-None.ensures {u = tt})
+    (finished c.ask_first.new.found) c.ask_first.new.stack.items c.in_ok-place.ensures.grown goes) c.ask_first.ensures

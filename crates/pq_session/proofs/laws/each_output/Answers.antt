@@ -1,4 +1,4 @@
-use Rattle.pq_session.specs.Told.{fresh}
+use Rattle.pq_session.specs.Responses.{fresh}
 use Rattle.pq_session.proofs.OutputLemmas.{some_output}
 use Rattle.pq_session.proofs.laws.each_output.Goals as goal
 

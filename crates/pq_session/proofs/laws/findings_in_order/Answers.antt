@@ -1,4 +1,4 @@
-use Rattle.pq_session.specs.InOrder.{in_order_members, in_order_rises}
+use Rattle.pq_session.proofs.InOrder.{in_order_members, in_order_rises}
 use Rattle.pq_session.proofs.laws.findings_in_order.Goals as goal
 
 pub returns-clause-ordered : goal.returns-clause-ordered

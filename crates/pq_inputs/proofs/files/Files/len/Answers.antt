@@ -1,4 +1,4 @@
-use Rattle.std.proofs.Common.{◌≡◌, length, ap, arith}
+use Rattle.std.proofs.Common.{length, ap, arith}
 use Rattle.pq_inputs.proofs.EntryLemmas.{side_length}
 use Rattle.pq_inputs.proofs.files.Files.len.Goals as goal
 

@@ -1,5 +1,5 @@
-use Rattle.std.proofs.Common.{◌≡◌, [], refl}
-use Rattle.pq_inputs.specs.Kept.{side_by_side}
+use Rattle.std.proofs.Common.{refl}
+use Rattle.pq_inputs.specs.aux.Kept.{side_by_side}
 use Rattle.pq_inputs.proofs.files.Files.new.Goals as goal
 
 pub returns : goal.returns

@@ -1,13 +1,10 @@
-use Rattle.std.proofs.Common.{◌≡◌, ◌<◌, ◌≤◌, ℕ, Bool, true, false, ◌+◌, List, [], ◌∷◌, ◌++◌, Option, length, Some, None, slice_get, slice_set, get_or, refl, sym, ap, ◌∙◌, subst, inl, inr, arith}
-use Rattle.std.specs.Option.{option_copied}
-use Rattle.pq_inputs.specs.Sources.{File, Sources, Table, file_in, ChangesAt, never_set}
-use Rattle.pq_inputs.specs.Changes.{level, IsLast, IsLastChange, IsLastChangeOf}
-use Rattle.pq_inputs.specs.Kept.{Entry, Entries, blank, lookup, entry_in, with_entry, side_by_side, sources_of, IsKept}
+use Rattle.std.proofs.Common.{◌≡◌, [], ◌∷◌, ◌++◌, length, get_or, ap, arith}
+use Rattle.pq_inputs.specs.aux.Kept.{blank, side_by_side}
 use Rattle.std.proofs.lemmas.List.{length_push}
 use Rattle.std.proofs.lemmas.Option.{slice_get-get_or, slice_get_within}
 use Rattle.std.proofs.lemmas.Result.{IfOk-at_ok}
-use Rattle.pq_names.proofs.IndexLemmas.{not_among}
-use Rattle.pq_inputs.proofs.EntryLemmas.{StandsAt, stands_found, not_found, PutAt, put_at_end}
+use Rattle.pq_names.proofs.Places.{not_among}
+use Rattle.pq_inputs.proofs.EntryLemmas.{side_length, StandsAt, stands_found, not_found, PutAt, put_at_end}
 use Rattle.pq_inputs.proofs.files.Files.place.Goals as goal
 
 -- a file that was set stands at its number
@@ -46,3 +43,11 @@ returns-clause-place c = rw (← c.self.view_is) (put c).there
 
 pub returns-clause-entries : goal.returns-clause-entries
 returns-clause-entries c = λ entry. rw (← c.self.view_is) ((put c).written entry)
+
+-- there are fewer files than names that the table takes
+pub unreachable-requires : goal.unreachable-requires
+unreachable-requires c =
+    let full = (c.in-Err-Full.ensures.full).0 (cc c.in-Err-Full.field-0-is) in
+    let few = c.requires in
+    let entries = ap length c.self.view_is in
+    omega (arith, full.0, few, side_length c.self.inside.names c.self.inside.records.items c.self.invariant, entries, c.self.invariant)

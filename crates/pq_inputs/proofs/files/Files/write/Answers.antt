@@ -1,10 +1,6 @@
-use Rattle.std.proofs.Common.{◌≡◌, ◌<◌, ◌-◌, ◌≤◌, ℕ, Bool, true, false, ◌+◌, List, [], ◌∷◌, ◌++◌, Option, length, Some, None, slice_get, slice_set, get_or, refl, sym, ap, ◌∙◌, subst, inl, inr, arith}
-use Rattle.std.specs.Option.{option_copied}
-use Rattle.pq_inputs.specs.Sources.{File, Sources, Table, file_in, ChangesAt, never_set}
-use Rattle.pq_inputs.specs.Changes.{level, IsLast, IsLastChange, IsLastChangeOf}
-use Rattle.pq_inputs.specs.Kept.{Entry, Entries, blank, lookup, entry_in, with_entry, side_by_side, sources_of, IsKept}
-use Rattle.std.specs.Prelude.{string_bytes, is_some, if◌then◌else◌}
-use Rattle.std.specs.Option.{option_map}
+use Rattle.std.proofs.Common.{◌≡◌, Some, slice_get, slice_set, ap, ◌∙◌, arith}
+use Rattle.pq_inputs.specs.aux.Kept.{Entry, Entries, entry_in, with_entry, side_by_side}
+use Rattle.std.specs.Prelude.{is_some, if◌then◌else◌}
 use Rattle.std.proofs.lemmas.Option.{slice_get_within, get_or_from_slice_get}
 use Rattle.pq_inputs.proofs.EntryLemmas.{side_get, side_set, entry_path}
 use Rattle.pq_inputs.proofs.files.Files.write.Goals as goal

@@ -1,8 +1,6 @@
-use Rattle.std.proofs.Common.{◌≡◌, ◌<◌, ◌-◌, ◌≤◌, ℕ, Bool, true, false, ◌+◌, List, [], ◌∷◌, ◌++◌, Option, length, Some, None, slice_get, slice_set, get_or, refl, sym, ap, ◌∙◌, subst, inl, inr, arith}
-use Rattle.std.specs.Option.{option_copied}
-use Rattle.pq_inputs.specs.Sources.{File, Sources, Table, file_in, ChangesAt, never_set}
-use Rattle.pq_inputs.specs.Changes.{level, IsLast, IsLastChange, IsLastChangeOf}
-use Rattle.pq_inputs.specs.Kept.{Entry, Entries, blank, lookup, entry_in, with_entry, side_by_side, sources_of, IsKept}
+use Rattle.std.proofs.Common.{◌≡◌, ◌-◌, ◌+◌, length, Some, slice_get, ap, arith}
+use Rattle.pq_inputs.specs.Sources.{Table}
+use Rattle.pq_inputs.specs.Changes.{IsLastChange}
 use Rattle.std.proofs.lemmas.Option.{slice_get_within}
 use Rattle.pq_inputs.proofs.Histories.{same_since, last_change_within}
 use Rattle.pq_inputs.proofs.inputs.Inputs.changed_at.Goals as goal

@@ -1,8 +1,5 @@
-use Rattle.std.proofs.Common.{◌≡◌, ◌<◌, ◌≤◌, ℕ, List, Option, length, Some, None, slice_get, slice_set, get_or, refl, sym, ap, ◌∙◌, subst, arith}
-use Rattle.std.specs.Option.{option_copied}
-use Rattle.pq_inputs.specs.Sources.{File, Sources, Table, file_in, ChangesAt, never_set}
-use Rattle.pq_inputs.specs.Changes.{level, IsLast, IsLastChange, IsLastChangeOf}
-use Rattle.pq_inputs.specs.Kept.{Entry, Entries, blank, lookup, entry_in, with_entry, side_by_side, sources_of, IsKept}
+use Rattle.std.proofs.Common.{sym, ap, ◌∙◌}
+use Rattle.pq_inputs.specs.Sources.{File, Table}
 use Rattle.pq_inputs.proofs.EntryLemmas.{file_found, file_not_found}
 use Rattle.pq_inputs.proofs.inputs.Inputs.durability.Goals as goal
 

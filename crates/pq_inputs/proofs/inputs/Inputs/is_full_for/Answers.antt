@@ -1,10 +1,7 @@
-use Rattle.std.proofs.Common.{◌≡◌, ◌<◌, ◌≤◌, ℕ, Bool, true, false, ◌+◌, List, [], ◌∷◌, ◌++◌, Option, length, Some, None, slice_get, slice_set, get_or, refl, sym, ap, ◌∙◌, subst, inl, inr, arith}
+use Rattle.std.proofs.Common.{◌≡◌, true, false, length, refl, sym, ap, ◌∙◌}
 use Rattle.std.specs.Prelude.{is_some}
-use Rattle.std.specs.Option.{option_copied}
-use Rattle.pq_inputs.specs.Sources.{File, Sources, Table, file_in, ChangesAt, never_set}
-use Rattle.pq_inputs.specs.Changes.{level, IsLast, IsLastChange, IsLastChangeOf}
-use Rattle.pq_inputs.specs.Kept.{Entry, Entries, blank, lookup, entry_in, with_entry, side_by_side, sources_of, IsKept}
-use Rattle.pq_inputs.specs.Refusal.{was_set, is_full_for}
+use Rattle.pq_inputs.specs.Sources.{Sources, Table}
+use Rattle.pq_inputs.specs.Refusal.{was_set}
 use Rattle.pq_inputs.proofs.EntryLemmas.{was_set_is, length_sources, copied_some}
 use Rattle.pq_inputs.proofs.FileTests.{at_limit}
 use Rattle.pq_inputs.proofs.inputs.Inputs.is_full_for.Goals as goal

@@ -1,11 +1,10 @@
-use Rattle.std.proofs.Common.{◌≡◌, ◌<◌, ◌≤◌, ℕ, List, Option, length, Some, None, slice_get, slice_set, get_or, refl, sym, ap, ◌∙◌, subst, inl, inr, arith}
-use Rattle.std.specs.Option.{option_copied}
-use Rattle.pq_inputs.specs.Sources.{File, Sources, Table, file_in, ChangesAt, never_set}
-use Rattle.pq_inputs.specs.Changes.{level, IsLast, IsLastChange, IsLastChangeOf}
-use Rattle.pq_inputs.specs.Kept.{Entry, Entries, blank, lookup, entry_in, with_entry, side_by_side, sources_of, IsKept}
+use Rattle.std.proofs.Common.{slice_get, ap, ◌∙◌, inl, inr, arith}
+use Rattle.pq_inputs.specs.Sources.{Table, file_in}
+use Rattle.pq_inputs.specs.Changes.{level, IsLastChangeOf}
 use Rattle.std.proofs.lemmas.Bool.{cases_lt}
 use Rattle.pq_inputs.proofs.Last.{last_ordered}
-use Rattle.pq_inputs.proofs.Histories.{last_change_of_within}
+use Rattle.pq_inputs.proofs.Histories.{last_change_of_within, lasting_since}
+use Rattle.std.proofs.Common.{◌-◌}
 use Rattle.pq_inputs.proofs.inputs.Inputs.last_changed.Goals as goal
 
 -- the kept revision is the last one
@@ -30,3 +29,7 @@ returns-clause-later c = λ name revision change after. elim (cases_lt (level (f
 
 pub returns-clause-ordered : goal.returns-clause-ordered
 returns-clause-ordered c = λ lower last below is. last_ordered c.of-2.result last (λ p change. record { name = change.name; change = change.change; lasting = let lasting = change.lasting in omega arith }) (kept c) is
+
+pub returns-clause-stays : goal.returns-clause-stays
+returns-clause-stays c = λ revision other then after name from to was is lasting.
+    lasting_since c.args.self.now.history c.args.durability c.of-2.result (kept c) (other - revision) revision then after from was (ap (slice_get c.args.self.now.history) (omega arith) ∙ is) name lasting

@@ -1,6 +1,6 @@
-use Rattle.std.proofs.Common.{◌≡◌, ℕ, List, [], ◌∷◌, ◌++◌, ◌∙◌, ap, ap₂, sym, refl}
+use Rattle.std.proofs.Common.{◌≡◌, List, [], ◌∷◌, ◌++◌, ◌∙◌, ap, ap₂, refl}
 use Rattle.pq_inputs.specs.Sources.{Sources}
-use Rattle.pq_inputs.specs.Kept.{Entries, sources_of, IsKept}
+use Rattle.pq_inputs.specs.aux.Kept.{sources_of}
 use Rattle.pq_inputs.proofs.Soundness.{kept_new}
 use Rattle.pq_inputs.proofs.inputs.Inputs.new.Goals as goal
 

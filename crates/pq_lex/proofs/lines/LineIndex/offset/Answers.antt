@@ -1,6 +1,7 @@
 use Rattle.std.proofs.Common.{List, ℕ, length, map, slice_range, get_or, refl, sym, ◌∙◌, ap, subst, arith}
-use Rattle.pq_lex.specs.Kept.{marks_of}
-use Rattle.pq_lex.specs.Lines.{IsByte, units_of, end_of_line, starts_to}
+use Rattle.pq_lex.specs.aux.Kept.{marks_of}
+use Rattle.pq_lex.specs.Lines.{units_of, end_of_line}
+use Rattle.pq_lex.specs.aux.LineMarks.{IsByte, starts_to}
 use Rattle.pq_lex.proofs.Answering.{bounds, no_line, plain_byte_is, wide_byte_is, offset_fits, offset_exact, is_none, is_some}
 use Rattle.pq_lex.proofs.lines.LineIndex.offset.Goals as goal
 use Rattle.pq_lex.proofs.lines.LineIndex.offset.Goals.{then-is_empty, else-is_empty}

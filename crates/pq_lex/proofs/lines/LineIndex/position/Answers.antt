@@ -1,6 +1,7 @@
 use Rattle.std.proofs.Common.{◌+◌, ◌-◌, ◌<◌, ◌≤◌, length, get_or, sum, sym, ◌∙◌, ap, subst, arith}
-use Rattle.pq_lex.specs.Kept.{starts_of}
-use Rattle.pq_lex.specs.Lines.{kept_column}
+use Rattle.pq_lex.specs.aux.Kept.{IsCounted, starts_of}
+use Rattle.pq_lex.specs.aux.LineMarks.{kept_column}
+use Rattle.pq_lex.proofs.Counts.{one_has}
 use Rattle.pq_lex.proofs.Indexed.{some_line, first_start}
 use Rattle.pq_lex.proofs.Answering.{bounds, position_exact}
 use Rattle.pq_lex.proofs.lines.LineIndex.position.Goals as goal
@@ -24,6 +25,12 @@ column-requires-clause-within c some =
     let b = bounds _ _ c.self.invariant.is c.line_of-number.result c.index-line.result.now h c.index-line.ensures in
     let full = b.full (subst (λ u. 0 < length u) c.deref-2.ensures.value some) in
     omega (arith, c.min.ensures, full, ap length c.deref-2.ensures.value)
+
+pub column-requires-clause-counted : goal.column-requires-clause-counted
+column-requires-clause-counted c =
+    let h = subst (λ ls. c.line_of-number.result < length ls) c.deref.ensures.value c.line_of-number.ensures.within in
+    let has = one_has c.self.inside.lines.items c.line_of-number.result c.index-line.result.now h c.index-line.ensures c.self.invariant.counted in
+    subst (λ u. IsCounted u c.deref-3.result.now) (sym c.deref-2.ensures.value) (subst (IsCounted c.index-line.result.now.units.items) (sym c.deref-3.ensures.value) has)
 
 pub column-requires-clause-small : goal.column-requires-clause-small
 column-requires-clause-small c =

@@ -1,11 +1,14 @@
-use Rattle.std.proofs.Common.{◌≡◌, ℕ, List, Some, subst, sym, ◌∙◌}
-use Rattle.std.specs.BTreeMap.{get_by_text}
-use Rattle.pq_names.specs.Index.{IsIndexOf}
+use Rattle.pq_names.proofs.OrderLemmas.{number_at, only_number, gap_free}
 use Rattle.pq_names.proofs.table.Names.find.Goals as goal
 
--- the map finds a text exactly where the list has it
-pub returns : goal.returns
-returns c =
-    let index = subst (λ (names : List (List ℕ)). IsIndexOf c.self.inside.ids names) c.self.view_is c.self.invariant.0 in
-    let found : c.copied.result ≡ get_by_text c.self.inside.ids c.args.text.now = c.copied.ensures ∙ c.get.ensures.value in
-    λ id. (λ is. index.named c.args.text.now id (sym found ∙ is), λ is. found ∙ index.found id c.args.text.now is)
+pub returns-in-Ok : goal.returns-in-Ok
+returns-in-Ok c =
+    let sorted = rw c.self.view_is at c.self.invariant.0 in
+    let found = rw (c.deref.ensures.value, c.deref-2.ensures.value, c.self.view_is) at c.in-Ok.ensures.found in
+    only_number sorted c.args.text.now c.index.result.now (number_at sorted c.args.text.now c.in-Ok.place c.index.result.now found c.index.ensures)
+
+pub returns-in-Err : goal.returns-in-Err
+returns-in-Err c =
+    let sorted = rw c.self.view_is at c.self.invariant.0 in
+    let gap = rw (c.deref.ensures.value, c.deref-2.ensures.value, c.self.view_is) at c.in-Err.ensures.gap in
+    λ id. (λ wrong. absurd (cc), λ is. absurd (gap_free sorted gap id is))

@@ -1,6 +1,6 @@
-use Rattle.std.proofs.Common.{[], length, ◌≤◌, ◌+◌, ◌*◌}
+use Rattle.std.proofs.Common.{[], length, ◌+◌, ◌*◌}
 use Rattle.pq_syntax.specs.Grammar.{nested}
-use Rattle.pq_syntax.specs.Steps.{Adding}
+use Rattle.pq_syntax.specs.aux.Steps.{Adding}
 use Rattle.pq_syntax.proofs.Steps.{nothing}
 use Rattle.pq_syntax.proofs.parser.brackets.+brackets.Given as goal
 
@@ -14,10 +14,7 @@ abbrev pub decreases-skip_pair : goal.decreases-skip_pair
 decreases-skip_pair l = 3 * l.levels + 2
 
 abbrev pub invariant-skip_balanced-loop-after : goal.invariant-skip_balanced-loop-after
-invariant-skip_balanced-loop-after l = record {
-  goes : Adding l.text (nested l.levels) nothing l.tokens l.rest [] [];
-  within : length l.rest ≤ length l.tokens;
-}
+invariant-skip_balanced-loop-after l = Adding l.text (nested l.levels) nothing l.tokens l.rest [] []
 
 abbrev pub decreases-skip_balanced-loop-after : goal.decreases-skip_balanced-loop-after
 decreases-skip_balanced-loop-after l = length l.rest

@@ -1,22 +1,21 @@
 use Rattle.std.proofs.Common.{refl, sym, ◌∙◌}
-use Rattle.std.proofs.lemmas.Result.{IfOk-weaker, IfErr-weaker, err_from_is_err_and}
+use Rattle.std.proofs.lemmas.Result.{IfOk-weaker, IfErr-weaker}
 use Rattle.pq_syntax.proofs.Choices.{chosen_fails, chosen_reads}
 use Rattle.pq_syntax.proofs.Steps.{token_passes}
 use Rattle.pq_syntax.proofs.ConstantKinds.{chooses_name, minus_fails, minus_reads, minus_unread, plus_fails, plus_reads, plus_unread, chooses_whole, chooses_real, chooses_strings, chooses_block}
+use Rattle.pq_syntax.proofs.Failing.{fails_on}
 use Rattle.pq_syntax.proofs.parser.constants.skip_constant.Goals as goal
 
 pub returns-in_err-skip_full-clause-fault : goal.returns-in_err-skip_full-clause-fault
 returns-in_err-skip_full-clause-fault c =
-    let p = err_from_is_err_and c.from_residual.result c.from_residual.ensures.1 in
-    rw (p.1, p.2) (chosen_fails (chooses_name _ _ _ (sym c.looks_at.ensures ∙ c.if-looks_at.true)) c.in_err-skip_full.ensures.fault)
+    fails_on _ _ _ c.from_residual.ensures.1 (chosen_fails (chooses_name _ _ _ (sym c.looks_at.ensures ∙ c.if-looks_at.true)) c.in_err-skip_full.ensures.fault)
 
 pub returns-then-looks_at-clause-taken : goal.returns-then-looks_at-clause-taken
 returns-then-looks_at-clause-taken c = chosen_reads (chooses_name _ _ _ (sym c.looks_at.ensures ∙ c.if-looks_at.true)) c.in_ok-skip_full.ensures.taken (λ p. refl)
 
 pub returns-in_err-rest-clause-fault : goal.returns-in_err-rest-clause-fault
 returns-in_err-rest-clause-fault c =
-    let p = err_from_is_err_and c.from_residual-in_err-rest.result c.from_residual-in_err-rest.ensures.1 in
-    rw (p.1, p.2) (minus_fails _ _ _ (sym c.looks_at.ensures ∙ c.if-looks_at.false) (sym c.looks_at-2.ensures ∙ c.if-looks_at-2.true) c.in_err-rest.ensures.fault)
+    fails_on _ _ _ c.from_residual-in_err-rest.ensures.1 (minus_fails _ _ _ (sym c.looks_at.ensures ∙ c.if-looks_at.false) (sym c.looks_at-2.ensures ∙ c.if-looks_at-2.true) c.in_err-rest.ensures.fault)
 
 pub returns-then-looks_at-2-clause-taken : goal.returns-then-looks_at-2-clause-taken
 returns-then-looks_at-2-clause-taken c =
@@ -30,8 +29,7 @@ returns-then-looks_at-2-clause-fault c =
 
 pub returns-in_err-rest-2-clause-fault : goal.returns-in_err-rest-2-clause-fault
 returns-in_err-rest-2-clause-fault c =
-    let p = err_from_is_err_and c.from_residual-in_err-rest-2.result c.from_residual-in_err-rest-2.ensures.1 in
-    rw (p.1, p.2) (plus_fails _ _ _ (sym c.looks_at.ensures ∙ c.if-looks_at.false) (sym c.looks_at-2.ensures ∙ c.if-looks_at-2.false)
+    fails_on _ _ _ c.from_residual-in_err-rest-2.ensures.1 (plus_fails _ _ _ (sym c.looks_at.ensures ∙ c.if-looks_at.false) (sym c.looks_at-2.ensures ∙ c.if-looks_at-2.false)
     (sym c.looks_at-3.ensures ∙ c.if-looks_at-3.true) c.in_err-rest-2.ensures.fault)
 
 pub returns-then-looks_at-3-clause-taken : goal.returns-then-looks_at-3-clause-taken
@@ -46,8 +44,7 @@ returns-then-looks_at-3-clause-fault c =
 
 pub returns-in_err-rest-3-clause-fault : goal.returns-in_err-rest-3-clause-fault
 returns-in_err-rest-3-clause-fault c =
-    let p = err_from_is_err_and c.from_residual-in_err-rest-3.result c.from_residual-in_err-rest-3.ensures.1 in
-    rw (p.1, p.2) (chosen_fails (chooses_whole _ _ _ (sym c.looks_at.ensures ∙ c.if-looks_at.false) (sym c.looks_at-2.ensures ∙ c.if-looks_at-2.false)
+    fails_on _ _ _ c.from_residual-in_err-rest-3.ensures.1 (chosen_fails (chooses_whole _ _ _ (sym c.looks_at.ensures ∙ c.if-looks_at.false) (sym c.looks_at-2.ensures ∙ c.if-looks_at-2.false)
     (sym c.looks_at-3.ensures ∙ c.if-looks_at-3.false) (sym c.looks_at-4.ensures ∙ c.if-looks_at-4.true)) c.in_err-rest-3.ensures.fault)
 
 pub returns-then-looks_at-4-clause-taken : goal.returns-then-looks_at-4-clause-taken
@@ -57,8 +54,7 @@ returns-then-looks_at-4-clause-taken c =
 
 pub returns-in_err-rest-4-clause-fault : goal.returns-in_err-rest-4-clause-fault
 returns-in_err-rest-4-clause-fault c =
-    let p = err_from_is_err_and c.from_residual-in_err-rest-4.result c.from_residual-in_err-rest-4.ensures.1 in
-    rw (p.1, p.2) (chosen_fails (chooses_real _ _ _ (sym c.looks_at.ensures ∙ c.if-looks_at.false) (sym c.looks_at-2.ensures ∙ c.if-looks_at-2.false)
+    fails_on _ _ _ c.from_residual-in_err-rest-4.ensures.1 (chosen_fails (chooses_real _ _ _ (sym c.looks_at.ensures ∙ c.if-looks_at.false) (sym c.looks_at-2.ensures ∙ c.if-looks_at-2.false)
     (sym c.looks_at-3.ensures ∙ c.if-looks_at-3.false) (sym c.looks_at-4.ensures ∙ c.if-looks_at-4.false)
     (sym c.looks_at-5.ensures ∙ c.if-looks_at-5.true)) c.in_err-rest-4.ensures.fault)
 
@@ -70,8 +66,7 @@ returns-then-looks_at-5-clause-taken c =
 
 pub returns-in_err-skip_strings-clause-fault : goal.returns-in_err-skip_strings-clause-fault
 returns-in_err-skip_strings-clause-fault c =
-    let p = err_from_is_err_and c.from_residual-in_err-skip_strings.result c.from_residual-in_err-skip_strings.ensures.1 in
-    rw (p.1, p.2) (chosen_fails (chooses_strings _ _ _ (sym c.looks_at.ensures ∙ c.if-looks_at.false)
+    fails_on _ _ _ c.from_residual-in_err-skip_strings.ensures.1 (chosen_fails (chooses_strings _ _ _ (sym c.looks_at.ensures ∙ c.if-looks_at.false)
     (sym c.looks_at-2.ensures ∙ c.if-looks_at-2.false) (sym c.looks_at-3.ensures ∙ c.if-looks_at-3.false)
     (sym c.looks_at-4.ensures ∙ c.if-looks_at-4.false) (sym c.looks_at-5.ensures ∙ c.if-looks_at-5.false)
     (sym c.looks_at-6.ensures ∙ c.if-looks_at-6.true)) c.in_err-skip_strings.ensures.fault)
@@ -84,8 +79,7 @@ returns-then-looks_at-6-clause-taken c =
 
 pub returns-in_err-skip_block-clause-fault : goal.returns-in_err-skip_block-clause-fault
 returns-in_err-skip_block-clause-fault c =
-    let p = err_from_is_err_and c.from_residual-in_err-skip_block.result c.from_residual-in_err-skip_block.ensures.1 in
-    rw (p.1, p.2) (chosen_fails (chooses_block _ _ _ (sym c.looks_at.ensures ∙ c.if-looks_at.false) (sym c.looks_at-2.ensures ∙ c.if-looks_at-2.false)
+    fails_on _ _ _ c.from_residual-in_err-skip_block.ensures.1 (chosen_fails (chooses_block _ _ _ (sym c.looks_at.ensures ∙ c.if-looks_at.false) (sym c.looks_at-2.ensures ∙ c.if-looks_at-2.false)
     (sym c.looks_at-3.ensures ∙ c.if-looks_at-3.false) (sym c.looks_at-4.ensures ∙ c.if-looks_at-4.false)
     (sym c.looks_at-5.ensures ∙ c.if-looks_at-5.false) (sym c.looks_at-6.ensures ∙ c.if-looks_at-6.false)) c.in_err-skip_block.ensures.fault)
 

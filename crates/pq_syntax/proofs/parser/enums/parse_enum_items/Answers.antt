@@ -1,29 +1,20 @@
-use Rattle.std.proofs.Common.{arith}
-use Rattle.std.proofs.lemmas.Result.{err_from_is_err_and}
-use Rattle.pq_syntax.proofs.Steps.{adding_begins, adding_fails, adding_goes, adding_stops}
+use Rattle.pq_syntax.proofs.Shorter.{begins_shorter}
+use Rattle.pq_syntax.proofs.Steps.{adding_begins, adding_ends, adding_fails, adding_goes}
+use Rattle.pq_syntax.proofs.Failing.{fails_on}
 use Rattle.pq_syntax.proofs.parser.enums.parse_enum_items.Goals as goal
 
-pub loop-after-init : goal.loop-after-init
-loop-after-init c = record { goes = adding_begins _ _; within = omega arith }
+pub items-init : goal.items-init
+items-init c = adding_begins _ _
 
-pub returns-in_err-after-clause-fault : goal.returns-in_err-after-clause-fault
-returns-in_err-after-clause-fault c =
-    let p = err_from_is_err_and c.from_residual.result c.from_residual.ensures.1 in
-    rw (p.1, p.2) (adding_fails c.loop-after.invariant.goes c.in_err-after.ensures.fault)
+pub items-preserved : goal.items-preserved
+items-preserved c = adding_goes c.items.invariant c.in_ok-rest-in-Some.ensures.taken
 
-pub loop-after-smaller : goal.loop-after-smaller
-loop-after-smaller c = rw c.in-Some.is at c.in_ok-after.ensures.shorter
+pub items-smaller : goal.items-smaller
+items-smaller c = begins_shorter c.in_ok-rest-in-Some.ensures.taken
 
-pub loop-after-preserved : goal.loop-after-preserved
-loop-after-preserved c =
-    let shorter = rw c.in-Some.is at c.in_ok-after.ensures.shorter in
-    record {
-      goes = adding_goes c.loop-after.invariant.goes (rw c.in-Some.is at c.in_ok-after.ensures.taken);
-      within = omega (arith, c.loop-after.invariant.within, shorter);
-    }
+pub returns-in_err-rest-in-Some-clause-fault : goal.returns-in_err-rest-in-Some-clause-fault
+returns-in_err-rest-in-Some-clause-fault c =
+    fails_on _ _ _ c.from_residual.ensures.1 (adding_fails c.items.invariant c.in_err-rest-in-Some.ensures.fault)
 
-pub returns-clause-taken : goal.returns-clause-taken
-returns-clause-taken c = adding_stops c.loop-after.invariant.goes (rw c.in_default.is at c.in_ok-after.ensures.none)
-
-pub returns-clause-within : goal.returns-clause-within
-returns-clause-within c = c.loop-after.invariant.within
+pub returns-in-None-clause-taken : goal.returns-in-None-clause-taken
+returns-in-None-clause-taken c = adding_ends c.items.invariant c.in-None.ensures.in_first

@@ -1,22 +1,18 @@
-use Rattle.std.proofs.lemmas.Result.{err_from_is_err_and}
 use Rattle.pq_syntax.proofs.FieldParts.{labelled_adds}
 use Rattle.pq_syntax.proofs.Steps.{fails_first, fails_read, fails_token}
+use Rattle.pq_syntax.proofs.Failing.{fails_on}
 use Rattle.pq_syntax.proofs.parser.fields.parse_labelled.Goals as goal
 
 pub returns-in_err-label-clause-fault : goal.returns-in_err-label-clause-fault
-returns-in_err-label-clause-fault c =
-    let p = err_from_is_err_and c.from_residual.result c.from_residual.ensures.1 in
-    rw (p.1, p.2) (fails_first c.in_err-label.ensures.fault)
+returns-in_err-label-clause-fault c = fails_on _ _ _ c.from_residual.ensures.1 (fails_first c.in_err-label.ensures.fault)
 
 pub returns-in_err-type_name-clause-fault : goal.returns-in_err-type_name-clause-fault
 returns-in_err-type_name-clause-fault c =
-    let p = err_from_is_err_and c.from_residual-in_err-type_name.result c.from_residual-in_err-type_name.ensures.1 in
-    rw (p.1, p.2) (fails_token c.in_ok-label.ensures.taken (fails_first c.in_err-type_name.ensures.fault))
+    fails_on _ _ _ c.from_residual-in_err-type_name.ensures.1 (fails_token c.in_ok-label.ensures.taken (fails_first c.in_err-type_name.ensures.fault))
 
 pub returns-in_err-tail-clause-fault : goal.returns-in_err-tail-clause-fault
 returns-in_err-tail-clause-fault c =
-    let p = err_from_is_err_and c.from_residual-in_err-tail.result c.from_residual-in_err-tail.ensures.1 in
-    rw (p.1, p.2) (fails_token c.in_ok-label.ensures.taken (fails_read c.in_ok-type_name.ensures.taken c.in_err-tail.ensures.fault))
+    fails_on _ _ _ c.from_residual-in_err-tail.ensures.1 (fails_token c.in_ok-label.ensures.taken (fails_read c.in_ok-type_name.ensures.taken c.in_err-tail.ensures.fault))
 
 pub returns-clause-taken : goal.returns-clause-taken
 returns-clause-taken c = labelled_adds _ _ c.in_ok-label.ensures.taken c.in_ok-type_name.ensures.taken c.in_ok-tail.ensures.taken c.read_label.ensures c.in_ok-push_node.ensures

@@ -1,33 +1,27 @@
 use Rattle.std.proofs.Common.{sym, ◌∙◌}
-use Rattle.std.proofs.lemmas.Result.{err_from_is_err_and}
 use Rattle.pq_syntax.proofs.FieldParts.{map_fails, map_adds, named_map_fails, named_map_adds}
 use Rattle.pq_syntax.proofs.Steps.{fails_first, fails_read, fails_then}
+use Rattle.pq_syntax.proofs.Failing.{fails_on}
 use Rattle.pq_syntax.proofs.parser.fields.parse_mapped.Goals as goal
 
 pub returns-in_err-rest-clause-fault : goal.returns-in_err-rest-clause-fault
-returns-in_err-rest-clause-fault c =
-    let p = err_from_is_err_and c.from_residual.result c.from_residual.ensures.1 in
-    rw (p.1, p.2) (fails_first c.in_err-rest.ensures.fault)
+returns-in_err-rest-clause-fault c = fails_on _ _ _ c.from_residual.ensures.1 (fails_first c.in_err-rest.ensures.fault)
 
 pub returns-in_err-key-clause-fault : goal.returns-in_err-key-clause-fault
 returns-in_err-key-clause-fault c =
-    let p = err_from_is_err_and c.from_residual-in_err-key.result c.from_residual-in_err-key.ensures.1 in
-    rw (p.1, p.2) (map_fails _ c.in_ok-rest.ensures.taken (sym c.looks_at.ensures ∙ c.if-looks_at.true) (fails_first c.in_err-key.ensures.fault))
+    fails_on _ _ _ c.from_residual-in_err-key.ensures.1 (map_fails _ c.in_ok-rest.ensures.taken (sym c.looks_at.ensures ∙ c.if-looks_at.true) (fails_first c.in_err-key.ensures.fault))
 
 pub returns-in_err-tail-clause-fault : goal.returns-in_err-tail-clause-fault
 returns-in_err-tail-clause-fault c =
-    let p = err_from_is_err_and c.from_residual-in_err-tail.result c.from_residual-in_err-tail.ensures.1 in
-    rw (p.1, p.2) (map_fails _ c.in_ok-rest.ensures.taken (sym c.looks_at.ensures ∙ c.if-looks_at.true) (fails_read c.in_ok-key.ensures.taken c.in_err-tail.ensures.fault))
+    fails_on _ _ _ c.from_residual-in_err-tail.ensures.1 (map_fails _ c.in_ok-rest.ensures.taken (sym c.looks_at.ensures ∙ c.if-looks_at.true) (fails_read c.in_ok-key.ensures.taken c.in_err-tail.ensures.fault))
 
 pub returns-in_err-rest-2-clause-fault : goal.returns-in_err-rest-2-clause-fault
 returns-in_err-rest-2-clause-fault c =
-    let p = err_from_is_err_and c.from_residual-in_err-rest-2.result c.from_residual-in_err-rest-2.ensures.1 in
-    rw (p.1, p.2) (named_map_fails _ c.in_ok-rest.ensures.taken (sym c.looks_at.ensures ∙ c.if-looks_at.false) (fails_first c.in_err-rest-2.ensures.fault))
+    fails_on _ _ _ c.from_residual-in_err-rest-2.ensures.1 (named_map_fails _ c.in_ok-rest.ensures.taken (sym c.looks_at.ensures ∙ c.if-looks_at.false) (fails_first c.in_err-rest-2.ensures.fault))
 
 pub returns-in_err-tail-2-clause-fault : goal.returns-in_err-tail-2-clause-fault
 returns-in_err-tail-2-clause-fault c =
-    let p = err_from_is_err_and c.from_residual-in_err-tail-2.result c.from_residual-in_err-tail-2.ensures.1 in
-    rw (p.1, p.2) (named_map_fails _ c.in_ok-rest.ensures.taken (sym c.looks_at.ensures ∙ c.if-looks_at.false)
+    fails_on _ _ _ c.from_residual-in_err-tail-2.ensures.1 (named_map_fails _ c.in_ok-rest.ensures.taken (sym c.looks_at.ensures ∙ c.if-looks_at.false)
     (fails_then c.in_ok-rest-2.ensures.taken c.in_err-tail-2.ensures.fault))
 
 pub returns-then-looks_at-clause-taken : goal.returns-then-looks_at-clause-taken

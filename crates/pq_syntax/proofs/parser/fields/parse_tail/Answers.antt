@@ -1,33 +1,27 @@
-use Rattle.std.proofs.lemmas.Result.{err_from_is_err_and}
 use Rattle.pq_syntax.proofs.FieldParts.{tail_reads}
 use Rattle.pq_syntax.proofs.Steps.{fails_first, fails_read, fails_token}
+use Rattle.pq_syntax.proofs.Failing.{fails_on}
 use Rattle.pq_syntax.proofs.parser.fields.parse_tail.Goals as goal
 
 pub returns-in_err-name-clause-fault : goal.returns-in_err-name-clause-fault
-returns-in_err-name-clause-fault c =
-    let p = err_from_is_err_and c.from_residual.result c.from_residual.ensures.1 in
-    rw (p.1, p.2) (fails_first c.in_err-name.ensures.fault)
+returns-in_err-name-clause-fault c = fails_on _ _ _ c.from_residual.ensures.1 (fails_first c.in_err-name.ensures.fault)
 
 pub returns-in_err-rest-clause-fault : goal.returns-in_err-rest-clause-fault
 returns-in_err-rest-clause-fault c =
-    let p = err_from_is_err_and c.from_residual-in_err-rest.result c.from_residual-in_err-rest.ensures.1 in
-    rw (p.1, p.2) (fails_read c.in_ok-name.ensures.taken (fails_first c.in_err-rest.ensures.fault))
+    fails_on _ _ _ c.from_residual-in_err-rest.ensures.1 (fails_read c.in_ok-name.ensures.taken (fails_first c.in_err-rest.ensures.fault))
 
 pub returns-in_err-number-clause-fault : goal.returns-in_err-number-clause-fault
 returns-in_err-number-clause-fault c =
-    let p = err_from_is_err_and c.from_residual-in_err-number.result c.from_residual-in_err-number.ensures.1 in
-    rw (p.1, p.2) (fails_read c.in_ok-name.ensures.taken (fails_token c.in_ok-rest.ensures.taken (fails_first c.in_err-number.ensures.fault)))
+    fails_on _ _ _ c.from_residual-in_err-number.ensures.1 (fails_read c.in_ok-name.ensures.taken (fails_token c.in_ok-rest.ensures.taken (fails_first c.in_err-number.ensures.fault)))
 
 pub returns-in_err-options-clause-fault : goal.returns-in_err-options-clause-fault
 returns-in_err-options-clause-fault c =
-    let p = err_from_is_err_and c.from_residual-in_err-options.result c.from_residual-in_err-options.ensures.1 in
-    rw (p.1, p.2) (fails_read c.in_ok-name.ensures.taken (fails_token c.in_ok-rest.ensures.taken
+    fails_on _ _ _ c.from_residual-in_err-options.ensures.1 (fails_read c.in_ok-name.ensures.taken (fails_token c.in_ok-rest.ensures.taken
     (fails_token c.in_ok-number.ensures.taken (fails_first c.in_err-options.ensures.fault))))
 
 pub returns-in_err-rest-2-clause-fault : goal.returns-in_err-rest-2-clause-fault
 returns-in_err-rest-2-clause-fault c =
-    let p = err_from_is_err_and c.from_residual-in_err-rest-2.result c.from_residual-in_err-rest-2.ensures.1 in
-    rw (p.1, p.2) (fails_read c.in_ok-name.ensures.taken (fails_token c.in_ok-rest.ensures.taken
+    fails_on _ _ _ c.from_residual-in_err-rest-2.ensures.1 (fails_read c.in_ok-name.ensures.taken (fails_token c.in_ok-rest.ensures.taken
     (fails_token c.in_ok-number.ensures.taken (fails_read c.in_ok-options.ensures.taken c.in_err-rest-2.ensures.fault))))
 
 pub returns-clause-taken : goal.returns-clause-taken

@@ -1,19 +1,16 @@
 use Rattle.std.proofs.Common.{◌≡◌, sym, ◌∙◌, length, arith}
 use Rattle.std.proofs.lemmas.Bool.{eqb-true, eqb-false}
-use Rattle.std.proofs.lemmas.Result.{err_from_is_err_and}
 use Rattle.pq_syntax.proofs.FileStatements.{file_tree, file_long, file_fails}
 use Rattle.pq_syntax.proofs.Steps.{fails_first, fails_then}
+use Rattle.pq_syntax.proofs.Failing.{fails_on}
 use Rattle.pq_syntax.proofs.parser.files.parse_file.Goals as goal
 
 pub returns-in_err-rest-clause-fault : goal.returns-in_err-rest-clause-fault
-returns-in_err-rest-clause-fault c =
-    let p = err_from_is_err_and c.from_residual.result c.from_residual.ensures.1 in
-    rw (p.1, p.2) (file_fails _ _ (fails_first c.in_err-rest.ensures.fault))
+returns-in_err-rest-clause-fault c = fails_on _ _ _ c.from_residual.ensures.1 (file_fails _ _ (fails_first c.in_err-rest.ensures.fault))
 
 pub returns-in_err-rest-2-clause-fault : goal.returns-in_err-rest-2-clause-fault
 returns-in_err-rest-2-clause-fault c =
-    let p = err_from_is_err_and c.from_residual-in_err-rest-2.result c.from_residual-in_err-rest-2.ensures.1 in
-    rw (p.1, p.2) (file_fails _ _ (fails_then c.in_ok-rest.ensures.taken c.in_err-rest-2.ensures.fault))
+    fails_on _ _ _ c.from_residual-in_err-rest-2.ensures.1 (file_fails _ _ (fails_then c.in_ok-rest.ensures.taken c.in_err-rest-2.ensures.fault))
 
 pub returns-then-is_empty-clause-tree : goal.returns-then-is_empty-clause-tree
 returns-then-is_empty-clause-tree c =

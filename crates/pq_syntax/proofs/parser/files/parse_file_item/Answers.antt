@@ -1,138 +1,55 @@
-use Rattle.std.proofs.Common.{refl, sym, ◌∙◌}
-use Rattle.std.proofs.lemmas.Result.{err_from_is_err_and}
-use Rattle.pq_syntax.proofs.Choices.{adds_empty, by_phrase, by_token, by_word, entered_adds, entered_fails, enters_first, enters_itself, enters_past}
+use Rattle.std.proofs.Common.{refl}
+use Rattle.std.proofs.lemmas.Result.{IfErr-weaker, IfOk-weaker}
+use Rattle.pq_syntax.specs.Rule.Rule.{Single}
+use Rattle.pq_syntax.specs.declared.terminal.Terminal.TheVariants.{ImportWord, PackageWord, OptionWord, MessageWord, EnumWord, ServiceWord, ExtendWord, Semicolon}
+use Rattle.pq_syntax.proofs.Choices.{by_phrase, by_token, by_word}
+use Rattle.pq_syntax.proofs.Openings.{begun, begun_empty, begun_fails}
 use Rattle.pq_syntax.proofs.parser.files.parse_file_item.Goals as goal
 
-pub returns-in_err-rest-clause-fault : goal.returns-in_err-rest-clause-fault
-returns-in_err-rest-clause-fault c =
-    let p = err_from_is_err_and c.from_residual.result c.from_residual.ensures.1 in
-    rw (p.1, p.2) (entered_fails (enters_first by_word (sym c.looks_at.ensures ∙ c.if-looks_at.true)) c.in_err-rest.ensures.fault)
+pub returns-in-Import-clause-taken : goal.returns-in-Import-clause-taken
+returns-in-Import-clause-taken c = IfOk-weaker _ _ _ (λ rest. begun (Single ImportWord) by_word (rw c.in-Import.is at c.requires.lead) (λ p. refl)) c.parse_import.ensures.taken
 
-pub returns-then-looks_at-clause-taken : goal.returns-then-looks_at-clause-taken
-returns-then-looks_at-clause-taken c = entered_adds (enters_first by_word (sym c.looks_at.ensures ∙ c.if-looks_at.true)) c.in_ok-rest.ensures.taken (λ p. refl)
+pub returns-in-Import-clause-fault : goal.returns-in-Import-clause-fault
+returns-in-Import-clause-fault c = IfErr-weaker _ _ _ (λ e. begun_fails (Single ImportWord) by_word (rw c.in-Import.is at c.requires.lead)) c.parse_import.ensures.fault
 
-pub returns-in_err-rest-2-clause-fault : goal.returns-in_err-rest-2-clause-fault
-returns-in_err-rest-2-clause-fault c =
-    let p = err_from_is_err_and c.from_residual-in_err-rest-2.result c.from_residual-in_err-rest-2.ensures.1 in
-    rw (p.1, p.2) (entered_fails
-    (enters_past by_word (sym c.looks_at.ensures ∙ c.if-looks_at.false)
-    (enters_first by_word (sym c.looks_at-2.ensures ∙ c.if-looks_at-2.true))) c.in_err-rest-2.ensures.fault)
+pub returns-in-Package-clause-taken : goal.returns-in-Package-clause-taken
+returns-in-Package-clause-taken c = IfOk-weaker _ _ _ (λ rest. begun (Single PackageWord) by_word (rw c.in-Package.is at c.requires.lead) (λ p. refl)) c.parse_package.ensures.taken
 
-pub returns-then-looks_at-2-clause-taken : goal.returns-then-looks_at-2-clause-taken
-returns-then-looks_at-2-clause-taken c = entered_adds
-    (enters_past by_word (sym c.looks_at.ensures ∙ c.if-looks_at.false)
-    (enters_first by_word (sym c.looks_at-2.ensures ∙ c.if-looks_at-2.true))) c.in_ok-rest-2.ensures.taken (λ p. refl)
+pub returns-in-Package-clause-fault : goal.returns-in-Package-clause-fault
+returns-in-Package-clause-fault c = IfErr-weaker _ _ _ (λ e. begun_fails (Single PackageWord) by_word (rw c.in-Package.is at c.requires.lead)) c.parse_package.ensures.fault
 
-pub returns-in_err-rest-3-clause-fault : goal.returns-in_err-rest-3-clause-fault
-returns-in_err-rest-3-clause-fault c =
-    let p = err_from_is_err_and c.from_residual-in_err-rest-3.result c.from_residual-in_err-rest-3.ensures.1 in
-    rw (p.1, p.2) (entered_fails
-    (enters_past by_word (sym c.looks_at.ensures ∙ c.if-looks_at.false)
-    (enters_past by_word (sym c.looks_at-2.ensures ∙ c.if-looks_at-2.false)
-    (enters_first by_word (sym c.looks_at-3.ensures ∙ c.if-looks_at-3.true)))) c.in_err-rest-3.ensures.fault)
+pub returns-in-Option-clause-taken : goal.returns-in-Option-clause-taken
+returns-in-Option-clause-taken c = IfOk-weaker _ _ _ (λ rest. begun (Single OptionWord) by_word (rw c.in-Option.is at c.requires.lead) (λ p. refl)) c.parse_option.ensures.taken
 
-pub returns-then-looks_at-3-clause-taken : goal.returns-then-looks_at-3-clause-taken
-returns-then-looks_at-3-clause-taken c = entered_adds
-    (enters_past by_word (sym c.looks_at.ensures ∙ c.if-looks_at.false)
-    (enters_past by_word (sym c.looks_at-2.ensures ∙ c.if-looks_at-2.false)
-    (enters_first by_word (sym c.looks_at-3.ensures ∙ c.if-looks_at-3.true)))) c.in_ok-rest-3.ensures.taken (λ p. refl)
+pub returns-in-Option-clause-fault : goal.returns-in-Option-clause-fault
+returns-in-Option-clause-fault c = IfErr-weaker _ _ _ (λ e. begun_fails (Single OptionWord) by_word (rw c.in-Option.is at c.requires.lead)) c.parse_option.ensures.fault
 
-pub returns-in_err-rest-4-clause-fault : goal.returns-in_err-rest-4-clause-fault
-returns-in_err-rest-4-clause-fault c =
-    let p = err_from_is_err_and c.from_residual-in_err-rest-4.result c.from_residual-in_err-rest-4.ensures.1 in
-    rw (p.1, p.2) (entered_fails
-    (enters_past by_word (sym c.looks_at.ensures ∙ c.if-looks_at.false)
-    (enters_past by_word (sym c.looks_at-2.ensures ∙ c.if-looks_at-2.false)
-    (enters_past by_word (sym c.looks_at-3.ensures ∙ c.if-looks_at-3.false)
-    (enters_first by_phrase (sym c.looks_at-4.ensures ∙ c.if-looks_at-4.true))))) c.in_err-rest-4.ensures.fault)
+pub returns-in-Message-clause-taken : goal.returns-in-Message-clause-taken
+returns-in-Message-clause-taken c = IfOk-weaker _ _ _ (λ rest. begun (Single MessageWord) by_phrase (rw c.in-Message.is at c.requires.lead) (λ p. refl)) c.parse_message.ensures.taken
 
-pub returns-then-looks_at-4-clause-taken : goal.returns-then-looks_at-4-clause-taken
-returns-then-looks_at-4-clause-taken c = entered_adds
-    (enters_past by_word (sym c.looks_at.ensures ∙ c.if-looks_at.false)
-    (enters_past by_word (sym c.looks_at-2.ensures ∙ c.if-looks_at-2.false)
-    (enters_past by_word (sym c.looks_at-3.ensures ∙ c.if-looks_at-3.false)
-    (enters_first by_phrase (sym c.looks_at-4.ensures ∙ c.if-looks_at-4.true))))) c.in_ok-rest-4.ensures.taken (λ p. refl)
+pub returns-in-Message-clause-fault : goal.returns-in-Message-clause-fault
+returns-in-Message-clause-fault c = IfErr-weaker _ _ _ (λ e. begun_fails (Single MessageWord) by_phrase (rw c.in-Message.is at c.requires.lead)) c.parse_message.ensures.fault
 
-pub returns-in_err-rest-5-clause-fault : goal.returns-in_err-rest-5-clause-fault
-returns-in_err-rest-5-clause-fault c =
-    let p = err_from_is_err_and c.from_residual-in_err-rest-5.result c.from_residual-in_err-rest-5.ensures.1 in
-    rw (p.1, p.2) (entered_fails
-    (enters_past by_word (sym c.looks_at.ensures ∙ c.if-looks_at.false)
-    (enters_past by_word (sym c.looks_at-2.ensures ∙ c.if-looks_at-2.false)
-    (enters_past by_word (sym c.looks_at-3.ensures ∙ c.if-looks_at-3.false)
-    (enters_past by_phrase (sym c.looks_at-4.ensures ∙ c.if-looks_at-4.false)
-    (enters_first by_phrase (sym c.looks_at-5.ensures ∙ c.if-looks_at-5.true)))))) c.in_err-rest-5.ensures.fault)
+pub returns-in-Enum-clause-taken : goal.returns-in-Enum-clause-taken
+returns-in-Enum-clause-taken c = IfOk-weaker _ _ _ (λ rest. begun (Single EnumWord) by_phrase (rw c.in-Enum.is at c.requires.lead) (λ p. refl)) c.parse_enum.ensures.taken
 
-pub returns-then-looks_at-5-clause-taken : goal.returns-then-looks_at-5-clause-taken
-returns-then-looks_at-5-clause-taken c = entered_adds
-    (enters_past by_word (sym c.looks_at.ensures ∙ c.if-looks_at.false)
-    (enters_past by_word (sym c.looks_at-2.ensures ∙ c.if-looks_at-2.false)
-    (enters_past by_word (sym c.looks_at-3.ensures ∙ c.if-looks_at-3.false)
-    (enters_past by_phrase (sym c.looks_at-4.ensures ∙ c.if-looks_at-4.false)
-    (enters_first by_phrase (sym c.looks_at-5.ensures ∙ c.if-looks_at-5.true)))))) c.in_ok-rest-5.ensures.taken (λ p. refl)
+pub returns-in-Enum-clause-fault : goal.returns-in-Enum-clause-fault
+returns-in-Enum-clause-fault c = IfErr-weaker _ _ _ (λ e. begun_fails (Single EnumWord) by_phrase (rw c.in-Enum.is at c.requires.lead)) c.parse_enum.ensures.fault
 
-pub returns-in_err-rest-6-clause-fault : goal.returns-in_err-rest-6-clause-fault
-returns-in_err-rest-6-clause-fault c =
-    let p = err_from_is_err_and c.from_residual-in_err-rest-6.result c.from_residual-in_err-rest-6.ensures.1 in
-    rw (p.1, p.2) (entered_fails
-    (enters_past by_word (sym c.looks_at.ensures ∙ c.if-looks_at.false)
-    (enters_past by_word (sym c.looks_at-2.ensures ∙ c.if-looks_at-2.false)
-    (enters_past by_word (sym c.looks_at-3.ensures ∙ c.if-looks_at-3.false)
-    (enters_past by_phrase (sym c.looks_at-4.ensures ∙ c.if-looks_at-4.false)
-    (enters_past by_phrase (sym c.looks_at-5.ensures ∙ c.if-looks_at-5.false)
-    (enters_first by_phrase (sym c.looks_at-6.ensures ∙ c.if-looks_at-6.true))))))) c.in_err-rest-6.ensures.fault)
+pub returns-in-Service-clause-taken : goal.returns-in-Service-clause-taken
+returns-in-Service-clause-taken c = IfOk-weaker _ _ _ (λ rest. begun (Single ServiceWord) by_phrase (rw c.in-Service.is at c.requires.lead) (λ p. refl)) c.parse_service.ensures.taken
 
-pub returns-then-looks_at-6-clause-taken : goal.returns-then-looks_at-6-clause-taken
-returns-then-looks_at-6-clause-taken c = entered_adds
-    (enters_past by_word (sym c.looks_at.ensures ∙ c.if-looks_at.false)
-    (enters_past by_word (sym c.looks_at-2.ensures ∙ c.if-looks_at-2.false)
-    (enters_past by_word (sym c.looks_at-3.ensures ∙ c.if-looks_at-3.false)
-    (enters_past by_phrase (sym c.looks_at-4.ensures ∙ c.if-looks_at-4.false)
-    (enters_past by_phrase (sym c.looks_at-5.ensures ∙ c.if-looks_at-5.false)
-    (enters_first by_phrase (sym c.looks_at-6.ensures ∙ c.if-looks_at-6.true))))))) c.in_ok-rest-6.ensures.taken (λ p. refl)
+pub returns-in-Service-clause-fault : goal.returns-in-Service-clause-fault
+returns-in-Service-clause-fault c = IfErr-weaker _ _ _ (λ e. begun_fails (Single ServiceWord) by_phrase (rw c.in-Service.is at c.requires.lead)) c.parse_service.ensures.fault
 
-pub returns-in_err-rest-7-clause-fault : goal.returns-in_err-rest-7-clause-fault
-returns-in_err-rest-7-clause-fault c =
-    let p = err_from_is_err_and c.from_residual-in_err-rest-7.result c.from_residual-in_err-rest-7.ensures.1 in
-    rw (p.1, p.2) (entered_fails
-    (enters_past by_word (sym c.looks_at.ensures ∙ c.if-looks_at.false)
-    (enters_past by_word (sym c.looks_at-2.ensures ∙ c.if-looks_at-2.false)
-    (enters_past by_word (sym c.looks_at-3.ensures ∙ c.if-looks_at-3.false)
-    (enters_past by_phrase (sym c.looks_at-4.ensures ∙ c.if-looks_at-4.false)
-    (enters_past by_phrase (sym c.looks_at-5.ensures ∙ c.if-looks_at-5.false)
-    (enters_past by_phrase (sym c.looks_at-6.ensures ∙ c.if-looks_at-6.false)
-    (enters_first by_word (sym c.looks_at-7.ensures ∙ c.if-looks_at-7.true)))))))) c.in_err-rest-7.ensures.fault)
+pub returns-in-Extend-clause-taken : goal.returns-in-Extend-clause-taken
+returns-in-Extend-clause-taken c = IfOk-weaker _ _ _ (λ rest. begun (Single ExtendWord) by_word (rw c.in-Extend.is at c.requires.lead) (λ p. refl)) c.parse_extend.ensures.taken
 
-pub returns-then-looks_at-7-clause-taken : goal.returns-then-looks_at-7-clause-taken
-returns-then-looks_at-7-clause-taken c = entered_adds
-    (enters_past by_word (sym c.looks_at.ensures ∙ c.if-looks_at.false)
-    (enters_past by_word (sym c.looks_at-2.ensures ∙ c.if-looks_at-2.false)
-    (enters_past by_word (sym c.looks_at-3.ensures ∙ c.if-looks_at-3.false)
-    (enters_past by_phrase (sym c.looks_at-4.ensures ∙ c.if-looks_at-4.false)
-    (enters_past by_phrase (sym c.looks_at-5.ensures ∙ c.if-looks_at-5.false)
-    (enters_past by_phrase (sym c.looks_at-6.ensures ∙ c.if-looks_at-6.false)
-    (enters_first by_word (sym c.looks_at-7.ensures ∙ c.if-looks_at-7.true)))))))) c.in_ok-rest-7.ensures.taken (λ p. refl)
+pub returns-in-Extend-clause-fault : goal.returns-in-Extend-clause-fault
+returns-in-Extend-clause-fault c = IfErr-weaker _ _ _ (λ e. begun_fails (Single ExtendWord) by_word (rw c.in-Extend.is at c.requires.lead)) c.parse_extend.ensures.fault
 
-pub returns-in_err-rest-8-clause-fault : goal.returns-in_err-rest-8-clause-fault
-returns-in_err-rest-8-clause-fault c =
-    let p = err_from_is_err_and c.from_residual-in_err-rest-8.result c.from_residual-in_err-rest-8.ensures.1 in
-    rw (p.1, p.2) (entered_fails
-    (enters_past by_word (sym c.looks_at.ensures ∙ c.if-looks_at.false)
-    (enters_past by_word (sym c.looks_at-2.ensures ∙ c.if-looks_at-2.false)
-    (enters_past by_word (sym c.looks_at-3.ensures ∙ c.if-looks_at-3.false)
-    (enters_past by_phrase (sym c.looks_at-4.ensures ∙ c.if-looks_at-4.false)
-    (enters_past by_phrase (sym c.looks_at-5.ensures ∙ c.if-looks_at-5.false)
-    (enters_past by_phrase (sym c.looks_at-6.ensures ∙ c.if-looks_at-6.false)
-    (enters_past by_word (sym c.looks_at-7.ensures ∙ c.if-looks_at-7.false)
-    (enters_itself by_token (sym c.looks_at-8.ensures ∙ c.if-looks_at-8.true))))))))) c.in_err-rest-8.ensures.fault)
+pub returns-in-Empty-clause-taken : goal.returns-in-Empty-clause-taken
+returns-in-Empty-clause-taken c = IfOk-weaker _ _ _ (λ rest. begun_empty (Single Semicolon) by_token (rw c.in-Empty.is at c.requires.lead) (λ p. refl)) c.skip_empty.ensures.taken
 
-pub returns-then-looks_at-8-clause-taken : goal.returns-then-looks_at-8-clause-taken
-returns-then-looks_at-8-clause-taken c = entered_adds
-    (enters_past by_word (sym c.looks_at.ensures ∙ c.if-looks_at.false)
-    (enters_past by_word (sym c.looks_at-2.ensures ∙ c.if-looks_at-2.false)
-    (enters_past by_word (sym c.looks_at-3.ensures ∙ c.if-looks_at-3.false)
-    (enters_past by_phrase (sym c.looks_at-4.ensures ∙ c.if-looks_at-4.false)
-    (enters_past by_phrase (sym c.looks_at-5.ensures ∙ c.if-looks_at-5.false)
-    (enters_past by_phrase (sym c.looks_at-6.ensures ∙ c.if-looks_at-6.false)
-    (enters_past by_word (sym c.looks_at-7.ensures ∙ c.if-looks_at-7.false)
-    (enters_itself by_token (sym c.looks_at-8.ensures ∙ c.if-looks_at-8.true))))))))) (adds_empty c.in_ok-rest-8.ensures.taken) (λ p. refl)
+pub returns-in-Empty-clause-fault : goal.returns-in-Empty-clause-fault
+returns-in-Empty-clause-fault c = IfErr-weaker _ _ _ (λ e. begun_fails (Single Semicolon) by_token (rw c.in-Empty.is at c.requires.lead)) c.skip_empty.ensures.fault

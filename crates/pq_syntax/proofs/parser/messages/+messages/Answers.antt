@@ -1,94 +1,67 @@
-use Rattle.std.proofs.Common.{◌≡◌, ◌-◌, suc, sym, ◌∙◌, arith}
-use Rattle.std.proofs.lemmas.Result.{err_from_is_err_and}
-use Rattle.pq_syntax.specs.Loop.{list_of}
+use Rattle.std.proofs.Common.{◌∙◌, arith}
+use Rattle.pq_syntax.specs.Parts.{list_of}
 use Rattle.pq_syntax.specs.Tree.{item_nodes}
 use Rattle.pq_syntax.specs.declared.tree.Statement.TheVariants.{Message}
 use Rattle.pq_syntax.proofs.Bodies.{body_adds, one_deeper}
-use Rattle.pq_syntax.proofs.MessageItems.{begins_message, other_deeper, other_fault, other_lowest, other_none, other_taken, within_message}
-use Rattle.pq_syntax.proofs.Steps.{adding_begins, adding_fails, adding_goes, adding_stops, fails_added, fails_first, fails_read}
+use Rattle.pq_syntax.proofs.MessageItems.{begins_message, message_fails, other, other_fault, other_taken}
+use Rattle.pq_syntax.proofs.Shorter.{begins_shorter}
+use Rattle.pq_syntax.proofs.Steps.{adding_begins, adding_ends, adding_fails, adding_goes, fails_added, fails_first, fails_read}
+use Rattle.pq_syntax.proofs.Failing.{fails_on}
 use Rattle.pq_syntax.proofs.parser.messages.+messages.Goals as goal
 
-pub parse_item-returns-then-levels-eq0-clause-taken : goal.parse_item-returns-then-levels-eq0-clause-taken
-parse_item-returns-then-levels-eq0-clause-taken t c =
-    other_taken (other_lowest c.args.text.now c.args.brackets c.args.tokens.now c.args.levels c.if-levels-eq0.true) c.args.depth
+pub parse_item-overflow_sub-within : goal.parse_item-overflow_sub-within
+parse_item-overflow_sub-within t c = let lead = rw c.in-Message.is at c.requires.lead in omega (arith, lead.0)
+
+pub parse_item-returns-in-Message-clause-taken : goal.parse_item-returns-in-Message-clause-taken
+parse_item-returns-in-Message-clause-taken t c =
+    let lead = rw c.in-Message.is at c.requires.lead in
+    begins_message c.args.context.text.now c.args.context.brackets c.args.tokens.now c.args.levels lead.0 lead.1 c.args.depth
+    c.args.nodes.now.items c.parse_message.new.nodes.items c.parse_message.result c.parse_message.ensures.taken
+
+pub parse_item-returns-in-Message-clause-fault : goal.parse_item-returns-in-Message-clause-fault
+parse_item-returns-in-Message-clause-fault t c =
+    let lead = rw c.in-Message.is at c.requires.lead in
+    message_fails c.args.context.text.now c.args.context.brackets c.args.tokens.now c.args.levels lead.0 lead.1 c.parse_message.result
+    c.parse_message.ensures.fault
+
+pub parse_item-returns-in-Statement-clause-taken : goal.parse_item-returns-in-Statement-clause-taken
+parse_item-returns-in-Statement-clause-taken t c =
+    let lead = rw c.in-Statement.is at c.requires.lead in
+    other_taken (other c.args.context.text.now c.args.context.brackets c.args.tokens.now c.args.levels lead.0) c.args.depth
     c.args.nodes.now.items c.parse_statement.new.nodes.items c.parse_statement.result c.parse_statement.ensures.taken
 
-pub parse_item-returns-then-levels-eq0-clause-none : goal.parse_item-returns-then-levels-eq0-clause-none
-parse_item-returns-then-levels-eq0-clause-none t c =
-    other_none (other_lowest c.args.text.now c.args.brackets c.args.tokens.now c.args.levels c.if-levels-eq0.true) c.args.nodes.now.items
-    c.parse_statement.new.nodes.items c.parse_statement.result c.parse_statement.ensures.none
-
-pub parse_item-returns-then-levels-eq0-clause-fault : goal.parse_item-returns-then-levels-eq0-clause-fault
-parse_item-returns-then-levels-eq0-clause-fault t c =
-    other_fault (other_lowest c.args.text.now c.args.brackets c.args.tokens.now c.args.levels c.if-levels-eq0.true) c.parse_statement.result
+pub parse_item-returns-in-Statement-clause-fault : goal.parse_item-returns-in-Statement-clause-fault
+parse_item-returns-in-Statement-clause-fault t c =
+    let lead = rw c.in-Statement.is at c.requires.lead in
+    other_fault (other c.args.context.text.now c.args.context.brackets c.args.tokens.now c.args.levels lead.0) c.parse_statement.result
     c.parse_statement.ensures.fault
 
-pub parse_item-returns-in_err-rest-clause-fault : goal.parse_item-returns-in_err-rest-clause-fault
-parse_item-returns-in_err-rest-clause-fault t c =
-    let p = err_from_is_err_and c.from_residual.result c.from_residual.ensures.1 in
-    let one_more : c.args.levels ≡ suc (c.args.levels - 1) = omega (arith, c.if-levels-eq0.false) in
-    rw (p.1, p.2) (within_message _ _ _ _ one_more (sym c.looks_at.ensures ∙ c.if-looks_at.true) c.in_err-rest.ensures.fault)
+pub parse_items-items-init : goal.parse_items-items-init
+parse_items-items-init t c = adding_begins _ _
 
-pub parse_item-returns-then-looks_at-clause-taken : goal.parse_item-returns-then-looks_at-clause-taken
-parse_item-returns-then-looks_at-clause-taken t c =
-    let one_more : c.args.levels ≡ suc (c.args.levels - 1) = omega (arith, c.if-levels-eq0.false) in
-    begins_message _ _ _ _ one_more (sym c.looks_at.ensures ∙ c.if-looks_at.true) c.in_ok-rest.ensures.taken
+pub parse_items-items-preserved : goal.parse_items-items-preserved
+parse_items-items-preserved t c = adding_goes c.items.invariant c.in_ok-rest-in-Some.ensures.taken
 
-pub parse_item-returns-clause-taken : goal.parse_item-returns-clause-taken
-parse_item-returns-clause-taken t c =
-    let one_more : c.args.levels ≡ suc (c.args.levels - 1) = omega (arith, c.if-levels-eq0.false) in
-    other_taken (other_deeper c.args.text.now c.args.brackets c.args.tokens.now c.args.levels one_more (sym c.looks_at.ensures ∙ c.if-looks_at.false))
-    c.args.depth c.args.nodes.now.items c.parse_statement-2.new.nodes.items c.parse_statement-2.result c.parse_statement-2.ensures.taken
+pub parse_items-items-smaller : goal.parse_items-items-smaller
+parse_items-items-smaller t c = begins_shorter c.in_ok-rest-in-Some.ensures.taken
 
-pub parse_item-returns-clause-none : goal.parse_item-returns-clause-none
-parse_item-returns-clause-none t c =
-    let one_more : c.args.levels ≡ suc (c.args.levels - 1) = omega (arith, c.if-levels-eq0.false) in
-    other_none (other_deeper c.args.text.now c.args.brackets c.args.tokens.now c.args.levels one_more (sym c.looks_at.ensures ∙ c.if-looks_at.false))
-    c.args.nodes.now.items c.parse_statement-2.new.nodes.items c.parse_statement-2.result c.parse_statement-2.ensures.none
-
-pub parse_item-returns-clause-fault : goal.parse_item-returns-clause-fault
-parse_item-returns-clause-fault t c =
-    let one_more : c.args.levels ≡ suc (c.args.levels - 1) = omega (arith, c.if-levels-eq0.false) in
-    other_fault (other_deeper c.args.text.now c.args.brackets c.args.tokens.now c.args.levels one_more (sym c.looks_at.ensures ∙ c.if-looks_at.false))
-    c.parse_statement-2.result c.parse_statement-2.ensures.fault
-
-pub parse_items-loop-after-init : goal.parse_items-loop-after-init
-parse_items-loop-after-init t c = record { goes = adding_begins _ _; within = omega arith }
-
-pub parse_items-returns-in_err-after-clause-fault : goal.parse_items-returns-in_err-after-clause-fault
-parse_items-returns-in_err-after-clause-fault t c =
-    let p = err_from_is_err_and c.from_residual.result c.from_residual.ensures.1 in
-    rw (p.1, p.2) (adding_fails c.loop-after.invariant.goes c.in_err-after.ensures.fault)
-
-pub parse_items-loop-after-smaller : goal.parse_items-loop-after-smaller
-parse_items-loop-after-smaller t c = rw c.in-Some.is at c.in_ok-after.ensures.shorter
-
-pub parse_items-loop-after-preserved : goal.parse_items-loop-after-preserved
-parse_items-loop-after-preserved t c = record {
-  goes = adding_goes c.loop-after.invariant.goes (rw c.in-Some.is at c.in_ok-after.ensures.taken);
-  within = let s = rw c.in-Some.is at c.in_ok-after.ensures.shorter in omega (arith, c.loop-after.invariant.within, s);
-}
+pub parse_items-returns-in_err-rest-in-Some-clause-fault : goal.parse_items-returns-in_err-rest-in-Some-clause-fault
+parse_items-returns-in_err-rest-in-Some-clause-fault t c =
+    fails_on _ _ _ c.from_residual.ensures.1 (adding_fails c.items.invariant c.in_err-rest-in-Some.ensures.fault)
 
 pub parse_items-returns-in-None-clause-taken : goal.parse_items-returns-in-None-clause-taken
-parse_items-returns-in-None-clause-taken t c = adding_stops c.loop-after.invariant.goes (rw c.in-None.is at c.in_ok-after.ensures.none)
-
-pub parse_items-returns-in-None-clause-within : goal.parse_items-returns-in-None-clause-within
-parse_items-returns-in-None-clause-within t c = c.loop-after.invariant.within
+parse_items-returns-in-None-clause-taken t c = adding_ends c.items.invariant c.in-None.ensures.in_first
 
 pub parse_message-returns-in_err-name-clause-fault : goal.parse_message-returns-in_err-name-clause-fault
-parse_message-returns-in_err-name-clause-fault t c =
-    let p = err_from_is_err_and c.from_residual.result c.from_residual.ensures.1 in
-    rw (p.1, p.2) (fails_first c.in_err-name.ensures.fault)
+parse_message-returns-in_err-name-clause-fault t c = fails_on _ _ _ c.from_residual.ensures.1 (fails_first c.in_err-name.ensures.fault)
 
 pub parse_message-returns-in_err-rest-clause-fault : goal.parse_message-returns-in_err-rest-clause-fault
 parse_message-returns-in_err-rest-clause-fault t c =
-    let p = err_from_is_err_and c.from_residual-in_err-rest.result c.from_residual-in_err-rest.ensures.1 in
-    rw (p.1, p.2) (fails_read c.in_ok-name.ensures.taken (fails_first c.in_err-rest.ensures.fault))
+    fails_on _ _ _ c.from_residual-in_err-rest.ensures.1 (fails_read c.in_ok-name.ensures.taken (fails_first c.in_err-rest.ensures.fault))
 
 pub parse_message-returns-in_err-rest-2-clause-fault : goal.parse_message-returns-in_err-rest-2-clause-fault
 parse_message-returns-in_err-rest-2-clause-fault t c =
-    let p = err_from_is_err_and c.from_residual-in_err-rest-2.result c.from_residual-in_err-rest-2.ensures.1 in
-    rw (p.1, p.2) (fails_read c.in_ok-name.ensures.taken (fails_added c.in_ok-rest.ensures.taken c.in_err-rest-2.ensures.fault))
+    fails_on _ _ _ c.from_residual-in_err-rest-2.ensures.1 (fails_read c.in_ok-name.ensures.taken (fails_added c.in_ok-rest.ensures.taken c.in_err-rest-2.ensures.fault))
 
 pub parse_message-returns-clause-taken : goal.parse_message-returns-clause-taken
 parse_message-returns-clause-taken t c =

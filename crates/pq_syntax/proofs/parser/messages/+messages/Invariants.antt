@@ -1,6 +1,6 @@
-use Rattle.std.proofs.Common.{length, ◌≤◌, ◌+◌, ◌*◌}
+use Rattle.std.proofs.Common.{length, ◌+◌, ◌*◌}
 use Rattle.pq_syntax.specs.Grammar.{item}
-use Rattle.pq_syntax.specs.Steps.{Adding}
+use Rattle.pq_syntax.specs.aux.Steps.{Adding}
 use Rattle.pq_syntax.specs.Tree.{item_nodes}
 use Rattle.pq_syntax.proofs.parser.messages.+messages.Given as goal
 
@@ -13,11 +13,8 @@ decreases-parse_items l = 3 * l.levels + 1
 abbrev pub decreases-parse_message : goal.decreases-parse_message
 decreases-parse_message l = 3 * l.levels + 2
 
-abbrev pub invariant-parse_items-loop-after : goal.invariant-parse_items-loop-after
-invariant-parse_items-loop-after l = record {
-  goes : Adding l.text (item l.brackets l.levels) (item_nodes l.levels l.depth) l.tokens l.rest l.initial.nodes.items l.nodes.items;
-  within : length l.rest ≤ length l.tokens;
-}
+abbrev pub invariant-parse_items-items : goal.invariant-parse_items-items
+invariant-parse_items-items l = Adding l.context.text.now (item l.context.brackets l.levels) (item_nodes l.levels l.depth) l.tokens l.rest l.initial.nodes.items l.nodes.items
 
-abbrev pub decreases-parse_items-loop-after : goal.decreases-parse_items-loop-after
-decreases-parse_items-loop-after l = length l.rest
+abbrev pub decreases-parse_items-items : goal.decreases-parse_items-items
+decreases-parse_items-items l = length l.rest

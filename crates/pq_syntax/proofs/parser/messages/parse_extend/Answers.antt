@@ -1,22 +1,18 @@
-use Rattle.std.proofs.lemmas.Result.{err_from_is_err_and}
 use Rattle.pq_syntax.proofs.MessageItems.{extend_adds}
 use Rattle.pq_syntax.proofs.Steps.{fails_first, fails_read, fails_token}
+use Rattle.pq_syntax.proofs.Failing.{fails_on}
 use Rattle.pq_syntax.proofs.parser.messages.parse_extend.Goals as goal
 
 pub returns-in_err-rest-clause-fault : goal.returns-in_err-rest-clause-fault
-returns-in_err-rest-clause-fault c =
-    let p = err_from_is_err_and c.from_residual.result c.from_residual.ensures.1 in
-    rw (p.1, p.2) (fails_first c.in_err-rest.ensures.fault)
+returns-in_err-rest-clause-fault c = fails_on _ _ _ c.from_residual.ensures.1 (fails_first c.in_err-rest.ensures.fault)
 
 pub returns-in_err-type_name-clause-fault : goal.returns-in_err-type_name-clause-fault
 returns-in_err-type_name-clause-fault c =
-    let p = err_from_is_err_and c.from_residual-in_err-type_name.result c.from_residual-in_err-type_name.ensures.1 in
-    rw (p.1, p.2) (fails_token c.in_ok-rest.ensures.taken (fails_first c.in_err-type_name.ensures.fault))
+    fails_on _ _ _ c.from_residual-in_err-type_name.ensures.1 (fails_token c.in_ok-rest.ensures.taken (fails_first c.in_err-type_name.ensures.fault))
 
 pub returns-in_err-rest-2-clause-fault : goal.returns-in_err-rest-2-clause-fault
 returns-in_err-rest-2-clause-fault c =
-    let p = err_from_is_err_and c.from_residual-in_err-rest-2.result c.from_residual-in_err-rest-2.ensures.1 in
-    rw (p.1, p.2) (fails_token c.in_ok-rest.ensures.taken (fails_read c.in_ok-type_name.ensures.taken c.in_err-rest-2.ensures.fault))
+    fails_on _ _ _ c.from_residual-in_err-rest-2.ensures.1 (fails_token c.in_ok-rest.ensures.taken (fails_read c.in_ok-type_name.ensures.taken c.in_err-rest-2.ensures.fault))
 
 pub returns-clause-taken : goal.returns-clause-taken
 returns-clause-taken c = extend_adds _ _ c.in_ok-rest.ensures.taken c.in_ok-type_name.ensures.taken c.in_ok-rest-2.ensures.taken c.in_ok-push_node.ensures

@@ -1,147 +1,62 @@
-use Rattle.std.proofs.Common.{refl, sym, ◌∙◌}
-use Rattle.std.proofs.lemmas.Result.{err_from_is_err_and}
-use Rattle.pq_syntax.proofs.Choices.{adds_empty, by_phrase, by_token, by_word, entered_adds, entered_fails, enters_first, enters_past}
-use Rattle.pq_syntax.proofs.TypeFirst.{enters_field}
+use Rattle.std.proofs.Common.{refl}
+use Rattle.std.proofs.lemmas.Result.{IfErr-weaker, IfOk-weaker}
+use Rattle.pq_syntax.specs.Grammar.{type_from}
+use Rattle.pq_syntax.specs.Rule.Rule.{Single}
+use Rattle.pq_syntax.specs.declared.terminal.Terminal.TheVariants.{FieldTypeName, EnumWord, ExtendWord, OptionWord, OneofWord, ReservedWord, LabelWord, MapWord, Semicolon}
+use Rattle.pq_syntax.proofs.Choices.{by_phrase, by_token, by_type, by_word}
+use Rattle.pq_syntax.proofs.Openings.{begun, begun_empty, begun_fails}
 use Rattle.pq_syntax.proofs.parser.messages.parse_statement.Goals as goal
 
-pub returns-in_err-rest-clause-fault : goal.returns-in_err-rest-clause-fault
-returns-in_err-rest-clause-fault c =
-    let p = err_from_is_err_and c.from_residual.result c.from_residual.ensures.1 in
-    rw (p.1, p.2) (entered_fails (enters_field _ (sym c.looks_at_type.ensures ∙ c.if-looks_at_type.true)) c.in_err-rest.ensures.fault)
+pub returns-in-Field-clause-taken : goal.returns-in-Field-clause-taken
+returns-in-Field-clause-taken c = IfOk-weaker _ _ _ (λ rest. begun (type_from FieldTypeName) by_type (rw c.in-Field.is at c.requires.lead) (λ p. refl)) c.parse_field.ensures.taken
 
-pub returns-then-looks_at_type-clause-taken : goal.returns-then-looks_at_type-clause-taken
-returns-then-looks_at_type-clause-taken c = entered_adds (enters_field _ (sym c.looks_at_type.ensures ∙ c.if-looks_at_type.true)) c.in_ok-rest.ensures.taken (λ p. refl)
+pub returns-in-Field-clause-fault : goal.returns-in-Field-clause-fault
+returns-in-Field-clause-fault c = IfErr-weaker _ _ _ (λ e. begun_fails (type_from FieldTypeName) by_type (rw c.in-Field.is at c.requires.lead)) c.parse_field.ensures.fault
 
-pub returns-in_err-rest-2-clause-fault : goal.returns-in_err-rest-2-clause-fault
-returns-in_err-rest-2-clause-fault c =
-    let p = err_from_is_err_and c.from_residual-in_err-rest-2.result c.from_residual-in_err-rest-2.ensures.1 in
-    rw (p.1, p.2) (entered_fails (enters_first by_phrase (sym c.looks_at.ensures ∙ c.if-looks_at.true)) c.in_err-rest-2.ensures.fault)
+pub returns-in-Enum-clause-taken : goal.returns-in-Enum-clause-taken
+returns-in-Enum-clause-taken c = IfOk-weaker _ _ _ (λ rest. begun (Single EnumWord) by_phrase (rw c.in-Enum.is at c.requires.lead) (λ p. refl)) c.parse_enum.ensures.taken
 
-pub returns-then-looks_at-clause-taken : goal.returns-then-looks_at-clause-taken
-returns-then-looks_at-clause-taken c = entered_adds (enters_first by_phrase (sym c.looks_at.ensures ∙ c.if-looks_at.true)) c.in_ok-rest-2.ensures.taken (λ p. refl)
+pub returns-in-Enum-clause-fault : goal.returns-in-Enum-clause-fault
+returns-in-Enum-clause-fault c = IfErr-weaker _ _ _ (λ e. begun_fails (Single EnumWord) by_phrase (rw c.in-Enum.is at c.requires.lead)) c.parse_enum.ensures.fault
 
-pub returns-in_err-rest-3-clause-fault : goal.returns-in_err-rest-3-clause-fault
-returns-in_err-rest-3-clause-fault c =
-    let p = err_from_is_err_and c.from_residual-in_err-rest-3.result c.from_residual-in_err-rest-3.ensures.1 in
-    rw (p.1, p.2) (entered_fails
-    (enters_past by_phrase (sym c.looks_at.ensures ∙ c.if-looks_at.false)
-    (enters_first by_word (sym c.looks_at-2.ensures ∙ c.if-looks_at-2.true))) c.in_err-rest-3.ensures.fault)
+pub returns-in-Extend-clause-taken : goal.returns-in-Extend-clause-taken
+returns-in-Extend-clause-taken c = IfOk-weaker _ _ _ (λ rest. begun (Single ExtendWord) by_word (rw c.in-Extend.is at c.requires.lead) (λ p. refl)) c.parse_extend.ensures.taken
 
-pub returns-then-looks_at-2-clause-taken : goal.returns-then-looks_at-2-clause-taken
-returns-then-looks_at-2-clause-taken c = entered_adds
-    (enters_past by_phrase (sym c.looks_at.ensures ∙ c.if-looks_at.false)
-    (enters_first by_word (sym c.looks_at-2.ensures ∙ c.if-looks_at-2.true))) c.in_ok-rest-3.ensures.taken (λ p. refl)
+pub returns-in-Extend-clause-fault : goal.returns-in-Extend-clause-fault
+returns-in-Extend-clause-fault c = IfErr-weaker _ _ _ (λ e. begun_fails (Single ExtendWord) by_word (rw c.in-Extend.is at c.requires.lead)) c.parse_extend.ensures.fault
 
-pub returns-in_err-rest-4-clause-fault : goal.returns-in_err-rest-4-clause-fault
-returns-in_err-rest-4-clause-fault c =
-    let p = err_from_is_err_and c.from_residual-in_err-rest-4.result c.from_residual-in_err-rest-4.ensures.1 in
-    rw (p.1, p.2) (entered_fails
-    (enters_past by_phrase (sym c.looks_at.ensures ∙ c.if-looks_at.false)
-    (enters_past by_word (sym c.looks_at-2.ensures ∙ c.if-looks_at-2.false)
-    (enters_first by_word (sym c.looks_at-3.ensures ∙ c.if-looks_at-3.true)))) c.in_err-rest-4.ensures.fault)
+pub returns-in-Option-clause-taken : goal.returns-in-Option-clause-taken
+returns-in-Option-clause-taken c = IfOk-weaker _ _ _ (λ rest. begun (Single OptionWord) by_word (rw c.in-Option.is at c.requires.lead) (λ p. refl)) c.parse_option.ensures.taken
 
-pub returns-then-looks_at-3-clause-taken : goal.returns-then-looks_at-3-clause-taken
-returns-then-looks_at-3-clause-taken c = entered_adds
-    (enters_past by_phrase (sym c.looks_at.ensures ∙ c.if-looks_at.false)
-    (enters_past by_word (sym c.looks_at-2.ensures ∙ c.if-looks_at-2.false)
-    (enters_first by_word (sym c.looks_at-3.ensures ∙ c.if-looks_at-3.true)))) c.in_ok-rest-4.ensures.taken (λ p. refl)
+pub returns-in-Option-clause-fault : goal.returns-in-Option-clause-fault
+returns-in-Option-clause-fault c = IfErr-weaker _ _ _ (λ e. begun_fails (Single OptionWord) by_word (rw c.in-Option.is at c.requires.lead)) c.parse_option.ensures.fault
 
-pub returns-in_err-rest-5-clause-fault : goal.returns-in_err-rest-5-clause-fault
-returns-in_err-rest-5-clause-fault c =
-    let p = err_from_is_err_and c.from_residual-in_err-rest-5.result c.from_residual-in_err-rest-5.ensures.1 in
-    rw (p.1, p.2) (entered_fails
-    (enters_past by_phrase (sym c.looks_at.ensures ∙ c.if-looks_at.false)
-    (enters_past by_word (sym c.looks_at-2.ensures ∙ c.if-looks_at-2.false)
-    (enters_past by_word (sym c.looks_at-3.ensures ∙ c.if-looks_at-3.false)
-    (enters_first by_phrase (sym c.looks_at-4.ensures ∙ c.if-looks_at-4.true))))) c.in_err-rest-5.ensures.fault)
+pub returns-in-Oneof-clause-taken : goal.returns-in-Oneof-clause-taken
+returns-in-Oneof-clause-taken c = IfOk-weaker _ _ _ (λ rest. begun (Single OneofWord) by_phrase (rw c.in-Oneof.is at c.requires.lead) (λ p. refl)) c.parse_oneof.ensures.taken
 
-pub returns-then-looks_at-4-clause-taken : goal.returns-then-looks_at-4-clause-taken
-returns-then-looks_at-4-clause-taken c = entered_adds
-    (enters_past by_phrase (sym c.looks_at.ensures ∙ c.if-looks_at.false)
-    (enters_past by_word (sym c.looks_at-2.ensures ∙ c.if-looks_at-2.false)
-    (enters_past by_word (sym c.looks_at-3.ensures ∙ c.if-looks_at-3.false)
-    (enters_first by_phrase (sym c.looks_at-4.ensures ∙ c.if-looks_at-4.true))))) c.in_ok-rest-5.ensures.taken (λ p. refl)
+pub returns-in-Oneof-clause-fault : goal.returns-in-Oneof-clause-fault
+returns-in-Oneof-clause-fault c = IfErr-weaker _ _ _ (λ e. begun_fails (Single OneofWord) by_phrase (rw c.in-Oneof.is at c.requires.lead)) c.parse_oneof.ensures.fault
 
-pub returns-in_err-rest-6-clause-fault : goal.returns-in_err-rest-6-clause-fault
-returns-in_err-rest-6-clause-fault c =
-    let p = err_from_is_err_and c.from_residual-in_err-rest-6.result c.from_residual-in_err-rest-6.ensures.1 in
-    rw (p.1, p.2) (entered_fails
-    (enters_past by_phrase (sym c.looks_at.ensures ∙ c.if-looks_at.false)
-    (enters_past by_word (sym c.looks_at-2.ensures ∙ c.if-looks_at-2.false)
-    (enters_past by_word (sym c.looks_at-3.ensures ∙ c.if-looks_at-3.false)
-    (enters_past by_phrase (sym c.looks_at-4.ensures ∙ c.if-looks_at-4.false)
-    (enters_first by_word (sym c.looks_at-5.ensures ∙ c.if-looks_at-5.true)))))) c.in_err-rest-6.ensures.fault)
+pub returns-in-Reserved-clause-taken : goal.returns-in-Reserved-clause-taken
+returns-in-Reserved-clause-taken c = IfOk-weaker _ _ _ (λ rest. begun (Single ReservedWord) by_word (rw c.in-Reserved.is at c.requires.lead) (λ p. refl)) c.parse_reserved.ensures.taken
 
-pub returns-then-looks_at-5-clause-taken : goal.returns-then-looks_at-5-clause-taken
-returns-then-looks_at-5-clause-taken c = entered_adds
-    (enters_past by_phrase (sym c.looks_at.ensures ∙ c.if-looks_at.false)
-    (enters_past by_word (sym c.looks_at-2.ensures ∙ c.if-looks_at-2.false)
-    (enters_past by_word (sym c.looks_at-3.ensures ∙ c.if-looks_at-3.false)
-    (enters_past by_phrase (sym c.looks_at-4.ensures ∙ c.if-looks_at-4.false)
-    (enters_first by_word (sym c.looks_at-5.ensures ∙ c.if-looks_at-5.true)))))) c.in_ok-rest-6.ensures.taken (λ p. refl)
+pub returns-in-Reserved-clause-fault : goal.returns-in-Reserved-clause-fault
+returns-in-Reserved-clause-fault c = IfErr-weaker _ _ _ (λ e. begun_fails (Single ReservedWord) by_word (rw c.in-Reserved.is at c.requires.lead)) c.parse_reserved.ensures.fault
 
-pub returns-in_err-rest-7-clause-fault : goal.returns-in_err-rest-7-clause-fault
-returns-in_err-rest-7-clause-fault c =
-    let p = err_from_is_err_and c.from_residual-in_err-rest-7.result c.from_residual-in_err-rest-7.ensures.1 in
-    rw (p.1, p.2) (entered_fails
-    (enters_past by_phrase (sym c.looks_at.ensures ∙ c.if-looks_at.false)
-    (enters_past by_word (sym c.looks_at-2.ensures ∙ c.if-looks_at-2.false)
-    (enters_past by_word (sym c.looks_at-3.ensures ∙ c.if-looks_at-3.false)
-    (enters_past by_phrase (sym c.looks_at-4.ensures ∙ c.if-looks_at-4.false)
-    (enters_past by_word (sym c.looks_at-5.ensures ∙ c.if-looks_at-5.false)
-    (enters_first by_word (sym c.looks_at-6.ensures ∙ c.if-looks_at-6.true))))))) c.in_err-rest-7.ensures.fault)
+pub returns-in-Labelled-clause-taken : goal.returns-in-Labelled-clause-taken
+returns-in-Labelled-clause-taken c = IfOk-weaker _ _ _ (λ rest. begun (Single LabelWord) by_word (rw c.in-Labelled.is at c.requires.lead) (λ p. refl)) c.parse_labelled.ensures.taken
 
-pub returns-then-looks_at-6-clause-taken : goal.returns-then-looks_at-6-clause-taken
-returns-then-looks_at-6-clause-taken c = entered_adds
-    (enters_past by_phrase (sym c.looks_at.ensures ∙ c.if-looks_at.false)
-    (enters_past by_word (sym c.looks_at-2.ensures ∙ c.if-looks_at-2.false)
-    (enters_past by_word (sym c.looks_at-3.ensures ∙ c.if-looks_at-3.false)
-    (enters_past by_phrase (sym c.looks_at-4.ensures ∙ c.if-looks_at-4.false)
-    (enters_past by_word (sym c.looks_at-5.ensures ∙ c.if-looks_at-5.false)
-    (enters_first by_word (sym c.looks_at-6.ensures ∙ c.if-looks_at-6.true))))))) c.in_ok-rest-7.ensures.taken (λ p. refl)
+pub returns-in-Labelled-clause-fault : goal.returns-in-Labelled-clause-fault
+returns-in-Labelled-clause-fault c = IfErr-weaker _ _ _ (λ e. begun_fails (Single LabelWord) by_word (rw c.in-Labelled.is at c.requires.lead)) c.parse_labelled.ensures.fault
 
-pub returns-in_err-rest-8-clause-fault : goal.returns-in_err-rest-8-clause-fault
-returns-in_err-rest-8-clause-fault c =
-    let p = err_from_is_err_and c.from_residual-in_err-rest-8.result c.from_residual-in_err-rest-8.ensures.1 in
-    rw (p.1, p.2) (entered_fails
-    (enters_past by_phrase (sym c.looks_at.ensures ∙ c.if-looks_at.false)
-    (enters_past by_word (sym c.looks_at-2.ensures ∙ c.if-looks_at-2.false)
-    (enters_past by_word (sym c.looks_at-3.ensures ∙ c.if-looks_at-3.false)
-    (enters_past by_phrase (sym c.looks_at-4.ensures ∙ c.if-looks_at-4.false)
-    (enters_past by_word (sym c.looks_at-5.ensures ∙ c.if-looks_at-5.false)
-    (enters_past by_word (sym c.looks_at-6.ensures ∙ c.if-looks_at-6.false)
-    (enters_first by_word (sym c.looks_at-7.ensures ∙ c.if-looks_at-7.true)))))))) c.in_err-rest-8.ensures.fault)
+pub returns-in-Mapped-clause-taken : goal.returns-in-Mapped-clause-taken
+returns-in-Mapped-clause-taken c = IfOk-weaker _ _ _ (λ rest. begun (Single MapWord) by_word (rw c.in-Mapped.is at c.requires.lead) (λ p. refl)) c.parse_mapped.ensures.taken
 
-pub returns-then-looks_at-7-clause-taken : goal.returns-then-looks_at-7-clause-taken
-returns-then-looks_at-7-clause-taken c = entered_adds
-    (enters_past by_phrase (sym c.looks_at.ensures ∙ c.if-looks_at.false)
-    (enters_past by_word (sym c.looks_at-2.ensures ∙ c.if-looks_at-2.false)
-    (enters_past by_word (sym c.looks_at-3.ensures ∙ c.if-looks_at-3.false)
-    (enters_past by_phrase (sym c.looks_at-4.ensures ∙ c.if-looks_at-4.false)
-    (enters_past by_word (sym c.looks_at-5.ensures ∙ c.if-looks_at-5.false)
-    (enters_past by_word (sym c.looks_at-6.ensures ∙ c.if-looks_at-6.false)
-    (enters_first by_word (sym c.looks_at-7.ensures ∙ c.if-looks_at-7.true)))))))) c.in_ok-rest-8.ensures.taken (λ p. refl)
+pub returns-in-Mapped-clause-fault : goal.returns-in-Mapped-clause-fault
+returns-in-Mapped-clause-fault c = IfErr-weaker _ _ _ (λ e. begun_fails (Single MapWord) by_word (rw c.in-Mapped.is at c.requires.lead)) c.parse_mapped.ensures.fault
 
-pub returns-in_err-rest-9-clause-fault : goal.returns-in_err-rest-9-clause-fault
-returns-in_err-rest-9-clause-fault c =
-    let p = err_from_is_err_and c.from_residual-in_err-rest-9.result c.from_residual-in_err-rest-9.ensures.1 in
-    rw (p.1, p.2) (entered_fails
-    (enters_past by_phrase (sym c.looks_at.ensures ∙ c.if-looks_at.false)
-    (enters_past by_word (sym c.looks_at-2.ensures ∙ c.if-looks_at-2.false)
-    (enters_past by_word (sym c.looks_at-3.ensures ∙ c.if-looks_at-3.false)
-    (enters_past by_phrase (sym c.looks_at-4.ensures ∙ c.if-looks_at-4.false)
-    (enters_past by_word (sym c.looks_at-5.ensures ∙ c.if-looks_at-5.false)
-    (enters_past by_word (sym c.looks_at-6.ensures ∙ c.if-looks_at-6.false)
-    (enters_past by_word (sym c.looks_at-7.ensures ∙ c.if-looks_at-7.false)
-    (enters_first by_token (sym c.looks_at-8.ensures ∙ c.if-looks_at-8.true))))))))) c.in_err-rest-9.ensures.fault)
+pub returns-in-Empty-clause-taken : goal.returns-in-Empty-clause-taken
+returns-in-Empty-clause-taken c = IfOk-weaker _ _ _ (λ rest. begun_empty (Single Semicolon) by_token (rw c.in-Empty.is at c.requires.lead) (λ p. refl)) c.skip_empty.ensures.taken
 
-pub returns-then-looks_at-8-clause-taken : goal.returns-then-looks_at-8-clause-taken
-returns-then-looks_at-8-clause-taken c = entered_adds
-    (enters_past by_phrase (sym c.looks_at.ensures ∙ c.if-looks_at.false)
-    (enters_past by_word (sym c.looks_at-2.ensures ∙ c.if-looks_at-2.false)
-    (enters_past by_word (sym c.looks_at-3.ensures ∙ c.if-looks_at-3.false)
-    (enters_past by_phrase (sym c.looks_at-4.ensures ∙ c.if-looks_at-4.false)
-    (enters_past by_word (sym c.looks_at-5.ensures ∙ c.if-looks_at-5.false)
-    (enters_past by_word (sym c.looks_at-6.ensures ∙ c.if-looks_at-6.false)
-    (enters_past by_word (sym c.looks_at-7.ensures ∙ c.if-looks_at-7.false)
-    (enters_first by_token (sym c.looks_at-8.ensures ∙ c.if-looks_at-8.true))))))))) (adds_empty c.in_ok-rest-9.ensures.taken) (λ p. refl)
+pub returns-in-Empty-clause-fault : goal.returns-in-Empty-clause-fault
+returns-in-Empty-clause-fault c = IfErr-weaker _ _ _ (λ e. begun_fails (Single Semicolon) by_token (rw c.in-Empty.is at c.requires.lead)) c.skip_empty.ensures.fault

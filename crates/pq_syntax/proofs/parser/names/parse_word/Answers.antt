@@ -4,7 +4,7 @@ use Rattle.pq_syntax.proofs.parser.names.parse_word.Goals as goal
 
 pub returns-clause-taken : goal.returns-clause-taken
 returns-clause-taken c = record {
-  parse = Leaf (word c.args.text.now c.in_ok-rest.field-0-0);
+  parse = Leaf (word c.args.context.text.now c.in_ok-rest.field-0-0);
   takes = c.in_ok-rest.ensures.taken.takes;
-  is = c.in_ok-read_name.ensures (Leaf (word c.args.text.now c.in_ok-rest.field-0-0)) c.in_ok-rest.ensures.taken.takes.read;
+  is = c.in_ok-read_name.ensures (Leaf (word c.args.context.text.now c.in_ok-rest.field-0-0)) c.in_ok-rest.ensures.taken.takes.read;
 }

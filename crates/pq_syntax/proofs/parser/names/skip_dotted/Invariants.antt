@@ -1,15 +1,12 @@
-use Rattle.std.proofs.Common.{[], length, ◌≤◌}
-use Rattle.pq_syntax.specs.Rule.Rule.{One, Then}
-use Rattle.pq_syntax.specs.Steps.{Adding}
-use Rattle.pq_syntax.specs.declared.terminal.Terminal.TheVariants.{Dot, AnyName}
+use Rattle.std.proofs.Common.{[], length}
+use Rattle.pq_syntax.specs.Rule.Rule.{Single, Seq}
+use Rattle.pq_syntax.specs.aux.Steps.{Adding}
+use Rattle.pq_syntax.specs.declared.terminal.Terminal.TheVariants.{Dot, AnyIdentifier}
 use Rattle.pq_syntax.proofs.Steps.{nothing}
 use Rattle.pq_syntax.proofs.parser.names.skip_dotted.Given as goal
 
 abbrev pub invariant-loop-rest : goal.invariant-loop-rest
-invariant-loop-rest l = record {
-  goes : Adding l.text (Then (One Dot) (One AnyName)) nothing l.tokens l.rest [] [];
-  within : length l.rest ≤ length l.tokens;
-}
+invariant-loop-rest l = Adding l.text (Seq (Single Dot) (Single AnyIdentifier)) nothing l.tokens l.rest [] []
 
 abbrev pub decreases-loop-rest : goal.decreases-loop-rest
 decreases-loop-rest l = length l.rest

@@ -1,13 +1,13 @@
 use Rattle.std.proofs.Common.{sym, ◌∙◌}
-use Rattle.std.proofs.lemmas.Result.{err_from_is_err_and, IfOk-weaker, IfErr-weaker}
+use Rattle.std.proofs.lemmas.Result.{IfOk-weaker, IfErr-weaker}
 use Rattle.pq_syntax.proofs.Choices.{by_word, chooses_first, chooses_itself, chooses_past, chosen_fails, chosen_passes}
 use Rattle.pq_syntax.proofs.Steps.{fails_first, fails_token, passes_token}
+use Rattle.pq_syntax.proofs.Failing.{fails_on}
 use Rattle.pq_syntax.proofs.parser.names.skip_type_from.Goals as goal
 
 pub returns-in_err-rest-clause-fault : goal.returns-in_err-rest-clause-fault
 returns-in_err-rest-clause-fault c =
-    let p = err_from_is_err_and c.from_residual.result c.from_residual.ensures.1 in
-    rw (p.1, p.2) (chosen_fails (chooses_first by_word (sym c.looks_at.ensures ∙ c.if-looks_at.true)) (fails_first c.in_err-rest.ensures.fault))
+    fails_on _ _ _ c.from_residual.ensures.1 (chosen_fails (chooses_first by_word (sym c.looks_at.ensures ∙ c.if-looks_at.true)) (fails_first c.in_err-rest.ensures.fault))
 
 pub returns-then-looks_at-clause-taken : goal.returns-then-looks_at-clause-taken
 returns-then-looks_at-clause-taken c =
@@ -21,8 +21,7 @@ returns-then-looks_at-clause-fault c =
 
 pub returns-in_err-rest-2-clause-fault : goal.returns-in_err-rest-2-clause-fault
 returns-in_err-rest-2-clause-fault c =
-    let p = err_from_is_err_and c.from_residual-in_err-rest-2.result c.from_residual-in_err-rest-2.ensures.1 in
-    rw (p.1, p.2) (chosen_fails (chooses_past by_word (sym c.looks_at.ensures ∙ c.if-looks_at.false) chooses_itself) (fails_first c.in_err-rest-2.ensures.fault))
+    fails_on _ _ _ c.from_residual-in_err-rest-2.ensures.1 (chosen_fails (chooses_past by_word (sym c.looks_at.ensures ∙ c.if-looks_at.false) chooses_itself) (fails_first c.in_err-rest-2.ensures.fault))
 
 pub returns-clause-taken : goal.returns-clause-taken
 returns-clause-taken c =

@@ -1,26 +1,22 @@
 use Rattle.std.proofs.Common.{◌∙◌, suc}
-use Rattle.std.proofs.lemmas.Result.{err_from_is_err_and}
-use Rattle.pq_syntax.specs.Loop.{list_of}
+use Rattle.pq_syntax.specs.Parts.{list_of}
 use Rattle.pq_syntax.specs.Tree.{oneof_item_nodes}
 use Rattle.pq_syntax.specs.declared.tree.Statement.TheVariants.{Oneof}
 use Rattle.pq_syntax.proofs.Bodies.{body_adds, index_within, one_deeper}
 use Rattle.pq_syntax.proofs.Steps.{fails_first, fails_read, fails_added}
+use Rattle.pq_syntax.proofs.Failing.{fails_on}
 use Rattle.pq_syntax.proofs.parser.oneofs.parse_oneof.Goals as goal
 
 pub returns-in_err-name-clause-fault : goal.returns-in_err-name-clause-fault
-returns-in_err-name-clause-fault c =
-    let p = err_from_is_err_and c.from_residual.result c.from_residual.ensures.1 in
-    rw (p.1, p.2) (fails_first c.in_err-name.ensures.fault)
+returns-in_err-name-clause-fault c = fails_on _ _ _ c.from_residual.ensures.1 (fails_first c.in_err-name.ensures.fault)
 
 pub returns-in_err-rest-clause-fault : goal.returns-in_err-rest-clause-fault
 returns-in_err-rest-clause-fault c =
-    let p = err_from_is_err_and c.from_residual-in_err-rest.result c.from_residual-in_err-rest.ensures.1 in
-    rw (p.1, p.2) (fails_read c.in_ok-name.ensures.taken (fails_first c.in_err-rest.ensures.fault))
+    fails_on _ _ _ c.from_residual-in_err-rest.ensures.1 (fails_read c.in_ok-name.ensures.taken (fails_first c.in_err-rest.ensures.fault))
 
 pub returns-in_err-rest-2-clause-fault : goal.returns-in_err-rest-2-clause-fault
 returns-in_err-rest-2-clause-fault c =
-    let p = err_from_is_err_and c.from_residual-in_err-rest-2.result c.from_residual-in_err-rest-2.ensures.1 in
-    rw (p.1, p.2) (fails_read c.in_ok-name.ensures.taken (fails_added c.in_ok-rest.ensures.taken c.in_err-rest-2.ensures.fault))
+    fails_on _ _ _ c.from_residual-in_err-rest-2.ensures.1 (fails_read c.in_ok-name.ensures.taken (fails_added c.in_ok-rest.ensures.taken c.in_err-rest-2.ensures.fault))
 
 pub set_span-requires : goal.set_span-requires
 set_span-requires c = index_within _ _ _ _ c.in_ok-name.ensures.taken.takes (c.len-index.ensures ∙ c.args.nodes.now.ok.0) c.in_ok-push_node.ensures c.in_ok-rest.ensures.taken

@@ -1,43 +1,26 @@
-use Rattle.std.proofs.Common.{refl, sym, ◌∙◌}
-use Rattle.std.proofs.lemmas.Result.{err_from_is_err_and}
-use Rattle.pq_syntax.proofs.Choices.{adds_empty, by_token, by_type, by_word, ends_itself, ends_past, entered_adds, entered_fails, enters_first, enters_itself, enters_past}
+use Rattle.std.proofs.Common.{refl}
+use Rattle.std.proofs.lemmas.Result.{IfErr-weaker, IfOk-weaker}
+use Rattle.pq_syntax.specs.Grammar.{type_from}
+use Rattle.pq_syntax.specs.Rule.Rule.{Single}
+use Rattle.pq_syntax.specs.declared.terminal.Terminal.TheVariants.{OptionWord, MemberTypeName, Semicolon}
+use Rattle.pq_syntax.proofs.Choices.{by_token, by_type, by_word}
+use Rattle.pq_syntax.proofs.Openings.{begun, begun_empty, begun_fails}
 use Rattle.pq_syntax.proofs.parser.oneofs.parse_oneof_item.Goals as goal
 
-pub returns-in_err-rest-clause-fault : goal.returns-in_err-rest-clause-fault
-returns-in_err-rest-clause-fault c =
-    let p = err_from_is_err_and c.from_residual.result c.from_residual.ensures.1 in
-    rw (p.1, p.2) (entered_fails (enters_first by_word (sym c.looks_at.ensures ∙ c.if-looks_at.true)) c.in_err-rest.ensures.fault)
+pub returns-in-Option-clause-taken : goal.returns-in-Option-clause-taken
+returns-in-Option-clause-taken c = IfOk-weaker _ _ _ (λ rest. begun (Single OptionWord) by_word (rw c.in-Option.is at c.requires) (λ p. refl)) c.parse_option.ensures.taken
 
-pub returns-then-looks_at-clause-taken : goal.returns-then-looks_at-clause-taken
-returns-then-looks_at-clause-taken c = entered_adds (enters_first by_word (sym c.looks_at.ensures ∙ c.if-looks_at.true)) c.in_ok-rest.ensures.taken (λ p. refl)
+pub returns-in-Option-clause-fault : goal.returns-in-Option-clause-fault
+returns-in-Option-clause-fault c = IfErr-weaker _ _ _ (λ e. begun_fails (Single OptionWord) by_word (rw c.in-Option.is at c.requires)) c.parse_option.ensures.fault
 
-pub returns-in_err-rest-2-clause-fault : goal.returns-in_err-rest-2-clause-fault
-returns-in_err-rest-2-clause-fault c =
-    let p = err_from_is_err_and c.from_residual-in_err-rest-2.result c.from_residual-in_err-rest-2.ensures.1 in
-    rw (p.1, p.2) (entered_fails
-    (enters_past by_word (sym c.looks_at.ensures ∙ c.if-looks_at.false)
-    (enters_first by_type (sym c.looks_at_type.ensures ∙ c.if-looks_at_type.true))) c.in_err-rest-2.ensures.fault)
+pub returns-in-Member-clause-taken : goal.returns-in-Member-clause-taken
+returns-in-Member-clause-taken c = IfOk-weaker _ _ _ (λ rest. begun (type_from MemberTypeName) by_type (rw c.in-Member.is at c.requires) (λ p. refl)) c.parse_field.ensures.taken
 
-pub returns-then-looks_at_type-clause-taken : goal.returns-then-looks_at_type-clause-taken
-returns-then-looks_at_type-clause-taken c = entered_adds
-    (enters_past by_word (sym c.looks_at.ensures ∙ c.if-looks_at.false)
-    (enters_first by_type (sym c.looks_at_type.ensures ∙ c.if-looks_at_type.true))) c.in_ok-rest-2.ensures.taken (λ p. refl)
+pub returns-in-Member-clause-fault : goal.returns-in-Member-clause-fault
+returns-in-Member-clause-fault c = IfErr-weaker _ _ _ (λ e. begun_fails (type_from MemberTypeName) by_type (rw c.in-Member.is at c.requires)) c.parse_field.ensures.fault
 
-pub returns-in_err-rest-3-clause-fault : goal.returns-in_err-rest-3-clause-fault
-returns-in_err-rest-3-clause-fault c =
-    let p = err_from_is_err_and c.from_residual-in_err-rest-3.result c.from_residual-in_err-rest-3.ensures.1 in
-    rw (p.1, p.2) (entered_fails
-    (enters_past by_word (sym c.looks_at.ensures ∙ c.if-looks_at.false)
-    (enters_past by_type (sym c.looks_at_type.ensures ∙ c.if-looks_at_type.false)
-    (enters_itself by_token (sym c.looks_at-2.ensures ∙ c.if-looks_at-2.true)))) c.in_err-rest-3.ensures.fault)
+pub returns-in-Empty-clause-taken : goal.returns-in-Empty-clause-taken
+returns-in-Empty-clause-taken c = IfOk-weaker _ _ _ (λ rest. begun_empty (Single Semicolon) by_token (rw c.in-Empty.is at c.requires) (λ p. refl)) c.skip_empty.ensures.taken
 
-pub returns-then-looks_at-2-clause-taken : goal.returns-then-looks_at-2-clause-taken
-returns-then-looks_at-2-clause-taken c = entered_adds
-    (enters_past by_word (sym c.looks_at.ensures ∙ c.if-looks_at.false)
-    (enters_past by_type (sym c.looks_at_type.ensures ∙ c.if-looks_at_type.false)
-    (enters_itself by_token (sym c.looks_at-2.ensures ∙ c.if-looks_at-2.true)))) (adds_empty c.in_ok-rest-3.ensures.taken) (λ p. refl)
-
-pub returns-clause-none : goal.returns-clause-none
-returns-clause-none c = ends_past by_word (sym c.looks_at.ensures ∙ c.if-looks_at.false)
-    (ends_past by_type (sym c.looks_at_type.ensures ∙ c.if-looks_at_type.false)
-    (ends_itself by_token (sym c.looks_at-2.ensures ∙ c.if-looks_at-2.false)))
+pub returns-in-Empty-clause-fault : goal.returns-in-Empty-clause-fault
+returns-in-Empty-clause-fault c = IfErr-weaker _ _ _ (λ e. begun_fails (Single Semicolon) by_token (rw c.in-Empty.is at c.requires)) c.skip_empty.ensures.fault

@@ -1,34 +1,26 @@
-use Rattle.std.proofs.Common.{sym, ap, ◌∙◌, is_ok, arith}
+use Rattle.std.proofs.Common.{sym, ◌∙◌, ap, is_ok}
 use Rattle.std.proofs.ResultArms.{chosen}
-use Rattle.std.proofs.lemmas.Result.{err_from_is_err_and}
-use Rattle.pq_syntax.proofs.Separated.{separated_goes, separated_ends, separated_fails_token, separated_fails_item}
+use Rattle.pq_syntax.proofs.Separated.{separated_goes, separated_ends, separated_fails_token, separated_fails_item, separated_shorter}
 use Rattle.pq_syntax.proofs.Steps.{adding_begins}
+use Rattle.pq_syntax.proofs.Failing.{fails_on}
 use Rattle.pq_syntax.proofs.parser.reserved.parse_more_names.Goals as goal
 
-pub loop-alloc-init : goal.loop-alloc-init
-loop-alloc-init c = record { goes = adding_begins _ _; within = omega arith }
+pub items-init : goal.items-init
+items-init c = adding_begins _ _
 
 pub returns-in_err-next-clause-fault : goal.returns-in_err-next-clause-fault
 returns-in_err-next-clause-fault c =
-    let p = err_from_is_err_and c.from_residual.result c.from_residual.ensures.1 in
-    rw (p.1, p.2) (separated_fails_token c.loop-alloc.invariant.goes (sym c.looks_at.ensures ∙ c.loop-alloc-test.true) c.in_err-next.ensures.fault)
+    fails_on _ _ _ c.from_residual.ensures.1 (separated_fails_token c.items.invariant (sym c.looks_at.ensures ∙ c.items-test.true) c.in_err-next.ensures.fault)
 
 pub returns-in_err-name-clause-fault : goal.returns-in_err-name-clause-fault
 returns-in_err-name-clause-fault c =
-    let p = err_from_is_err_and c.from_residual-in_err-name.result c.from_residual-in_err-name.ensures.1 in
-    rw (p.1, p.2) (separated_fails_item c.loop-alloc.invariant.goes c.in_ok-next.ensures.taken c.in_err-name.ensures.fault)
+    fails_on _ _ _ c.from_residual-in_err-name.ensures.1 (separated_fails_item c.items.invariant c.in_ok-next.ensures.taken c.in_err-name.ensures.fault)
 
-pub loop-alloc-smaller : goal.loop-alloc-smaller
-loop-alloc-smaller c = omega (arith, c.in_ok-next.ensures.shorter, c.in_ok-name.ensures.shorter)
+pub items-preserved : goal.items-preserved
+items-preserved c = separated_goes c.items.invariant c.in_ok-next.ensures.taken c.in_ok-name.ensures.taken (chosen _ _ _ _ c.push.ensures.items (ap is_ok c.in_ok-push.was))
 
-pub loop-alloc-preserved : goal.loop-alloc-preserved
-loop-alloc-preserved c = record {
-  goes = separated_goes c.loop-alloc.invariant.goes c.in_ok-next.ensures.taken c.in_ok-name.ensures.taken (chosen _ _ _ _ c.push.ensures.items (ap is_ok c.in_ok-push.was));
-  within = omega (arith, c.loop-alloc.invariant.within, c.in_ok-next.ensures.shorter, c.in_ok-name.ensures.shorter);
-}
+pub items-smaller : goal.items-smaller
+items-smaller c = separated_shorter c.in_ok-next.ensures.taken c.in_ok-name.ensures.taken
 
 pub returns-clause-taken : goal.returns-clause-taken
-returns-clause-taken c = separated_ends c.loop-alloc.invariant.goes (sym c.looks_at.ensures ∙ c.loop-alloc-test.false)
-
-pub returns-clause-within : goal.returns-clause-within
-returns-clause-within c = c.loop-alloc.invariant.within
+returns-clause-taken c = separated_ends c.items.invariant (sym c.looks_at.ensures ∙ c.items-test.false)

@@ -1,6 +1,6 @@
 use Rattle.std.proofs.Common.{sym, ◌∙◌}
-use Rattle.std.proofs.lemmas.Result.{err_from_is_err_and}
 use Rattle.pq_syntax.proofs.Bounds.{ends_alone, ends_at_bound, ends_at_max, end_fails_at_to, end_fails_at_bound, end_fails_at_max}
+use Rattle.pq_syntax.proofs.Failing.{fails_on}
 use Rattle.pq_syntax.proofs.parser.reserved.parse_range_end.Goals as goal
 
 pub returns-then-not-looks_at-clause-taken : goal.returns-then-not-looks_at-clause-taken
@@ -8,13 +8,11 @@ returns-then-not-looks_at-clause-taken c = ends_alone _ _ _ (sym c.looks_at.ensu
 
 pub returns-in_err-rest-clause-fault : goal.returns-in_err-rest-clause-fault
 returns-in_err-rest-clause-fault c =
-    let p = err_from_is_err_and c.from_residual.result c.from_residual.ensures.1 in
-    rw (p.1, p.2) (end_fails_at_to _ _ _ _ (sym c.looks_at.ensures ∙ c.if-not-looks_at.false) c.in_err-rest.ensures.fault)
+    fails_on _ _ _ c.from_residual.ensures.1 (end_fails_at_to _ _ _ _ (sym c.looks_at.ensures ∙ c.if-not-looks_at.false) c.in_err-rest.ensures.fault)
 
 pub returns-in_err-last-clause-fault : goal.returns-in_err-last-clause-fault
 returns-in_err-last-clause-fault c =
-    let p = err_from_is_err_and c.from_residual-in_err-last.result c.from_residual-in_err-last.ensures.1 in
-    rw (p.1, p.2) (end_fails_at_bound _ (sym c.looks_at.ensures ∙ c.if-not-looks_at.false) c.in_ok-rest.ensures.taken
+    fails_on _ _ _ c.from_residual-in_err-last.ensures.1 (end_fails_at_bound _ (sym c.looks_at.ensures ∙ c.if-not-looks_at.false) c.in_ok-rest.ensures.taken
     (sym c.looks_at_bound.ensures ∙ c.if-looks_at_bound.true) c.in_err-last.ensures.fault)
 
 pub returns-then-looks_at_bound-clause-taken : goal.returns-then-looks_at_bound-clause-taken
@@ -24,8 +22,7 @@ returns-then-looks_at_bound-clause-taken c =
 
 pub returns-in_err-rest-2-clause-fault : goal.returns-in_err-rest-2-clause-fault
 returns-in_err-rest-2-clause-fault c =
-    let p = err_from_is_err_and c.from_residual-in_err-rest-2.result c.from_residual-in_err-rest-2.ensures.1 in
-    rw (p.1, p.2) (end_fails_at_max _ (sym c.looks_at.ensures ∙ c.if-not-looks_at.false) c.in_ok-rest.ensures.taken
+    fails_on _ _ _ c.from_residual-in_err-rest-2.ensures.1 (end_fails_at_max _ (sym c.looks_at.ensures ∙ c.if-not-looks_at.false) c.in_ok-rest.ensures.taken
     (sym c.looks_at_bound.ensures ∙ c.if-looks_at_bound.false) c.in_err-rest-2.ensures.fault)
 
 pub returns-clause-taken : goal.returns-clause-taken

@@ -1,43 +1,36 @@
 use Rattle.std.proofs.Common.{◌∙◌}
-use Rattle.std.proofs.lemmas.Result.{err_from_is_err_and}
 use Rattle.pq_syntax.specs.Tree.{method_end_nodes}
 use Rattle.pq_syntax.proofs.Bodies.{index_within, one_deeper}
 use Rattle.pq_syntax.proofs.Methods.{method_adds}
 use Rattle.pq_syntax.proofs.Rules.{takes_then}
 use Rattle.pq_syntax.proofs.Steps.{fails_first, fails_read, fails_token}
+use Rattle.pq_syntax.proofs.Failing.{fails_on}
 use Rattle.pq_syntax.proofs.parser.services.parse_method.Goals as goal
 
 pub returns-in_err-rest-clause-fault : goal.returns-in_err-rest-clause-fault
-returns-in_err-rest-clause-fault c =
-    let p = err_from_is_err_and c.from_residual.result c.from_residual.ensures.1 in
-    rw (p.1, p.2) (fails_first c.in_err-rest.ensures.fault)
+returns-in_err-rest-clause-fault c = fails_on _ _ _ c.from_residual.ensures.1 (fails_first c.in_err-rest.ensures.fault)
 
 pub returns-in_err-name-clause-fault : goal.returns-in_err-name-clause-fault
 returns-in_err-name-clause-fault c =
-    let p = err_from_is_err_and c.from_residual-in_err-name.result c.from_residual-in_err-name.ensures.1 in
-    rw (p.1, p.2) (fails_token c.in_ok-rest.ensures.taken (fails_first c.in_err-name.ensures.fault))
+    fails_on _ _ _ c.from_residual-in_err-name.ensures.1 (fails_token c.in_ok-rest.ensures.taken (fails_first c.in_err-name.ensures.fault))
 
 pub returns-in_err-input-clause-fault : goal.returns-in_err-input-clause-fault
 returns-in_err-input-clause-fault c =
-    let p = err_from_is_err_and c.from_residual-in_err-input.result c.from_residual-in_err-input.ensures.1 in
-    rw (p.1, p.2) (fails_token c.in_ok-rest.ensures.taken (fails_read c.in_ok-name.ensures.taken (fails_first c.in_err-input.ensures.fault)))
+    fails_on _ _ _ c.from_residual-in_err-input.ensures.1 (fails_token c.in_ok-rest.ensures.taken (fails_read c.in_ok-name.ensures.taken (fails_first c.in_err-input.ensures.fault)))
 
 pub returns-in_err-rest-2-clause-fault : goal.returns-in_err-rest-2-clause-fault
 returns-in_err-rest-2-clause-fault c =
-    let p = err_from_is_err_and c.from_residual-in_err-rest-2.result c.from_residual-in_err-rest-2.ensures.1 in
-    rw (p.1, p.2) (fails_token c.in_ok-rest.ensures.taken (fails_read c.in_ok-name.ensures.taken
+    fails_on _ _ _ c.from_residual-in_err-rest-2.ensures.1 (fails_token c.in_ok-rest.ensures.taken (fails_read c.in_ok-name.ensures.taken
     (fails_read c.in_ok-input.ensures.taken (fails_first c.in_err-rest-2.ensures.fault))))
 
 pub returns-in_err-output-clause-fault : goal.returns-in_err-output-clause-fault
 returns-in_err-output-clause-fault c =
-    let p = err_from_is_err_and c.from_residual-in_err-output.result c.from_residual-in_err-output.ensures.1 in
-    rw (p.1, p.2) (fails_token c.in_ok-rest.ensures.taken (fails_read c.in_ok-name.ensures.taken
+    fails_on _ _ _ c.from_residual-in_err-output.ensures.1 (fails_token c.in_ok-rest.ensures.taken (fails_read c.in_ok-name.ensures.taken
     (fails_read c.in_ok-input.ensures.taken (fails_token c.in_ok-rest-2.ensures.taken (fails_first c.in_err-output.ensures.fault)))))
 
 pub returns-in_err-rest-3-clause-fault : goal.returns-in_err-rest-3-clause-fault
 returns-in_err-rest-3-clause-fault c =
-    let p = err_from_is_err_and c.from_residual-in_err-rest-3.result c.from_residual-in_err-rest-3.ensures.1 in
-    rw (p.1, p.2) (fails_token c.in_ok-rest.ensures.taken (fails_read c.in_ok-name.ensures.taken
+    fails_on _ _ _ c.from_residual-in_err-rest-3.ensures.1 (fails_token c.in_ok-rest.ensures.taken (fails_read c.in_ok-name.ensures.taken
     (fails_read c.in_ok-input.ensures.taken (fails_token c.in_ok-rest-2.ensures.taken (fails_read c.in_ok-output.ensures.taken c.in_err-rest-3.ensures.fault)))))
 
 pub set_span-requires : goal.set_span-requires

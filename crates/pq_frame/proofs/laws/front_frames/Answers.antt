@@ -1,5 +1,0 @@
-use Rattle.pq_frame.proofs.OneReading.{frames_front}
-use Rattle.pq_frame.proofs.laws.front_frames.Goals as goal
-
-pub returns : goal.returns
-returns c = frames_front

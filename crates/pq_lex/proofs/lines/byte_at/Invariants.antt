@@ -1,5 +1,0 @@
-use Rattle.std.proofs.Common.{◌≡◌, ◌+◌, sum, take}
-use Rattle.pq_lex.proofs.lines.byte_at.Given as goal
-
-abbrev pub invariant-loop-i : goal.invariant-loop-i
-invariant-loop-i l = l.left + sum (take l.i l.units) ≡ l.column

@@ -1,0 +1,72 @@
+-- Auxiliary: what an index of lines keeps of a text (used by proofs, invariants and equality). The
+-- contracts of `position` and `offset` tie `lines_of` to the meaning: `position_of` and `IsOffset`
+-- of `Lines`.
+use Rattle.std.specs.Prelude.{◌≡◌, ℕ, zero, suc, ◌<◌, ◌≤◌, ◌==◌, Bool, ◌&&◌, cond, List, [], ◌∷◌, ◌++◌, length, map, sum, slice_index, slice_range, take, nat_lt}
+use Rattle.std.specs.List.{list_all}
+use Rattle.std.specs.Ordering.{eq_of_both, on}
+use Rattle.std.specs.Cmp.{IsEquivalence, and_equiv, nat_eq_equiv, on_equiv}
+use Rattle.std.specs.Cmp.Lexicographic.{lists_equiv, nat_list_eq_equiv, pointwise}
+use Rattle.pq_lex.specs.Lines.{starts_line, end_of_line, units_of}
+
+-- A `LineMark` is a line: its start, its end before the terminator, and the units of its bytes, or
+-- [] if all are ASCII.
+pub record LineMark : Type 0 where
+  pub start : ℕ
+  pub end : ℕ
+  pub units : List ℕ
+
+-- `is_ascii line` is whether each byte of `line` is ASCII.
+abbrev pub is_ascii : List ℕ → Bool
+is_ascii line = list_all (λ b. nat_lt b 0x80) line
+
+-- `units_kept line` is what an index keeps of the bytes `line`: their units, or [] if all are
+-- ASCII.
+abbrev pub units_kept : List ℕ → List ℕ
+units_kept line = cond (is_ascii line) [] (map units_of line)
+
+-- `mark text start` is the line of `text` that starts at offset `start`.
+abbrev pub mark : List ℕ → ℕ → LineMark
+mark text start = record { start = start; end = end_of_line text start; units = units_kept (slice_range text start (end_of_line text start)) }
+
+-- `starts_to text offset` is the offsets at which lines start, up to `offset`.
+unfoldable pub starts_to : List ℕ → ℕ → List ℕ
+starts_to text zero = 0 ∷ []
+starts_to text (suc i) = cond (starts_line text (suc i)) (starts_to text i ++ suc i ∷ []) (starts_to text i)
+
+-- `lines_of text` is the lines of `text`.
+abbrev pub lines_of : List ℕ → List LineMark
+lines_of text = map (mark text) (starts_to text (length text))
+
+-- `same_mark a b` is whether the lines `a` and `b` are the same.
+abbrev pub same_mark : LineMark → LineMark → Bool
+same_mark = eq_of_both (on (λ m. m.start) ◌==◌) (eq_of_both (on (λ m. m.end) ◌==◌) (on (λ m. m.units) (pointwise ◌==◌)))
+
+-- `same_lines a b` is whether the lists of lines `a` and `b` are the same.
+abbrev pub same_lines : List LineMark → List LineMark → Bool
+same_lines = pointwise same_mark
+
+-- `same_lines` is an equivalence: the law of `PartialEq` for an index.
+pub same_lines_equiv : IsEquivalence same_lines
+same_lines_equiv = lists_equiv (and_equiv (on_equiv (λ m. m.start) nat_eq_equiv) (and_equiv (on_equiv (λ m. m.end) nat_eq_equiv) (on_equiv (λ m. m.units) nat_list_eq_equiv)))
+
+-- `lead_index units at` is the index of the first byte of the character of the byte `at`, in a line
+-- with these `units`.
+unfoldable pub lead_index : List ℕ → ℕ → ℕ
+lead_index units zero = 0
+lead_index units (suc i) = cond (nat_lt (suc i) (length units) && slice_index units (suc i) == 0) (lead_index units i) (suc i)
+
+-- `column_of units at` is the column of the byte `at`: the units of the characters before its own.
+abbrev pub column_of : List ℕ → ℕ → ℕ
+column_of units at = sum (take (lead_index units at) units)
+
+-- `kept_column units at` is the column of the byte `at` of a line of which an index keeps `units`.
+abbrev pub kept_column : List ℕ → ℕ → ℕ
+kept_column units at = cond (length units == 0) at (column_of units at)
+
+-- `IsByte units column at` is: `at` is the last byte at or before `column` that starts a character,
+-- or the line's end.
+pub record IsByte (units : List ℕ) (column at : ℕ) : Type 0 where
+  pub within : at ≤ length units
+  pub start : at < length units → slice_index units at ≡ 0 → ⊥
+  pub fits : sum (take at units) ≤ column
+  pub most : (q : ℕ) → at < q → q ≤ length units → column < sum (take q units)

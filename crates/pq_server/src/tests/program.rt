@@ -1,0 +1,244 @@
+//! The program: its exit statuses, its lines of standard error, and its command lines.
+use super::support::{check_row_count, check_text, frames, split_row};
+use crate::command::refusal;
+use crate::status::{COMMAND_LINE, line_of, run_script, status_of, unread};
+use pq_frame::FrameFault;
+use pq_inputs::InputFault;
+use pq_session::{Counted, Memory, ScriptFault};
+use std::alloc::Global;
+use std::io;
+use std::io::{Read, Write};
+use std::process::Abort;
+use std::test::Fail;
+
+const INITIALIZE: &str = r#"{"id":0,"jsonrpc":"2.0","method":"initialize"}"#;
+
+const SHUTDOWN: &str = r#"{"id":1,"jsonrpc":"2.0","method":"shutdown"}"#;
+
+const EXIT: &str = r#"{"jsonrpc":"2.0","method":"exit"}"#;
+
+/// A notification that opens a file with a number for a text.
+const UNREADABLE: &str =
+    r#"{"jsonrpc":"2.0","method":"textDocument/didOpen","params":{"textDocument":{"uri":"file:///a","text":1}}}"#;
+
+/// A notification that opens the file `name` with a text of `length` spaces.
+fn open_of(alloc: Global, name: &str, length: usize) -> Result<String, Memory> {
+    let spaces = " ".repeat(alloc, length)?;
+    format!(in alloc;
+        r#"{{"jsonrpc":"2.0","method":"textDocument/didOpen","params":{{"textDocument":{{"uri":"file:///{name}","text":"{spaces}"}}}}}}"#
+    )
+}
+
+/// A reader and a writer that fail at each call.
+#[derive(Drop)]
+struct Broken;
+
+impl Read for Broken {
+    fn read(&mut self, _buf: &mut [u8]) -> io::Result<usize> {
+        Err(io::Error::from(io::ErrorKind::BrokenPipe))
+    }
+}
+
+impl Write for Broken {
+    fn write(&mut self, _buf: &[u8]) -> io::Result<usize> {
+        Err(io::Error::from(io::ErrorKind::BrokenPipe))
+    }
+
+    fn flush(&mut self) -> io::Result<()> {
+        Err(io::Error::from(io::ErrorKind::BrokenPipe))
+    }
+}
+
+/// A status and a line, without its line feed, as text.
+fn shown_end(alloc: Global, status: u8, line: &[u8]) -> Result<String, Memory> {
+    let line = String::from_utf8_lossy(alloc, line)?;
+    format!(in alloc; "{status} {}", line.as_str().trim_end())
+}
+
+/// Runs a script: its status, and its line, as text.
+fn shown_run<R: Read + Drop, W: Write + Drop>(
+    alloc: Global,
+    reader: R,
+    writer: W,
+) -> Result<String, Memory> {
+    let mut reader = Counted::new(reader);
+    let mut writer = Counted::new(writer);
+    let mut line = Vec::new(alloc);
+    let mut errors = Counted::new(&mut line);
+    let status = run_script(alloc, &mut reader, &mut writer, &mut errors);
+    shown_end(alloc, status, line.as_slice())
+}
+
+/// Checks that a script over `input` ends with the status and the line `want`.
+fn check_end(rt: &(impl Abort + AllocGlobal), input: &[u8], want: &str) -> Result<(), Fail> {
+    let output = Vec::new(rt.alloc());
+    let found = shown_run(rt.alloc(), input, output)?;
+    check_text(rt, found.as_str(), want, want);
+    Ok(())
+}
+
+/// Checks that a script over the frames of `bodies` ends with the status and the line `want`.
+fn check_bodies(rt: &(impl Abort + AllocGlobal), bodies: &[&str], want: &str) -> Result<(), Fail> {
+    let input = frames(rt.alloc(), bodies)?;
+    check_end(rt, input.as_slice(), want)
+}
+
+#[test]
+fn statuses_of_sessions(rt: HostRuntime) -> Result<(), Fail> {
+    check_bodies(&rt, &[INITIALIZE, SHUTDOWN, EXIT], "0 ")?;
+    check_bodies(&rt, &[INITIALIZE, EXIT], "1 ")?;
+    check_bodies(&rt, &[], "1 ")?;
+    check_bodies(
+        &rt,
+        &[INITIALIZE, UNREADABLE],
+        "3 pq_server: edit refused 0",
+    )?;
+    let long = open_of(rt.alloc(), "a", 1_048_577)?;
+    check_bodies(
+        &rt,
+        &[INITIALIZE, long.as_str()],
+        "3 pq_server: edit refused 1",
+    )
+}
+
+// `|` is CR LF.
+#[test]
+fn statuses_of_frames(rt: HostRuntime) -> Result<(), Fail> {
+    let rows = "\
+        | => 2 pq_server: frame fault 2\n\
+        Content-Length: x|| => 2 pq_server: frame fault 3\n\
+        Content-Length: 16777217|| => 2 pq_server: frame fault 4\n\
+        Content-Length: 10||{} => 2 pq_server: input ends inside a frame\n\
+        ";
+    check_row_count(&rt, 4, rows);
+    for row in rows.lines() {
+        let (input, want) = split_row(&rt, row, " => ");
+        let input = input.replace(rt.alloc(), "|", "\r\n")?;
+        check_end(&rt, input.as_bytes(), want)?;
+    }
+    let long = "x".repeat(rt.alloc(), 4096)?;
+    check_end(&rt, long.as_bytes(), "2 pq_server: frame fault 1")
+}
+
+/// Frames that initialize, and then open `count` files of no bytes, named by their numbers.
+fn opened_files(alloc: Global, count: usize) -> Result<Vec<u8>, Memory> {
+    let mut input = frames(alloc, &[INITIALIZE])?;
+    for number in 0..count {
+        let name = format!(in alloc; "{number}")?;
+        let opened = open_of(alloc, name.as_str(), 0)?;
+        input.extend_from_slice(&frames(alloc, &[opened.as_str()])?)?;
+    }
+    Ok(input)
+}
+
+#[test]
+fn one_file_too_many(rt: HostRuntime) -> Result<(), Fail> {
+    let input = opened_files(rt.alloc(), 4096)?;
+    check_end(&rt, input.as_slice(), "1 ")?;
+    let input = opened_files(rt.alloc(), 4097)?;
+    check_end(&rt, input.as_slice(), "3 pq_server: edit refused 2")
+}
+
+/// Frames that initialize, and then open one file `count` times.
+fn opened_again(alloc: Global, count: usize) -> Result<Vec<u8>, Memory> {
+    let mut input = frames(alloc, &[INITIALIZE])?;
+    let opened = open_of(alloc, "a", 0)?;
+    let one = frames(alloc, &[opened.as_str()])?;
+    for _ in 0..count {
+        input.extend_from_slice(one.as_slice())?;
+    }
+    Ok(input)
+}
+
+#[test]
+fn one_revision_too_many(rt: HostRuntime) -> Result<(), Fail> {
+    let input = opened_again(rt.alloc(), 65_537)?;
+    check_end(&rt, input.as_slice(), "3 pq_server: edit refused 3")
+}
+
+#[test]
+fn devices_that_fail(rt: HostRuntime) -> Result<(), Fail> {
+    let alloc = rt.alloc();
+    let found = shown_run(alloc, Broken, Vec::new(alloc))?;
+    check_text(&rt, found.as_str(), "4 pq_server: read failed", "a read");
+    let input = frames(alloc, &[INITIALIZE])?;
+    let found = shown_run(alloc, input.as_slice(), Broken)?;
+    check_text(&rt, found.as_str(), "4 pq_server: write failed", "a write");
+    Ok(())
+}
+
+// The status is that of the failed read.
+#[test]
+fn a_line_that_cannot_be_written(rt: HostRuntime) {
+    let mut reader = Counted::new(Broken);
+    let mut writer = Counted::new(Broken);
+    let mut errors = Counted::new(Broken);
+    let status = run_script(rt.alloc(), &mut reader, &mut writer, &mut errors);
+    assert_eq!(rt; status, 4);
+}
+
+/// Checks the status and the line of an outcome that no test can bring about.
+fn check_outcome(
+    rt: &(impl Abort + AllocGlobal),
+    fault: ScriptFault,
+    want: &str,
+) -> Result<(), Fail> {
+    let outcome = Err(fault);
+    let line = line_of(outcome).as_bytes();
+    let found = shown_end(rt.alloc(), status_of(outcome), line)?;
+    check_text(rt, found.as_str(), want, want);
+    Ok(())
+}
+
+#[test]
+fn outcomes_out_of_reach(rt: HostRuntime) -> Result<(), Fail> {
+    let starved = "5 pq_server: out of memory";
+    check_outcome(&rt, ScriptFault::Memory, starved)?;
+    check_outcome(&rt, ScriptFault::Frame(FrameFault::Memory), starved)?;
+    check_outcome(&rt, ScriptFault::Edit(InputFault::Memory), starved)?;
+    check_outcome(&rt, ScriptFault::TooManyReads, "4 pq_server: read failed")
+}
+
+/// Whether `clap` refuses the command line `words`, which are separated by blanks.
+fn is_refused(alloc: Global, words: &str) -> Result<bool, Memory> {
+    let mut given = Vec::new(alloc);
+    for word in words.split_whitespace() {
+        given.push(String::from_str(alloc, word)?)?;
+    }
+    Ok(refusal(given.as_slice(), alloc).is_some())
+}
+
+#[test]
+fn command_lines(rt: HostRuntime) -> Result<(), Fail> {
+    let rows = "pq_server\npq_server --help\npq_server listen\npq_server script more";
+    check_row_count(&rt, 4, rows);
+    for words in rows.lines() {
+        assert!(rt; is_refused(rt.alloc(), words)?, "{words}");
+    }
+    assert!(rt; !is_refused(rt.alloc(), "pq_server script")?);
+    assert_eq!(rt; COMMAND_LINE, 64);
+    Ok(())
+}
+
+/// Checks the status and the line if the words could not be read for `kind`.
+fn check_unread(
+    rt: &(impl Abort + AllocGlobal),
+    kind: io::ErrorKind,
+    want: &str,
+) -> Result<(), Fail> {
+    let (status, line) = unread(kind);
+    let found = shown_end(rt.alloc(), status, line.as_bytes())?;
+    check_text(rt, found.as_str(), want, want);
+    Ok(())
+}
+
+#[test]
+fn words_that_are_not_utf_8(rt: HostRuntime) -> Result<(), Fail> {
+    let kind = io::ErrorKind::InvalidData;
+    check_unread(&rt, kind, "64 pq_server: the command line is not UTF-8")?;
+    check_unread(
+        &rt,
+        io::ErrorKind::OutOfMemory,
+        "5 pq_server: out of memory",
+    )
+}

@@ -1,0 +1,78 @@
+-- What a script may respond to the body of a message, and its state after it.
+use Rattle.std.specs.Prelude.{◌≡◌, ◌⊎◌, ℕ, ◌+◌, List, [], Option, Some, None}
+use Rattle.serde_json.specs.Data.{Data}
+use Rattle.pq_frame.specs.Json.{IsJson}
+use Rattle.pq_frame.specs.Labels.{LabelModel}
+use Rattle.pq_frame.specs.Messages.{message_of}
+use Rattle.pq_inputs.specs.declared.durability.Durability.TheVariants.{Low}
+use Rattle.pq_inputs.specs.declared.fault.InputFault.{InputFault}
+use Rattle.pq_inputs.specs.Sources.{Sources, file_in, with_file}
+use Rattle.pq_inputs.specs.Refusal.{refusal}
+use Rattle.pq_session.specs.declared.state.outcome.Phase.{Phase}
+use Rattle.pq_session.specs.declared.state.outcome.Phase.TheVariants.{Fresh}
+use Rattle.pq_session.specs.Session.{QueryModel, file_diagnostics, Meaning, asks, says, edits, ignores, ends, meaning_of, next_phase}
+use Rattle.pq_session.specs.Reply.{diagnostics_text, out_of_memory_text}
+use Rattle.pq_session.specs.Compile.{diagnostics_of}
+
+-- The state of a script: the phase of the session, the sources that its edits made, and the number
+-- of those edits.
+pub record ScriptState : Type 0 where
+  pub phase : Phase
+  pub files : Sources
+  pub revision : ℕ
+
+-- `fresh` is the state of a script at its start.
+abbrev pub fresh : ScriptState
+fresh = record { phase = Fresh; files = []; revision = 0 }
+
+-- The response to a message: a text, nothing, the end of the session with a status, or the refusal
+-- of an edit, which ends the script.
+pub data Response : Type 0 where
+  replies : List ℕ → Response
+  silent : Response
+  finishes : ℕ → Response
+  refuses : InputFault → Response
+
+-- `answer_text state label query` is the response that answers `query` by the sources of `state`.
+abbrev pub answer_text : ScriptState → LabelModel → QueryModel → List ℕ
+answer_text state label (file_diagnostics name) = diagnostics_text label (diagnostics_of (file_in state.files name).text) state.revision
+
+-- `IsAnswer state label query text` is that `text` answers `query`, or says that an allocation
+-- failed.
+abbrev pub IsAnswer : ScriptState → LabelModel → QueryModel → List ℕ → Type 0
+IsAnswer state label query text = (text ≡ answer_text state label query) ⊎ (text ≡ out_of_memory_text label)
+
+-- `edit_refusal state name text` is the error of the edit that gives the file `name` this text, if
+-- it is refused.
+abbrev pub edit_refusal : ScriptState → List ℕ → Option (List ℕ) → Option InputFault
+edit_refusal state name text = refusal (record { files = state.files; revision = state.revision; history = [] }) name text
+
+-- `edit_response refusal` is the response to an edit with this refusal: an accepted edit has none.
+abbrev pub edit_response : Option InputFault → Response
+edit_response None = silent
+edit_response (Some fault) = refuses fault
+
+-- `edited state name text refusal` is the state after an edit. An accepted one makes a revision, in
+-- which the file `name` has this text and Low durability.
+abbrev pub edited : ScriptState → List ℕ → Option (List ℕ) → Option InputFault → ScriptState
+edited state name text None = record { phase = state.phase; files = with_file state.files name (record { text = text; durability = Low }); revision = state.revision + 1 }
+edited state name text (Some fault) = state
+
+-- `RespondsTo state meaning response after` is that a script in `state` may give `response` to a
+-- message of this meaning, and is then in the state `after`.
+abbrev pub RespondsTo : ScriptState → Meaning → Response → ScriptState → Type 0
+RespondsTo state (asks label query) response after = (text : List ℕ) × IsAnswer state label query text × (response ≡ replies text) × (after ≡ state)
+RespondsTo state (says text) response after = (response ≡ replies text) × (after ≡ state)
+RespondsTo state (edits name text) response after = (response ≡ edit_response (edit_refusal state name text)) × (after ≡ edited state name text (edit_refusal state name text))
+RespondsTo state ignores response after = (response ≡ silent) × (after ≡ state)
+RespondsTo state (ends status) response after = (response ≡ finishes status) × (after ≡ state)
+
+-- `in_phase phase state` is `state` with this phase.
+abbrev pub in_phase : Phase → ScriptState → ScriptState
+in_phase phase state = record { phase = phase; files = state.files; revision = state.revision }
+
+-- `Responds state body response after` is that a script in `state` may give `response` to `body`,
+-- and is then in the state `after`. The message that `body` is has its meaning by the phase before
+-- it.
+unfoldable pub Responds : ScriptState → List ℕ → Response → ScriptState → Type 0
+Responds state body response after = (json : Option Data) × IsJson body json × RespondsTo (in_phase (next_phase state.phase (message_of json)) state) (meaning_of state.phase (message_of json)) response after

@@ -1,0 +1,8 @@
+-- Auxiliary: definitions that proofs, invariants and private clauses use. No public contract rests
+-- on them.
+pub mod Models
+pub mod Outcomes
+pub mod Placed
+pub mod ServerState
+pub mod Answered
+pub mod Steps

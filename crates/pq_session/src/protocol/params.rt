@@ -1,0 +1,26 @@
+//! The parameters of requests and notifications.
+ghost use Rattle.std.specs.Prelude.{◌≡◌, option_map, string_bytes};
+ghost use Rattle.serde_json.specs.View.{view};
+ghost use Rattle.pq_session.specs.Session.{document_text as text_of_document};
+
+use serde_json::Value;
+
+/// The string member `name` of `params.textDocument` (LSP 3.17, "TextDocumentIdentifier",
+/// "TextDocumentItem").
+pub(crate) fn document_text<'a>(params: Option<&'a Value>, name: &str) -> Option<&'a str>
+    ensures { option_map (λ text. text.now) result ≡ text_of_document name.now (option_map (λ d. view d.now) params.entry) }
+{
+    params?.get("textDocument")?.get(name)?.as_str()
+}
+
+/// The string member `name` of `params.textDocument`, moved out of `params`.
+pub(crate) fn take_document_text(params: Option<Value>, name: &str) -> Option<String>
+    ensures { option_map string_bytes result ≡ text_of_document name.now (option_map view params) }
+{
+    let mut params = params?;
+    let text = params.get_mut("textDocument")?.get_mut(name)?;
+    match text.take() {
+        Value::String(text) => Some(text),
+        _ => None,
+    }
+}

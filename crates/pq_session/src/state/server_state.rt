@@ -1,0 +1,131 @@
+//! The state of the server, and what it does for each message.
+//!
+//! `handle` reads a body as a message, asks the session what the message means, and carries that
+//! out: it answers a query by the sources, makes an edit, or ends the session.
+ghost use Rattle.std.specs.Prelude.{◌≡◌, IfOk, OnOk, IfErr, option_map, string_bytes, Some, None};
+ghost use Rattle.pq_frame.specs.Labels.{label_model};
+ghost use Rattle.pq_session.specs.Session.{edits};
+ghost use Rattle.pq_session.specs.Responses.{Responds, RespondsTo, answer_text, fresh, replies, silent};
+ghost use Rattle.pq_session.specs.aux.Models.{query_model};
+ghost use Rattle.pq_session.specs.aux.Outcomes.{item_meaning, answer_meaning};
+ghost use Rattle.pq_session.specs.aux.ServerState.{state_of, response_of};
+ghost use Rattle.pq_session.specs.aux.Steps.{Refuses, RefusesMeaning};
+
+use crate::diagnose::file_diagnostics;
+use crate::fault::ScriptFault;
+use crate::protocol::refusals::Refusal;
+use crate::protocol::replies::{diagnostics_text, refusal_text};
+use crate::state::outcome::{Change, Item, Query, Request, Want};
+use crate::state::sessions::Session;
+use pq_frame::{Label, Message};
+use pq_inputs::{Durability, InputFault, Inputs};
+use std::alloc::{AllocError, Global};
+
+/// A session, and the sources that its edits made.
+#[derive(Drop)]
+pub(crate) struct ServerState {
+    session: Session,
+    inputs: Inputs,
+}
+
+/// What is to be done for one message.
+#[derive(Drop)]
+pub(crate) enum Step {
+    /// A response of this text is to be written.
+    Reply(String),
+    /// Nothing.
+    Silence,
+    /// The session ends with this status.
+    Finish(u8),
+}
+
+impl ServerState {
+    /// The state at the start of a session, without files.
+    pub(crate) fn new(alloc: Global) -> Result<ServerState, AllocError>
+        ensures { IfOk result (λ server. state_of server ≡ fresh) }
+    {
+        Ok(ServerState {
+            session: Session::new(),
+            inputs: Inputs::new(alloc)?,
+        })
+    }
+
+    /// The response that answers `query` by the sources.
+    fn answer(&self, alloc: Global, label: &Label, query: &Query) -> Result<String, AllocError>
+        ensures { IfOk result (λ text. string_bytes text
+            ≡ answer_text (state_of self.now) (label_model label.now) (query_model query.now)) }
+    {
+        match query {
+            Query::Diagnostics(name) => {
+                let items = file_diagnostics(alloc, self.inputs.get(name.as_str()))?;
+                diagnostics_text(alloc, label, &items, self.inputs.now().number())
+            }
+        }
+    }
+
+    /// The response to `request`. After an allocation failure a query is refused.
+    fn reply(&self, alloc: Global, request: Request) -> Result<String, AllocError>
+        ensures { IfOk result (λ text. RespondsTo (state_of self.now) (answer_meaning request)
+            (replies (string_bytes text)) (state_of self.now)) }
+    {
+        let Request { label, want } = request;
+        match want {
+            Want::Fixed(text) => Ok(text),
+            Want::Demand(query) => match self.answer(alloc, &label, &query) {
+                Ok(text) => Ok(text),
+                Err(_) => refusal_text(alloc, &label, Refusal::OutOfMemory),
+            },
+        }
+    }
+
+    /// Makes an edit. A refused edit leaves the sources as they were.
+    fn edit(&mut self, change: Change) -> Result<(), ScriptFault>
+        ensures ok { OnOk result (RespondsTo (state_of self.old)
+            (edits (string_bytes change.file) (option_map string_bytes change.text))
+            silent (state_of self.new)) }
+        ensures err { IfErr result (λ fault. RefusesMeaning (state_of self.old)
+            (edits (string_bytes change.file) (option_map string_bytes change.text))
+            fault (state_of self.new)) }
+    {
+        let Change { file, text } = change;
+        match self.inputs.set(file.as_str(), text, Durability::Low) {
+            Ok(_) => Ok(()),
+            Err(refused) => match refused.fault {
+                InputFault::Memory => Err(ScriptFault::Memory),
+                fault => Err(ScriptFault::Edit(fault)),
+            },
+        }
+    }
+
+    /// Does what a message asks for.
+    fn carry_out(&mut self, alloc: Global, item: Item) -> Result<Step, ScriptFault>
+        ensures ok { IfOk result (λ step.
+            RespondsTo (state_of self.old) (item_meaning item) (response_of step) (state_of self.new)) }
+        ensures err { IfErr result (λ fault.
+            RefusesMeaning (state_of self.old) (item_meaning item) fault (state_of self.new)) }
+    {
+        match item {
+            Item::Ask(request) => Ok(Step::Reply(self.reply(alloc, request)?)),
+            Item::Say(request) => Ok(Step::Reply(self.reply(alloc, request)?)),
+            Item::Edit(change) => {
+                self.edit(change)?;
+                Ok(Step::Silence)
+            }
+            Item::Ignore => Ok(Step::Silence),
+            Item::End(status) => Ok(Step::Finish(status)),
+        }
+    }
+
+    /// Handles the body of one message. The only errors are `Edit` and `Memory`.
+    #[tactic(auto, unfolding(crate::specs::Responses::Responds))]
+    pub(crate) fn handle(&mut self, alloc: Global, body: &[u8]) -> Result<Step, ScriptFault>
+        ensures ok { IfOk result (λ step.
+            Responds (state_of self.old) body.now (response_of step) (state_of self.new)) }
+        ensures err { IfErr result (λ fault.
+            Refuses (state_of self.old) body.now fault (state_of self.new)) }
+    {
+        let message = Message::read(alloc, body)?;
+        let item = self.session.on(alloc, message)?;
+        self.carry_out(alloc, item)
+    }
+}

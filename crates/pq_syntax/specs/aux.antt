@@ -1,0 +1,10 @@
+pub mod Machine
+pub mod LL1
+pub mod LL1Test
+pub mod Reading
+pub mod Parsed
+pub mod Equal
+pub mod Takes
+pub mod Loop
+pub mod Steps
+pub mod Openings
