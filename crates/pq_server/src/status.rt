@@ -15,7 +15,7 @@
 ghost use Rattle.std.specs.Prelude.{◌≡◌, ◌+◌, ◌<◌, ◌^◌, ℕ, List, Result};
 ghost use Rattle.std.specs.Io.KnownBytes.{Appends, Consumes, IsAtEnd};
 ghost use Rattle.pq_session.specs.Counts.{inner_of, failed_of, reads_of};
-ghost use Rattle.pq_session.specs.Script.{Scripts};
+ghost use Rattle.pq_session.specs.Script.{Scripts, IsMemoryAlone, FailsToRead, FailsToWrite};
 ghost use Rattle.pq_session.specs.declared.fault.ScriptFault.{ScriptFault};
 ghost use Rattle.pq_server.specs.Status.{status_of, line_of, frame_line, edit_line, unread_status, unread_line};
 
@@ -132,12 +132,15 @@ pub fn run_script<R: Read, W: Write, E: Write>(
     requires reader_left { failed_of reader.old < 2 ^ 63 }
     requires writer_left { failed_of writer.old < 2 ^ 63 }
     requires errors_left { failed_of errors.old < 2 ^ 63 }
-    // The script theorem, for an outcome whose status is the result. The line of that outcome was
-    // written, unless a write of it failed.
+    // The script theorem, with its clauses on failed calls, for an outcome whose status is the
+    // result. The line of that outcome was written, unless a write of it failed.
     ensures serves { (bytes : List ℕ) × (out : List ℕ) × (outcome : Result ℕ ScriptFault)
         × Scripts (IsAtEnd (R.remaining (inner_of reader.new))) (reads_of reader.new ≡ reads_of reader.old + 4294967296) bytes out outcome
         × Consumes (R.remaining (inner_of reader.old)) (R.remaining (inner_of reader.new)) bytes
         × Appends (W.contents (inner_of writer.old)) (W.contents (inner_of writer.new)) out
+        × FailsToRead outcome (failed_of reader.old) (failed_of reader.new)
+        × FailsToWrite outcome (failed_of writer.old) (failed_of writer.new)
+        × IsMemoryAlone outcome
         × (result ≡ status_of outcome)
         × (failed_of errors.new ≡ failed_of errors.old → Appends (E.contents (inner_of errors.old)) (E.contents (inner_of errors.new)) (line_of outcome)) }
 {
