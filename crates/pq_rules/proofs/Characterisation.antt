@@ -3,8 +3,8 @@
 --
 -- A rule that ends in a value by right reads makes it the key's answer (`means_done`), and back
 -- (`done_means`). Keys that wait round have their ring (`means_ring`), a key that waits for a key
--- with a cycle has that cycle (`means_passed`), and back (`cycle_waits`, `cycle_round`). The public
--- laws of src/laws.rt are these.
+-- with a cycle has that cycle (`means_passed`), and back (`cycle_waits`, `cycle_round`,
+-- `cycle_leads`). The public laws of src/laws.rt are these.
 use Rattle.std.proofs.Common.{◌≡◌, ℕ, zero, suc, ◌⊎◌, ◌<◌, ◌≤◌, List, [], ◌∷◌, ◌++◌, refl, sym, ◌∙◌, ap, subst, inl, inr, arith, append-nil}
 use Rattle.std.specs.declared.cmp.Ordering.{Ordering}
 use Rattle.std.specs.declared.cmp.Ordering.TheVariants.{Less}
@@ -317,3 +317,20 @@ cycle_round {K} {P} {V} m k r up c = at_level (m.level k) refl up
     at_level : (l : ℕ) → m.level k ≡ l → 0 < l → IsRing m.order (Waits m) r
     at_level zero at h = absurd (omega arith)
     at_level (suc l) at h = let here = means_at m (suc l) k (Cycle r) at c in ring_of l r here.0
+
+leads_waits : {K P V : Type 0} (m : Instance K P V) (l : ℕ) (k : K) (r : List K) → m.level k ≡ suc l
+    → LeadsInto (Next m (Below m (suc l)) (suc l)) k r → LeadsInto (Waits m) k r
+unfolding LeadsInto Leads
+leads_waits m l k [] at i = i
+leads_waits m l k (z ∷ zs) at (inl e) = inl e
+leads_waits m l k (z ∷ zs) at (inr c) = inr (c.0, ring_waits m l k c.0 z at c.1)
+
+-- a key with a cycle leads into the cycle by keys each of which waits for the next
+pub cycle_leads : {K P V : Type 0} (m : Instance K P V) (k : K) (r : List K)
+    → 0 < m.level k → Means m k (Cycle r) → LeadsInto (Waits m) k r
+unfolding Answers
+cycle_leads {K} {P} {V} m k r up c = at_level (m.level k) refl up
+  where
+    at_level : (l : ℕ) → m.level k ≡ l → 0 < l → LeadsInto (Waits m) k r
+    at_level zero at h = absurd (omega arith)
+    at_level (suc l) at h = leads_waits m l k r at (means_at m (suc l) k (Cycle r) at c).1

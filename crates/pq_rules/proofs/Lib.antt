@@ -15,3 +15,7 @@ pub mod Rotating
 pub mod Steps
 pub mod Closing
 pub mod Glue
+pub mod Embedded
+pub mod Preserved
+pub mod OneRead
+pub mod LowerReads

@@ -2,5 +2,6 @@ pub mod Turns
 pub mod Relations
 pub mod Value
 pub mod Laws
+pub mod Embedding
 pub mod sums
 pub mod aux
