@@ -34,3 +34,5 @@ pub mod ParseShape
 pub mod WordsInOrder
 pub mod PartSpans
 pub mod NodeSpans
+pub mod StackSteps
+pub mod Walk

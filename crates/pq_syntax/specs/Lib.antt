@@ -6,4 +6,6 @@ pub mod Parts
 pub mod Tree
 pub mod FaultPlace
 pub mod Spans
+pub mod Places
+pub mod Stacks
 pub mod aux

@@ -15,6 +15,7 @@ mod fault;
 mod laws;
 mod parser;
 mod parts;
+mod stack;
 mod terminal;
 mod tree;
 
@@ -26,5 +27,6 @@ pub use parts::{
     Strings,
 };
 pub use pq_names::Text;
+pub use stack::Stack;
 pub use std::alloc::AllocError as Memory;
 pub use tree::{File, ImportKind, Label, Node, Statement};
