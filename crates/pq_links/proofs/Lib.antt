@@ -1,0 +1,11 @@
+pub mod Adding
+pub mod AddSteps
+pub mod ImportSteps
+pub mod JoinSteps
+pub mod ByAnswers
+pub mod Equality
+pub mod GraphLemmas
+pub mod NameKinds
+pub mod Reached
+pub mod LinkedMeaning
+pub mod LinkedAnswers

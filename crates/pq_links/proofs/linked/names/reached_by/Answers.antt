@@ -1,0 +1,20 @@
+use Rattle.std.proofs.Common.{refl, ap, ◌∙◌}
+use Rattle.pq_links.specs.Visibility.{reached}
+use Rattle.pq_links.specs.aux.Adding.{add_firsts, same_name}
+use Rattle.pq_links.specs.declared.links.Import.{Import}
+use Rattle.pq_links.specs.declared.links.Links.{Links}
+use Rattle.pq_links.proofs.AddSteps.{adds_more, adds_all, ends_in}
+use Rattle.pq_links.proofs.linked.names.reached_by.Goals as goal
+
+pub each_pair-init : goal.each_pair-init
+each_pair-init c = ap (λ ns. add_firsts same_name ns (reached c.args.pairs.now)) (cc (c.in_ok-add_name.ensures.added, c.new-names.ensures.empty))
+
+pub each_pair-preserved : goal.each_pair-preserved
+each_pair-preserved c =
+    adds_more same_name (λ (e : Import × Links). e.1.reach) reached (λ x xs. refl) c.each_pair.names c.add_names.new.names _ c.args.pairs.now c.each_pair.pair-index c.pair-item.result c.each_pair-test.true
+    (cc (c.in_ok-add_names.ensures.added, c.as_slice.ensures, c.get.ensures.value, c.pair-item.is)) c.each_pair.invariant
+
+pub returns : goal.returns
+returns c = record {
+  names = c.into_items.ensures.items ∙ ends_in c.args.file.now c.each_pair.names _ (reached c.args.pairs.now) _ (adds_all same_name reached refl _ _ _ _ c.each_pair-test.false c.each_pair.invariant) (cc (c.in_ok-add_names-2.ensures.added, c.as_slice-2.ensures, c.get-2.ensures.value));
+}

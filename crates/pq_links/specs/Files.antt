@@ -1,0 +1,72 @@
+-- What a file of the sources is read as, and the graph of the files' imports (proto3 language
+-- specification, "Import Statement").
+--
+-- The definition of `parsed`, of the tree or first error of a text, is that of pq_syntax, whose law
+-- `each_parse` ties it to the grammar. `lines_of` is what an index keeps of the lines of a text, in
+-- pq_lex; the contracts of `LineIndex` tie it to positions.
+use Rattle.std.specs.Prelude.{ℕ, Bool, true, false, not, ◌&&◌, cond, bytes_eq, List, [], filter_map, Option, Some, None}
+use Rattle.std.specs.Str.{is_utf8}
+use Rattle.pq_inputs.specs.Sources.{Sources, file_in}
+use Rattle.pq_lex.specs.aux.LineMarks.{lines_of}
+use Rattle.pq_syntax.specs.aux.Parsed.{parsed}
+use Rattle.pq_syntax.specs.declared.fault.Parsed.{Parsed}
+use Rattle.pq_syntax.specs.declared.fault.Parsed.TheVariants.{Tree, Fault}
+use Rattle.pq_syntax.specs.declared.tree.Node.{Node}
+use Rattle.pq_syntax.specs.declared.tree.ImportKind.{ImportKind}
+use Rattle.pq_syntax.specs.declared.tree.ImportKind.TheVariants.{Plain, Public, Weak}
+use Rattle.pq_syntax.specs.declared.tree.Statement.{Statement}
+use Rattle.pq_syntax.specs.declared.tree.Statement.TheVariants.{Import as ImportStatement}
+use Rattle.pq_links.specs.Once.{each_once}
+use Rattle.pq_links.specs.ImportGraph.{Graph}
+use Rattle.pq_links.specs.declared.files.ParsedFile.{ParsedFile}
+use Rattle.pq_links.specs.declared.files.ParsedFile.TheVariants.{Absent, Present}
+use Rattle.pq_links.specs.declared.links.Import.{Import}
+
+-- `is_public kind` is whether an import of the kind `kind` is public; a weak import counts as plain
+abbrev pub is_public : ImportKind → Bool
+is_public Public = true
+is_public Plain = false
+is_public Weak = false
+
+-- `import_by kind file` is the import of the kind `kind` of the file named `file`, or `None` if the
+-- name is not UTF-8
+abbrev pub import_by : ImportKind → List ℕ → Option Import
+import_by kind file = cond (is_utf8 file) (Some (record { file = file; is_public = is_public kind })) None
+
+-- `import_of s` is the import that the statement `s` is, or `None` for any other statement
+abbrev pub import_of : Statement → Option Import
+import_of (ImportStatement kind file) = import_by kind file.value
+import_of _ = None
+
+-- `same_import a b` is whether `a` and `b` import the same file, and both or neither is public
+abbrev pub same_import : Import → Import → Bool
+same_import a b = bytes_eq a.file b.file && cond a.is_public b.is_public (not b.is_public)
+
+-- `import_statements nodes` is the imports that the statements `nodes` are, in text order
+abbrev pub import_statements : List Node → List Import
+import_statements nodes = filter_map (λ n. import_of n.statement) nodes
+
+-- `imports_of nodes` is the imports of a file with the statements `nodes`: each pair of name and
+-- publicity once, at its first place in text order
+abbrev pub imports_of : List Node → List Import
+imports_of nodes = each_once same_import (import_statements nodes)
+
+-- `parsed_imports p` is the imports of a text with the tree or error `p`: with a syntax error it
+-- has none
+abbrev pub parsed_imports : Parsed → List Import
+parsed_imports (Tree nodes) = imports_of nodes
+parsed_imports (Fault span code) = []
+
+-- `file_imports f` is the imports of the file that is read as `f`, or `None` if it is absent
+abbrev pub file_imports : ParsedFile → Option (List Import)
+file_imports Absent = None
+file_imports (Present p lines) = Some (parsed_imports p)
+
+-- `read_file text` is what a file with `text` is read as, `None` for an absent file
+abbrev pub read_file : Option (List ℕ) → ParsedFile
+read_file None = Absent
+read_file (Some text) = Present (parsed text) (lines_of text)
+
+-- `graph_of s` is the import graph of the sources `s`
+abbrev pub graph_of : Sources → Graph
+graph_of s f = file_imports (read_file (file_in s f).text)

@@ -1,0 +1,7 @@
+pub mod Once
+pub mod ImportGraph
+pub mod Visibility
+pub mod Files
+pub mod Answers
+pub mod LinkedKeys
+pub mod aux

@@ -1,0 +1,47 @@
+//! Laws of the queries, each as the contract of a function that does nothing.
+//!
+//! Each of the first three is of every sum of queries `S` and of every list `es` of questions with their answers
+//! by which the query's own rule runs from its start to a value. It says what the questions were,
+//! in order, and that the value is the definition, applied to what these answers say.
+ghost use Rattle.std.specs.Prelude.{List, ℕ, Option};
+ghost use Rattle.pq_rules.specs.declared.turn.Turn.TheVariants.{Done};
+ghost use Rattle.pq_inputs.specs.Sources.{Sources};
+ghost use Rattle.pq_rules.specs.declared.turn.Answer.{Answer};
+ghost use Rattle.pq_rules.specs.Embedding.{Runs};
+ghost use Rattle.pq_rules.specs.Turns.{over};
+ghost use Rattle.pq_rules.specs.Value.{Means};
+ghost use Rattle.pq_links.specs.Answers.{IsParsedBy, AreImportsBy, AreLinksBy};
+ghost use Rattle.pq_links.specs.ImportGraph.{Graph};
+ghost use Rattle.pq_links.specs.LinkedKeys.{EmbedsLinks, LinkedIs};
+ghost use Rattle.pq_links.specs.aux.Queries.{parse_starts, parse_advances, imports_starts, imports_advances, linked_starts, linked_advances};
+ghost use Rattle.pq_links.specs.declared.files.ParsedFile.{ParsedFile};
+ghost use Rattle.pq_links.specs.declared.linked.Linking.{Linking};
+ghost use Rattle.pq_links.specs.declared.links.Import.{Import};
+ghost use Rattle.pq_links.specs.declared.links.Links.{Links};
+
+use crate::keys::LinkKeys;
+use pq_rules::Rules;
+
+/// The parse of a file asks its text, and ends in what a file with that text is read as.
+pub fn parse_by_answers<S: LinkKeys>()
+    ensures gives { (f : List ℕ) (es : List (S.Key × S.Answer)) (v : ParsedFile) → Runs (λ (q : Unit {0}) (a : S.Answer). parse_advances (S.text a)) (parse_starts S.input f) es (Done v) → IsParsedBy S.input S.text f es v }
+{}
+
+/// The imports of a file ask its parse, and end in the imports of that, `None` where it is absent.
+pub fn imports_by_answers<S: LinkKeys>()
+    ensures gives { (f : List ℕ) (es : List (S.Key × S.Answer)) (v : Option (List Import)) → Runs (λ (q : Unit {0}) (a : S.Answer). imports_advances (S.parsed a)) (imports_starts S.parse f) es (Done v) → AreImportsBy S.parse S.parsed f es v }
+{}
+
+/// The links of a file ask its imports and then the links of each imported file, in order, and end
+/// in the links by these.
+pub fn links_by_answers<S: LinkKeys>()
+    ensures gives { (f : List ℕ) (es : List (S.Key × S.Answer)) (l : Links) → Runs (λ (q : Linking) (a : S.Answer). linked_advances S.linked (S.imported a) (S.links a) q) (linked_starts S.imports f) es (Done l) → AreLinksBy S.imports S.linked S.imported S.links f es l }
+{}
+
+/// In each rule set that embeds the query of links above the imports of a graph, the answer of a
+/// file's links is what the graph says: the links of a good file, the ring of a bad one. If imports
+/// have answers, then what the graph says is an answer.
+pub fn links_in_rules<R: Rules>(_rules: &R)
+    ensures means { (files : Sources) (g : Graph) (imports linked : List ℕ → R.Key) (part : Linking → R.Part) (value : Links → R.Value) (imports_read : Answer R.Key R.Value → Option (List Import)) (links_read : Answer R.Key R.Value → Links) (level : ℕ) → EmbedsLinks (over R.Key.cmp (R.machine _rules.now) files) g imports linked part value imports_read links_read level → (f : List ℕ) (a : Answer R.Key R.Value) → Means (over R.Key.cmp (R.machine _rules.now) files) (linked f) a → LinkedIs g linked value f a }
+    ensures answers { (files : Sources) (g : Graph) (imports linked : List ℕ → R.Key) (part : Linking → R.Part) (value : Links → R.Value) (imports_read : Answer R.Key R.Value → Option (List Import)) (links_read : Answer R.Key R.Value → Links) (level : ℕ) → EmbedsLinks (over R.Key.cmp (R.machine _rules.now) files) g imports linked part value imports_read links_read level → ((f : List ℕ) → (a : Answer R.Key R.Value) × Means (over R.Key.cmp (R.machine _rules.now) files) (imports f) a) → (f : List ℕ) (a : Answer R.Key R.Value) → LinkedIs g linked value f a → Means (over R.Key.cmp (R.machine _rules.now) files) (linked f) a }
+{}

@@ -1,0 +1,31 @@
+//! The import graph of proto3 files, as queries: the parse of a file, its imports, and its links,
+//! which are the files that it exports, sees and reaches.
+//!
+//! The graph is defined in `specs/ImportGraph`, exports, visible and reached files in
+//! `specs/Visibility`, and what a text is read as in `specs/Files`. The three queries know no rule
+//! set: a sum of queries makes their keys and reads its answers through `LinkKeys`. The laws say
+//! what each query asks and ends in, for every sum. The law `links_in_rules` says what the answers of
+//! links are in every rule set: the links of a good file, and for a bad one the ring into which it
+//! leads.
+#![tactic(auto)]
+
+mod files;
+mod firsts;
+mod import_list;
+mod imports;
+mod keys;
+mod laws;
+mod linked;
+mod links;
+mod parse;
+
+pub use files::ParsedFile;
+pub use imports::ImportsQuery;
+pub use keys::LinkKeys;
+pub use laws::{imports_by_answers, links_by_answers, links_in_rules, parse_by_answers};
+pub use linked::{Joined, LinkedQuery, Linking};
+pub use links::{Import, Links};
+pub use parse::ParseQuery;
+pub use pq_rules::{Shared, Text};
+pub use pq_syntax::Items;
+pub use std::alloc::AllocError as Memory;

@@ -1,0 +1,165 @@
+//! The three lists of a file's links, by the links of its imports' files.
+//!
+//! Each takes N log N time for N names in the lists of these files. Names are shared, not copied.
+ghost use Rattle.std.specs.Prelude.{◌≡◌, [], ◌∷◌, ◌++◌, cond, IfOk, OnOk};
+ghost use Rattle.pq_links.specs.Visibility.{firsts, links_by, no_links, passed_on, shown, reached};
+ghost use Rattle.pq_links.specs.aux.Adding.{add_first, add_firsts, same_name};
+
+use crate::Memory;
+use crate::firsts::Firsts;
+use crate::links::{Import, Links};
+use pq_rules::{Shared, Text};
+use pq_syntax::Items;
+use std::alloc::Global;
+
+/// Adds `name`, if it is not there yet.
+fn add_name(names: &mut Firsts<Text>, name: &Text) -> Result<(), Memory>
+    ensures added { OnOk result (names.new ≡ add_first same_name names.old name.now) }
+{
+    let item = name.copy()?;
+    let key = name.copy()?;
+    names.add(item, key)
+}
+
+/// Adds each name of `more` in order, if it is not there yet.
+fn add_names(names: &mut Firsts<Text>, more: &[Text]) -> Result<(), Memory>
+    ensures added { OnOk result (names.new ≡ add_firsts same_name names.old more.now) }
+{
+    'each_name: for name in more {
+        add_name(names, name)?;
+    }
+    Ok(())
+}
+
+/// Adds what `import` passes on, if it is public.
+fn add_public(
+    names: &mut Firsts<Text>,
+    import: &Import,
+    links: &Shared<Links>,
+) -> Result<(), Memory>
+    ensures added { OnOk result (names.new ≡ add_firsts same_name names.old (cond import.now.is_public links.now.exports [])) }
+{
+    if import.is_public {
+        add_names(names, links.get().exports.as_slice())?;
+    }
+    Ok(())
+}
+
+/// What `file` exports, by the imports `pairs` and one more import.
+fn exports_of(
+    alloc: Global,
+    file: &Text,
+    pairs: &[(Import, Shared<Links>)],
+    last: &Import,
+    links: &Shared<Links>,
+) -> Result<Items<Text>, Memory>
+    ensures names { IfOk result (λ names. names ≡ firsts (file.now ∷ (passed_on pairs.now ++ cond last.now.is_public links.now.exports []))) }
+{
+    let mut names = Firsts::new(alloc);
+    add_name(&mut names, file)?;
+    'each_pair: for pair in pairs {
+        add_public(&mut names, &pair.0, &pair.1)?;
+    }
+    add_public(&mut names, last, links)?;
+    Ok(names.into_items())
+}
+
+/// What `file` sees, by the imports `pairs` and one more import with `links`.
+fn visible_to(
+    alloc: Global,
+    file: &Text,
+    pairs: &[(Import, Shared<Links>)],
+    links: &Shared<Links>,
+) -> Result<Items<Text>, Memory>
+    ensures names { IfOk result (λ names. names ≡ firsts (file.now ∷ (shown pairs.now ++ links.now.exports))) }
+{
+    let mut names = Firsts::new(alloc);
+    add_name(&mut names, file)?;
+    'each_pair: for pair in pairs {
+        add_names(&mut names, pair.1.get().exports.as_slice())?;
+    }
+    add_names(&mut names, links.get().exports.as_slice())?;
+    Ok(names.into_items())
+}
+
+/// What `file` reaches, by the imports `pairs` and one more import with `links`.
+fn reached_by(
+    alloc: Global,
+    file: &Text,
+    pairs: &[(Import, Shared<Links>)],
+    links: &Shared<Links>,
+) -> Result<Items<Text>, Memory>
+    ensures names { IfOk result (λ names. names ≡ firsts (file.now ∷ (reached pairs.now ++ links.now.reach))) }
+{
+    let mut names = Firsts::new(alloc);
+    add_name(&mut names, file)?;
+    'each_pair: for pair in pairs {
+        add_names(&mut names, pair.1.get().reach.as_slice())?;
+    }
+    add_names(&mut names, links.get().reach.as_slice())?;
+    Ok(names.into_items())
+}
+
+/// The links of `file`, by the imports `pairs` and one more import, each with its file's links.
+pub(crate) fn join(
+    alloc: Global,
+    file: &Text,
+    pairs: &[(Import, Shared<Links>)],
+    last: &Import,
+    links: &Shared<Links>,
+) -> Result<Shared<Links>, Memory>
+    ensures links { IfOk result (λ l. l ≡ links_by file.now (pairs.now ++ (last.now, links.now) ∷ [])) }
+{
+    let exports = exports_of(alloc, file, pairs, last, links)?;
+    let visible = visible_to(alloc, file, pairs, links)?;
+    let reach = reached_by(alloc, file, pairs, links)?;
+    Shared::new(
+        alloc,
+        Links {
+            exports,
+            visible,
+            reach,
+        },
+    )
+}
+
+/// The list of `file` alone.
+fn only(alloc: Global, file: &Text) -> Result<Items<Text>, Memory>
+    ensures names { IfOk result (λ names. names ≡ file.now ∷ []) }
+{
+    let mut names = Vec::new(alloc);
+    names.push(file.copy()?)?;
+    Ok(Items::new(names))
+}
+
+/// The links of a present file without imports.
+#[tactic(auto, unfolding(crate::specs::Once::each_once))]
+pub(crate) fn alone(alloc: Global, file: &Text) -> Result<Shared<Links>, Memory>
+    ensures links { IfOk result (λ l. l ≡ links_by file.now []) }
+{
+    let exports = only(alloc, file)?;
+    let visible = only(alloc, file)?;
+    let reach = only(alloc, file)?;
+    Shared::new(
+        alloc,
+        Links {
+            exports,
+            visible,
+            reach,
+        },
+    )
+}
+
+/// The links of an absent file: none.
+pub(crate) fn nothing(alloc: Global) -> Result<Shared<Links>, Memory>
+    ensures links { IfOk result (λ l. l ≡ no_links) }
+{
+    Shared::new(
+        alloc,
+        Links {
+            exports: Items::new(Vec::new(alloc)),
+            visible: Items::new(Vec::new(alloc)),
+            reach: Items::new(Vec::new(alloc)),
+        },
+    )
+}
