@@ -27,8 +27,8 @@ impl Import {
     }
 }
 
-/// The links of a file. Each list is in text order, with each name once; the file itself is its
-/// first.
+/// The links of a file. Each list is in text order, with each name once, and the file itself is its
+/// first. The lists of an absent file are empty.
 #[derive(Drop, PartialEq, Eq)]
 pub struct Links {
     /// The files that a file which imports this one sees by it.

@@ -1,7 +1,6 @@
-use Rattle.std.proofs.Common.{◌≡◌, Some, None, ap, sym, ◌∙◌, cond}
 use Rattle.std.specs.Str.{is_utf8}
 use Rattle.pq_links.specs.Files.{is_public}
-use Rattle.pq_links.proofs.ImportSteps.{import_some, import_none, some_import}
+use Rattle.pq_links.proofs.ImportSteps.{import_none}
 use Rattle.pq_links.proofs.import_list.import_named.Goals as goal
 
 pub returns-in-None : goal.returns-in-None
