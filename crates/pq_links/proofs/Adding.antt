@@ -1,5 +1,5 @@
 -- Items that are added one after another, each if it is not there yet, are each at its first place:
--- `add_firsts same [] xs` is `each_once same xs`, for a test `same` that holds of equal items alone.
+-- `add_firsts same [] xs` is `each_once same xs`, if the test `same` holds of equal items alone.
 use Rattle.std.proofs.Common.{◌≡◌, ℕ, Bool, true, false, cond, not, ◌||◌, List, [], ◌∷◌, ◌++◌, refl, sym, ap, subst, ◌∙◌, append-nil, append_assoc}
 use Rattle.std.specs.Prelude.{bytes_eq, filter}
 use Rattle.std.specs.BTreeMap.{is_at}

@@ -7,5 +7,6 @@ pub mod Equality
 pub mod GraphLemmas
 pub mod NameKinds
 pub mod Reached
+pub mod FileAnswers
 pub mod LinkedMeaning
 pub mod LinkedAnswers

@@ -1,6 +1,6 @@
--- In every rule set in which the query of links is embedded, and in which the answers of imports are
--- those of a graph, the answer of a file's links is the links of the file, or the cycle of the ring
--- into which the file leads. `LinkedAnswers` has the other direction.
+-- In every rule set in which the query of links is embedded, and in which the answers of imports
+-- are those of a graph, the answer of a file's links is the links of the file, or the cycle of the
+-- ring into which the file leads. `LinkedAnswers` has the other direction.
 --
 -- That a value is the links of a good file goes by induction on right reads (`means_fits`). A key
 -- with a cycle waits for the links of an import after good ones, again and again, so walks of every
@@ -40,7 +40,7 @@ module _ {K P V : Type 0} (m : Instance K P V) (g : Graph) (imports linked : Lis
   up : 0 < level
   up = let a = s.above [] in omega arith
 
-  -- `IfLinks k a` is that `a`, if it is a value and `k` the key of a file's links, is the file's links
+  -- `IfLinks k a` is that `a` is the links of a file, if it is a value and `k` the key of them
   abbrev pub IfLinks : K → Answer K V → Type 0
   IfLinks k a = (f : List ℕ) (v : V) → k ≡ linked f → a ≡ Value v → (l : Links) × (v ≡ value l) × AreLinks g f l
 

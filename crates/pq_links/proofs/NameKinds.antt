@@ -1,6 +1,6 @@
--- Kinds of names that the query of links preserves: with answers that hold names of a kind alone, it
--- asks keys of names of the kind, and ends in names of the kind. The laws of a sum follow from this,
--- with `proofs/Preserved` of pq_rules.
+-- Kinds of names that the query of links preserves: with answers that hold names of a kind alone,
+-- it asks keys of names of the kind, and ends in names of the kind. The laws of a sum follow from
+-- this, with `proofs/Preserved` of pq_rules.
 use Rattle.std.proofs.Common.{ℕ, Bool, true, false, cond, not, List, [], ◌∷◌, ◌++◌, map, Option, Some, None}
 use Rattle.std.specs.Prelude.{bytes_eq, filter}
 use Rattle.pq_rules.specs.Relations.{Each}
@@ -46,10 +46,14 @@ each_filter : {A : Type 0} (P : A → Type 0) (f : A → Bool) (xs : List A) →
 each_filter P f [] a = tt
 each_filter P f (x ∷ xs) a = each_kept P (f x) x (filter f xs) a.0 (each_filter P f xs a.1)
 
-pub firsts_in : (N : List ℕ → Type 0) (xs : List (List ℕ)) → Each N xs → Each N (firsts xs)
+-- what holds of all items holds of those at their first places
+pub once_in : {A : Type 0} (same : A → A → Bool) (P : A → Type 0) (xs : List A) → Each P xs → Each P (each_once same xs)
 unfolding each_once
-firsts_in N [] a = tt
-firsts_in N (x ∷ xs) a = (a.0, each_filter N (λ y. not (bytes_eq x y)) (firsts xs) (firsts_in N xs a.1))
+once_in same P [] a = tt
+once_in same P (x ∷ xs) a = (a.0, each_filter P (λ y. not (same x y)) (each_once same xs) (once_in same P xs a.1))
+
+pub firsts_in : (N : List ℕ → Type 0) (xs : List (List ℕ)) → Each N xs → Each N (firsts xs)
+firsts_in N xs a = once_in bytes_eq N xs a
 
 public_in : (N : List ℕ → Type 0) (b : Bool) (xs : List (List ℕ)) → Each N xs → Each N (cond b xs [])
 public_in N true xs a = a

@@ -1,5 +1,5 @@
--- What a file exports, sees and reaches (proto3 language specification, "Import Statement"; Language
--- Guide (proto 3), "Importing Definitions").
+-- What a file exports, sees and reaches (proto3 language specification, "Import Statement", and
+-- Language Guide (proto 3), "Importing Definitions").
 --
 -- A file exports itself and what its public imports export. It sees itself and what its imports
 -- export. It reaches itself and what its imports reach. Each list is in text order, depth first,

@@ -1,8 +1,9 @@
 //! Laws of the queries, each as the contract of a function that does nothing.
 //!
-//! Each of the first three is of every sum of queries `S` and of every list `es` of questions with their answers
-//! by which the query's own rule runs from its start to a value. It says what the questions were,
-//! in order, and that the value is the definition, applied to what these answers say.
+//! Each of the first three is of every sum of queries `S`, and of every list `es` of questions with
+//! their answers by which the query's own rule runs from its start to a value. It says what the
+//! questions were, in order, and that the value is the definition, applied to what these answers
+//! say. The last is of the answers in a rule set.
 ghost use Rattle.std.specs.Prelude.{List, ℕ, Option};
 ghost use Rattle.pq_rules.specs.declared.turn.Turn.TheVariants.{Done};
 ghost use Rattle.pq_inputs.specs.Sources.{Sources};

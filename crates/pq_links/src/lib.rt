@@ -4,9 +4,9 @@
 //! The graph is defined in `specs/ImportGraph`, exports, visible and reached files in
 //! `specs/Visibility`, and what a text is read as in `specs/Files`. The three queries know no rule
 //! set: a sum of queries makes their keys and reads its answers through `LinkKeys`. The laws say
-//! what each query asks and ends in, for every sum. The law `links_in_rules` says what the answers of
-//! links are in every rule set: the links of a good file, and for a bad one the ring into which it
-//! leads.
+//! what each query asks and ends in, for every sum. The law `links_in_rules` says what the answers
+//! of links are in every rule set: the links of a good file, and for a bad one the ring into which
+//! it leads.
 #![tactic(auto)]
 
 mod files;
