@@ -2,10 +2,11 @@
 //! the answer of a key is, and the slow evaluator, which keeps nothing between calls.
 //!
 //! The definitions are in `specs/Turns` (rule sets), `specs/Relations` (chains and rings),
-//! `specs/Value` (the answer of a key) and `specs/Laws`. Modules: `turn` (turns and answers),
-//! `query` (one query), `rules` (a rule set and its laws), `shared` (values that copies share),
-//! `answers` (copies and equality of answers), `scratch` (the evaluator) over `answer_table`,
-//! `laws` (laws of answers), `sums` (the example: a sum of two queries).
+//! `specs/Value` (the answer of a key), `specs/Laws` and `specs/Embedding` (a query as one of a rule
+//! set). Modules: `turn` (turns and answers), `query` (one query), `rules` (a rule set and its laws),
+//! `shared` (values that copies share), `answers` (copies and equality of answers), `scratch` (the
+//! evaluator) over `answer_table`, `laws` (laws of answers), `sums` (the example: a sum of two
+//! queries).
 #![tactic(auto)]
 
 mod answer_table;
