@@ -7,7 +7,7 @@ use Rattle.pq_lex.specs.declared.token.Token.{Token}
 use Rattle.pq_syntax.specs.aux.LL1Test.{first_set, all_apart}
 use Rattle.pq_syntax.specs.aux.Machine.{nullable, in_first}
 use Rattle.pq_syntax.specs.Rule.{Rule, Parse}
-use Rattle.pq_syntax.specs.Rule.Rule.{Single, Empty, Seq, Alt, Star}
+use Rattle.pq_syntax.specs.Rule.Rule.{Alt}
 use Rattle.pq_syntax.specs.Rule.Parse.{Left, Right}
 use Rattle.pq_syntax.specs.Words.{Word, word, words, accepts}
 use Rattle.pq_syntax.specs.aux.Openings.{Closed}

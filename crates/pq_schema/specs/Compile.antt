@@ -1,0 +1,78 @@
+-- What the files of the sources compile to, up to the resolution of their references. The
+-- definitions speak of sources, trees and the import graph; no query is named here.
+use Rattle.std.specs.Prelude.{ℕ, ◌≡◌, ◌⊎◌, List, map}
+use Rattle.pq_inputs.specs.Sources.{Sources, file_in}
+use Rattle.pq_rules.specs.declared.turn.Answer.{Answer}
+use Rattle.pq_rules.specs.declared.turn.Answer.TheVariants.{Value}
+use Rattle.pq_syntax.specs.declared.tree.Node.{Node}
+use Rattle.pq_links.specs.Files.{graph_of, read_file}
+use Rattle.pq_links.specs.ImportGraph.{IsRingOf}
+use Rattle.pq_links.specs.LinkedKeys.{LinkedIs}
+use Rattle.pq_links.specs.Visibility.{AreLinks}
+use Rattle.pq_links.specs.declared.links.Links.{Links}
+use Rattle.pq_schema.specs.Contents.{Defs}
+use Rattle.pq_schema.specs.ScopeContents.{Scope}
+use Rattle.pq_schema.specs.Missing.{nodes_of, no_scope}
+use Rattle.pq_schema.specs.Definitions.{defs_of}
+use Rattle.pq_schema.specs.References.{references_of}
+use Rattle.pq_schema.specs.declared.references.Reference.{Reference}
+use Rattle.pq_schema.specs.Resolution.{lookup, resolution_of}
+use Rattle.pq_schema.specs.declared.resolved.ResolvedReference.{ResolvedReference}
+use Rattle.pq_schema.specs.declared.rules.SchemaKey.{SchemaKey}
+use Rattle.pq_schema.specs.declared.rules.SchemaKey.TheVariants as keys
+use Rattle.pq_schema.specs.declared.rules.SchemaValue.{SchemaValue}
+use Rattle.pq_schema.specs.declared.rules.SchemaValue.TheVariants as values
+use Rattle.pq_schema.specs.declared.scope.FileDefs.{FileDefs}
+
+-- `nodes_at files f` is the statements of the file `f`
+abbrev pub nodes_at : Sources → List ℕ → List Node
+nodes_at files f = nodes_of (read_file (file_in files f).text)
+
+-- `defs_at files f` is the package and the definitions of the file `f`; a file that is absent or
+-- has a syntax error has neither
+abbrev pub defs_at : Sources → List ℕ → Defs
+defs_at files f = defs_of (nodes_at files f)
+
+-- `with_defs defined f` is the file `f` with its definitions, where `defined` gives those of a file
+abbrev pub with_defs : (List ℕ → Defs) → List ℕ → FileDefs
+with_defs defined f = record { file = f; defs = defined f }
+
+-- `scope_of_links defined l` is the scope of a file with the links `l`, where `defined` gives the
+-- definitions of a file
+abbrev pub scope_of_links : (List ℕ → Defs) → Links → Scope
+scope_of_links defined l = record {
+  visible = map (with_defs defined) l.visible;
+  reach = map (with_defs defined) l.reach;
+}
+
+-- `IsScope files f s` is that `s` is the scope of the file `f`. A bad file, whose imports lead into
+-- a ring, sees and reaches no file.
+abbrev pub IsScope : Sources → List ℕ → Scope → Type 0
+IsScope files f s =
+    ((l : Links) × AreLinks (graph_of files) f l × (s ≡ scope_of_links (defs_at files) l))
+    ⊎ ((ring : List (List ℕ)) × IsRingOf (graph_of files) f ring × (s ≡ no_scope))
+
+-- `resolved_in s r` is the reference `r` with what it resolves to in the scope `s`
+abbrev pub resolved_in : Scope → Reference → ResolvedReference
+resolved_in s r = record {
+  item = r.item;
+  part = r.part;
+  resolution = resolution_of (lookup s r.within r.name);
+}
+
+-- `AreResolved files f rs` is that `rs` lists the type references of the file `f`, each with what
+-- it resolves to in the scope of the file, in text order
+abbrev pub AreResolved : Sources → List ℕ → List ResolvedReference → Type 0
+AreResolved files f rs =
+    (s : Scope) × IsScope files f s × (rs ≡ map (resolved_in s) (references_of (nodes_at files f)))
+
+-- `Compiles files key a` is that the key `key` compiles to the answer `a`. The links of a bad file
+-- are the cycle of the ring of imports into which it leads.
+abbrev pub Compiles : Sources → SchemaKey → Answer SchemaKey SchemaValue → Type 0
+Compiles files (keys.Input f) a = a ≡ Value (values.Source (file_in files f).text)
+Compiles files (keys.Parse f) a = a ≡ Value (values.Parse (read_file (file_in files f).text))
+Compiles files (keys.Imports f) a = a ≡ Value (values.Imports (graph_of files f))
+Compiles files (keys.Linked f) a = LinkedIs (graph_of files) (λ n. keys.Linked n) (λ l. values.Linked l) f a
+Compiles files (keys.Defs f) a = a ≡ Value (values.Defs (defs_at files f))
+Compiles files (keys.Scope f) a = (s : Scope) × (a ≡ Value (values.Scope s)) × IsScope files f s
+Compiles files (keys.Resolved f) a = (rs : List ResolvedReference) × (a ≡ Value (values.Resolved rs)) × AreResolved files f rs

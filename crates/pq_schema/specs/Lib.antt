@@ -1,0 +1,10 @@
+pub mod Contents
+pub mod Definitions
+pub mod References
+pub mod ScopeContents
+pub mod Resolution
+pub mod Missing
+pub mod Compile
+pub mod Answers
+pub mod SchemaSum
+pub mod aux

@@ -1,0 +1,13 @@
+-- Auxiliary: the full name of each definition begins with its file's package.
+use Rattle.std.specs.Prelude.{◌≡◌, ℕ, ◌⊎◌, List, [], ◌++◌, codes}
+use Rattle.pq_rules.specs.Relations.{Each}
+use Rattle.pq_schema.specs.declared.definitions.Definition.{Definition}
+
+-- `Below root name` is that the package `root` is empty, or that `name` is `root`, a dot and more
+abbrev pub Below : List ℕ → List ℕ → Type 0
+Below root name = (root ≡ []) ⊎ ((rest : List ℕ) × (name ≡ root ++ codes "." ++ rest))
+
+-- `AllBelow root ds` is that the full name of each of the definitions `ds` is below the package
+-- `root`
+abbrev pub AllBelow : List ℕ → List Definition → Type 0
+AllBelow root ds = Each (λ (d : Definition). Below root d.full_name) ds

@@ -1,0 +1,134 @@
+//! The definitions of a file, with their full names.
+//!
+//! `Defs::of` builds each full name once, in one walk over the tree, and sorts the names. `find` is
+//! a binary search.
+ghost use Rattle.std.specs.Prelude.{◌≡◌, bytes_eq, find, IfOk};
+ghost use Rattle.std.specs.Option.{option_copied};
+ghost use Rattle.pq_schema.specs.Definitions.{defs_of};
+ghost use Rattle.pq_schema.specs.aux.InPackage.{AllBelow};
+
+use crate::define::definitions_in;
+use crate::index::{first_named, index_of};
+use crate::outline::package_of;
+use crate::{Memory, Text};
+use pq_lex::Span;
+use pq_syntax::Node;
+use std::alloc::Global;
+use std::marker::Model;
+
+/// The kind of a definition (proto3 language specification, "Proto file").
+#[derive(Clone, Copy, Debug, PartialEq, Eq)]
+pub enum DefinitionKind {
+    /// A message.
+    Message,
+    /// An enum.
+    Enum,
+    /// A service.
+    Service,
+    /// A field, also one of a oneof, or a map field.
+    Field,
+    /// A oneof.
+    Oneof,
+    /// A method of a service.
+    Method,
+    /// A value of an enum.
+    Value,
+    /// The message of a map field's entries (proto3 language specification, "Maps").
+    Entry,
+}
+
+/// A definition: a name that a file gives to something.
+#[derive(Drop, PartialEq, Eq)]
+pub struct Definition {
+    /// The full name, without a leading dot.
+    pub full_name: Text,
+    /// What is defined.
+    pub kind: DefinitionKind,
+    /// The number of its item: the statements of a file count from 0, in text order.
+    pub item: usize,
+    /// The span of its name; for an entry that of its field's name.
+    pub span: Span,
+}
+
+/// The package and the definitions of a file.
+///
+/// Contracts see the package and the list of the definitions, and `==` compares exactly these.
+#[derive(Drop)]
+pub struct Defs {
+    package_name: Text,
+    definitions: Vec<Definition>,
+    /// The full names in order, each with its place in `definitions`.
+    index: Vec<(Text, usize)>,
+}
+
+impl Model for Defs {
+    ghost use Rattle.pq_schema.specs.Contents.{Defs as Contents};
+
+    ghost Value = { Contents };
+
+    ghost use Rattle.pq_schema.specs.aux.InPackage.{AllBelow};
+    ghost use Rattle.pq_schema.specs.aux.Index.{IsIndexOf};
+
+    ghost view = { λ d. record { package_name = d.package_name; definitions = d.definitions.items } };
+
+    ghost invariant = { λ d. AllBelow d.package_name d.definitions.items
+        × IsIndexOf d.index.items d.definitions.items };
+}
+
+impl Defs {
+    /// The package and the definitions of a file with the statements `nodes`.
+    pub fn of(alloc: Global, nodes: &[Node]) -> Result<Defs, Memory>
+        ensures defs { IfOk result (λ d. d ≡ defs_of nodes.now) }
+    {
+        let package_name = package_of(alloc, nodes)?;
+        let definitions = definitions_in(alloc, &package_name, nodes)?;
+        let index = index_of(alloc, &definitions)?;
+        Ok(Defs {
+            package_name,
+            definitions,
+            index,
+        })
+    }
+
+    /// The package, empty if the file has none.
+    pub fn package_name(&self) -> &str
+        ensures name { result.now ≡ self.now.package_name }
+        ensures below { AllBelow self.now.package_name self.now.definitions }
+    {
+        self.package_name.as_str()
+    }
+
+    /// The definitions, in text order.
+    pub fn definitions(&self) -> &[Definition]
+        ensures value { result.now ≡ self.now.definitions }
+    {
+        &self.definitions
+    }
+
+    /// The first definition with the full name `full_name`, by one binary search.
+    pub fn find(&self, full_name: &str) -> Option<&Definition>
+        ensures first { option_copied result
+            ≡ find (λ d. bytes_eq d.full_name full_name.now) self.now.definitions }
+    {
+        first_named(&self.index, &self.definitions, full_name)
+    }
+}
+
+impl PartialEq for Defs {
+    ghost use Rattle.pq_schema.specs.aux.SameContents.{same_contents, contents_per};
+
+    ghost eq = { same_contents };
+
+    ghost laws = { contents_per };
+
+    fn eq(&self, other: &Self) -> bool {
+        self.package_name == other.package_name
+            && self.definitions.as_slice() == other.definitions.as_slice()
+    }
+}
+
+impl Eq for Defs {
+    ghost use Rattle.pq_schema.specs.aux.SameContents.{contents_equiv};
+
+    ghost laws = { contents_equiv };
+}

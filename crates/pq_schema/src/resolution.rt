@@ -1,0 +1,133 @@
+//! What a name resolves to.
+ghost use Rattle.std.specs.Prelude.{◌≡◌, ◌⊎◌, IfOk};
+ghost use Rattle.pq_schema.specs.Resolution.{is_enum, lookup, resolved, resolution_of, target_of};
+ghost use Rattle.pq_schema.specs.Resolution.Lookup.{IsType};
+ghost use Rattle.pq_schema.specs.declared.resolution.ResolveFault.TheVariants.{Memory as OutOfMemory};
+
+use crate::definitions::DefinitionKind;
+use crate::files::Place;
+use crate::scope::Scope;
+use crate::search::{Outcome, look_up};
+use pq_lex::Span;
+use pq_names::{Memory, Text};
+use std::alloc::{AllocError, Global};
+
+/// The type that a name resolves to.
+#[derive(Drop, PartialEq, Eq)]
+pub struct Target {
+    /// The file that defines it.
+    pub file: Text,
+    /// Its full name, without a leading dot.
+    pub full_name: Text,
+    /// Whether it is an enum; else it is a message.
+    pub is_enum: bool,
+    /// The span of its name, in its file.
+    pub span: Span,
+}
+
+/// Why a name resolves to no type.
+#[derive(Drop, PartialEq, Eq)]
+pub enum ResolveFault {
+    /// No visible file defines the name, and no type of a file that is reached has it.
+    NotFound,
+    /// No visible file defines the name; a type of this file, which is not imported, has it.
+    NotVisible(Text),
+    /// The name is a package, or a definition other than a message or an enum.
+    NotAType,
+    /// An allocation failed.
+    Memory,
+}
+
+/// What a type reference resolves to, without spans.
+#[derive(Drop, PartialEq, Eq)]
+pub enum Resolution {
+    /// The item `item` of the file `file` defines the type.
+    Type {
+        file: Text,
+        full_name: Text,
+        is_enum: bool,
+        item: usize,
+    },
+    /// As `ResolveFault::NotFound`.
+    NotFound,
+    /// As `ResolveFault::NotVisible`.
+    NotVisible(Text),
+    /// As `ResolveFault::NotAType`.
+    NotAType,
+}
+
+impl From<AllocError> for ResolveFault {
+    ghost from_gives = { λ _ fault. fault ≡ OutOfMemory };
+
+    fn from(_refused: AllocError) -> ResolveFault {
+        ResolveFault::Memory
+    }
+}
+
+/// The type that `name` resolves to in the message, service or package `within` of a file with the
+/// scope `scope`.
+///
+/// # Errors
+///
+/// - `NotFound`, `NotVisible` and `NotAType` exactly where the definition of resolution says so.
+/// - `Memory` where an allocation fails.
+pub fn resolve(
+    alloc: Global,
+    scope: &Scope,
+    within: &str,
+    name: &str,
+) -> Result<Target, ResolveFault>
+    ensures resolved { (result ≡ Err ResolveFault.Memory)
+        ⊎ (result ≡ resolved scope.now within.now name.now) }
+{
+    match look_up(alloc, scope, within, name)? {
+        Outcome::Type(place) => Ok(target_at(place)?),
+        Outcome::NotFound => Err(ResolveFault::NotFound),
+        Outcome::NotVisible(file) => Err(ResolveFault::NotVisible(file.copy()?)),
+        Outcome::NotAType => Err(ResolveFault::NotAType),
+    }
+}
+
+/// The type that the definition at `place` defines.
+fn target_at(place: Place<'_>) -> Result<Target, Memory>
+    ensures is { IfOk result (λ t. Ok t ≡ target_of (IsType place.entry.file.now place.entry.definition.now)) }
+{
+    let definition = place.definition;
+    Ok(Target {
+        file: place.file.copy()?,
+        full_name: definition.full_name.copy()?,
+        is_enum: is_enum(definition.kind),
+        span: definition.span,
+    })
+}
+
+/// Whether the kind `kind` of a type is that of enums.
+fn is_enum(kind: DefinitionKind) -> bool
+    ensures is { result ≡ is_enum kind }
+{
+    matches!(kind, DefinitionKind::Enum)
+}
+
+/// What `name` resolves to in the message, service or package `within` of a file with the scope
+/// `scope`, without spans.
+pub(crate) fn find_resolution(
+    alloc: Global,
+    scope: &Scope,
+    within: &str,
+    name: &str,
+) -> Result<Resolution, Memory>
+    ensures resolution { IfOk result
+        (λ r. r ≡ resolution_of (lookup scope.now within.now name.now)) }
+{
+    match look_up(alloc, scope, within, name)? {
+        Outcome::Type(place) => Ok(Resolution::Type {
+            file: place.file.copy()?,
+            full_name: place.definition.full_name.copy()?,
+            is_enum: is_enum(place.definition.kind),
+            item: place.definition.item,
+        }),
+        Outcome::NotFound => Ok(Resolution::NotFound),
+        Outcome::NotVisible(file) => Ok(Resolution::NotVisible(file.copy()?)),
+        Outcome::NotAType => Ok(Resolution::NotAType),
+    }
+}

@@ -1,0 +1,408 @@
+//! The rule set of a schema: the queries of links and of this crate, put together.
+ghost use Rattle.std.specs.Prelude.{◌≡◌, Option, None, IfOk, option_copied, unwrap_or};
+ghost use Rattle.pq_schema.specs.aux.RuleSet.{parse_turn, imports_turn, linked_turn, defs_turn, scope_turn, resolved_turn, text_read, parsed_read, imports_read, links_read, defs_read, scope_read};
+
+use crate::defined::DefsQuery;
+use crate::definitions::Defs;
+use crate::keys::SchemaKeys;
+use crate::resolved::{ResolvedPart, ResolvedQuery, ResolvedReference};
+use crate::scope::Scope;
+use crate::scopes::{ScopePart, ScopeQuery};
+use pq_links::{
+    Import, ImportsQuery, LinkKeys, LinkedQuery, Linking, Links, ParseQuery, ParsedFile,
+};
+use pq_rules::{Answer, Memory, Query, Rules, Shared, Text, Turn};
+use pq_syntax::Items;
+use std::alloc::Global;
+
+/// A key of the rule set, of the file of a name.
+#[derive(Drop, PartialEq, Eq, PartialOrd, Ord)]
+pub enum SchemaKey {
+    /// The text of the file.
+    Input(Text),
+    /// What the file is read as.
+    Parse(Text),
+    /// The imports of the file.
+    Imports(Text),
+    /// The links of the file.
+    Linked(Text),
+    /// The definitions of the file.
+    Defs(Text),
+    /// The scope of the file.
+    Scope(Text),
+    /// The resolved references of the file.
+    Resolved(Text),
+}
+
+/// A value of a key.
+#[derive(Drop, PartialEq, Eq)]
+pub enum SchemaValue {
+    /// The text of a file, `None` where it is absent.
+    Source(Option<Text>),
+    /// What a file is read as.
+    Parse(Shared<ParsedFile>),
+    /// The imports of a file, `None` where it is absent.
+    Imports(Option<Shared<Items<Import>>>),
+    /// The links of a file.
+    Linked(Shared<Links>),
+    /// The definitions of a file.
+    Defs(Shared<Defs>),
+    /// The scope of a file.
+    Scope(Shared<Scope>),
+    /// The resolved references of a file.
+    Resolved(Shared<Items<ResolvedReference>>),
+}
+
+/// What a key's rule does with the next answer.
+#[derive(Drop)]
+pub enum SchemaPart {
+    Parsing,
+    Importing,
+    LinkingFiles(Linking),
+    Defining,
+    Scoping(ScopePart),
+    Resolving(ResolvedPart),
+}
+
+/// The rule set of a schema (the law `schema_values`).
+#[derive(Clone, Copy)]
+pub struct SchemaRules;
+
+impl LinkKeys for SchemaRules {
+    ghost use Rattle.pq_schema.specs.declared.rules.SchemaKey.TheVariants.{Input, Parse, Imports, Linked};
+
+    type Key = SchemaKey;
+
+    type Answer = Answer<SchemaKey, SchemaValue>;
+
+    ghost input = { λ f. Input f };
+
+    ghost parse = { λ f. Parse f };
+
+    ghost imports = { λ f. Imports f };
+
+    ghost linked = { λ f. Linked f };
+
+    ghost text = { text_read };
+
+    ghost parsed = { parsed_read };
+
+    ghost imported = { imports_read };
+
+    ghost links = { links_read };
+
+    fn input_key(file: &Text) -> Result<SchemaKey, Memory> {
+        Ok(SchemaKey::Input(file.copy()?))
+    }
+
+    fn parse_key(file: &Text) -> Result<SchemaKey, Memory> {
+        Ok(SchemaKey::Parse(file.copy()?))
+    }
+
+    fn imports_key(file: &Text) -> Result<SchemaKey, Memory> {
+        Ok(SchemaKey::Imports(file.copy()?))
+    }
+
+    fn linked_key(file: &Text) -> Result<SchemaKey, Memory> {
+        Ok(SchemaKey::Linked(file.copy()?))
+    }
+
+    fn read_text<'a>(answer: &'a Answer<SchemaKey, SchemaValue>) -> Option<&'a str> {
+        match answer {
+            Answer::Value(SchemaValue::Source(Some(text))) => Some(text.as_str()),
+            _ => None,
+        }
+    }
+
+    fn read_parsed<'a>(answer: &'a Answer<SchemaKey, SchemaValue>) -> Option<&'a ParsedFile> {
+        match answer {
+            Answer::Value(SchemaValue::Parse(file)) => Some(file.get()),
+            _ => None,
+        }
+    }
+
+    fn read_imports<'a>(
+        answer: &'a Answer<SchemaKey, SchemaValue>,
+    ) -> Option<&'a Shared<Items<Import>>> {
+        match answer {
+            Answer::Value(SchemaValue::Imports(Some(imports))) => Some(imports),
+            _ => None,
+        }
+    }
+
+    fn read_links<'a>(answer: &'a Answer<SchemaKey, SchemaValue>) -> Option<&'a Shared<Links>> {
+        match answer {
+            Answer::Value(SchemaValue::Linked(links)) => Some(links),
+            _ => None,
+        }
+    }
+}
+
+impl SchemaKeys for SchemaRules {
+    ghost use Rattle.pq_schema.specs.declared.rules.SchemaKey.TheVariants.{Defs as DefsKey, Scope as ScopeKey};
+
+    ghost defs = { λ f. DefsKey f };
+
+    ghost scope = { λ f. ScopeKey f };
+
+    ghost defined = { defs_read };
+
+    ghost scoped = { scope_read };
+
+    fn defs_key(file: &Text) -> Result<SchemaKey, Memory> {
+        Ok(SchemaKey::Defs(file.copy()?))
+    }
+
+    fn scope_key(file: &Text) -> Result<SchemaKey, Memory> {
+        Ok(SchemaKey::Scope(file.copy()?))
+    }
+
+    fn read_defs<'a>(answer: &'a Answer<SchemaKey, SchemaValue>) -> Option<&'a Shared<Defs>> {
+        match answer {
+            Answer::Value(SchemaValue::Defs(defs)) => Some(defs),
+            _ => None,
+        }
+    }
+
+    fn read_scope<'a>(answer: &'a Answer<SchemaKey, SchemaValue>) -> Option<&'a Shared<Scope>> {
+        match answer {
+            Answer::Value(SchemaValue::Scope(scope)) => Some(scope),
+            _ => None,
+        }
+    }
+}
+
+/// Makes a turn of the query of parses one of the rule set.
+fn of_parse(
+    turn: Turn<SchemaKey, (), Shared<ParsedFile>>,
+) -> Turn<SchemaKey, SchemaPart, SchemaValue>
+    ensures turn { result ≡ parse_turn turn }
+{
+    match turn {
+        Turn::Ask(key, ()) => Turn::Ask(key, SchemaPart::Parsing),
+        Turn::Done(value) => Turn::Done(SchemaValue::Parse(value)),
+    }
+}
+
+/// Makes a turn of the query of imports one of the rule set.
+fn of_imports(
+    turn: Turn<SchemaKey, (), Option<Shared<Items<Import>>>>,
+) -> Turn<SchemaKey, SchemaPart, SchemaValue>
+    ensures turn { result ≡ imports_turn turn }
+{
+    match turn {
+        Turn::Ask(key, ()) => Turn::Ask(key, SchemaPart::Importing),
+        Turn::Done(value) => Turn::Done(SchemaValue::Imports(value)),
+    }
+}
+
+/// Makes a turn of the query of links one of the rule set.
+fn of_linked(
+    turn: Turn<SchemaKey, Linking, Shared<Links>>,
+) -> Turn<SchemaKey, SchemaPart, SchemaValue>
+    ensures turn { result ≡ linked_turn turn }
+{
+    match turn {
+        Turn::Ask(key, part) => Turn::Ask(key, SchemaPart::LinkingFiles(part)),
+        Turn::Done(value) => Turn::Done(SchemaValue::Linked(value)),
+    }
+}
+
+/// Makes a turn of the query of definitions one of the rule set.
+fn of_defs(turn: Turn<SchemaKey, (), Shared<Defs>>) -> Turn<SchemaKey, SchemaPart, SchemaValue>
+    ensures turn { result ≡ defs_turn turn }
+{
+    match turn {
+        Turn::Ask(key, ()) => Turn::Ask(key, SchemaPart::Defining),
+        Turn::Done(value) => Turn::Done(SchemaValue::Defs(value)),
+    }
+}
+
+/// Makes a turn of the query of scopes one of the rule set.
+fn of_scope(
+    turn: Turn<SchemaKey, ScopePart, Shared<Scope>>,
+) -> Turn<SchemaKey, SchemaPart, SchemaValue>
+    ensures turn { result ≡ scope_turn turn }
+{
+    match turn {
+        Turn::Ask(key, part) => Turn::Ask(key, SchemaPart::Scoping(part)),
+        Turn::Done(value) => Turn::Done(SchemaValue::Scope(value)),
+    }
+}
+
+/// Makes a turn of the query of resolved references one of the rule set.
+fn of_resolved(
+    turn: Turn<SchemaKey, ResolvedPart, Shared<Items<ResolvedReference>>>,
+) -> Turn<SchemaKey, SchemaPart, SchemaValue>
+    ensures turn { result ≡ resolved_turn turn }
+{
+    match turn {
+        Turn::Ask(key, part) => Turn::Ask(key, SchemaPart::Resolving(part)),
+        Turn::Done(value) => Turn::Done(SchemaValue::Resolved(value)),
+    }
+}
+
+impl Rules for SchemaRules {
+    ghost use Rattle.pq_schema.specs.aux.RuleSet.{schema_rules, schema_reach};
+    ghost use Rattle.pq_schema.specs.aux.SchemaLaws.{schema_lawful, schema_inputs};
+    ghost use Rattle.pq_schema.specs.aux.Exact.{key_exact, value_exact};
+
+    type Key = SchemaKey;
+
+    type Value = SchemaValue;
+
+    type Part = SchemaPart;
+
+    ghost machine = { λ s. schema_rules };
+
+    ghost reach = { λ s files k. schema_reach files k };
+
+    ghost lawful = { λ s files. schema_lawful _ files key_exact };
+
+    ghost inputs = { λ s k. schema_inputs k };
+
+    ghost exact_values = { value_exact };
+
+    fn level(&self, key: &SchemaKey) -> u8 {
+        match key {
+            SchemaKey::Input(_) => 0,
+            SchemaKey::Parse(_) => ParseQuery::<SchemaRules>::LEVEL,
+            SchemaKey::Imports(_) => ImportsQuery::<SchemaRules>::LEVEL,
+            SchemaKey::Linked(_) => LinkedQuery::<SchemaRules>::LEVEL,
+            SchemaKey::Defs(_) => DefsQuery::<SchemaRules>::LEVEL,
+            SchemaKey::Scope(_) => ScopeQuery::<SchemaRules>::LEVEL,
+            SchemaKey::Resolved(_) => ResolvedQuery::<SchemaRules>::LEVEL,
+        }
+    }
+
+    fn file<'a>(&self, key: &'a SchemaKey) -> Option<&'a str> {
+        match key {
+            SchemaKey::Input(name) => Some(name.as_str()),
+            _ => None,
+        }
+    }
+
+    fn text(&self, alloc: Global, text: Option<&str>) -> Result<SchemaValue, Memory> {
+        match text {
+            Some(text) => Ok(SchemaValue::Source(Some(Text::new(alloc, text)?))),
+            None => Ok(SchemaValue::Source(None)),
+        }
+    }
+
+    fn start(
+        &self,
+        alloc: Global,
+        key: &SchemaKey,
+    ) -> Result<Turn<SchemaKey, SchemaPart, SchemaValue>, Memory> {
+        match key {
+            SchemaKey::Input(_) => Ok(Turn::Done(SchemaValue::Source(None))),
+            SchemaKey::Parse(name) => Ok(of_parse(ParseQuery::<SchemaRules>::new().start(
+                alloc, name,
+            )?)),
+            SchemaKey::Imports(name) => Ok(of_imports(ImportsQuery::<SchemaRules>::new().start(
+                alloc, name,
+            )?)),
+            SchemaKey::Linked(name) => Ok(of_linked(LinkedQuery::<SchemaRules>::new().start(
+                alloc, name,
+            )?)),
+            SchemaKey::Defs(name) => Ok(of_defs(DefsQuery::<SchemaRules>::new().start(
+                alloc, name,
+            )?)),
+            SchemaKey::Scope(name) => Ok(of_scope(ScopeQuery::<SchemaRules>::new().start(
+                alloc, name,
+            )?)),
+            SchemaKey::Resolved(name) => Ok(of_resolved(ResolvedQuery::<SchemaRules>::new().start(
+                alloc, name,
+            )?)),
+        }
+    }
+
+    fn advance(
+        &self,
+        alloc: Global,
+        part: SchemaPart,
+        answer: &Answer<SchemaKey, SchemaValue>,
+    ) -> Result<Turn<SchemaKey, SchemaPart, SchemaValue>, SchemaPart> {
+        match part {
+            SchemaPart::Parsing => match ParseQuery::<SchemaRules>::new().advance(
+                alloc,
+                (),
+                answer,
+            ) {
+                Ok(turn) => Ok(of_parse(turn)),
+                Err(()) => Err(SchemaPart::Parsing),
+            },
+            SchemaPart::Importing => match ImportsQuery::<SchemaRules>::new().advance(
+                alloc,
+                (),
+                answer,
+            ) {
+                Ok(turn) => Ok(of_imports(turn)),
+                Err(()) => Err(SchemaPart::Importing),
+            },
+            SchemaPart::LinkingFiles(part) => match LinkedQuery::<SchemaRules>::new().advance(
+                alloc, part, answer,
+            ) {
+                Ok(turn) => Ok(of_linked(turn)),
+                Err(part) => Err(SchemaPart::LinkingFiles(part)),
+            },
+            SchemaPart::Defining => match DefsQuery::<SchemaRules>::new().advance(
+                alloc,
+                (),
+                answer,
+            ) {
+                Ok(turn) => Ok(of_defs(turn)),
+                Err(()) => Err(SchemaPart::Defining),
+            },
+            SchemaPart::Scoping(part) => match ScopeQuery::<SchemaRules>::new().advance(
+                alloc, part, answer,
+            ) {
+                Ok(turn) => Ok(of_scope(turn)),
+                Err(part) => Err(SchemaPart::Scoping(part)),
+            },
+            SchemaPart::Resolving(part) => match ResolvedQuery::<SchemaRules>::new().advance(
+                alloc, part, answer,
+            ) {
+                Ok(turn) => Ok(of_resolved(turn)),
+                Err(part) => Err(SchemaPart::Resolving(part)),
+            },
+        }
+    }
+
+    fn left(&self, part: &SchemaPart) -> (u32, u64) {
+        match part {
+            SchemaPart::Parsing => ParseQuery::<SchemaRules>::new().left(&()),
+            SchemaPart::Importing => ImportsQuery::<SchemaRules>::new().left(&()),
+            SchemaPart::LinkingFiles(part) => LinkedQuery::<SchemaRules>::new().left(part),
+            SchemaPart::Defining => DefsQuery::<SchemaRules>::new().left(&()),
+            SchemaPart::Scoping(part) => ScopeQuery::<SchemaRules>::new().left(part),
+            SchemaPart::Resolving(part) => ResolvedQuery::<SchemaRules>::new().left(part),
+        }
+    }
+
+    fn copy_key(&self, _alloc: Global, key: &SchemaKey) -> Result<SchemaKey, Memory> {
+        match key {
+            SchemaKey::Input(name) => Ok(SchemaKey::Input(name.copy()?)),
+            SchemaKey::Parse(name) => Ok(SchemaKey::Parse(name.copy()?)),
+            SchemaKey::Imports(name) => Ok(SchemaKey::Imports(name.copy()?)),
+            SchemaKey::Linked(name) => Ok(SchemaKey::Linked(name.copy()?)),
+            SchemaKey::Defs(name) => Ok(SchemaKey::Defs(name.copy()?)),
+            SchemaKey::Scope(name) => Ok(SchemaKey::Scope(name.copy()?)),
+            SchemaKey::Resolved(name) => Ok(SchemaKey::Resolved(name.copy()?)),
+        }
+    }
+
+    fn copy_value(&self, _alloc: Global, value: &SchemaValue) -> Result<SchemaValue, Memory> {
+        match value {
+            SchemaValue::Source(Some(text)) => Ok(SchemaValue::Source(Some(text.copy()?))),
+            SchemaValue::Source(None) => Ok(SchemaValue::Source(None)),
+            SchemaValue::Parse(file) => Ok(SchemaValue::Parse(file.copy()?)),
+            SchemaValue::Imports(Some(imports)) => Ok(SchemaValue::Imports(Some(imports.copy()?))),
+            SchemaValue::Imports(None) => Ok(SchemaValue::Imports(None)),
+            SchemaValue::Linked(links) => Ok(SchemaValue::Linked(links.copy()?)),
+            SchemaValue::Defs(defs) => Ok(SchemaValue::Defs(defs.copy()?)),
+            SchemaValue::Scope(scope) => Ok(SchemaValue::Scope(scope.copy()?)),
+            SchemaValue::Resolved(resolved) => Ok(SchemaValue::Resolved(resolved.copy()?)),
+        }
+    }
+}

@@ -1,0 +1,92 @@
+//! The scope of a file: the definitions that it sees, and those that it reaches.
+ghost use Rattle.std.specs.Prelude.{◌≡◌, IfOk};
+
+use crate::definitions::Defs;
+use crate::files::Files;
+use pq_names::{Memory, Text};
+use pq_rules::Shared;
+use std::alloc::Global;
+use std::marker::Model;
+
+/// A file with its definitions.
+#[derive(Drop, PartialEq, Eq)]
+pub struct FileDefs {
+    /// The name of the file.
+    pub file: Text,
+    /// Its package and its definitions.
+    pub defs: Shared<Defs>,
+}
+
+/// The files whose definitions a file sees, and those that it reaches by imports.
+#[derive(Drop)]
+pub struct Scope {
+    visible: Files,
+    reach: Files,
+}
+
+impl Model for Scope {
+    ghost use Rattle.pq_schema.specs.ScopeContents.{Scope as Contents};
+
+    ghost Value = { Contents };
+
+    ghost view = { λ s. record { visible = s.visible; reach = s.reach } };
+}
+
+impl Scope {
+    /// The scope of a file that sees the files `visible`, and reaches the files `reach`.
+    pub fn new(alloc: Global, visible: Vec<FileDefs>, reach: Vec<FileDefs>) -> Result<Scope, Memory>
+        ensures contents { IfOk result
+            (λ s. s ≡ record { visible = visible.items; reach = reach.items }) }
+    {
+        let visible = Files::new(alloc, visible)?;
+        let reach = Files::new(alloc, reach)?;
+        Ok(Scope { visible, reach })
+    }
+
+    /// The files whose definitions the file sees, in order.
+    pub fn visible(&self) -> &[FileDefs]
+        ensures value { result.now ≡ self.now.visible }
+    {
+        self.visible.as_slice()
+    }
+
+    /// The files that the file reaches by imports, in order.
+    pub fn reach(&self) -> &[FileDefs]
+        ensures value { result.now ≡ self.now.reach }
+    {
+        self.reach.as_slice()
+    }
+
+    /// The files whose definitions the file sees.
+    pub(crate) fn visible_files(&self) -> &Files
+        ensures value { result.now ≡ self.now.visible }
+    {
+        &self.visible
+    }
+
+    /// The files that the file reaches by imports.
+    pub(crate) fn reached_files(&self) -> &Files
+        ensures value { result.now ≡ self.now.reach }
+    {
+        &self.reach
+    }
+}
+
+/// Two scopes are equal exactly if contracts see the same files in both lists.
+impl PartialEq for Scope {
+    ghost use Rattle.pq_schema.specs.aux.SameScopes.{same_lists, lists_per};
+
+    ghost eq = { same_lists };
+
+    ghost laws = { lists_per };
+
+    fn eq(&self, other: &Self) -> bool {
+        self.visible() == other.visible() && self.reach() == other.reach()
+    }
+}
+
+impl Eq for Scope {
+    ghost use Rattle.pq_schema.specs.aux.SameScopes.{lists_equiv};
+
+    ghost laws = { lists_equiv };
+}

@@ -1,0 +1,197 @@
+//! The search for a name from the innermost scope outwards.
+//! (proto3 language specification, "Packages and Name Resolution".)
+//!
+//! Each scope costs one look-up of a full name, which is built in a buffer that the scopes share.
+ghost use Rattle.std.specs.Prelude.{◌≡◌, IfOk, string_bytes};
+ghost use Rattle.pq_schema.specs.Definitions.{qualified};
+ghost use Rattle.pq_schema.specs.Resolution.{found, found_as, has_names, decides, unless_type, single, dotted, scopes, search, lookup};
+ghost use Rattle.pq_schema.specs.aux.Hits.{found_at, lookup_at};
+
+use crate::definitions::DefinitionKind;
+use crate::files::{Files, Place};
+use crate::nesting::{innermost, outer, scope_or_empty};
+use crate::scope::Scope;
+use pq_names::{Memory, Text};
+use std::alloc::Global;
+
+/// What a search ends in: a type, another definition or a package, or nothing.
+#[derive(Clone, Copy)]
+pub(crate) enum Hit<'a> {
+    Type(Place<'a>),
+    Other,
+    Nothing,
+}
+
+/// What a name resolves to: a type, or why it has none.
+#[derive(Clone, Copy)]
+pub(crate) enum Outcome<'a> {
+    Type(Place<'a>),
+    NotFound,
+    NotVisible(&'a Text),
+    NotAType,
+}
+
+/// What a search ends in at the definition at `place`: messages and enums are types.
+fn hit_at(place: Place<'_>) -> Hit<'_>
+    ensures is { found_at result ≡ found_as place.entry.file.now place.entry.definition.now place.entry.definition.now.kind }
+{
+    match place.definition.kind {
+        DefinitionKind::Message | DefinitionKind::Enum => Hit::Type(place),
+        _ => Hit::Other,
+    }
+}
+
+/// Whether a definition of the kind `kind` can have names in it.
+fn has_names(kind: DefinitionKind) -> bool
+    ensures is { result ≡ has_names kind }
+{
+    matches!(
+        kind,
+        DefinitionKind::Message | DefinitionKind::Enum | DefinitionKind::Service
+    )
+}
+
+/// What the full name `name` is found as in `files`.
+fn find_full<'a>(files: &'a Files, name: &str) -> Hit<'a>
+    ensures is { found_at result ≡ found files.now name.now }
+{
+    match files.definition(name) {
+        Some(place) => hit_at(place),
+        None => {
+            if files.is_package(name) {
+                Hit::Other
+            } else {
+                Hit::Nothing
+            }
+        }
+    }
+}
+
+/// Whether the full name `name` decides for a dotted name whose first part it is.
+fn decides(files: &Files, name: &str) -> bool
+    ensures is { result ≡ decides files.now name.now }
+{
+    match files.definition(name) {
+        Some(place) => has_names(place.definition.kind) || files.is_package(name),
+        None => files.is_package(name),
+    }
+}
+
+/// `inner` if it is a type; else a type in `outer`, the scopes further out; else what is not
+/// nothing.
+fn unless_type<'a>(inner: Hit<'a>, outer: Hit<'a>) -> Hit<'a>
+    ensures is { found_at result ≡ unless_type (found_at inner.entry) (found_at outer.entry) }
+{
+    match (inner, outer) {
+        (Hit::Type(place), _) => Hit::Type(place),
+        (Hit::Nothing, hit) => hit,
+        (Hit::Other, Hit::Type(place)) => Hit::Type(place),
+        (Hit::Other, _) => Hit::Other,
+    }
+}
+
+/// Writes the full name of `name` in the scope `scope` to `buffer`.
+fn qualify(buffer: &mut String, scope: &str, name: &str) -> Result<(), Memory>
+    ensures name { IfOk result (λ _. string_bytes buffer.new ≡ qualified scope.now name.now) }
+{
+    buffer.clear();
+    if !scope.is_empty() {
+        buffer.push_str(scope)?;
+        buffer.push_str(".")?;
+    }
+    buffer.push_str(name)?;
+    Ok(())
+}
+
+/// What the name `name`, which has no dot, is found as from the scopes of `within`.
+fn find_single<'a>(
+    buffer: &mut String,
+    files: &'a Files,
+    within: &str,
+    name: &str,
+) -> Result<Hit<'a>, Memory>
+    ensures is { IfOk result (λ hit. found_at hit ≡ single files.now (scopes within.now) name.now) }
+{
+    let mut best = Hit::Nothing;
+    let mut inner = innermost(within);
+    'scopes: loop {
+        qualify(buffer, scope_or_empty(inner), name)?;
+        best = unless_type(best, find_full(files, buffer.as_str()));
+        if let Hit::Type(_) = best {
+            return Ok(best);
+        }
+        match inner {
+            Some(scope) => inner = outer(scope),
+            None => return Ok(best),
+        }
+    }
+}
+
+/// What the name `name`, whose part before its first dot is `first`, is found as from the scopes of
+/// `within`.
+fn find_dotted<'a>(
+    buffer: &mut String,
+    files: &'a Files,
+    within: &str,
+    first: &str,
+    name: &str,
+) -> Result<Hit<'a>, Memory>
+    ensures is { IfOk result
+        (λ hit. found_at hit ≡ dotted files.now (scopes within.now) first.now name.now) }
+{
+    let mut inner = innermost(within);
+    'scopes: loop {
+        let scope = scope_or_empty(inner);
+        qualify(buffer, scope, first)?;
+        if decides(files, buffer.as_str()) {
+            qualify(buffer, scope, name)?;
+            return Ok(find_full(files, buffer.as_str()));
+        }
+        match inner {
+            Some(scope) => inner = outer(scope),
+            None => return Ok(Hit::Nothing),
+        }
+    }
+}
+
+/// What the name `name` is found as from the scopes of `within`.
+fn find<'a>(
+    buffer: &mut String,
+    files: &'a Files,
+    within: &str,
+    name: &str,
+) -> Result<Hit<'a>, Memory>
+    ensures is { IfOk result (λ hit. found_at hit ≡ search files.now (scopes within.now) name.now) }
+{
+    if name.is_empty() {
+        return Ok(Hit::Nothing);
+    }
+    match name.strip_prefix('.') {
+        Some(full) => Ok(find_full(files, full)),
+        None => match name.split_once('.') {
+            Some((first, _)) => find_dotted(buffer, files, within, first, name),
+            None => find_single(buffer, files, within, name),
+        },
+    }
+}
+
+/// What `name` resolves to in the message, service or package `within` of a file with the scope
+/// `scope`. The files that are reached are searched only where the visible files have nothing.
+pub(crate) fn look_up<'a>(
+    alloc: Global,
+    scope: &'a Scope,
+    within: &str,
+    name: &str,
+) -> Result<Outcome<'a>, Memory>
+    ensures is { IfOk result (λ o. lookup_at o ≡ lookup scope.now within.now name.now) }
+{
+    let mut buffer = String::new(alloc);
+    match find(&mut buffer, scope.visible_files(), within, name)? {
+        Hit::Type(place) => Ok(Outcome::Type(place)),
+        Hit::Other => Ok(Outcome::NotAType),
+        Hit::Nothing => match find(&mut buffer, scope.reached_files(), within, name)? {
+            Hit::Type(place) => Ok(Outcome::NotVisible(place.file)),
+            _ => Ok(Outcome::NotFound),
+        },
+    }
+}
