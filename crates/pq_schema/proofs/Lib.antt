@@ -1,7 +1,7 @@
 pub mod EntryNames
 pub mod InPackage
 pub mod IndexLemmas
-pub mod FirstPackage
+pub mod Packages
 pub mod Rows
 pub mod Prefixes
 pub mod Walks
@@ -18,3 +18,4 @@ pub mod ByAnswers
 pub mod RuleSetMeaning
 pub mod Gathering
 pub mod ResolvedKinds
+pub mod BadFiles

@@ -1,12 +1,12 @@
 //! The files of a scope in order, and the look-up of full names in them.
 //!
-//! A look-up asks only the files whose package the name can be in (`packages`).
+//! A look-up asks only the files whose package the name can be in (`by_package`).
 ghost use Rattle.std.specs.Prelude.{◌≡◌, IfOk};
 ghost use Rattle.pq_schema.specs.Resolution.{meaning, is_package};
 ghost use Rattle.pq_schema.specs.aux.Hits.{meaning_at};
 
+use crate::by_package::{Packages, file_at, first_place, packages_of};
 use crate::definitions::Definition;
-use crate::packages::{Packages, file_at, first_place, packages_of};
 use crate::scope::FileDefs;
 use pq_names::{Memory, Text};
 use std::alloc::Global;

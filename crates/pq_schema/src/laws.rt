@@ -11,6 +11,7 @@ ghost use Rattle.pq_rules.specs.Embedding.{Runs};
 ghost use Rattle.pq_rules.specs.Turns.{over};
 ghost use Rattle.pq_rules.specs.Value.{Means};
 ghost use Rattle.pq_schema.specs.aux.Equal.{same_defs};
+ghost use Rattle.pq_links.specs.ImportGraph.{Graph, IsBad, IsRingOf};
 ghost use Rattle.pq_schema.specs.Answers.{AreDefsBy, IsScopeBy, AreResolvedBy};
 ghost use Rattle.pq_schema.specs.Compile.{Compiles};
 ghost use Rattle.pq_schema.specs.Contents.{Defs};
@@ -50,6 +51,12 @@ pub fn scope_by_answers<S: SchemaKeys>()
 /// references, each with what it resolves to in that scope.
 pub fn resolved_by_answers<S: SchemaKeys>()
     ensures gives { (f : List ℕ) (es : List (S.Key × S.Answer)) (rs : List ResolvedReference) → Runs (λ (q : ResolvedPart) (a : S.Answer). resolved_advances S.parse (S.scoped a) (nodes_of (S.parsed a)) q) (resolved_starts S.scope f) es (Done rs) → AreResolvedBy S.scope S.parse S.scoped S.parsed f es rs }
+{}
+
+/// A file that leads into a ring of imports, and so has an empty scope, is bad: walks of every
+/// length start at it.
+pub fn rings_are_bad()
+    ensures bad { (g : Graph) (f : List ℕ) (ring : List (List ℕ)) → IsRingOf g f ring → IsBad g f }
 {}
 
 /// In every rule set that embeds the six queries, at all sources, the answers of their keys are

@@ -1,16 +1,24 @@
-//! Definitions of proto3 files, the scope of a file, and what a name in it resolves to (proto3
-//! language specification, "Packages and Name Resolution" and "Maps"), as queries over sources.
+//! Definitions and type references of proto3 files, the scope of a file, and what a name in it
+//! resolves to (proto3 language specification, "Packages and Name Resolution" and "Maps"), as
+//! queries over sources.
 //!
-//! What a file defines is in `specs/Definitions`, its type references in `specs/References`, what a
-//! name resolves to in `specs/Resolution`, and what files compile to in `specs/Compile`. `Defs::of`
-//! and `references_in` are one walk over a tree each (`define`, `index`, `outline`, `full_names`);
-//! `resolve` searches a scope (`files`, `search`). The three queries (`defined`, `scopes`,
-//! `resolved`) know no rule set: a sum makes their keys and reads its answers through `SchemaKeys`.
-//! `SchemaRules` puts them together with those of pq_links, and the law `schema_values` says that
-//! each key means what it compiles to; the law `schema_in_rules` states this of every sum that
-//! embeds them.
+//! `Defs::of` and `references_in` are one walk over a tree each. A name resolves by
+//! `specs/Resolution`: from the innermost scope outwards, with one look-up of a full name for each
+//! scope. What files compile to is in `specs/Compile`. The three queries know no rule set: a sum of
+//! queries makes their keys and reads its answers through `SchemaKeys`. `SchemaRules` puts them
+//! together with those of pq_links. The law `schema_values` says that each key means what it
+//! compiles to; `schema_in_rules` says this of every rule set that embeds the queries.
+//!
+//! Modules: `definitions` (what a file defines), `define` (what a statement defines), `index` (the
+//! search by full name), `references`, `outline` (the package and the scopes of a file),
+//! `full_names`; `scope` (the files that a file sees and reaches), `files` and `by_package` (the
+//! look-up of a full name, and which files it asks), `nesting` (the scopes around a scope),
+//! `search` (the search from scope to scope), `resolution` (its answers); `keys` (what a sum
+//! offers), `defined`, `scopes` over `collected`, and `resolved` (the queries), `rules` (the rule
+//! set); `laws`, `scope_laws`.
 #![tactic(auto)]
 
+mod by_package;
 mod collected;
 mod define;
 mod defined;
@@ -22,7 +30,6 @@ mod keys;
 mod laws;
 mod nesting;
 mod outline;
-mod packages;
 mod references;
 mod resolution;
 mod resolved;
@@ -37,8 +44,8 @@ pub use defined::DefsQuery;
 pub use definitions::{Definition, DefinitionKind, Defs};
 pub use keys::SchemaKeys;
 pub use laws::{
-    defs_by_answers, equal_defs, resolved_by_answers, schema_in_rules, schema_values,
-    scope_by_answers,
+    defs_by_answers, equal_defs, resolved_by_answers, rings_are_bad, schema_in_rules,
+    schema_values, scope_by_answers,
 };
 pub use pq_rules::{Shared, Text};
 pub use pq_syntax::Items;

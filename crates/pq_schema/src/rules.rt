@@ -56,11 +56,17 @@ pub enum SchemaValue {
 /// What a key's rule does with the next answer.
 #[derive(Drop)]
 pub enum SchemaPart {
+    /// The part of the query of parses.
     Parsing,
+    /// The part of the query of imports.
     Importing,
+    /// A part of the query of links.
     LinkingFiles(Linking),
+    /// The part of the query of definitions.
     Defining,
+    /// A part of the query of scopes.
     Scoping(ScopePart),
+    /// A part of the query of resolved references.
     Resolving(ResolvedPart),
 }
 

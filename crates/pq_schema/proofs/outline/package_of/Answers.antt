@@ -2,7 +2,7 @@ use Rattle.std.proofs.Common.{◌≡◌, ◌+◌, [], drop, sym, ap, ◌∙◌}
 use Rattle.std.proofs.lemmas.Result.{IfOk-weaker}
 use Rattle.pq_syntax.specs.declared.tree.Statement.{Statement}
 use Rattle.pq_schema.specs.Definitions.{first_package, package_of}
-use Rattle.pq_schema.proofs.FirstPackage.{no_package, package_at, package_end}
+use Rattle.pq_schema.proofs.Packages.{no_package, package_at, package_end}
 use Rattle.pq_schema.proofs.outline.package_of.Goals as goal
 
 pub returns-in-Package : goal.returns-in-Package

@@ -4,7 +4,7 @@ use Rattle.std.specs.Option.{option_copied}
 use Rattle.pq_schema.specs.declared.scope.FileDefs.{FileDefs}
 use Rattle.pq_schema.specs.aux.Grouping.{defined_at, find_in}
 use Rattle.pq_schema.specs.aux.Scopes.{chain, is_among, left}
-use Rattle.pq_schema.proofs.packages.first_place.Given as goal
+use Rattle.pq_schema.proofs.by_package.first_place.Given as goal
 
 -- a file before `best` does not have the name, or its package is still to be asked for
 abbrev pub invariant-packages : goal.invariant-packages

@@ -1,6 +1,6 @@
 use Rattle.std.proofs.Common.{◌≤◌, inl, inr, arith}
 use Rattle.pq_schema.proofs.Grouping.{in_more, found_more}
-use Rattle.pq_schema.proofs.packages.first_in.Goals as goal
+use Rattle.pq_schema.proofs.by_package.first_in.Goals as goal
 
 pub places-preserved : goal.places-preserved
 places-preserved c =

@@ -3,7 +3,7 @@ use Rattle.std.specs.Prelude.{is_some}
 use Rattle.std.specs.BTreeMap.{get_by_text}
 use Rattle.std.proofs.lemmas.Grind.{text_groups}
 use Rattle.pq_schema.proofs.Grouping.{name_there}
-use Rattle.pq_schema.proofs.packages.add_name.Goals as goal
+use Rattle.pq_schema.proofs.by_package.add_name.Goals as goal
 
 pub returns-then-contains_key-clause-names : goal.returns-then-contains_key-clause-names
 returns-then-contains_key-clause-names c = λ q.

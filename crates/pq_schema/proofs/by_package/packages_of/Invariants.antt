@@ -5,7 +5,7 @@ use Rattle.std.specs.Option.{option_map_or}
 use Rattle.pq_rules.specs.Relations.{Each, In}
 use Rattle.pq_schema.specs.declared.scope.FileDefs.{FileDefs}
 use Rattle.pq_schema.specs.aux.Grouping.{IsBelow, is_known}
-use Rattle.pq_schema.proofs.packages.packages_of.Given as goal
+use Rattle.pq_schema.proofs.by_package.packages_of.Given as goal
 
 -- the files before `place` are in the index
 abbrev pub invariant-files : goal.invariant-files

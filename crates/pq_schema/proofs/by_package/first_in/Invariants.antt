@@ -1,7 +1,7 @@
 use Rattle.std.proofs.Common.{◌≡◌, ◌⊎◌, ℕ, ◌<◌, ◌≤◌, take, None, IsSome}
 use Rattle.pq_rules.specs.Relations.{In}
 use Rattle.pq_schema.specs.aux.Grouping.{defined_at}
-use Rattle.pq_schema.proofs.packages.first_in.Given as goal
+use Rattle.pq_schema.proofs.by_package.first_in.Given as goal
 
 abbrev pub invariant-places : goal.invariant-places
 invariant-places l = record {

@@ -4,7 +4,7 @@ use Rattle.pq_schema.specs.aux.Grouping.{find_in}
 use Rattle.pq_schema.specs.aux.Scopes.{is_among}
 use Rattle.pq_schema.proofs.Grouping.{can_have, asked, all_asked, found_among}
 use Rattle.pq_schema.proofs.Walks.{further, no_further}
-use Rattle.pq_schema.proofs.packages.first_place.Goals as goal
+use Rattle.pq_schema.proofs.by_package.first_place.Goals as goal
 
 pub packages-init : goal.packages-init
 packages-init c = record {

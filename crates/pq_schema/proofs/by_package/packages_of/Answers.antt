@@ -4,7 +4,7 @@ use Rattle.pq_schema.specs.Contents.{Defs}
 use Rattle.pq_schema.specs.aux.Grouping.{IsBelow}
 use Rattle.pq_schema.specs.aux.InPackage.{AllBelow}
 use Rattle.pq_schema.proofs.Grouping.{names_more, names_end, listed_more, below_more, below_end}
-use Rattle.pq_schema.proofs.packages.packages_of.Goals as goal
+use Rattle.pq_schema.proofs.by_package.packages_of.Goals as goal
 
 pub files-preserved : goal.files-preserved
 files-preserved c =

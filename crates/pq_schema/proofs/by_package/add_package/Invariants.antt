@@ -4,7 +4,7 @@ use Rattle.std.specs.BTreeMap.{get_by_text}
 use Rattle.std.specs.Option.{option_copied, option_map_or}
 use Rattle.pq_schema.specs.Resolution.{prefixes}
 use Rattle.pq_schema.specs.aux.Scopes.{before, is_among, left}
-use Rattle.pq_schema.proofs.packages.add_package.Given as goal
+use Rattle.pq_schema.proofs.by_package.add_package.Given as goal
 
 -- the prefixes before `inner` are among the names
 abbrev pub invariant-prefixes : goal.invariant-prefixes

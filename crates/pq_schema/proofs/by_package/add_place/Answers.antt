@@ -1,6 +1,6 @@
 use Rattle.std.proofs.Common.{arith}
 use Rattle.std.proofs.lemmas.Grind.{text_groups}
-use Rattle.pq_schema.proofs.packages.add_place.Goals as goal
+use Rattle.pq_schema.proofs.by_package.add_place.Goals as goal
 
 pub returns-clause-names : goal.returns-clause-names
 returns-clause-names c = λ q. grind (arith, text_groups)
