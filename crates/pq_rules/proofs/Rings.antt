@@ -91,7 +91,7 @@ leads_meet N single z w zs ws rz rw k (inr c) (inr d) =
     meets N single z w zs ws rz rw k c.0 d.0 c.1 d.1
 
 -- the first return
-first_return : {K : Type 0} (N : K → K → Type 0) → Single N → (k z : K) (xs ys : List K)
+pub first_return : {K : Type 0} (N : K → K → Type 0) → Single N → (k z : K) (xs ys : List K)
     → Chain N k xs z → Chain N k ys z → (In z xs → ⊥) → (In z ys → ⊥) → xs ≡ ys
 unfolding Chain
 first_return N single k z [] [] c d nx ny = refl

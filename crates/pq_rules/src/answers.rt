@@ -20,7 +20,7 @@ pub fn copy_answer<R: Rules>(
 }
 
 /// Whether contracts see `a` and `b` as one key.
-pub(crate) fn is_same_key<R: Rules>(_rules: &R, a: &R::Key, b: &R::Key) -> bool
+pub fn is_same_key<R: Rules>(_rules: &R, a: &R::Key, b: &R::Key) -> bool
     ensures { IsTrue result ↔ (a.now ≡ b.now) }
 {
     a.cmp(b).is_eq()

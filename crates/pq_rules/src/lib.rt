@@ -19,12 +19,12 @@ mod shared;
 mod sums;
 mod turn;
 
-pub use answers::{copy_answer, same_answer};
+pub use answers::{copy_answer, is_same_key, same_answer};
 pub use laws::{cycle_passes_on, cycle_waits_round, keys_that_wait_round, lists_of_std, one_value};
 pub use pq_names::Text;
 pub use query::Query;
 pub use rules::Rules;
-pub use scratch::from_scratch;
+pub use scratch::{from_scratch, input_answer};
 pub use shared::Shared;
 pub use sums::{Sums, SumsKey, SumsPart, SumsValue};
 pub use turn::{Answer, Memory, Ring, Turn};

@@ -217,7 +217,7 @@ fn text_of<'a, R: Rules>(rules: &R, inputs: &'a Inputs, key: &R::Key) -> Option<
 }
 
 /// Makes the answer of the input `key`.
-fn input_answer<R: Rules>(
+pub fn input_answer<R: Rules>(
     alloc: Global,
     rules: &R,
     inputs: &Inputs,

@@ -1,0 +1,10 @@
+pub mod Sound
+pub mod Kept
+pub mod Look
+pub mod Looks
+pub mod Cause
+pub mod Table
+pub mod Writes
+pub mod Frames
+pub mod Steps
+pub mod aux

@@ -1,0 +1,38 @@
+//! The table of memos of an incremental query engine. It keeps answers between edits and validates
+//! them, so that a rule runs again only where a read of it changed.
+//!
+//! `look` is the red-green algorithm (the Salsa book): a memo is valid where no input as durable as
+//! it changed, or where each of its reads is up to date and unchanged. `look` takes one search of
+//! the table where durability decides, and else one more a read; it takes no memory.
+//!
+//! A frame is a key that is being brought up to date. One `step` takes it as far as it goes without
+//! the answer of another key; `publish_round` publishes the ring of frames that wait for each
+//! other. A caller keeps the frames, on one stack or on many, and starts and advances the rules.
+//!
+//! Definitions: `specs/Sound` (memos, soundness), `specs/Kept` (the invariant), `specs/Look` and
+//! `specs/Looks` (what `look` answers), `specs/Cause`, `specs/Table` and `specs/Writes` (what calls
+//! write), `specs/Frames` and `specs/Steps`. Modules: `entry` (what is kept of a key), `look`,
+//! `state` (private tests), `memos` (the table, reading), `writes` (marking and publishing), `ring`
+//! (publishing a ring), `member` and `unpublished` (what goes in, and what comes back), `frame` and
+//! `restored` (a step), `round` (frames in a round), `laws`.
+#![tactic(auto)]
+
+mod entry;
+mod frame;
+mod laws;
+mod look;
+mod member;
+mod memos;
+mod restored;
+mod ring;
+mod round;
+mod state;
+mod unpublished;
+mod writes;
+
+pub use frame::{Frame, Stage, Step};
+pub use laws::{kept_is_sound, look_is_right, turns_are_right};
+pub use look::{Look, Why};
+pub use member::Member;
+pub use memos::Memos;
+pub use unpublished::{Unpublished, UnpublishedRing};

@@ -1,0 +1,197 @@
+//! Publishing a ring: the memos of all its keys, written together.
+//!
+//! All that can fail comes first: the ring's answer, and for each key a place in the table and a
+//! copy of the pointer to that answer. The members are then moved into their places, which takes no
+//! memory. For n keys it takes n log N time beside the comparisons with the old answers, N the keys
+//! of the table.
+ghost use Rattle.std.specs.Prelude.{◌≡◌, ◌<◌, ◌++◌, ◌∷◌, [], List, length, IfOk, IfErr, OnOk, OnErr};
+ghost use Rattle.pq_inputs.specs.declared.durability.Durability.{Durability};
+ghost use Rattle.pq_rules.specs.declared.turn.Answer.TheVariants.{Cycle};
+ghost use Rattle.pq_rules.specs.Turns.{over};
+ghost use Rattle.pq_rules.specs.Relations.{Each, In};
+ghost use Rattle.pq_memo.specs.Sound.{HasReads};
+ghost use Rattle.pq_memo.specs.Look.{IsUpToDate};
+ghost use Rattle.pq_memo.specs.Table.{memo_at, HasIn, IsSameTable, KeptOver};
+ghost use Rattle.pq_memo.specs.Writes.{RingWritten, fronts, ring_keys};
+ghost use Rattle.pq_memo.specs.aux.Durabilities.{IsKnown, IsLeastRead, IsFrontRead};
+ghost use Rattle.pq_memo.specs.aux.Written.{IsPrepared, ArePrepared, HasRoom, AllHaveRoom, memos_of, put_back};
+
+use crate::entry::Entry;
+use crate::member::Member;
+use crate::memos::Memos;
+use crate::unpublished::UnpublishedRing;
+use crate::writes::lower;
+use pq_inputs::{Durability, Inputs};
+use pq_rules::{Answer, Memory, Ring, Rules, Shared};
+use std::alloc::Global;
+
+/// Adds `item` to the end of `items`.
+pub(crate) fn push<T: Drop>(items: &mut Vec<T>, item: T) -> Result<(), Memory>
+    ensures { IfOk result (λ _. items.new.items ≡ items.old.items ++ item ∷ []) }
+{
+    match items.push(item) {
+        Ok(()) => Ok(()),
+        Err(_) => Err(Memory),
+    }
+}
+
+/// Copies the keys of `members`.
+fn copy_keys<R: Rules>(
+    alloc: Global,
+    rules: &R,
+    members: &[Member<R::Key>],
+) -> Result<Vec<R::Key>, Memory>
+    ensures { IfOk result (λ v. v.items ≡ ring_keys members.now) }
+{
+    let mut keys = Vec::new(alloc);
+    for i in 0..members.len() {
+        let copy = rules.copy_key(alloc, members[i].key())?;
+        push(&mut keys, copy)?;
+    }
+    Ok(keys)
+}
+
+impl<R: Rules> Memos<R> {
+    /// The least durability of `reads`, without the last, which leads to the next key of a ring.
+    fn front_durability(&self, reads: &[R::Key], inputs: &Inputs) -> Durability
+        requires { Each (IsKnown (R.machine self.now.rules) (HasIn (memo_at R.Key.cmp self.now.places))) (fronts reads.now) }
+        ensures { IsLeastRead (R.machine self.now.rules) inputs.now.files (HasIn (memo_at R.Key.cmp self.now.places)) (λ q. In q (fronts reads.now)) result }
+    {
+        if reads.is_empty() {
+            return Durability::High;
+        }
+        self.least_of(&reads[..reads.len() - 1], inputs)
+    }
+
+    /// The least durability of the reads of `members`, without the last of each.
+    fn ring_durability(&self, members: &[Member<R::Key>], inputs: &Inputs) -> Durability
+        requires { Each (λ (e : R.Key × List R.Key). Each (IsKnown (R.machine self.now.rules) (HasIn (memo_at R.Key.cmp self.now.places))) (fronts e.1)) members.now }
+        ensures { IsLeastRead (R.machine self.now.rules) inputs.now.files (HasIn (memo_at R.Key.cmp self.now.places)) (IsFrontRead members.now) result }
+    {
+        let mut least = Durability::High;
+        for i in 0..members.len() {
+            least = lower(least, self.front_durability(members[i].reads(), inputs));
+        }
+        least
+    }
+
+    /// Makes a place for `key`, and prepares its memo: a copy of `answer`, and the changed
+    /// revision.
+    fn prepare(
+        &mut self,
+        alloc: Global,
+        key: &R::Key,
+        answer: &Shared<Answer<R::Key, R::Value>>,
+        now: u64,
+    ) -> Result<(Shared<Answer<R::Key, R::Value>>, u64), Memory>
+        ensures rules { self.new.rules ≡ self.old.rules }
+        ensures same { IsSameTable (memo_at R.Key.cmp self.old.places) (memo_at R.Key.cmp self.new.places) }
+        ensures room { OnOk result (HasRoom R.Key.cmp self.new.places key.now) }
+        ensures kept { (q : R.Key) → HasRoom R.Key.cmp self.old.places q → HasRoom R.Key.cmp self.new.places q }
+        ensures prepared { IfOk result (λ p. IsPrepared now (HasIn (memo_at R.Key.cmp self.old.places)) answer.now key.now (p.0, p.1)) }
+    {
+        let changed = self.changed_by(key, answer.get(), now);
+        self.make_room(alloc, key)?;
+        let share = answer.copy()?;
+        Ok((share, changed))
+    }
+
+    /// Makes places for the keys of `members`, and prepares their memos, which have `answer`.
+    fn prepare_all(
+        &mut self,
+        alloc: Global,
+        members: &[Member<R::Key>],
+        answer: &Shared<Answer<R::Key, R::Value>>,
+        now: u64,
+    ) -> Result<Vec<(Shared<Answer<R::Key, R::Value>>, u64)>, Memory>
+        ensures rules { self.new.rules ≡ self.old.rules }
+        ensures same { IsSameTable (memo_at R.Key.cmp self.old.places) (memo_at R.Key.cmp self.new.places) }
+        ensures room { OnOk result (AllHaveRoom R.Key.cmp self.new.places members.now) }
+        ensures prepared { IfOk result (λ v. ArePrepared now (HasIn (memo_at R.Key.cmp self.old.places)) answer.now members.now v.items) }
+    {
+        let mut prepared = Vec::new(alloc);
+        'members: for i in 0..members.len() {
+            let next = self.prepare(alloc, members[i].key(), answer, now)?;
+            push(&mut prepared, next)?;
+        }
+        Ok(prepared)
+    }
+
+    /// Does what can fail of publishing the ring `members`.
+    fn prepare_ring(
+        &mut self,
+        alloc: Global,
+        members: &[Member<R::Key>],
+        now: u64,
+    ) -> Result<Vec<(Shared<Answer<R::Key, R::Value>>, u64)>, Memory>
+        ensures rules { self.new.rules ≡ self.old.rules }
+        ensures same { IsSameTable (memo_at R.Key.cmp self.old.places) (memo_at R.Key.cmp self.new.places) }
+        ensures room { OnOk result (AllHaveRoom R.Key.cmp self.new.places members.now) }
+        ensures prepared { IfOk result (λ v. ArePrepared now (HasIn (memo_at R.Key.cmp self.old.places)) (Cycle (ring_keys members.now)) members.now v.items) }
+    {
+        let keys = copy_keys(alloc, self.rules(), members)?;
+        let ring = Ring::new(alloc, keys)?;
+        let answer = Shared::new(alloc, Answer::Cycle(ring))?;
+        let prepared = self.prepare_all(alloc, members, &answer, now)?;
+        Ok(prepared)
+    }
+
+    /// Gives the keys of `members`, which have places, the memos that were prepared. It takes no
+    /// memory.
+    fn put_all(
+        &mut self,
+        members: Vec<Member<R::Key>>,
+        prepared: Vec<(Shared<Answer<R::Key, R::Value>>, u64)>,
+        durability: Durability,
+        now: u64,
+    )
+        requires room { AllHaveRoom R.Key.cmp self.old.places members.items }
+        requires even { length members.items ≡ length prepared.items }
+        ensures rules { self.new.rules ≡ self.old.rules }
+        ensures put { (q : R.Key) → memo_at R.Key.cmp self.new.places q ≡ put_back R.Key.cmp (memos_of now durability members.items prepared.items) (memo_at R.Key.cmp self.old.places) q }
+    {
+        let mut members = members;
+        let mut prepared = prepared;
+        'members: while let Some(member) = members.pop() {
+            let (answer, changed) = match prepared.pop() {
+                Some(next) => next,
+                None => unreachable!(),
+            };
+            let (key, reads) = member.parts();
+            let entry = Entry::new(answer, now, changed, reads, durability, members.len());
+            self.put(key, entry);
+        }
+    }
+
+    /// Publishes the ring that is the answer of each key of `members`, which are in the ring's
+    /// order from the least key on, each with its reads. The last read of each leads to the next
+    /// key and need not be up to date. If an allocation fails, no key gets another memo, and
+    /// `members` comes back.
+    pub fn publish_ring(
+        &mut self,
+        alloc: Global,
+        members: Vec<Member<R::Key>>,
+        inputs: &Inputs,
+    ) -> Result<(), UnpublishedRing<R::Key>>
+        requires kept { KeptOver R.Key.cmp (R.machine self.old.rules) inputs.now self.old.places }
+        requires some { 0 < length members.items }
+        requires ruled { Each (λ (e : R.Key × List R.Key). 0 < (R.machine self.old.rules).level e.0) members.items }
+        requires reads { Each (λ (e : R.Key × List R.Key). HasReads (over R.Key.cmp (R.machine self.old.rules) inputs.now.files) e.0 (Cycle (ring_keys members.items)) e.1) members.items }
+        requires up_to_date { Each (λ (e : R.Key × List R.Key). Each (IsUpToDate (R.machine self.old.rules) inputs.now.revision (HasIn (memo_at R.Key.cmp self.old.places))) (fronts e.1)) members.items }
+        ensures rules { self.new.rules ≡ self.old.rules }
+        ensures kept { KeptOver R.Key.cmp (R.machine self.old.rules) inputs.now self.new.places }
+        ensures published { OnOk result ((durability : Durability) × RingWritten inputs.now.revision (HasIn (memo_at R.Key.cmp self.old.places)) (HasIn (memo_at R.Key.cmp self.new.places)) members.items durability) }
+        ensures refused { OnErr result (IsSameTable (memo_at R.Key.cmp self.old.places) (memo_at R.Key.cmp self.new.places)) }
+        ensures returned { IfErr result (λ u. u.members.items ≡ members.items) }
+    {
+        let now = inputs.now().number();
+        let durability = self.ring_durability(&members, inputs);
+        match self.prepare_ring(alloc, &members, now) {
+            Ok(prepared) => {
+                self.put_all(members, prepared, durability, now);
+                Ok(())
+            }
+            Err(_) => Err(UnpublishedRing { members }),
+        }
+    }
+}

@@ -1,0 +1,204 @@
+//! What writes one memo: marking it as verified, and publishing an answer.
+//!
+//! Marking costs a search for each read, where durability does not confirm the memo. Publishing
+//! costs a search for each read, and one comparison with the old answer.
+ghost use Rattle.std.specs.Prelude.{◌≡◌, ◌⊎◌, ◌<◌, ◌≤◌, List, IfOk, IfErr, OnOk, OnErr, if◌then◌else◌};
+ghost use Rattle.std.specs.Option.{option_map};
+ghost use Rattle.std.specs.Ordering.{is_eq};
+ghost use Rattle.pq_inputs.specs.Changes.{level};
+ghost use Rattle.pq_rules.specs.declared.turn.Answer.TheVariants.{Cycle};
+ghost use Rattle.pq_rules.specs.Turns.{over};
+ghost use Rattle.pq_rules.specs.Relations.{Each, In};
+ghost use Rattle.pq_memo.specs.Sound.{Memo, HasReads};
+ghost use Rattle.pq_memo.specs.Look.{IsUpToDate, IsGreen, Lasts, HasLapsed};
+ghost use Rattle.pq_memo.specs.Table.{memo_at, HasIn, IsPut, IsSameTable, KeptOver};
+ghost use Rattle.pq_memo.specs.Writes.{IsDated, IsMarked, IsPublished, remarked};
+ghost use Rattle.pq_memo.specs.aux.Durabilities.{IsKnown, HasDurability, IsLeastRead};
+ghost use Rattle.pq_memo.specs.aux.Written.{HasRoom};
+
+use crate::entry::{Entry, mark_in};
+use crate::memos::Memos;
+use crate::unpublished::Unpublished;
+use pq_inputs::{Durability, Inputs};
+use pq_rules::{Answer, Memory, Rules, Shared, same_answer};
+use std::alloc::Global;
+
+/// The lower of `a` and `b`.
+pub(crate) fn lower(a: Durability, b: Durability) -> Durability
+    ensures which { (result ≡ a) ⊎ (result ≡ b) }
+    ensures left { level result ≤ level a }
+    ensures right { level result ≤ level b }
+{
+    if b < a { b } else { a }
+}
+
+impl<R: Rules> Memos<R> {
+    /// The durability of `key`, an input or a key with a memo.
+    fn durability_of(&self, key: &R::Key, inputs: &Inputs) -> Durability
+        requires { IsKnown (R.machine self.now.rules) (HasIn (memo_at R.Key.cmp self.now.places)) key.now }
+        ensures { HasDurability (R.machine self.now.rules) inputs.now.files (HasIn (memo_at R.Key.cmp self.now.places)) key.now result }
+    {
+        match self.rules.file(key) {
+            Some(name) => inputs.durability(name),
+            None => match self.entry(key) {
+                Some(entry) => entry.durability(),
+                None => unreachable!(),
+            },
+        }
+    }
+
+    /// The least durability of `reads`.
+    pub(crate) fn least_of(&self, reads: &[R::Key], inputs: &Inputs) -> Durability
+        requires { Each (IsKnown (R.machine self.now.rules) (HasIn (memo_at R.Key.cmp self.now.places))) reads.now }
+        ensures { IsLeastRead (R.machine self.now.rules) inputs.now.files (HasIn (memo_at R.Key.cmp self.now.places)) (λ q. In q reads.now) result }
+    {
+        let mut least = Durability::High;
+        for i in 0..reads.len() {
+            least = lower(least, self.durability_of(&reads[i], inputs));
+        }
+        least
+    }
+
+    /// The durability that the valid memo `entry` has now: its own where durability confirms it,
+    /// and else the least of its reads'.
+    fn durability_now(&self, entry: &Entry<R::Key, R::Value>, inputs: &Inputs) -> Durability
+        requires { Each (IsKnown (R.machine self.now.rules) (HasIn (memo_at R.Key.cmp self.now.places))) entry.now.reads }
+        ensures { ((Lasts inputs.now.history entry.now) × (result ≡ entry.now.durability))
+            ⊎ ((HasLapsed inputs.now.history entry.now)
+            × IsLeastRead (R.machine self.now.rules) inputs.now.files (HasIn (memo_at R.Key.cmp self.now.places)) (λ q. In q entry.now.reads) result) }
+    {
+        if self.lasts(entry, inputs) {
+            return entry.durability();
+        }
+        self.least_of(entry.reads(), inputs)
+    }
+
+    /// Marks the memo of `key`, which is `Green`, as verified now. Its durability becomes the least
+    /// of the inputs below it now. It takes no memory.
+    pub fn mark_verified(&mut self, key: &R::Key, inputs: &Inputs)
+        requires kept { KeptOver R.Key.cmp (R.machine self.old.rules) inputs.now self.old.places }
+        requires green { IsGreen (R.machine self.old.rules) inputs.now.history inputs.now.revision (HasIn (memo_at R.Key.cmp self.old.places)) key.now }
+        ensures rules { self.new.rules ≡ self.old.rules }
+        ensures kept { KeptOver R.Key.cmp (R.machine self.old.rules) inputs.now self.new.places }
+        ensures marked { IsMarked R.Key.cmp (R.machine self.old.rules) inputs.now self.old.places key.now self.new.places }
+    {
+        let durability = match self.entry(key) {
+            Some(entry) => self.durability_now(entry, inputs),
+            None => unreachable!(),
+        };
+        self.remark(key, inputs.now().number(), durability);
+    }
+
+    /// Sets the verified revision and the durability of the memo of `key`, if it has one.
+    fn remark(&mut self, key: &R::Key, revision: u64, durability: Durability)
+        ensures rules { self.new.rules ≡ self.old.rules }
+        ensures marked { (q : R.Key) → memo_at R.Key.cmp self.new.places q
+            ≡ (if is_eq (R.Key.cmp key.now q) then option_map (λ (m : Memo R.Key R.Value). remarked m revision durability) (memo_at R.Key.cmp self.old.places key.now) else memo_at R.Key.cmp self.old.places q) }
+    {
+        if let Some(place) = self.entries.get_mut(key) {
+            mark_in(place, revision, durability);
+        }
+    }
+
+    /// The changed revision of `answer` for `key`: that of the memo of `key`, if its answer is
+    /// equal, and else `now`.
+    pub(crate) fn changed_by(
+        &self,
+        key: &R::Key,
+        answer: &Answer<R::Key, R::Value>,
+        now: u64,
+    ) -> u64
+        ensures { IsDated now (HasIn (memo_at R.Key.cmp self.now.places)) key.now answer.now result }
+    {
+        match self.entry(key) {
+            Some(entry) => {
+                if same_answer(&self.rules, entry.answer(), answer) {
+                    return entry.changed();
+                }
+                now
+            }
+            None => now,
+        }
+    }
+
+    /// Gives `key` the memo `entry`. If the allocation fails, both come back.
+    fn store(
+        &mut self,
+        key: R::Key,
+        entry: Entry<R::Key, R::Value>,
+    ) -> Result<(), (R::Key, Entry<R::Key, R::Value>)>
+        ensures rules { self.new.rules ≡ self.old.rules }
+        ensures put { OnOk result (IsPut R.Key.cmp (memo_at R.Key.cmp self.old.places) key entry (memo_at R.Key.cmp self.new.places)) }
+        ensures refused { OnErr result (IsSameTable (memo_at R.Key.cmp self.old.places) (memo_at R.Key.cmp self.new.places)) }
+        ensures returned { IfErr result (λ e. (e.0 ≡ key) × (e.1 ≡ entry)) }
+    {
+        match self.entries.insert(key, Some(entry)) {
+            Ok(_) => Ok(()),
+            Err(failed) => {
+                let (key, place) = failed.value;
+                match place {
+                    Some(entry) => Err((key, entry)),
+                    None => unreachable!(),
+                }
+            }
+        }
+    }
+
+    /// Publishes `answer` as the answer of `key` now, with the `reads` that its rule made. If the
+    /// memo of `key` has an equal answer, its changed revision stays. If an allocation fails, no
+    /// key gets another memo, and what was handed in comes back.
+    pub fn publish(
+        &mut self,
+        key: R::Key,
+        answer: Shared<Answer<R::Key, R::Value>>,
+        reads: Vec<R::Key>,
+        inputs: &Inputs,
+    ) -> Result<(), Unpublished<R::Key, R::Value>>
+        requires kept { KeptOver R.Key.cmp (R.machine self.old.rules) inputs.now self.old.places }
+        requires ruled { 0 < (R.machine self.old.rules).level key }
+        requires reads { HasReads (over R.Key.cmp (R.machine self.old.rules) inputs.now.files) key answer reads.items }
+        requires up_to_date { Each (IsUpToDate (R.machine self.old.rules) inputs.now.revision (HasIn (memo_at R.Key.cmp self.old.places))) reads.items }
+        requires no_ring { (ring : List R.Key) → answer ≡ Cycle ring → In key ring → ⊥ }
+        ensures rules { self.new.rules ≡ self.old.rules }
+        ensures kept { KeptOver R.Key.cmp (R.machine self.old.rules) inputs.now self.new.places }
+        ensures published { OnOk result (IsPublished R.Key.cmp (R.machine self.old.rules) inputs.now self.old.places key answer reads.items self.new.places) }
+        ensures refused { OnErr result (IsSameTable (memo_at R.Key.cmp self.old.places) (memo_at R.Key.cmp self.new.places)) }
+        ensures returned { IfErr result (λ u. (u.key ≡ key) × (u.answer ≡ answer) × (u.reads.items ≡ reads.items)) }
+    {
+        let durability = self.least_of(&reads, inputs);
+        let now = inputs.now().number();
+        let changed = self.changed_by(&key, answer.get(), now);
+        match self.store(key, Entry::new(answer, now, changed, reads, durability, 0)) {
+            Ok(()) => Ok(()),
+            Err((key, entry)) => Err(entry.unpublished(key)),
+        }
+    }
+
+    /// Makes a place for `key`, if it has none.
+    pub(crate) fn make_room(&mut self, alloc: Global, key: &R::Key) -> Result<(), Memory>
+        ensures rules { self.new.rules ≡ self.old.rules }
+        ensures same { IsSameTable (memo_at R.Key.cmp self.old.places) (memo_at R.Key.cmp self.new.places) }
+        ensures room { OnOk result (HasRoom R.Key.cmp self.new.places key.now) }
+        ensures kept { (q : R.Key) → HasRoom R.Key.cmp self.old.places q → HasRoom R.Key.cmp self.new.places q }
+    {
+        if self.entries.get(key).is_some() {
+            return Ok(());
+        }
+        let copy = self.rules.copy_key(alloc, key)?;
+        self.entries.insert(copy, None)?;
+        Ok(())
+    }
+
+    /// Gives `key`, which has a place, the memo `entry`. It takes no memory.
+    pub(crate) fn put(&mut self, key: R::Key, entry: Entry<R::Key, R::Value>)
+        requires room { HasRoom R.Key.cmp self.old.places key }
+        ensures rules { self.new.rules ≡ self.old.rules }
+        ensures put { IsPut R.Key.cmp (memo_at R.Key.cmp self.old.places) key entry (memo_at R.Key.cmp self.new.places) }
+        ensures kept { (q : R.Key) → HasRoom R.Key.cmp self.old.places q → HasRoom R.Key.cmp self.new.places q }
+    {
+        match self.entries.insert(key, Some(entry)) {
+            Ok(_) => {}
+            Err(_) => unreachable!(),
+        }
+    }
+}
