@@ -10,6 +10,7 @@ mod messages;
 mod names;
 mod program;
 mod rules;
+mod schema;
 mod session;
 mod support;
 mod syntax;
