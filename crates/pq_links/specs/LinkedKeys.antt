@@ -15,9 +15,9 @@ use Rattle.pq_links.specs.declared.links.Import.{Import}
 use Rattle.pq_links.specs.declared.links.Links.{Links}
 
 -- `EmbedsLinks m g imports linked part value imports_read links_read level` is that the rule set
--- `m` embeds the query of links at the level `level`, above imports that are those of the graph `g`.
--- `imports f` and `linked f` are the keys of the imports and of the links of the file `f`, `part`
--- and `value` make parts and values, and `imports_read` and `links_read` read answers.
+-- `m` embeds the query of links at the level `level`, above imports that are those of the graph
+-- `g`. `imports f` and `linked f` are the keys of the imports and of the links of the file `f`,
+-- `part` and `value` make parts and values, and `imports_read` and `links_read` read answers.
 pub record EmbedsLinks {K P V : Type 0} (m : Instance K P V) (g : Graph) (imports linked : List ℕ → K) (part : Linking → P) (value : Links → V)
     (imports_read : Answer K V → Option (List Import)) (links_read : Answer K V → Links) (level : ℕ) : Type 0 where
   pub embeds : Embeds m linked part value level (linked_starts imports) (λ q a. linked_advances linked (imports_read a) (links_read a) q)

@@ -1,5 +1,5 @@
--- The prefixes of a name before its dots: none without a dot; else the part before the last dot, and
--- its prefixes.
+-- The prefixes of a name before its dots: none without a dot; else the part before the last dot,
+-- and its prefixes.
 use Rattle.std.proofs.Common.{◌≡◌, ◌≢◌, ℕ, suc, ◌<◌, Bool, false, cond, nat_eq, List, [], ◌∷◌, ◌++◌, map, length, get_or, take, drop, refl, sym, ap, subst, ◌∙◌, lit<, arith, take-append-drop}
 use Rattle.std.specs.Str.Pattern.{SplitsAroundMatch, RFindsChar}
 use Rattle.std.proofs.lemmas.Bool.Decides.{nat_tests}

@@ -84,8 +84,8 @@ pub first_file : resolved (both twice) [] (codes "T") ≡ message (codes "one.pr
 unfolding defined_in meaning is_package single first_part prefixes
 first_file = refl
 
--- message M { map<string, string> n = 1; NEntry.T t = 2; } message NEntry { message T {} }: M.NEntry
--- is an entry, which does not decide for NEntry.T
+-- message M { map<string, string> n = 1; NEntry.T t = 2; } message NEntry { message T {} }:
+-- M.NEntry is an entry, which does not decide for NEntry.T
 abbrev entries : List FileDefs
 entries =
     file (codes "e.proto") []
@@ -121,8 +121,8 @@ pub inner_decides : resolved (both inner) (codes "p.M") (codes "M.T") ≡ messag
 unfolding defined_in meaning is_package dotted first_part prefixes
 inner_decides = refl
 
--- package p; message M { message M {} message T {} }: in p.M the name M.T means p.M.M.T, which is not
--- defined, and not p.M.T
+-- package p; message M { message M {} message T {} }: in p.M the name M.T means p.M.M.T, which is
+-- not defined, and not p.M.T
 abbrev shadowed : List FileDefs
 shadowed =
     file (codes "s.proto") (codes "p")

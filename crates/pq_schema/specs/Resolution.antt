@@ -82,8 +82,8 @@ decides files name = opens (meaning files name) || is_package files name
     opens (Defined file d) = has_names d.kind
     opens Undefined = false
 
--- `unless_type f outer` is `f` if it is a type; else a type in `outer`, the scopes further out; else
--- what is not nothing
+-- `unless_type f outer` is `f` if it is a type; else a type in `outer`, the scopes further out;
+-- else what is not nothing
 abbrev pub unless_type : Found → Found → Found
 unless_type (FoundType file d) outer = FoundType file d
 unless_type FoundOther (FoundType file d) = FoundType file d
@@ -123,8 +123,8 @@ abbrev pub scopes : List ℕ → List (List ℕ)
 scopes [] = [] ∷ []
 scopes (c ∷ cs) = (c ∷ cs) ∷ (prefixes (c ∷ cs) ++ [] ∷ [])
 
--- `search files scopes name` is what the name `name` is found as from the scopes `scopes`. Of a name
--- with a leading dot the rest is a full name.
+-- `search files scopes name` is what the name `name` is found as from the scopes `scopes`. Of a
+-- name with a leading dot the rest is a full name.
 abbrev pub search : List FileDefs → List (List ℕ) → List ℕ → Found
 search files scopes [] = FoundNothing
 search files scopes (c ∷ cs) = cond (nat_eq c 46) (found files cs) (relative (first_part (c ∷ cs)))

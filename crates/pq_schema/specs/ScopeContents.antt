@@ -2,8 +2,8 @@
 use Rattle.std.specs.Prelude.{List}
 use Rattle.pq_schema.specs.declared.scope.FileDefs.{FileDefs}
 
--- `Scope` is the files whose definitions a file sees, and the files that it reaches by imports, each
--- list in order
+-- `Scope` is the files whose definitions a file sees, and the files that it reaches by imports,
+-- each list in order
 pub record Scope : Type 0 where
   pub visible : List FileDefs
   pub reach : List FileDefs

@@ -1,5 +1,5 @@
--- Auxiliary: when two scopes are equal, as a test, and that it decides equality. The lemmas are here,
--- since the laws of `==` cite them.
+-- Auxiliary: when two scopes are equal, as a test, and that it decides equality. The lemmas are
+-- here, since the laws of `==` cite them.
 use Rattle.std.proofs.Common.{◌≡◌, Bool, true, false, ◌&&◌, List, ap, ◌∙◌}
 use Rattle.std.specs.Cmp.{IsPartialEquivalence, IsEquivalence, decided, partial_equiv_from_equiv, first_so, second_so}
 use Rattle.std.specs.Cmp.Lexicographic.{pointwise, pointwise_decides, bytes_decides}
