@@ -9,6 +9,7 @@ pub mod NameCuts
 pub mod Weight
 pub mod Stack
 pub mod Finding
+pub mod Placed
 pub mod Applying
 pub mod RingEntries
 pub mod Rotating

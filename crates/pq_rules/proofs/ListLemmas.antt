@@ -9,15 +9,6 @@ use Rattle.pq_rules.specs.Relations.{Each, In}
 use Rattle.pq_rules.specs.aux.Lists.{in_append, in_append_left, in_append_right}
 use Rattle.pq_rules.specs.aux.Evaluator.{frame_keys, Distinct}
 
-pub no_more_frame : {K P : Type 0} (k : K) (xs : List (Frame K P)) (i : ℕ) (d : Frame K P) → i < length xs
-    → (In k (frame_keys (take i xs)) → ⊥) → ((get_or xs i d).key ≡ k → ⊥) → In k (frame_keys (take (suc i) xs)) → ⊥
-no_more_frame k [] i d h none other j = absurd j
-no_more_frame k (x ∷ xs) zero d h none other (inl p) = other (sym p)
-no_more_frame k (x ∷ xs) zero d h none other (inr j) = j
-no_more_frame k (x ∷ xs) (suc i) d h none other (inl p) = none (inl p)
-no_more_frame k (x ∷ xs) (suc i) d h none other (inr j) =
-    no_more_frame k xs i d (omega arith) (λ e. none (inr e)) other j
-
 pub one_more_key : {K P : Type 0} (xs : List (Frame K P)) (i : ℕ) (d : Frame K P) → i < length xs
     → frame_keys (take (suc i) xs) ≡ frame_keys (take i xs) ++ (get_or xs i d).key ∷ []
 one_more_key [] i d h = absurd (omega arith)

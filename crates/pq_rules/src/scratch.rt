@@ -9,17 +9,18 @@
 //!   answer of each;
 //! - otherwise the rule of the key starts, in a frame of its own.
 //!
-//! Each key is evaluated once. An answer is found in logarithmic time. The stack is searched from
-//! its bottom, once for each key, so `n` keys in a stack of depth `d` cost `n * d` comparisons at
-//! most.
+//! Each key is evaluated once. A table keeps each started key with the place of its frame, which is
+//! there until the key has an answer. So a key's answer and its frame are found in logarithmic
+//! time, and `n` keys that ask `q` questions in all cost some `(n + q) log n` comparisons.
 ghost use Rattle.std.specs.Prelude.{◌≡◌, ◌<◌, ◌≤◌, ◌++◌, ◌∷◌, ◌&&◌, [], ℕ, List, length, nat_eq, slice_get, Some, IfOk, IfSome, IfNone, HoldsAt, option_copied};
+ghost use Rattle.std.specs.BTreeMap.{insert_entry};
 ghost use Rattle.pq_inputs.specs.Sources.{Sources};
 ghost use Rattle.pq_rules.specs.declared.turn.Answer.{Answer};
 ghost use Rattle.pq_rules.specs.declared.turn.Answer.TheVariants.{Cycle};
 ghost use Rattle.pq_rules.specs.Turns.{over, text_at};
 ghost use Rattle.pq_rules.specs.Relations.{In, Each};
 ghost use Rattle.pq_rules.specs.Value.{Means};
-ghost use Rattle.pq_rules.specs.aux.AnswerTable.{Finished, Covers, entry, finished, is_cycle};
+ghost use Rattle.pq_rules.specs.aux.AnswerTable.{Finished, Covers, Placed, entry, finished, is_cycle};
 ghost use Rattle.pq_rules.specs.aux.Evaluator.{frame_keys, IsLeastAt, RotatedToLeast, Distinct, RingDone, Applies, Holds, Proceeds, Grows, IsNew};
 
 use crate::answer_table::AnswerTable;
@@ -45,17 +46,26 @@ fn push<T: Drop>(items: &mut Vec<T>, item: T) -> Result<(), Memory>
     Ok(())
 }
 
-/// Finds the frame of `key` in the stack, from its bottom up.
-fn place_of<R: Rules>(rules: &R, stack: &[Frame<R::Key, R::Part>], key: &R::Key) -> Option<usize>
+/// Finds the frame of `key` in the stack, in logarithmic time.
+fn place_of<R: Rules>(
+    rules: &R,
+    found: &AnswerTable<R::Key, R::Value>,
+    stack: &[Frame<R::Key, R::Part>],
+    key: &R::Key,
+) -> Option<usize>
+    requires placed { Placed R.Key.cmp found.now.started (frame_keys stack.now) }
     ensures found { IfSome result (λ i. (i < length stack.now) × HoldsAt (λ f. f.key ≡ key.now) stack.now i) }
     ensures none { IfNone result (In key.now (frame_keys stack.now) → ⊥) }
 {
-    for i in 0..stack.len() {
-        if is_same_key(rules, &stack[i].key, key) {
-            return Some(i);
+    match found.frame_of(key) {
+        Some(place) => {
+            if place < stack.len() && is_same_key(rules, &stack[place].key, key) {
+                return Some(place);
+            }
+            None
         }
+        None => None,
     }
-    None
 }
 
 /// Finds the frame of the least key.
@@ -116,6 +126,7 @@ fn assign<R: Rules>(
     requires { place < length found.old.answers }
     ensures given { IfOk result (λ _. (a : Answer R.Key R.Value) → slice_get found.old.answers place ≡ Some a → Covers (finished found.old ++ entry key a ∷ []) (finished found.new)) }
     ensures answers { found.new.answers ≡ found.old.answers }
+    ensures started { found.new.started ≡ found.old.started }
 {
     found.point(key, place)
 }
@@ -127,7 +138,8 @@ fn finish<R: Rules>(
     key: R::Key,
     answer: Answer<R::Key, R::Value>,
 ) -> Result<(), Memory>
-    ensures { IfOk result (λ _. Covers (finished found.old ++ entry key answer ∷ []) (finished found.new)) }
+    ensures given { IfOk result (λ _. Covers (finished found.old ++ entry key answer ∷ []) (finished found.new)) }
+    ensures started { found.new.started ≡ found.old.started }
 {
     let place = found.add(answer)?;
     assign(rules, found, key, place)
@@ -143,7 +155,8 @@ fn finish_ring<R: Rules>(
 ) -> Result<(), Memory>
     requires within { place ≤ length stack.old.items }
     requires answer { answer < length found.old.answers }
-    ensures { IfOk result (λ _. (ring : List R.Key) → slice_get found.old.answers answer ≡ Some (Cycle ring) → RingDone ring place (finished found.old) stack.old.items (finished found.new) stack.new.items) }
+    ensures done { IfOk result (λ _. (ring : List R.Key) → slice_get found.old.answers answer ≡ Some (Cycle ring) → RingDone ring place (finished found.old) stack.old.items (finished found.new) stack.new.items) }
+    ensures started { found.new.started ≡ found.old.started }
 {
     'ring: while stack.len() > place {
         if let Some(frame) = stack.pop() {
@@ -161,7 +174,8 @@ fn apply_turn<R: Rules>(
     key: R::Key,
     turn: Turn<R::Key, R::Part, R::Value>,
 ) -> Result<(), Memory>
-    ensures { IfOk result (λ _. (files : Sources) → Applies (over R.Key.cmp (R.machine rules.now) files) key turn (finished found.old) stack.old.items (finished found.new) stack.new.items) }
+    ensures applied { IfOk result (λ _. (files : Sources) → Applies (over R.Key.cmp (R.machine rules.now) files) key turn (finished found.old) stack.old.items (finished found.new) stack.new.items) }
+    ensures started { found.new.started ≡ found.old.started }
 {
     match turn {
         Turn::Ask(asked, part) => {
@@ -184,7 +198,8 @@ fn resume<R: Rules>(
     place: usize,
 ) -> Result<(), Memory>
     requires { place < length found.old.answers }
-    ensures { IfOk result (λ _. (files : Sources) (a : Answer R.Key R.Value) → slice_get found.old.answers place ≡ Some a → Applies (over R.Key.cmp (R.machine rules.now) files) frame.key ((R.machine rules.now).advance frame.part a) (finished found.old) stack.old.items (finished found.new) stack.new.items) }
+    ensures applied { IfOk result (λ _. (files : Sources) (a : Answer R.Key R.Value) → slice_get found.old.answers place ≡ Some a → Applies (over R.Key.cmp (R.machine rules.now) files) frame.key ((R.machine rules.now).advance frame.part a) (finished found.old) stack.old.items (finished found.new) stack.new.items) }
+    ensures started { found.new.started ≡ found.old.started }
 {
     match rules.advance(alloc, frame.part, found.answer(place)) {
         Ok(turn) => { apply_turn(rules, found, stack, frame.key, turn) }
@@ -192,7 +207,7 @@ fn resume<R: Rules>(
     }
 }
 
-/// Starts the rule of `key`.
+/// Starts the rule of `key`, and notes the place of its frame.
 fn begin<R: Rules>(
     alloc: Global,
     rules: &R,
@@ -200,8 +215,11 @@ fn begin<R: Rules>(
     stack: &mut Vec<Frame<R::Key, R::Part>>,
     key: R::Key,
 ) -> Result<(), Memory>
-    ensures { IfOk result (λ _. (files : Sources) → Applies (over R.Key.cmp (R.machine rules.now) files) key ((R.machine rules.now).start key) (finished found.old) stack.old.items (finished found.new) stack.new.items) }
+    ensures applied { IfOk result (λ _. (files : Sources) → Applies (over R.Key.cmp (R.machine rules.now) files) key ((R.machine rules.now).start key) (finished found.old) stack.old.items (finished found.new) stack.new.items) }
+    ensures started { IfOk result (λ _. found.new.started ≡ insert_entry R.Key.cmp found.old.started key (length stack.old.items)) }
 {
+    let copy = rules.copy_key(alloc, &key)?;
+    found.start(copy, stack.len())?;
     let turn = rules.start(alloc, &key)?;
     apply_turn(rules, found, stack, key, turn)
 }
@@ -242,6 +260,7 @@ fn read_input<R: Rules>(
     ensures within { IfOk result (λ i. i < length found.new.answers) }
     ensures means { IfOk result (λ i. (a : Answer R.Key R.Value) → slice_get found.new.answers i ≡ Some a → Means (over R.Key.cmp (R.machine rules.now) inputs.now.files) key.now a) }
     ensures grown { IfOk result (λ _. Grows (over R.Key.cmp (R.machine rules.now) inputs.now.files) (finished found.old) (finished found.new)) }
+    ensures started { found.new.started ≡ found.old.started }
 {
     let answer = input_answer(alloc, rules, inputs, key)?;
     let place = found.add(answer)?;
@@ -263,6 +282,7 @@ fn known<R: Rules>(
     ensures within { IfOk result (λ o. IfSome o (λ i. i < length found.new.answers)) }
     ensures means { IfOk result (λ o. IfSome o (λ i. (a : Answer R.Key R.Value) → slice_get found.new.answers i ≡ Some a → Means (over R.Key.cmp (R.machine rules.now) inputs.now.files) key.now a)) }
     ensures grown { IfOk result (λ _. Grows (over R.Key.cmp (R.machine rules.now) inputs.now.files) (finished found.old) (finished found.new)) }
+    ensures started { found.new.started ≡ found.old.started }
     ensures none { IfOk result (λ o. IfNone o (IsNew (R.machine rules.now) key.now (finished found.new))) }
 {
     match found.place_of(key) {
@@ -333,14 +353,17 @@ fn ask_first<R: Rules>(
 {
     let asked = rules.copy_key(alloc, &frame.asked)?;
     push(stack, frame)?;
-    match place_of(rules, stack, &asked) {
+    match place_of(rules, found, stack, &asked) {
         Some(place) => {
             let keys = ring_of(alloc, rules, &stack[place..])?;
             let ring = Ring::new(alloc, keys)?;
             let answer = found.add(Answer::Cycle(ring))?;
             finish_ring(rules, found, stack, place, answer)
         }
-        None => { begin(alloc, rules, found, stack, asked) }
+        None => {
+            begin(alloc, rules, found, stack, asked)?;
+            Ok(())
+        }
     }
 }
 

@@ -11,7 +11,7 @@ use Rattle.pq_inputs.specs.Sources.{Sources}
 use Rattle.pq_rules.specs.declared.turn.Turn.{Turn}
 use Rattle.pq_rules.specs.declared.turn.Turn.TheVariants.{Ask, Done}
 use Rattle.pq_rules.specs.declared.turn.Answer.TheVariants.{Value, Cycle}
-use Rattle.pq_rules.specs.aux.AnswerTable.{Finished, Places, finished, done_keys, Covers}
+use Rattle.pq_rules.specs.aux.AnswerTable.{Finished, Places, Placed, finished, done_keys, Covers}
 use Rattle.pq_rules.specs.declared.scratch.Frame.{Frame}
 use Rattle.pq_rules.specs.Turns.{Instance, Machine, over}
 use Rattle.pq_rules.specs.Relations.{Each, In}
@@ -127,18 +127,18 @@ GoesOn m reach root done stack after rest =
     IsInvariant m reach root after rest × (weight m reach after rest < weight m reach done stack)
 
 -- `Holds order machine reach files root found stack` is the invariant in a call of `from_scratch`
--- for the key `root` at the sources `files`
-abbrev pub Holds : {K P V : Type 0} → (K → K → Ordering) → Machine K P V → (Sources → K → List K) → Sources → K
-    → Places K V → List (Frame K P) → Type 0
-Holds order machine reach files root found stack =
-    IsInvariant (over order machine files) (reach files root) root (finished found) stack
+-- for the key `root` at the sources `files`: the frames' keys are also found at their places
+pub record Holds {K P V : Type 0} (order : K → K → Ordering) (machine : Machine K P V) (reach : Sources → K → List K) (files : Sources) (root : K)
+    (found : Places K V) (stack : List (Frame K P)) : Type 0 where
+  pub invariant : IsInvariant (over order machine files) (reach files root) root (finished found) stack
+  pub placed : Placed order found.started (frame_keys stack)
 
 -- `Proceeds order machine reach files root found stack after rest` is that a step of such a call
 -- went on from `found` and `stack` to `after` and `rest`
-abbrev pub Proceeds : {K P V : Type 0} → (K → K → Ordering) → Machine K P V → (Sources → K → List K) → Sources → K
-    → Places K V → List (Frame K P) → Places K V → List (Frame K P) → Type 0
-Proceeds order machine reach files root found stack after rest =
-    GoesOn (over order machine files) (reach files root) root (finished found) stack (finished after) rest
+pub record Proceeds {K P V : Type 0} (order : K → K → Ordering) (machine : Machine K P V) (reach : Sources → K → List K) (files : Sources) (root : K)
+    (found : Places K V) (stack : List (Frame K P)) (after : Places K V) (rest : List (Frame K P)) : Type 0 where
+  pub goes : GoesOn (over order machine files) (reach files root) root (finished found) stack (finished after) rest
+  pub placed : Placed order after.started (frame_keys rest)
 
 -- `IsNew machine key done` is that `key` has a rule and no answer yet
 pub record IsNew {K P V : Type 0} (m : Machine K P V) (key : K) (done : List (Finished K V)) : Type 0 where

@@ -1,16 +1,17 @@
-use Rattle.std.proofs.Common.{◌∙◌, ◌≡◌, ◌++◌, ◌∷◌, [], arith, List, ◌<◌, length, drop, take, ap, subst, slice_get, Some, ◌-◌, get_or}
+use Rattle.std.proofs.Common.{◌∙◌, ◌≡◌, ◌++◌, ◌∷◌, [], arith, List, ◌<◌, length, drop, take, ap, sym, subst, slice_get, Some, ◌-◌, get_or}
 use Rattle.std.proofs.lemmas.Grind.{common_steps}
 use Rattle.std.proofs.lemmas.Result.{IfOk-weaker}
 use Rattle.pq_rules.specs.declared.turn.Answer.{Answer}
 use Rattle.pq_rules.specs.declared.turn.Answer.TheVariants.{Cycle}
 use Rattle.pq_rules.specs.declared.scratch.Frame.{Frame}
 use Rattle.pq_rules.specs.Turns.{over}
-use Rattle.pq_rules.specs.aux.AnswerTable.{Finished, finished}
+use Rattle.pq_rules.specs.aux.AnswerTable.{Finished, Placed, finished}
 use Rattle.pq_rules.specs.aux.Evaluator.{frame_keys, RotatedToLeast, RingDone}
 use Rattle.pq_rules.specs.Relations.{In}
 use Rattle.pq_rules.proofs.Weight.{Exact}
 use Rattle.pq_rules.proofs.Finding.{same_finished, last_answer}
 use Rattle.pq_rules.proofs.Glue.{begun, closed}
+use Rattle.pq_rules.proofs.Placed.{placed_frames, placed_begun}
 use Rattle.pq_rules.proofs.Stack.{distinct_dropped}
 use Rattle.pq_rules.proofs.scratch.ask_first.Goals as goal
 
@@ -18,7 +19,7 @@ pub ring_of-requires-clause-distinct : goal.ring_of-requires-clause-distinct
 ring_of-requires-clause-distinct g c =
     let same : c.deref-in-Some.result.now ≡ c.args.stack.now.items ++ c.args.frame ∷ [] = c.deref-in-Some.ensures.value ∙ c.in_ok-push.ensures {u = tt} in
     let cut : take (length c.deref-in-Some.result.now - c.in-Some.place) (drop c.in-Some.place c.deref-in-Some.result.now) ≡ drop c.in-Some.place (c.args.stack.now.items ++ c.args.frame ∷ []) = grind (arith, common_steps, same) in
-    rw cut (distinct_dropped c.in-Some.place (c.args.stack.now.items ++ c.args.frame ∷ []) c.requires.going.distinct)
+    rw cut (distinct_dropped c.in-Some.place (c.args.stack.now.items ++ c.args.frame ∷ []) c.requires.going.invariant.distinct)
 
 pub returns-in_ok-answer-in-Some : goal.returns-in_ok-answer-in-Some
 returns-in_ok-answer-in-Some g c =
@@ -45,13 +46,18 @@ returns-in_ok-answer-in-Some g c =
     let ended : RingDone ring c.in-Some.place (finished c.args.found.now) all (finished c.finish_ring.new.found) c.finish_ring.new.stack.items =
     subst (λ (fs : List (Finished g.row.R-Key.Denot g.row.R-Value.Denot)). RingDone ring c.in-Some.place fs all (finished c.finish_ring.new.found) c.finish_ring.new.stack.items) same
     (done ring (kept ∙ ap (λ (a : Answer g.row.R-Key.Denot g.row.R-Value.Denot). Some a) is_ring)) in
-    closed m (g.R.Rules.reach c.args.rules.now c.args._inputs.now.files) laws exact c.args._root.now
-    (finished c.args.found.now) (finished c.finish_ring.new.found) c.args.stack.now.items all c.finish_ring.new.stack.items c.args.frame
-    c.in_ok-asked.asked c.in-Some.place ring c.requires.going (c.in_ok-asked.ensures {u = tt}).copy (c.in_ok-push.ensures {u = tt})
-    within at turned ended) c.finish_ring.ensures
+    record {
+      goes = closed m (g.R.Rules.reach c.args.rules.now c.args._inputs.now.files) laws exact c.args._root.now
+          (finished c.args.found.now) (finished c.finish_ring.new.found) c.args.stack.now.items all c.finish_ring.new.stack.items c.args.frame
+          c.in_ok-asked.asked c.in-Some.place ring c.requires.going.invariant (c.in_ok-asked.ensures {u = tt}).copy (c.in_ok-push.ensures {u = tt})
+          within at turned ended;
+      placed = placed_frames g.R.Key.Ord.cmp c.args.found.now.started c.finish_ring.new.found.started c.finish_ring.new.stack.items ended.popped
+          (c.args.stack.now.items ++ c.args.frame ∷ []) (c.finish_ring.ensures.started ∙ c.in_ok-answer-in-Some.ensures.started)
+          (sym (c.in_ok-push.ensures {u = tt}) ∙ ended.whole) c.requires.going.placed;
+    }) c.finish_ring.ensures.done
 
-pub returns-in-None : goal.returns-in-None
-returns-in-None g c =
+pub returns-in_ok-begin-in-None : goal.returns-in_ok-begin-in-None
+returns-in_ok-begin-in-None g c =
     let m = over g.R.Key.Ord.cmp (g.R.Rules.machine c.args.rules.now) c.args._inputs.now.files in
     let laws = g.met.R.Rules.lawful c.args.rules.now c.args._inputs.now.files in
     let exact : Exact g.R.Key.Ord.cmp = record { total = g.met.R.Key.Ord.total; exact = laws.exact } in
@@ -59,8 +65,15 @@ returns-in-None g c =
     let here : c.deref.result.now ≡ all = c.deref.ensures.value in
     let none : In c.in_ok-asked.asked (frame_keys all) → ⊥ =
     subst (λ (fs : List (Frame g.row.R-Key.Denot g.row.R-Part.Denot)). In c.in_ok-asked.asked (frame_keys fs) → ⊥) here c.in-None.ensures.none in
-    IfOk-weaker c.begin.result _ _ (λ _ applies.
-    begun m (g.R.Rules.reach c.args.rules.now c.args._inputs.now.files) laws exact c.args._root.now
-    (finished c.args.found.now) (finished c.begin.new.found) c.args.stack.now.items all c.begin.new.stack.items c.args.frame
-    c.in_ok-asked.asked c.requires.going (c.in_ok-asked.ensures {u = tt}).copy (c.in_ok-push.ensures {u = tt}) c.requires.new.high c.requires.new.no_answer
-    none (applies c.args._inputs.now.files)) c.begin.ensures
+    let begins = c.in_ok-begin-in-None.ensures {u = tt} in
+    let pushed : all ≡ c.args.stack.now.items ++ c.args.frame ∷ [] = c.in_ok-push.ensures {u = tt} in
+    record {
+      goes = begun m (g.R.Rules.reach c.args.rules.now c.args._inputs.now.files) laws exact c.args._root.now
+          (finished c.args.found.now) (finished c.begin.new.found) c.args.stack.now.items all c.begin.new.stack.items c.args.frame
+          c.in_ok-asked.asked c.requires.going.invariant (c.in_ok-asked.ensures {u = tt}).copy pushed c.requires.new.high c.requires.new.no_answer
+          none (begins.applied c.args._inputs.now.files);
+      placed = placed_begun m g.R.Key.Ord.cmp exact c.args.found.now.started c.begin.new.found.started c.in_ok-asked.asked
+          (m.start c.in_ok-asked.asked) (finished c.args.found.now) (finished c.begin.new.found) all c.begin.new.stack.items begins.started none
+          (begins.applied c.args._inputs.now.files)
+          (subst (λ (fs : List (Frame g.row.R-Key.Denot g.row.R-Part.Denot)). Placed g.R.Key.Ord.cmp c.args.found.now.started (frame_keys fs)) (sym pushed) c.requires.going.placed);
+    }

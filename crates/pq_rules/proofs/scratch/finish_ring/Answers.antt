@@ -10,6 +10,7 @@ pub ring-init : goal.ring-init
 ring-init g c = record {
   within = c.requires.within;
   answers = refl;
+  started = refl;
   far = λ ring s. far_start ring c.args.stack.now.items (finished c.args.found.now);
 }
 
@@ -17,6 +18,7 @@ pub ring-preserved-in-Some : goal.ring-preserved-in-Some
 ring-preserved-in-Some g c = record {
   within = grind (arith, common_steps);
   answers = c.in_ok-assign.ensures.answers ∙ c.ring.invariant.answers;
+  started = c.in_ok-assign.ensures.started ∙ c.ring.invariant.started;
   far = λ ring s. far_on ring c.args.stack.now.items (finished c.args.found.now) c.ring.stack.items c.pop.new.self.items (finished c.ring.found)
       (finished c.assign.new.found) c.in-Some.frame (c.ring.invariant.far ring s) c.in-Some.ensures.items
       (c.in_ok-assign.ensures.given (Cycle ring)

@@ -9,6 +9,7 @@ abbrev pub invariant-ring : goal.invariant-ring
 invariant-ring g l = record {
   within : l.place ≤ length l.stack.items;
   answers : l.found.answers ≡ l.initial.found.answers;
+  started : l.found.started ≡ l.initial.found.started;
   far : (ring : List g.row.R-Key.Denot) → slice_get l.initial.found.answers l.answer ≡ Some (Cycle ring)
       → (popped : List (Frame g.row.R-Key.Denot g.row.R-Part.Denot)) × (l.initial.stack.items ≡ l.stack.items ++ popped)
       × Covers (finished l.initial.found ++ ring_entries ring popped) (finished l.found);
