@@ -22,6 +22,8 @@ import sessions
 
 HERE = os.path.dirname(os.path.abspath(__file__))
 CRATES = os.path.join(HERE, "..", "crates")
+# the C library keeps freed memory: giving it back after each round and asking for it again costs more than the work
+KEPT = dict(os.environ, MALLOC_TRIM_THRESHOLD_="1000000000", MALLOC_MMAP_THRESHOLD_="1000000000")
 PARTS = {"lexing": ["pq_lex"], "parsing": ["pq_lex", "pq_names", "pq_syntax"]}
 
 
@@ -49,7 +51,7 @@ def built(folder, part):
 def processor_time(words, source=None, status=0, said=b""):
     """The processor's time of one process, the system's part included. Its output has to end so."""
     before = resource.getrusage(resource.RUSAGE_CHILDREN)
-    done = subprocess.run(words, stdin=source or subprocess.DEVNULL, capture_output=True)
+    done = subprocess.run(words, stdin=source or subprocess.DEVNULL, capture_output=True, env=KEPT)
     after = resource.getrusage(resource.RUSAGE_CHILDREN)
     if done.returncode != status or not done.stdout.endswith(said):
         sys.exit("%s ended with status %d: %s" % (" ".join(words)[:200], done.returncode, (done.stdout + done.stderr).decode()[:400]))
