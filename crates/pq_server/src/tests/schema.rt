@@ -2,7 +2,6 @@
 //!
 //! A set of files is one text with a line `NAME: TEXT` for each file, without the statement of the
 //! syntax, or `NAME` for an absent one.
-mod direct;
 mod links;
 mod random;
 mod resolution;
