@@ -7,7 +7,8 @@ mod search;
 mod walks;
 mod written;
 
-use super::{check_answer, inputs_of};
+use super::{inputs_of, shown_query};
+use crate::tests::support::check_text;
 use model::{File, file_name, shown_list};
 use pq_inputs::Inputs;
 use pq_rules::Memory;
@@ -16,7 +17,7 @@ use std::alloc::Global;
 use std::process::Abort;
 use std::test::Fail;
 use walks::{Links, links_of};
-use written::Random;
+use written::Writer;
 
 /// The texts of a set, a line `NAME: TEXT` for each file.
 fn shown_set(alloc: Global, set: &[File]) -> Result<String, Memory> {
@@ -72,10 +73,10 @@ fn check_query(
     file: usize,
     want: &str,
     texts: &str,
-) -> Result<(), Fail> {
-    let mut asked = String::from_str(rt.alloc(), query)?;
-    asked.push_str(file_name(file))?;
-    check_answer(rt, inputs, asked.as_str(), want, texts)
+) -> Result<(), Memory> {
+    let found = shown_query(rt.alloc(), inputs, query, file_name(file))?;
+    check_text(rt, found.as_str(), want, texts);
+    Ok(())
 }
 
 /// Checks that the queries say of a file what the direct reading says.
@@ -85,14 +86,14 @@ fn check_file(
     set: &[File],
     file: usize,
     texts: &str,
-) -> Result<(), Fail> {
+) -> Result<(), Memory> {
     let links = links_of(rt.alloc(), set, file)?;
     let want = shown_links(rt.alloc(), &links)?;
-    check_query(rt, inputs, "Linked ", file, want.as_str(), texts)?;
+    check_query(rt, inputs, "Linked", file, want.as_str(), texts)?;
     let want = shown_scope(rt.alloc(), &links)?;
-    check_query(rt, inputs, "Scope ", file, want.as_str(), texts)?;
+    check_query(rt, inputs, "Scope", file, want.as_str(), texts)?;
     let want = shown_references(rt.alloc(), set, &links, file)?;
-    check_query(rt, inputs, "Resolved ", file, want.as_str(), texts)
+    check_query(rt, inputs, "Resolved", file, want.as_str(), texts)
 }
 
 /// Checks each file of a set, and an absent one.
@@ -107,9 +108,9 @@ fn check_set(rt: &(impl Abort + AllocGlobal), set: &[File]) -> Result<(), Fail> 
 
 /// Checks 250 sets, which the state `state` begins.
 fn check_sets(rt: &(impl Abort + AllocGlobal), state: usize) -> Result<(), Fail> {
-    let mut random = Random::new(state);
+    let mut writer = Writer::new(state);
     for _ in 0..250u32 {
-        let set = random.set(rt.alloc())?;
+        let set = writer.set(rt.alloc())?;
         check_set(rt, &set)?;
     }
     Ok(())

@@ -60,26 +60,41 @@ pub(crate) fn file_name(file: usize) -> &'static str {
     "a|b|c|d|e".split('|').nth(file).unwrap_or("f")
 }
 
+/// Adds the simple name of a digit to a dotted name.
+fn add_part(all: &mut String, digit: usize) -> Result<(), Memory> {
+    if !all.is_empty() {
+        all.push('.')?;
+    }
+    all.push_str(NAMES.split('|').nth(digit).unwrap_or(""))
+}
+
 /// A dotted name as text.
 pub(crate) fn shown_name(alloc: Global, name: usize) -> Result<String, Memory> {
     let mut all = String::new(alloc);
     let mut rest = name;
     for _ in 0..16u32 {
         if rest >> 60 > 0 {
-            if !all.is_empty() {
-                all.push('.')?;
-            }
-            all.push_str(NAMES.split('|').nth(rest >> 60).unwrap_or(""))?;
+            add_part(&mut all, rest >> 60)?;
         }
         rest <<= 4;
     }
     Ok(all)
 }
 
+/// Whether a list has a number.
+pub(crate) fn has(list: &[usize], number: usize) -> bool {
+    for one in list {
+        if *one == number {
+            return true;
+        }
+    }
+    false
+}
+
 /// Adds the files of `more` that `files` does not have.
 pub(crate) fn add_new(files: &mut Vec<usize>, more: &[usize]) -> Result<(), Memory> {
     for file in more {
-        if !files.contains(file) {
+        if !has(files.as_slice(), *file) {
             files.push(*file)?;
         }
     }

@@ -1,5 +1,5 @@
 //! What names resolve to, read from the definitions: full names are looked for by scans of lists.
-use super::model::{Definition, File, Kind, Reference, file_name, shown_name};
+use super::model::{Definition, File, Kind, Reference, file_name, has, shown_name};
 use pq_rules::Memory;
 use std::alloc::Global;
 
@@ -71,7 +71,7 @@ impl Names {
 
     /// Whether a full name is a package.
     fn is_package(&self, full_name: usize) -> bool {
-        full_name > 0 && self.packages.contains(&full_name)
+        full_name > 0 && has(self.packages.as_slice(), full_name)
     }
 
     /// What a full name is found as.
@@ -164,7 +164,18 @@ fn resolution(
     }
 }
 
-/// The references of a file that sees `visible` and reaches `reach`, as `ITEM PART RESOLUTION;`.
+/// A reference as `ITEM PART RESOLUTION;`.
+fn shown_reference(
+    alloc: Global,
+    visible: &Names,
+    reach: &Names,
+    reference: &Reference,
+) -> Result<String, Memory> {
+    let found = resolution(alloc, visible, reach, reference)?;
+    format!(in alloc; "{} {} {};", reference.item, reference.part, found.as_str())
+}
+
+/// The references of a file that sees `visible` and reaches `reach`.
 pub(crate) fn resolved(
     alloc: Global,
     file: &File,
@@ -173,9 +184,7 @@ pub(crate) fn resolved(
 ) -> Result<String, Memory> {
     let mut all = String::new(alloc);
     for reference in &file.references {
-        let found = resolution(alloc, visible, reach, reference)?;
-        let one = format!(in alloc; "{} {} {};", reference.item, reference.part, found.as_str())?;
-        all.push_str(one.as_str())?;
+        all.push_str(shown_reference(alloc, visible, reach, reference)?.as_str())?;
     }
     Ok(all)
 }

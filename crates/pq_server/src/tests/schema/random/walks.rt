@@ -57,7 +57,7 @@ pub(crate) fn walks(
 /// The first import of a file that is bad.
 fn next(file: &File, bad: &[bool]) -> Option<usize> {
     for import in &file.imports {
-        if bad.get(import.file) == Some(&true) {
+        if matches!(bad.get(import.file), Some(true)) {
             return Some(import.file);
         }
     }
@@ -122,7 +122,7 @@ pub(crate) struct Links {
 /// The links of a file. A bad file has a ring alone, and a good file none.
 pub(crate) fn links_of(alloc: Global, set: &[File], file: usize) -> Result<Links, Memory> {
     let bad = bad_files(alloc, set)?;
-    if bad.get(file) == Some(&true) {
+    if matches!(bad.get(file), Some(true)) {
         return Ok(Links {
             exports: Vec::new(alloc),
             visible: Vec::new(alloc),

@@ -1,21 +1,22 @@
 //! Random sets of files.
 use super::model::{File, Import, Kind, file_name};
+use crate::tests::support::Random;
 use pq_rules::Memory;
 use std::alloc::Global;
 
-/// A linear congruential generator. The files that may be imported are `from` up to `count`.
+/// Writes random files. Those that may be imported are `from` up to `count`.
 #[derive(Drop)]
-pub(crate) struct Random {
-    state: usize,
+pub(crate) struct Writer {
+    random: Random,
     from: usize,
     count: usize,
 }
 
-impl Random {
-    /// The numbers after `state`.
-    pub(crate) fn new(state: usize) -> Random {
-        Random {
-            state,
+impl Writer {
+    /// The writer whose choices `state` begins.
+    pub(crate) fn new(state: usize) -> Writer {
+        Writer {
+            random: Random::new(state),
             from: 0,
             count: 0,
         }
@@ -23,11 +24,7 @@ impl Random {
 
     /// A number below `end`, or 0 if that is 0.
     fn below(&mut self, end: usize) -> usize {
-        self.state = self
-            .state
-            .wrapping_mul(6_364_136_223_846_793_005)
-            .wrapping_add(1_442_695_040_888_963_407);
-        (self.state >> 33).checked_rem(end).unwrap_or(0)
+        self.random.below(end)
     }
 
     /// A simple name that files share.
@@ -57,7 +54,7 @@ impl Random {
         self.file().wrapping_add(9)
     }
 
-    /// The name of a type.
+    /// The name of a type: a simple name, or one in another, in the package `p` or the like.
     fn type_name(&mut self) -> usize {
         let start = self.start();
         match self.below(8) {
@@ -132,17 +129,23 @@ impl Random {
         self.field(alloc, file, "", "=1;}")
     }
 
-    /// A service of one method.
-    fn service(&mut self, alloc: Global, file: &mut File) -> Result<(), Memory> {
-        let (name, method) = (self.name(), self.name());
-        file.define(name, Kind::Service)?;
-        file.open(name);
-        file.write(alloc, "service ", name, "{rpc ")?;
-        file.define(method, Kind::Other)?;
-        file.write(alloc, "", method, "(")?;
+    /// The start of a method of the service that is open.
+    fn method(&mut self, alloc: Global, file: &mut File) -> Result<(), Memory> {
+        let name = self.name();
+        file.define(name, Kind::Other)?;
+        file.write(alloc, "rpc ", name, "(")?;
         self.refer(alloc, file, "input")?;
         file.write(alloc, ")returns(", 0, "")?;
-        self.refer(alloc, file, "output")?;
+        self.refer(alloc, file, "output")
+    }
+
+    /// A service of one method.
+    fn service(&mut self, alloc: Global, file: &mut File) -> Result<(), Memory> {
+        let name = self.name();
+        file.define(name, Kind::Service)?;
+        file.open(name);
+        file.write(alloc, "service ", name, "{")?;
+        self.method(alloc, file)?;
         file.end();
         self.close(alloc, file, ");}")
     }
