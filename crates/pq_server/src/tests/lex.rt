@@ -64,27 +64,39 @@ fn check_tokens(rt: &(impl Abort + AllocGlobal), text: &str, want: &str) -> Resu
     Ok(())
 }
 
+/// The number of tokens, and the error.
+fn shown_count(alloc: Global, lexed: &Lexed) -> Result<String, Memory> {
+    let error = shown_error(alloc, lexed)?;
+    format!(in alloc; "{} {error}", lexed.tokens.len())
+}
+
 /// Checks the number of tokens of `text`, and its error, against `want`.
 fn check_error(rt: &(impl Abort + AllocGlobal), text: &str, want: &str) -> Result<(), Fail> {
-    let alloc = rt.alloc();
-    let lexed = lex(alloc, text)?;
-    let error = shown_error(alloc, &lexed)?;
-    let found = format!(in alloc; "{} {error}", lexed.tokens.len())?;
+    let lexed = lex(rt.alloc(), text)?;
+    let found = shown_count(rt.alloc(), &lexed)?;
     check_text(rt, found.as_str(), want, text);
     Ok(())
+}
+
+/// The value of the first token of `text` as an integer, `none` past 64 bits.
+fn shown_integer(alloc: Global, text: &str, lexed: &Lexed) -> Result<String, Memory> {
+    let value = match lexed.tokens.first() {
+        Some(token) => integer_value(text, token),
+        None => None,
+    };
+    match value {
+        Some(value) => format!(in alloc; "{value}"),
+        None => String::from_str(alloc, "none"),
+    }
 }
 
 /// Checks that `text` is one integer token whose value is `want`, `none` past 64 bits.
 ///
 /// Another token has no value as an integer.
 fn check_integer(rt: &(impl Abort + AllocGlobal), text: &str, want: &str) -> Result<(), Fail> {
-    let alloc = rt.alloc();
-    let lexed = lex(alloc, text)?;
+    let lexed = lex(rt.alloc(), text)?;
     assert_eq!(rt; lexed.tokens.len(), 1, "{text}");
-    let found = match integer_value(text, &lexed.tokens[0]) {
-        Some(value) => format!(in alloc; "{value}")?,
-        None => String::from_str(alloc, "none")?,
-    };
+    let found = shown_integer(rt.alloc(), text, &lexed)?;
     check_text(rt, found.as_str(), want, text);
     Ok(())
 }

@@ -2,7 +2,6 @@
 //!
 //! A set of files is one text with a line `NAME: TEXT` for each file, without the statement of the
 //! syntax, or `NAME` for an absent one.
-mod direct;
 mod links;
 mod random;
 mod resolution;
@@ -11,88 +10,109 @@ mod shown;
 use super::support::{check_row_count, check_text, split_row};
 use pq_inputs::{Durability, Inputs};
 use pq_rules::{Answer, Memory, Text, from_scratch};
-use pq_schema::{SchemaKey, SchemaRules, SchemaValue, Scope, resolve};
+use pq_schema::{SchemaKey, SchemaRules, SchemaValue, resolve};
 use shown::{shown_answer, shown_target};
 use std::alloc::Global;
 use std::process::Abort;
 use std::test::Fail;
+
+/// Sets a file to the text `text` after the statement of the syntax.
+fn set_file(alloc: Global, inputs: &mut Inputs, name: &str, text: &str) -> Result<(), Fail> {
+    let mut whole = String::from_str(alloc, "syntax='proto3';")?;
+    whole.push_str(text)?;
+    match inputs.set(name, Some(whole), Durability::Low) {
+        Ok(_revision) => Ok(()),
+        Err(_refused) => Err(Fail::from("a file was not set")),
+    }
+}
 
 /// Sets the files of the set `files`.
 fn inputs_of(alloc: Global, files: &str) -> Result<Inputs, Fail> {
     let mut inputs = Inputs::new(alloc)?;
     for line in files.lines() {
         if let Some((name, text)) = line.split_once(": ") {
-            let text = format!(in alloc; "syntax='proto3';{text}")?;
-            if inputs.set(name, Some(text), Durability::Low).is_err() {
-                return Err(Fail::from("a file was not set"));
-            }
+            set_file(alloc, &mut inputs, name, text)?;
         }
     }
     Ok(inputs)
 }
 
-/// The key that `asked` writes as the query's name and the file's.
-fn key_of(rt: &(impl Abort + AllocGlobal), asked: &str) -> Result<SchemaKey, Memory> {
-    let (query, name) = split_row(rt, asked, " ");
-    let name = Text::new(rt.alloc(), name)?;
+/// The key of the query `query` of the file `name`.
+fn key_of(query: &str, name: Text) -> SchemaKey {
     match query {
-        "Parse" => Ok(SchemaKey::Parse(name)),
-        "Imports" => Ok(SchemaKey::Imports(name)),
-        "Linked" => Ok(SchemaKey::Linked(name)),
-        "Defs" => Ok(SchemaKey::Defs(name)),
-        "Scope" => Ok(SchemaKey::Scope(name)),
-        _ => Ok(SchemaKey::Resolved(name)),
+        "Parse" => SchemaKey::Parse(name),
+        "Imports" => SchemaKey::Imports(name),
+        "Linked" => SchemaKey::Linked(name),
+        "Defs" => SchemaKey::Defs(name),
+        "Scope" => SchemaKey::Scope(name),
+        _ => SchemaKey::Resolved(name),
     }
 }
 
-/// Checks that the answer of `asked` is `want`; `row` names the row.
-fn check_answer(
-    rt: &(impl Abort + AllocGlobal),
+/// The answer of `key`.
+fn answer_of(
+    alloc: Global,
     inputs: &Inputs,
-    asked: &str,
-    want: &str,
-    row: &str,
-) -> Result<(), Fail> {
-    let key = key_of(rt, asked)?;
-    let answer = from_scratch(rt.alloc(), &SchemaRules, inputs, &key)?;
-    let found = shown_answer(rt.alloc(), &answer)?;
-    check_text(rt, found.as_str(), want, row);
-    Ok(())
+    key: &SchemaKey,
+) -> Result<Answer<SchemaKey, SchemaValue>, Memory> {
+    from_scratch(alloc, &SchemaRules, inputs, key)
 }
 
-/// Checks the `count` rows `QUERY FILE => ANSWER` over `files`.
-fn check_answers(
-    rt: &(impl Abort + AllocGlobal),
-    files: &str,
-    count: usize,
-    rows: &str,
-) -> Result<(), Fail> {
-    check_row_count(rt, count, rows);
-    let inputs = inputs_of(rt.alloc(), files)?;
-    for row in rows.lines() {
-        let (asked, want) = split_row(rt, row, " => ");
-        check_answer(rt, &inputs, asked, want, row)?;
-    }
-    Ok(())
+/// The answer of the query `query` of the file `name` as text.
+fn shown_query(alloc: Global, inputs: &Inputs, query: &str, name: &str) -> Result<String, Memory> {
+    let key = key_of(query, Text::new(alloc, name)?);
+    let answer = answer_of(alloc, inputs, &key)?;
+    shown_answer(alloc, &answer)
 }
 
-/// Checks that `name`, used in `within` of a file with the scope `scope`, has the target `want`.
-fn check_name(
-    rt: &(impl Abort + AllocGlobal),
-    scope: &Scope,
+/// The target of `name`, used in `within` of a file whose scope is the answer `scope`, as text.
+fn shown_search(
+    alloc: Global,
+    scope: &Answer<SchemaKey, SchemaValue>,
     within: &str,
     name: &str,
-    want: &str,
-    row: &str,
-) -> Result<(), Fail> {
-    let found = resolve(rt.alloc(), scope, within, name);
-    let found = shown_target(rt.alloc(), &found)?;
+) -> Result<String, Memory> {
+    match scope {
+        Answer::Value(SchemaValue::Scope(scope)) => {
+            shown_target(alloc, &resolve(alloc, scope.get(), within, name))
+        }
+        _ => String::from_str(alloc, "no scope"),
+    }
+}
+
+/// The target of `name`, used in `within` of the file `file`, as text.
+fn shown_name(
+    alloc: Global,
+    inputs: &Inputs,
+    file: &str,
+    within: &str,
+    name: &str,
+) -> Result<String, Memory> {
+    let key = SchemaKey::Scope(Text::new(alloc, file)?);
+    let scope = answer_of(alloc, inputs, &key)?;
+    shown_search(alloc, &scope, within, name)
+}
+
+/// What `asked` asks for: `QUERY FILE`, or `FILE WITHIN NAME`, where `-` is the empty scope.
+fn shown_asked(alloc: Global, inputs: &Inputs, asked: &str) -> Result<String, Memory> {
+    let (first, rest) = asked.split_once(" ").unwrap_or((asked, ""));
+    match rest.split_once(" ") {
+        None => shown_query(alloc, inputs, first, rest),
+        Some(("-", name)) => shown_name(alloc, inputs, first, "", name),
+        Some((within, name)) => shown_name(alloc, inputs, first, within, name),
+    }
+}
+
+/// Checks the row `ASKED => WANT`.
+fn check_row(rt: &(impl Abort + AllocGlobal), inputs: &Inputs, row: &str) -> Result<(), Memory> {
+    let (asked, want) = split_row(rt, row, " => ");
+    let found = shown_asked(rt.alloc(), inputs, asked)?;
     check_text(rt, found.as_str(), want, row);
     Ok(())
 }
 
-/// Checks the `count` rows `FILE WITHIN NAME => TARGET` over `files`; `-` is the empty scope.
-fn check_names(
+/// Checks the `count` rows `rows` over `files`.
+fn check_rows(
     rt: &(impl Abort + AllocGlobal),
     files: &str,
     count: usize,
@@ -101,18 +121,7 @@ fn check_names(
     check_row_count(rt, count, rows);
     let inputs = inputs_of(rt.alloc(), files)?;
     for row in rows.lines() {
-        let (asked, want) = split_row(rt, row, " => ");
-        let (file, asked) = split_row(rt, asked, " ");
-        let (within, name) = split_row(rt, asked, " ");
-        let within = if within == "-" { "" } else { within };
-        let key = SchemaKey::Scope(Text::new(rt.alloc(), file)?);
-        let answer = from_scratch(rt.alloc(), &SchemaRules, &inputs, &key)?;
-        match &answer {
-            Answer::Value(SchemaValue::Scope(scope)) => {
-                check_name(rt, scope.get(), within, name, want, row)?;
-            }
-            _ => return Err(Fail::from("the answer is no scope")),
-        }
+        check_row(rt, &inputs, row)?;
     }
     Ok(())
 }

@@ -52,3 +52,25 @@ pub(super) fn frames(alloc: Global, bodies: &[&str]) -> Result<Vec<u8>, Memory> 
     }
     Ok(bytes)
 }
+
+/// A linear congruential generator.
+#[derive(Drop)]
+pub(super) struct Random {
+    state: usize,
+}
+
+impl Random {
+    /// The generator of the numbers after `state`.
+    pub(super) fn new(state: usize) -> Random {
+        Random { state }
+    }
+
+    /// A number below `end`, or 0 if that is 0.
+    pub(super) fn below(&mut self, end: usize) -> usize {
+        self.state = self
+            .state
+            .wrapping_mul(6_364_136_223_846_793_005)
+            .wrapping_add(1_442_695_040_888_963_407);
+        (self.state >> 33).checked_rem(end).unwrap_or(0)
+    }
+}

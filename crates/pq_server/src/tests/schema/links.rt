@@ -1,10 +1,10 @@
 //! Links: which files a file exports, sees and reaches, and the rings of imports.
-use super::check_answers;
+use super::check_rows;
 use std::test::Fail;
 
 #[test]
 fn chains(rt: HostRuntime) -> Result<(), Fail> {
-    check_answers(
+    check_rows(
         &rt,
         "\
         a: import 'b';\n\
@@ -32,7 +32,7 @@ fn chains(rt: HostRuntime) -> Result<(), Fail> {
 // Of imports of one name and one publicity the first counts.
 #[test]
 fn repeated_and_absent(rt: HostRuntime) -> Result<(), Fail> {
-    check_answers(
+    check_rows(
         &rt,
         "\
         a: import 'gone';import public 'gone';import 'b';\n\
@@ -68,7 +68,7 @@ fn repeated_and_absent(rt: HostRuntime) -> Result<(), Fail> {
 // The order is that of the first visits, depth first.
 #[test]
 fn orders(rt: HostRuntime) -> Result<(), Fail> {
-    check_answers(
+    check_rows(
         &rt,
         "\
         a: import public 'b';import public 'c';import 'd';\n\
@@ -92,7 +92,7 @@ fn orders(rt: HostRuntime) -> Result<(), Fail> {
 
 #[test]
 fn rings(rt: HostRuntime) -> Result<(), Fail> {
-    check_answers(
+    check_rows(
         &rt,
         "\
         a.proto: import 'b.proto';\n\
@@ -115,7 +115,7 @@ fn rings(rt: HostRuntime) -> Result<(), Fail> {
 // Each bad file leads to the ring of its first bad import. Good files stay good.
 #[test]
 fn rings_of_many(rt: HostRuntime) -> Result<(), Fail> {
-    check_answers(
+    check_rows(
         &rt,
         "\
         a: import 'good';import 'm';import 'b';\n\

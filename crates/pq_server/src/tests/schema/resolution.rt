@@ -1,10 +1,10 @@
 //! Definitions of files, and what names resolve to.
-use super::{check_answers, check_names};
+use super::check_rows;
 use std::test::Fail;
 
 #[test]
 fn imports_and_names(rt: HostRuntime) -> Result<(), Fail> {
-    check_names(
+    check_rows(
         &rt,
         "\
         a: import 'b';message M{C x=1;}\n\
@@ -42,7 +42,7 @@ fn imports_and_names(rt: HostRuntime) -> Result<(), Fail> {
 // decides.
 #[test]
 fn packages(rt: HostRuntime) -> Result<(), Fail> {
-    check_names(
+    check_rows(
         &rt,
         "\
         a: package a.foo;import 'b';message M{foo.Bar x=1;}\n\
@@ -77,7 +77,7 @@ fn packages(rt: HostRuntime) -> Result<(), Fail> {
 // text. A definition counts before a package of its name.
 #[test]
 fn equal_names(rt: HostRuntime) -> Result<(), Fail> {
-    check_names(
+    check_rows(
         &rt,
         "\
         a: import 'c';import 'd';\n\
@@ -111,7 +111,7 @@ fn equal_names(rt: HostRuntime) -> Result<(), Fail> {
 // An inner scope decides for a dotted name; for a single name only where it has a type.
 #[test]
 fn scopes(rt: HostRuntime) -> Result<(), Fail> {
-    check_names(
+    check_rows(
         &rt,
         "\
         a: message A{message C{}}message M{message A{message B{}}int32 M=1;enum E{V=0;}oneof o{A f=2;}}\n\
@@ -142,14 +142,13 @@ fn scopes(rt: HostRuntime) -> Result<(), Fail> {
 // An entry is not a type, and does not decide for a dotted name.
 #[test]
 fn map_entries(rt: HostRuntime) -> Result<(), Fail> {
-    let files = "\
+    check_rows(
+        &rt,
+        "\
         a: message M{map<string,N>foo_bar=1;message N{}}\n\
         b: import 'a';message FooBarEntry{message N{}}message O{FooBarEntry x=1;map<int32,M.N>foo_bar=2;}\n\
-        ";
-    check_names(
-        &rt,
-        files,
-        6,
+        ",
+        10,
         "\
         a M FooBarEntry => NotAType\n\
         a M FooBarEntry.N => NotFound\n\
@@ -157,13 +156,7 @@ fn map_entries(rt: HostRuntime) -> Result<(), Fail> {
         b M FooBarEntry => b FooBarEntry message 35-46\n\
         b M FooBarEntry.N => b FooBarEntry.N message 55-56\n\
         b O FooBarEntry.N => b FooBarEntry.N message 55-56\n\
-        ",
-    )?;
-    check_answers(
-        &rt,
-        files,
-        3,
-        "\
+        a - .M.FooBarEntry.key => NotFound\n\
         Defs a =>  | M message 0 24-25; M.foo_bar field 1 39-46; M.FooBarEntry entry 1 39-46; M.N message 2 57-58;\n\
         Resolved a => 1 type a M.N message 2;\n\
         Resolved b => 4 type b FooBarEntry message 1;5 type a M.N message 2;\n\
@@ -174,25 +167,26 @@ fn map_entries(rt: HostRuntime) -> Result<(), Fail> {
 // An enum value is defined in the scope that holds its enum. The first package counts.
 #[test]
 fn definitions(rt: HostRuntime) -> Result<(), Fail> {
-    check_answers(
+    check_rows(
         &rt,
         "\
         a: package p;package q;enum E{A=0;}message M{oneof o{int32 x=1;}enum F{B=0;}map<int32,int32>_1a=2;map<int32,int32>a_1b=3;}service S{option x=y;rpc R(.p.M)returns(stream M);}\n\
         b: import 'a';message FOO__bar{map<int32,int32>FOO__bar=1;map<int32,int32>_=2;message x{extend M{}}}\n\
         c: message C{}message\n\
         ",
-        3,
+        4,
         "\
         Defs a => p | p.E enum 2 41-42; p.A value 3 43-44; p.M message 4 56-57; p.M.o oneof 5 64-65; p.M.x field 6 72-73; p.M.F enum 7 82-83; p.M.B value 8 84-85; p.M._1a field 9 105-108; p.M.1AEntry entry 9 105-108; p.M.a_1b field 10 127-131; p.M.A1bEntry entry 10 127-131; p.S service 11 143-144; p.S.R method 13 160-161;\n\
         Defs b =>  | FOO__bar message 1 35-43; FOO__bar.FOO__bar field 2 60-68; FOO__bar.FOOBarEntry entry 2 60-68; FOO__bar._ field 3 87-88; FOO__bar.Entry entry 3 87-88; FOO__bar.x message 4 99-100;\n\
         Defs c =>  |\n\
+        Resolved b => \n\
         ",
     )
 }
 
 #[test]
 fn keywords(rt: HostRuntime) -> Result<(), Fail> {
-    check_answers(
+    check_rows(
         &rt,
         "\
         a: message message{optional message message=1;.message oneof=2;map<int32,message>map=3;}message map{map.stream x=1;optional enum y=2;message stream{}}enum enum{rpc=0;}service service{rpc rpc(message)returns(.map.stream);}\n\
@@ -207,7 +201,7 @@ fn keywords(rt: HostRuntime) -> Result<(), Fail> {
 // The name of a scalar type alone is that type in a field, and looked up in a method.
 #[test]
 fn scalars(rt: HostRuntime) -> Result<(), Fail> {
-    check_answers(
+    check_rows(
         &rt,
         "\
         a: message int32{}message M{int32 x=1;.int32 y=2;optional int32.z w=3;}service S{rpc A(int32)returns(string);rpc int32(S)returns(A);}\n\

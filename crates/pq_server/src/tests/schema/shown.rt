@@ -9,15 +9,21 @@ use pq_schema::{
 use pq_syntax::Parsed;
 use std::alloc::Global;
 
+/// The name of a file on a ring of imports.
+fn linked_name(key: &SchemaKey) -> &str {
+    match key {
+        SchemaKey::Linked(name) => name.as_str(),
+        _ => "of another query",
+    }
+}
+
 /// The keys of a cycle, each with a semicolon after it.
 fn shown_ring(alloc: Global, ring: &Ring<SchemaKey>) -> Result<String, Memory> {
     let mut all = String::new(alloc);
     for key in ring.keys() {
-        let key = match key {
-            SchemaKey::Linked(name) => format!(in alloc; "Linked {};", name.as_str())?,
-            _ => format!(in alloc; "another key;")?,
-        };
-        all.push_str(key.as_str())?;
+        all.push_str("Linked ")?;
+        all.push_str(linked_name(key))?;
+        all.push(';')?;
     }
     Ok(all)
 }
@@ -46,9 +52,12 @@ fn shown_files(alloc: Global, files: &[FileDefs]) -> Result<String, Memory> {
 fn shown_imports(alloc: Global, imports: &[Import]) -> Result<String, Memory> {
     let mut all = String::new(alloc);
     for import in imports {
-        let kind = if import.is_public { "public" } else { "plain" };
-        let import = format!(in alloc; "{} {kind};", import.file.as_str())?;
-        all.push_str(import.as_str())?;
+        all.push_str(import.file.as_str())?;
+        all.push_str(if import.is_public {
+            " public;"
+        } else {
+            " plain;"
+        })?;
     }
     Ok(all)
 }
@@ -131,18 +140,27 @@ fn shown_resolution(alloc: Global, resolution: &Resolution) -> Result<String, Me
     }
 }
 
-/// References as `ITEM PART RESOLUTION;`.
+/// The word of the part of an item that is a reference.
+fn part_name(part: TypePart) -> &'static str {
+    match part {
+        TypePart::Type => "type",
+        TypePart::Input => "input",
+        TypePart::Output => "output",
+    }
+}
+
+/// A reference as `ITEM PART RESOLUTION;`.
+fn shown_reference(alloc: Global, reference: &ResolvedReference) -> Result<String, Memory> {
+    let part = part_name(reference.part);
+    let resolution = shown_resolution(alloc, &reference.resolution)?;
+    format!(in alloc; "{} {part} {resolution};", reference.item)
+}
+
+/// References, one after the other.
 fn shown_references(alloc: Global, references: &[ResolvedReference]) -> Result<String, Memory> {
     let mut all = String::new(alloc);
     for reference in references {
-        let part = match reference.part {
-            TypePart::Type => "type",
-            TypePart::Input => "input",
-            TypePart::Output => "output",
-        };
-        let resolution = shown_resolution(alloc, &reference.resolution)?;
-        let one = format!(in alloc; "{} {part} {resolution};", reference.item)?;
-        all.push_str(one.as_str())?;
+        all.push_str(shown_reference(alloc, reference)?.as_str())?;
     }
     Ok(all)
 }
@@ -172,18 +190,21 @@ pub(super) fn shown_answer(
     }
 }
 
-/// The target of a name as `FILE NAME KIND SPAN`, or why it has none.
+/// A target as `FILE NAME KIND SPAN`.
+fn shown_type(alloc: Global, target: &Target) -> Result<String, Memory> {
+    let kind = kind_name(target.is_enum);
+    let place = shown_span(alloc, target.span)?;
+    let (file, name) = (target.file.as_str(), target.full_name.as_str());
+    format!(in alloc; "{file} {name} {kind} {place}")
+}
+
+/// The target of a name, or why it has none.
 pub(super) fn shown_target(
     alloc: Global,
     target: &Result<Target, ResolveFault>,
 ) -> Result<String, Memory> {
     match target {
-        Ok(target) => {
-            let kind = kind_name(target.is_enum);
-            let place = shown_span(alloc, target.span)?;
-            let (file, name) = (target.file.as_str(), target.full_name.as_str());
-            format!(in alloc; "{file} {name} {kind} {place}")
-        }
+        Ok(target) => shown_type(alloc, target),
         Err(ResolveFault::NotFound) => String::from_str(alloc, "NotFound"),
         Err(ResolveFault::NotVisible(file)) => format!(in alloc; "NotVisible {}", file.as_str()),
         Err(ResolveFault::NotAType) => String::from_str(alloc, "NotAType"),
