@@ -1,4 +1,4 @@
-use Rattle.std.proofs.Common.{◌≡◌, ◌∙◌}
+use Rattle.std.proofs.Common.{◌∙◌}
 use Rattle.pq_schema.proofs.FullNames.{part_more}
 use Rattle.pq_schema.proofs.full_name.Rest.pop.Goals as goal
 
