@@ -1,5 +1,5 @@
 -- A file that leads into a ring of imports is bad: walks of every length start at it.
-use Rattle.std.proofs.Common.{◌≡◌, ℕ, zero, suc, List, [], ◌∷◌, ◌++◌, refl, sym, subst, inl, inr}
+use Rattle.std.proofs.Common.{ℕ, zero, suc, List, [], ◌∷◌, ◌++◌, refl, sym, subst, inl, inr}
 use Rattle.pq_rules.specs.Relations.{In, Chain, Leads, IsRing, LeadsInto}
 use Rattle.pq_links.specs.ImportGraph.{Graph, imported, Walks, IsBad, IsNext, IsRingOf}
 

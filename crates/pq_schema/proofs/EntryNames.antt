@@ -7,11 +7,8 @@ use lib.Utf8.{scalar, scalars, encode, encodes, low_scalar}
 use Rattle.std.proofs.lemmas.Bool.Decides.{nat_tests}
 use Rattle.std.proofs.lemmas.List.{at_drop_all}
 use Rattle.std.proofs.lemmas.Str.{encode_ascii, IsUtf8-append}
+use Rattle.pq_schema.proofs.Cases.{either}
 use Rattle.pq_schema.specs.Definitions.{camel, is_small, is_letter, capital, entry_name}
-
-either : (b : Bool) (P : Bool → Type 0) → (b ≡ true → P true) → (b ≡ false → P false) → P b
-either true P f g = f refl
-either false P f g = g refl
 
 and_false : (a b : Bool) → b ≡ false → (a && b) ≡ false
 and_false true b e = e

@@ -213,21 +213,21 @@ in_more places i k within h =
       | inr last ↦ elim last [ inl here ↦ inr here | inr never ↦ absurd never ]
     ]
 
-pub found_more : (files : List FileDefs) (name : List ℕ) (best least next : ℕ)
-    → (least ≡ best) ⊎ IsSome (defined_at files name least)
-    → (next ≡ least) ⊎ IsSome (defined_at files name next)
-    → (next ≡ best) ⊎ IsSome (defined_at files name next)
-found_more files name best least next (inl same) (inl kept) = inl (kept ∙ same)
-found_more files name best least next (inr is) (inl kept) = inr (subst (λ (n : ℕ). IsSome (defined_at files name n)) (sym kept) is)
-found_more files name best least next so_far (inr is) = inr is
+pub found_more : {X : Type 0} (P : X → Type 0) (best least next : X)
+    → (least ≡ best) ⊎ P least
+    → (next ≡ least) ⊎ P next
+    → (next ≡ best) ⊎ P next
+found_more P best least next (inl same) (inl kept) = inl (kept ∙ same)
+found_more P best least next (inr is) (inl kept) = inr (subst P (sym kept) is)
+found_more P best least next so_far (inr is) = inr is
 
-pub found_among : (files : List FileDefs) (name : List ℕ) (least next : ℕ)
-    → (length files ≤ least) ⊎ IsSome (defined_at files name least)
-    → (next ≡ least) ⊎ IsSome (defined_at files name next)
-    → (length files ≤ next) ⊎ IsSome (defined_at files name next)
-found_among files name least next (inl beyond) (inl kept) = inl (omega arith)
-found_among files name least next (inr is) (inl kept) = inr (subst (λ (n : ℕ). IsSome (defined_at files name n)) (sym kept) is)
-found_among files name least next so_far (inr is) = inr is
+pub found_among : {X : Type 0} (N P : X → Type 0) (least next : X)
+    → N least ⊎ P least
+    → (next ≡ least) ⊎ P next
+    → N next ⊎ P next
+found_among N P least next (inl beyond) (inl kept) = inl (subst N (sym kept) beyond)
+found_among N P least next (inr is) (inl kept) = inr (subst P (sym kept) is)
+found_among N P least next so_far (inr is) = inr is
 
 -- ---- the meaning at the least place
 
@@ -251,22 +251,36 @@ meaning_first files name n f found none at is =
     meaning_before files name n none
     ∙ meaning_more files n f name found (slice_get_within files n f at) (sym (get_or_from_slice_get files n f f at)) is
 
-past : (files : List FileDefs) (n : ℕ) → slice_get files n ≡ None → length files ≤ n
-past [] n h = omega arith
-past (f ∷ fs) zero h = cc
-past (f ∷ fs) (suc n) h = let rest = past fs n h in omega arith
-
-pub meaning_nowhere : (files : List FileDefs) (name : List ℕ) (n : ℕ)
+pub meaning_absent : (files : List FileDefs) (name : List ℕ) (n : ℕ)
     → ((k : ℕ) → k < n → defined_at files name k ≡ None)
-    → slice_get files n ≡ None
+    → length files ≤ n
     → meaning files name ≡ Undefined
-meaning_nowhere files name n none at = meaning_before files name n none ∙ meaning_end files n name (past files n at)
+meaning_absent files name n none beyond = meaning_before files name n none ∙ meaning_end files n name beyond
 
-pub found_there : (files : List FileDefs) (name : List ℕ) (n : ℕ) (f : FileDefs)
+-- a definition that is found is that of the file at its place
+pub found_there : (files : List FileDefs) (name : List ℕ) (n : ℕ) (f : FileDefs) (found : Option Definition) (d : Definition)
     → slice_get files n ≡ Some f
-    → None ≡ find_in f name
-    → (length files ≤ n) ⊎ IsSome (defined_at files name n)
+    → found ≡ Some d
+    → ((length files ≤ n) × (found ≡ None)) ⊎ ((found ≡ defined_at files name n) × IsSome (defined_at files name n))
+    → Some d ≡ find_in f name
+found_there files name n f found d at is (inl nowhere) = let none = sym is ∙ nowhere.1 in cc
+found_there files name n f found d at is (inr there) = sym is ∙ there.0 ∙ ap (λ (o : Option FileDefs). find_at o name) at
+
+-- and there is a file at its place
+pub found_place : (files : List FileDefs) (name : List ℕ) (n : ℕ) (found : Option Definition) (d : Definition)
+    → slice_get files n ≡ None
+    → found ≡ Some d
+    → ((length files ≤ n) × (found ≡ None)) ⊎ ((found ≡ defined_at files name n) × IsSome (defined_at files name n))
     → ⊥
-found_there files name n f at none (inl beyond) = let within = slice_get_within files n f at in omega arith
-found_there files name n f at none (inr is) =
-    true≢false (sym is ∙ ap (λ (o : Option FileDefs). is_some (find_at o name)) at ∙ ap (λ (o : Option Definition). is_some o) (sym none))
+found_place files name n found d at is (inl nowhere) = let none = sym is ∙ nowhere.1 in cc
+found_place files name n found d at is (inr there) =
+    true≢false (sym there.1 ∙ ap (λ (o : Option FileDefs). is_some (find_at o name)) at)
+
+-- without a definition the search went past the files
+pub found_nothing : (files : List FileDefs) (name : List ℕ) (n : ℕ) (found : Option Definition)
+    → found ≡ None
+    → ((length files ≤ n) × (found ≡ None)) ⊎ ((found ≡ defined_at files name n) × IsSome (defined_at files name n))
+    → length files ≤ n
+found_nothing files name n found is (inl nowhere) = nowhere.0
+found_nothing files name n found is (inr there) =
+    absurd (true≢false (sym there.1 ∙ ap (λ (o : Option Definition). is_some o) (sym there.0 ∙ is)))

@@ -1,11 +1,11 @@
 -- A search of the index finds the first definition of a name: its entries are sorted by name, then
 -- by place, so the first entry of a name is that of its first definition.
-use Rattle.std.proofs.Common.{◌≡◌, ℕ, zero, suc, ◌+◌, ◌<◌, ◌≤◌, Bool, true, false, cond, nat_lt, nat_eq, length, get_or, drop, List, [], ◌∷◌, ◌++◌, Some, None, refl, sym, ap, subst, ◌∙◌, inl, inr, arith, true≢false, append-nil, append_assoc, add-one}
+use Rattle.std.proofs.Common.{◌≡◌, ℕ, zero, suc, ◌+◌, ◌<◌, ◌≤◌, true, false, cond, nat_lt, nat_eq, length, get_or, drop, List, [], ◌∷◌, ◌++◌, Some, None, refl, sym, ap, subst, ◌∙◌, inl, inr, arith, true≢false, append-nil, append_assoc, add-one}
 use Rattle.std.specs.Prelude.{Contains, bytes_eq, find}
 use Rattle.std.specs.List.Sorted.{IsSorted}
 use Rattle.std.specs.Cmp.{IsTotalOrder}
-use Rattle.std.specs.Cmp.Lexicographic.{slice_cmp, nat_list_cmp_total, texts_po, bytes_decides}
-use Rattle.std.specs.Ordering.{nat_cmp, is_lt, ordering_then, ordering_reverse}
+use Rattle.std.specs.Cmp.Lexicographic.{bytes_decides}
+use Rattle.std.specs.Ordering.{nat_cmp, is_lt, is_eq, ordering_then, ordering_reverse}
 use Rattle.std.specs.declared.cmp.Ordering.{Ordering}
 use Rattle.std.specs.declared.cmp.Ordering.TheVariants.{Less, Equal, Greater}
 use Rattle.std.proofs.lemmas.Bool.{cases_lt}
@@ -13,7 +13,10 @@ use Rattle.std.proofs.lemmas.Bool.Decides.{nat_tests}
 use Rattle.std.proofs.lemmas.Cmp.{tied_itself, on_total, then_total, nat_cmp_total}
 use Rattle.std.proofs.lemmas.List.{at_drop_all, drop_more, get_or_default}
 use Rattle.std.proofs.lemmas.List.Sorted.{sorted_far, ranks_by, Contains-permutation, IsPermutation-sym}
+use Rattle.pq_schema.proofs.Cases.{either}
 use Rattle.pq_schema.specs.declared.definitions.Definition.{Definition}
+use Rattle.pq_schema.specs.aux.NameParts.{name_order}
+use Rattle.pq_schema.specs.aux.NameOrder.{names_total, names_tie}
 use Rattle.pq_schema.specs.aux.Index.{entry_order, entries, IsIndexOf}
 
 -- ---- the entries of a list
@@ -22,7 +25,7 @@ abbrev pub no_entry : List ℕ × ℕ
 no_entry = ([], 0)
 
 pub entry_total : IsTotalOrder entry_order
-entry_total = then_total (on_total (λ (e : List ℕ × ℕ). e.0) nat_list_cmp_total) (on_total (λ (e : List ℕ × ℕ). e.1) nat_cmp_total)
+entry_total = then_total (on_total (λ (e : List ℕ × ℕ). e.0) names_total) (on_total (λ (e : List ℕ × ℕ). e.1) nat_cmp_total)
 
 -- the places of entries from `n` on are not below `n`
 place_from : (n m : ℕ) (name : List ℕ) (ds : List Definition) → Contains (entries n ds) (name, m) → n ≤ m
@@ -45,10 +48,6 @@ later n m name d ds c = let within : c.0 < length (entries (suc n) ds) = c.1 in 
 here : (n : ℕ) (name : List ℕ) (d : Definition) (ds : List Definition) → d.full_name ≡ name → Contains (entries n (d ∷ ds)) (name, n)
 unfolding entries
 here n name d ds e = (zero, (omega arith), ap (λ (x : List ℕ). (x, n)) e)
-
-either : (b : Bool) (P : Bool → Type 0) → (b ≡ true → P true) → (b ≡ false → P false) → P b
-either true P f g = f refl
-either false P f g = g refl
 
 -- a name without an entry is not found
 none_found : (n : ℕ) (name : List ℕ) (ds : List Definition) → ((m : ℕ) → Contains (entries n ds) (name, m) → ⊥)
@@ -84,11 +83,11 @@ first_found n (suc i) name (d ∷ ds) e (suc k, within, is) first =
 
 -- ---- the order
 
-tied_same : (a b : List ℕ) → slice_cmp nat_cmp a b ≡ Equal → a ≡ b
-tied_same a b tie = (bytes_decides a b).0 ((texts_po.matches_eq a b).1 (ap Some tie))
+tied_same : (a b : List ℕ) → name_order a b ≡ Equal → a ≡ b
+tied_same a b tie = (bytes_decides a b).0 (names_tie a b ∙ ap is_eq tie)
 
-not_below_itself : (a : List ℕ) → is_lt (slice_cmp nat_cmp a a) ≡ true → ⊥
-not_below_itself a h = true≢false (sym h ∙ ap is_lt (tied_itself nat_list_cmp_total a))
+not_below_itself : (a : List ℕ) → is_lt (name_order a a) ≡ true → ⊥
+not_below_itself a h = true≢false (sym h ∙ ap is_lt (tied_itself names_total a))
 
 by_order : (o : Ordering) (P : Type 0) → (o ≡ Less → P) → (o ≡ Equal → P) → (o ≡ Greater → P) → P
 by_order Less P f g h = f refl
@@ -96,24 +95,24 @@ by_order Equal P f g h = g refl
 by_order Greater P f g h = h refl
 
 -- entries that do not come before others have names that do not
-names_up : (a b : List ℕ × ℕ) → is_lt (entry_order a b) ≡ false → is_lt (slice_cmp nat_cmp a.0 b.0) ≡ false
-names_up a b h = by_order (slice_cmp nat_cmp a.0 b.0) (is_lt (slice_cmp nat_cmp a.0 b.0) ≡ false)
+names_up : (a b : List ℕ × ℕ) → is_lt (entry_order a b) ≡ false → is_lt (name_order a.0 b.0) ≡ false
+names_up a b h = by_order (name_order a.0 b.0) (is_lt (name_order a.0 b.0) ≡ false)
     (λ e. absurd (true≢false (sym (ap (λ (o : Ordering). is_lt (ordering_then o (nat_cmp a.1 b.1))) e) ∙ h)))
     (λ e. ap is_lt e) (λ e. ap is_lt e)
 
 -- what is not greater than a name below `t` is below `t`
-pub below_before : (a b t : List ℕ) → is_lt (slice_cmp nat_cmp b a) ≡ false → is_lt (slice_cmp nat_cmp b t) ≡ true → is_lt (slice_cmp nat_cmp a t) ≡ true
+pub below_before : (a b t : List ℕ) → is_lt (name_order b a) ≡ false → is_lt (name_order b t) ≡ true → is_lt (name_order a t) ≡ true
 below_before a b t up less =
-    let b_less : slice_cmp nat_cmp b t ≡ Less = by_order (slice_cmp nat_cmp b t) (slice_cmp nat_cmp b t ≡ Less) (λ e. e)
+    let b_less : name_order b t ≡ Less = by_order (name_order b t) (name_order b t ≡ Less) (λ e. e)
     (λ e. absurd (true≢false (sym less ∙ ap is_lt e))) (λ e. absurd (true≢false (sym less ∙ ap is_lt e))) in
-    by_order (slice_cmp nat_cmp a b) (is_lt (slice_cmp nat_cmp a t) ≡ true)
-    (λ e. ap is_lt (nat_list_cmp_total.trans a b t e b_less))
-    (λ e. ap is_lt (nat_list_cmp_total.congr a b t e ∙ b_less))
-    (λ e. absurd (true≢false (sym (ap is_lt (nat_list_cmp_total.antisymm b a ∙ ap ordering_reverse e)) ∙ up)))
+    by_order (name_order a b) (is_lt (name_order a t) ≡ true)
+    (λ e. ap is_lt (names_total.trans a b t e b_less))
+    (λ e. ap is_lt (names_total.congr a b t e ∙ b_less))
+    (λ e. absurd (true≢false (sym (ap is_lt (names_total.antisymm b a ∙ ap ordering_reverse e)) ∙ up)))
 
 -- the entries rise
 pub rises : (index : List (List ℕ × ℕ)) → IsSorted entry_order index → (i j : ℕ) → i ≤ j → j < length index
-    → is_lt (slice_cmp nat_cmp (get_or index j no_entry).0 (get_or index i no_entry).0) ≡ false
+    → is_lt (name_order (get_or index j no_entry).0 (get_or index i no_entry).0) ≡ false
 rises index sorted i j up within =
     names_up (get_or index j no_entry) (get_or index i no_entry)
     (sorted_far (λ (x y : List ℕ × ℕ). is_lt (entry_order x y)) (ranks_by entry_total (λ (e : List ℕ × ℕ). e)) index sorted i j no_entry up within)
@@ -121,8 +120,8 @@ rises index sorted i j up within =
 -- ---- what is at the first entry whose name is not below a name
 
 module _ (index : List (List ℕ × ℕ)) (ds : List Definition) (x : IsIndexOf index ds) (name : List ℕ) (p : ℕ)
-    (less : (k : ℕ) → k < p → is_lt (slice_cmp nat_cmp (get_or index k no_entry).0 name) ≡ true)
-    (others : (k : ℕ) → p ≤ k → k < length index → is_lt (slice_cmp nat_cmp (get_or index k no_entry).0 name) ≡ false) where
+    (less : (k : ℕ) → k < p → is_lt (name_order (get_or index k no_entry).0 name) ≡ true)
+    (others : (k : ℕ) → p ≤ k → k < length index → is_lt (name_order (get_or index k no_entry).0 name) ≡ false) where
   -- an entry of the name is at `p` or later
   at_or_later : (m : ℕ) → Contains (entries 0 ds) (name, m) → (k : ℕ) × (k < length index) × (get_or index k no_entry ≡ (name, m)) × (p ≤ k)
   at_or_later m c =
@@ -132,7 +131,7 @@ module _ (index : List (List ℕ × ℕ)) (ds : List Definition) (x : IsIndexOf 
         there.1,
         is,
         elim (cases_lt there.0 p) [
-          | inl below ↦ absurd (not_below_itself name (subst (λ (e : List ℕ × ℕ). is_lt (slice_cmp nat_cmp e.0 name) ≡ true) is (less there.0 below)))
+          | inl below ↦ absurd (not_below_itself name (subst (λ (e : List ℕ × ℕ). is_lt (name_order e.0 name) ≡ true) is (less there.0 below)))
           | inr up ↦ up
         ],
       )
@@ -144,12 +143,12 @@ module _ (index : List (List ℕ × ℕ)) (ds : List Definition) (x : IsIndexOf 
       let up = k.3 in
       let within : p < length index = omega arith in
       let e = get_or index p no_entry in
-      let not_above : is_lt (slice_cmp nat_cmp name e.0) ≡ false =
-      subst (λ (f : List ℕ × ℕ). is_lt (slice_cmp nat_cmp f.0 e.0) ≡ false) k.2 (rises index x.sorted p k.0 k.3 k.1) in
-      by_order (slice_cmp nat_cmp e.0 name) ⊥
+      let not_above : is_lt (name_order name e.0) ≡ false =
+      subst (λ (f : List ℕ × ℕ). is_lt (name_order f.0 e.0) ≡ false) k.2 (rises index x.sorted p k.0 k.3 k.1) in
+      by_order (name_order e.0 name) ⊥
       (λ o. true≢false (sym (ap is_lt o) ∙ others p (omega arith) within))
       (λ o. free within (tied_same e.0 name o))
-      (λ o. true≢false (sym (ap is_lt (nat_list_cmp_total.antisymm name e.0 ∙ ap ordering_reverse o)) ∙ not_above)))
+      (λ o. true≢false (sym (ap is_lt (names_total.antisymm name e.0 ∙ ap ordering_reverse o)) ∙ not_above)))
 
   hit_there : p < length index → (get_or index p no_entry).0 ≡ name → Contains (entries 0 ds) (name, (get_or index p no_entry).1)
   hit_there within is =
@@ -172,11 +171,11 @@ module _ (index : List (List ℕ × ℕ)) (ds : List Definition) (x : IsIndexOf 
       let k = at_or_later j c in
       let up : is_lt (entry_order (get_or index k.0 no_entry) e) ≡ false =
       sorted_far (λ (x y : List ℕ × ℕ). is_lt (entry_order x y)) (ranks_by entry_total (λ (f : List ℕ × ℕ). f)) index x.sorted p k.0 no_entry k.3 k.1 in
-      let up_names : is_lt (ordering_then (slice_cmp nat_cmp name name) (nat_cmp j e.1)) ≡ false =
-      subst (λ (n : List ℕ). is_lt (ordering_then (slice_cmp nat_cmp name n) (nat_cmp j e.1)) ≡ false) is
+      let up_names : is_lt (ordering_then (name_order name name) (nat_cmp j e.1)) ≡ false =
+      subst (λ (n : List ℕ). is_lt (ordering_then (name_order name n) (nat_cmp j e.1)) ≡ false) is
       (subst (λ (f : List ℕ × ℕ). is_lt (entry_order f e) ≡ false) k.2 up) in
       let up_places : is_lt (nat_cmp j e.1) ≡ false =
-      subst (λ (o : Ordering). is_lt (ordering_then o (nat_cmp j e.1)) ≡ false) (tied_itself nat_list_cmp_total name) up_names in
+      subst (λ (o : Ordering). is_lt (ordering_then o (nat_cmp j e.1)) ≡ false) (tied_itself names_total name) up_names in
       let test : nat_lt j e.1 ≡ true = grind (arith, nat_tests) in
       let j_less : is_lt (nat_cmp j e.1) ≡ true = ap (λ b. is_lt (cond b Less (cond (nat_eq j e.1) Equal Greater))) test in
       true≢false (sym j_less ∙ up_places))).1

@@ -1,5 +1,7 @@
+pub mod Cases
 pub mod EntryNames
 pub mod InPackage
+pub mod FullNames
 pub mod IndexLemmas
 pub mod Packages
 pub mod Rows

@@ -74,7 +74,7 @@ module _ (order : SchemaKey → SchemaKey → Ordering) (files : Sources)
     resolved_embeds = record { level_is = λ x. refl; start_is = λ x. refl; advance_is = λ q a. refl };
     one_link = one_link;
     order_is = order_is;
-    strict = strict;
+    strict = strict.not_both;
   }
 
   -- the answers of the rule set are exactly what its keys compile to

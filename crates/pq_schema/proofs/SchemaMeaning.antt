@@ -95,14 +95,14 @@ module _ {K P V : Type 0} (m : Instance K P V) (files : Sources) (s : SchemaSum 
 
   pub linked_means : (f : List ℕ) (a : Answer K V) → Means m (s.linked f) a → LinkedIs (graph_of files) s.linked s.linked_value f a
   linked_means f a h =
-      linked_is m (graph_of files) s.imports s.linked s.linked_part s.linked_value s.imports_read s.links_read linked_level links s.strict f a h
+      linked_is m (graph_of files) s.imports s.linked s.linked_part s.linked_value s.imports_read s.links_read linked_level links (record { not_both = s.strict }) f a h
 
   have_imports : (f : List ℕ) → (a : Answer K V) × Means m (s.imports f) a
   have_imports f = (Value (s.imports_value (graph_of files f)), are_imports f)
 
   pub means_linked : (f : List ℕ) (a : Answer K V) → LinkedIs (graph_of files) s.linked s.linked_value f a → Means m (s.linked f) a
   means_linked f a i =
-      is_linked m (graph_of files) s.imports s.linked s.linked_part s.linked_value s.imports_read s.links_read linked_level links have_imports s.strict f a i
+      is_linked m (graph_of files) s.imports s.linked s.linked_part s.linked_value s.imports_read s.links_read linked_level links have_imports (record { not_both = s.strict }) f a i
 
   is_good : (f : List ℕ) (l : Links) → AreLinks (graph_of files) f l → Means m (s.linked f) (Value (s.linked_value l))
   is_good f l i = means_linked f (Value (s.linked_value l)) (l, refl, i)

@@ -3,13 +3,13 @@
 use Rattle.std.specs.Prelude.{ℕ, ◌≡◌, ◌↔◌, List, Option}
 use Rattle.std.specs.Cmp.Lexicographic.{slice_cmp}
 use Rattle.std.specs.Ordering.{nat_cmp}
+use Rattle.std.specs.declared.cmp.Ordering.TheVariants.{Less}
 use Rattle.pq_inputs.specs.Sources.{Sources, file_in}
 use Rattle.pq_rules.specs.declared.turn.Answer.{Answer}
 use Rattle.pq_rules.specs.declared.turn.Answer.TheVariants.{Value, Cycle}
 use Rattle.pq_rules.specs.Turns.{Instance}
 use Rattle.pq_rules.specs.Value.{Means}
 use Rattle.pq_rules.specs.Embedding.{Embeds}
-use Rattle.pq_rules.proofs.Rings.{Strict}
 use Rattle.pq_links.specs.Files.{read_file, graph_of}
 use Rattle.pq_links.specs.LinkedKeys.{LinkedIs}
 use Rattle.pq_links.specs.Visibility.{no_links}
@@ -80,7 +80,8 @@ pub record SchemaSum {K P V : Type 0} (m : Instance K P V) (files : Sources) : T
   -- the keys of links are in the order of their files
   pub one_link : (f h : List ℕ) → linked f ≡ linked h → f ≡ h
   pub order_is : (f h : List ℕ) → m.order (linked f) (linked h) ≡ slice_cmp nat_cmp f h
-  pub strict : Strict m.order
+  -- of two keys at most one comes before the other
+  pub strict : (x y : K) → m.order x y ≡ Less → m.order y x ≡ Less → ⊥
 
 -- `SchemaMeans m files s` is that the answers of the sum `s` are what the files compile to: `Means
 -- m key a` holds exactly of these answers `a`

@@ -1,11 +1,14 @@
 -- Auxiliary: nothing below this module has to be believed (used by proofs and invariants only).
 pub mod InPackage
+pub mod NameParts
+pub mod NameOrder
 pub mod Index
 pub mod SameContents
 pub mod Equal
 pub mod Hits
 pub mod Scopes
 pub mod Grouping
+pub mod Firsts
 pub mod SameScopes
 pub mod EqualScopes
 pub mod Queries

@@ -3,14 +3,16 @@
 //! A full name is below the package of its file. So a look-up asks only the files without a package
 //! and those whose package is a prefix of the name before one of its dots: one look-up of a package
 //! for each dot. The names of packages are compared in order, and nothing is hashed.
-ghost use Rattle.std.specs.Prelude.{◌≡◌, ◌⊎◌, ℕ, ◌<◌, ◌≤◌, ◌||◌, ◌++◌, ◌∷◌, [], List, None, IfOk, IsSome, OnOk, bytes_eq, cond, is_some, length, slice_get};
+ghost use Rattle.std.specs.Prelude.{◌≡◌, ◌⊎◌, ℕ, ◌<◌, ◌≤◌, ◌||◌, ◌++◌, ◌∷◌, [], List, None, IfOk, OnOk, bytes_eq, cond, is_some, slice_get};
 ghost use Rattle.std.specs.BTreeMap.{get_by_text};
 ghost use Rattle.std.specs.Option.{option_copied, option_map_or};
 ghost use Rattle.pq_rules.specs.Relations.{In};
 ghost use Rattle.pq_schema.specs.Resolution.{prefixes};
 ghost use Rattle.pq_schema.specs.aux.Grouping.{IsIndex, defined_at};
+ghost use Rattle.pq_schema.specs.aux.Firsts.{IsFoundAt, IsNowhere};
 ghost use Rattle.pq_schema.specs.aux.Scopes.{is_among};
 
+use crate::definitions::Definition;
 use crate::nesting::{outer, scope_or_empty};
 use crate::scope::FileDefs;
 use pq_names::Memory;
@@ -86,7 +88,7 @@ pub(crate) fn packages_of(alloc: Global, files: &[FileDefs]) -> Result<Packages,
 {
     let mut packages: Packages = BTreeMap::new(alloc);
     'files: for (place, f) in files.iter().enumerate() {
-        add_package(alloc, &mut packages, f.defs.get().package_name(), place)?;
+        add_package(alloc, &mut packages, f.defs.get().root(), place)?;
     }
     Ok(packages)
 }
@@ -98,35 +100,48 @@ pub(crate) fn file_at(files: &[FileDefs], place: usize) -> Option<&FileDefs>
     files.get(place)
 }
 
-/// Whether the file at `place` has the full name `name`.
-fn has_name(files: &[FileDefs], place: usize, name: &str) -> bool
-    ensures is { result ≡ is_some (defined_at files.now name.now place) }
+/// The first definition with a full name: the place of its file, and the definition.
+#[derive(Clone, Copy)]
+pub(crate) struct First<'a> {
+    pub(crate) place: usize,
+    pub(crate) definition: Option<&'a Definition>,
+}
+
+/// The first definition with the full name `name` in the file at `place`.
+fn named_at<'a>(files: &'a [FileDefs], place: usize, name: &str) -> Option<&'a Definition>
+    ensures is { option_copied result ≡ defined_at files.now name.now place }
 {
     match file_at(files, place) {
-        Some(f) => f.defs.get().find(name).is_some(),
-        None => false,
+        Some(f) => f.defs.get().find(name),
+        None => None,
     }
 }
 
-/// The place `place` if it is less than `best` and its file has the full name `name`; else `best`.
-fn lesser(files: &[FileDefs], place: usize, name: &str, best: usize) -> usize
-    ensures least { result ≤ best }
-    ensures here { place < result → defined_at files.now name.now place ≡ None }
-    ensures found { (result ≡ best) ⊎ IsSome (defined_at files.now name.now result) }
+/// The definition with the full name `name` in the file at `place`, if that comes before `best` and
+/// has one; else `best`.
+fn lesser<'a>(files: &'a [FileDefs], place: usize, name: &str, best: First<'a>) -> First<'a>
+    ensures least { result.place ≤ best.entry.place }
+    ensures here { place < result.place → defined_at files.now name.now place ≡ None }
+    ensures found { (result ≡ best.entry) ⊎ IsFoundAt files.now name.now result }
 {
-    if place < best && has_name(files, place, name) {
-        place
-    } else {
-        best
+    if place >= best.place {
+        return best;
+    }
+    match named_at(files, place, name) {
+        Some(definition) => First {
+            place,
+            definition: Some(definition),
+        },
+        None => best,
     }
 }
 
-/// The least of `best` and of those of `places` at which a file has the full name `name`.
-fn first_in(files: &[FileDefs], places: &[usize], name: &str, best: usize) -> usize
-    ensures least { result ≤ best }
-    ensures others { (k : ℕ) → In k places.now → k < result
+/// The first of `best` and of those of `places` at which a file has the full name `name`.
+fn first_in<'a>(files: &'a [FileDefs], places: &[usize], name: &str, best: First<'a>) -> First<'a>
+    ensures least { result.place ≤ best.entry.place }
+    ensures others { (k : ℕ) → In k places.now → k < result.place
         → defined_at files.now name.now k ≡ None }
-    ensures found { (result ≡ best) ⊎ IsSome (defined_at files.now name.now result) }
+    ensures found { (result ≡ best.entry) ⊎ IsFoundAt files.now name.now result }
 {
     let mut least = best;
     'places: for place in places {
@@ -135,20 +150,19 @@ fn first_in(files: &[FileDefs], places: &[usize], name: &str, best: usize) -> us
     least
 }
 
-/// The least of `best` and of the places of the files of the package `root` that have the full name
-/// `name`.
-fn first_of_package(
-    files: &[FileDefs],
+/// The first of `best` and of the files of the package `root` that have the full name `name`.
+fn first_of_package<'a>(
+    files: &'a [FileDefs],
     packages: &Packages,
     root: &str,
     name: &str,
-    best: usize,
-) -> usize
-    ensures least { result ≤ best }
+    best: First<'a>,
+) -> First<'a>
+    ensures least { result.place ≤ best.entry.place }
     ensures others { (k : ℕ)
         → In k (option_map_or (λ g. g.items) (get_by_text packages.now root.now) [])
-        → k < result → defined_at files.now name.now k ≡ None }
-    ensures found { (result ≡ best) ⊎ IsSome (defined_at files.now name.now result) }
+        → k < result.place → defined_at files.now name.now k ≡ None }
+    ensures found { (result ≡ best.entry) ⊎ IsFoundAt files.now name.now result }
 {
     match packages.get(root) {
         Some(places) => first_in(files, places, name, best),
@@ -156,15 +170,17 @@ fn first_of_package(
     }
 }
 
-/// The place of the first of `files` that has the full name `name`, or their number.
-pub(crate) fn first_place(files: &[FileDefs], packages: &Packages, name: &str) -> usize
+/// The first of `files` that has the full name `name`, or their number.
+pub(crate) fn first_place<'a>(files: &'a [FileDefs], packages: &Packages, name: &str) -> First<'a>
     requires { IsIndex (λ q. is_some (get_by_text packages.now q))
         (λ q. option_map_or (λ g. g.items) (get_by_text packages.now q) []) files.now }
-    ensures before { (k : ℕ) → k < result → defined_at files.now name.now k ≡ None }
-    ensures found { (length files.now ≤ result)
-        ⊎ IsSome (defined_at files.now name.now result) }
+    ensures before { (k : ℕ) → k < result.place → defined_at files.now name.now k ≡ None }
+    ensures found { IsNowhere files.now result ⊎ IsFoundAt files.now name.now result }
 {
-    let mut best = files.len();
+    let mut best = First {
+        place: files.len(),
+        definition: None,
+    };
     let mut inner = outer(name);
     'packages: loop {
         best = first_of_package(files, packages, scope_or_empty(inner), name, best);

@@ -1,13 +1,15 @@
 //! The definitions of a file, with their full names.
 //!
-//! `Defs::of` builds each full name once, in one walk over the tree, and sorts the names. `find` is
-//! a binary search.
+//! `Defs::of` makes the full names in one walk over the tree, and sorts them. Names of one scope
+//! share its name. `find` is a binary search.
 ghost use Rattle.std.specs.Prelude.{◌≡◌, bytes_eq, find, IfOk};
 ghost use Rattle.std.specs.Option.{option_copied};
 ghost use Rattle.pq_schema.specs.Definitions.{defs_of};
 ghost use Rattle.pq_schema.specs.aux.InPackage.{AllBelow};
 
 use crate::define::definitions_in;
+use crate::enclosing::Enclosing;
+use crate::full_name::FullName;
 use crate::index::{first_named, index_of};
 use crate::outline::package_of;
 use crate::{Memory, Text};
@@ -41,7 +43,7 @@ pub enum DefinitionKind {
 #[derive(Drop, PartialEq, Eq)]
 pub struct Definition {
     /// The full name, without a leading dot.
-    pub full_name: Text,
+    pub full_name: FullName,
     /// What is defined.
     pub kind: DefinitionKind,
     /// The number of its item: the statements of a file count from 0, in text order.
@@ -57,8 +59,8 @@ pub struct Definition {
 pub struct Defs {
     package_name: Text,
     definitions: Vec<Definition>,
-    /// The full names in order, each with its place in `definitions`.
-    index: Vec<(Text, usize)>,
+    /// The full names in the order of the index, each with its place in `definitions`.
+    index: Vec<(FullName, usize)>,
 }
 
 impl Model for Defs {
@@ -81,7 +83,8 @@ impl Defs {
         ensures defs { IfOk result (λ d. d ≡ defs_of nodes.now) }
     {
         let package_name = package_of(alloc, nodes)?;
-        let definitions = definitions_in(alloc, &package_name, nodes)?;
+        let package = Enclosing::package(alloc, &package_name)?;
+        let definitions = definitions_in(alloc, &package, nodes)?;
         let index = index_of(alloc, &definitions)?;
         Ok(Defs {
             package_name,
@@ -92,6 +95,13 @@ impl Defs {
 
     /// The package, empty if the file has none.
     pub fn package_name(&self) -> &str
+        ensures name { result.now ≡ self.now.package_name }
+    {
+        self.package_name.as_str()
+    }
+
+    /// The package, which the definitions are in.
+    pub(crate) fn root(&self) -> &str
         ensures name { result.now ≡ self.now.package_name }
         ensures below { AllBelow self.now.package_name self.now.definitions }
     {

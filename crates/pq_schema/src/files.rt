@@ -63,9 +63,9 @@ impl Files {
     {
         let files = self.files.as_slice();
         let first = first_place(files, &self.packages, name);
-        match file_at(files, first) {
-            Some(f) => match f.defs.get().find(name) {
-                Some(definition) => Some(Place {
+        match first.definition {
+            Some(definition) => match file_at(files, first.place) {
+                Some(f) => Some(Place {
                     file: &f.file,
                     definition,
                 }),

@@ -11,7 +11,7 @@
 //!
 //! Modules: `definitions` (what a file defines), `define` (what a statement defines), `index` (the
 //! search by full name), `references`, `outline` (the package and the scopes of a file),
-//! `full_names`; `scope` (the files that a file sees and reaches), `files` and `by_package` (the
+//! `full_name` and `enclosing` (names that share their scopes), `map_entries`; `scope` (the files that a file sees and reaches), `files` and `by_package` (the
 //! look-up of a full name, and which files it asks), `nesting` (the scopes around a scope),
 //! `search` (the search from scope to scope), `resolution` (its answers); `keys` (what a sum
 //! offers), `defined`, `scopes` over `collected`, and `resolved` (the queries), `rules` (the rule
@@ -23,11 +23,13 @@ mod collected;
 mod define;
 mod defined;
 mod definitions;
+mod enclosing;
 mod files;
-mod full_names;
+mod full_name;
 mod index;
 mod keys;
 mod laws;
+mod map_entries;
 mod nesting;
 mod outline;
 mod references;
@@ -42,6 +44,7 @@ mod search;
 pub use collected::Collected;
 pub use defined::DefsQuery;
 pub use definitions::{Definition, DefinitionKind, Defs};
+pub use full_name::FullName;
 pub use keys::SchemaKeys;
 pub use laws::{
     defs_by_answers, equal_defs, resolved_by_answers, rings_are_bad, schema_in_rules,

@@ -4,7 +4,7 @@ ghost use Rattle.std.specs.Option.{option_copied, option_map};
 ghost use Rattle.pq_syntax.specs.Stacks.{innermost};
 ghost use Rattle.pq_schema.specs.Definitions.{package_of, scope_of};
 
-use crate::full_names::qualified;
+use crate::enclosing::Enclosing;
 use crate::{Memory, Text};
 use pq_syntax::{Node, Stack, Statement};
 use std::alloc::Global;
@@ -22,12 +22,16 @@ pub(crate) fn package_of(alloc: Global, nodes: &[Node]) -> Result<Text, Memory>
 }
 
 /// The scope of what `statement` contains, where `outer` is the scope of the statement itself.
-pub(crate) fn scope_of(alloc: Global, statement: &Statement, outer: &Text) -> Result<Text, Memory>
+pub(crate) fn scope_of(
+    alloc: Global,
+    statement: &Statement,
+    outer: &Enclosing,
+) -> Result<Enclosing, Memory>
     ensures { IfOk result (λ t. t ≡ scope_of statement.now outer.now) }
 {
     match statement {
-        Statement::Message { name } => qualified(alloc, outer, &name.text),
-        Statement::Service { name } => qualified(alloc, outer, &name.text),
+        Statement::Message { name } => outer.inside(alloc, &name.text),
+        Statement::Service { name } => outer.inside(alloc, &name.text),
         Statement::Enum { .. } => outer.copy(),
         Statement::Import { .. }
         | Statement::Package { .. }
@@ -44,11 +48,11 @@ pub(crate) fn scope_of(alloc: Global, statement: &Statement, outer: &Text) -> Re
 }
 
 /// The innermost open scope, or the package if there is none.
-pub(crate) fn innermost<'a>(stack: &'a Stack<Text>, package_name: &'a Text) -> &'a Text
-    ensures { result.now ≡ unwrap_or (innermost stack.now) package_name.now }
+pub(crate) fn innermost<'a>(stack: &'a Stack<Enclosing>, root: &'a Enclosing) -> &'a Enclosing
+    ensures { result.now ≡ unwrap_or (innermost stack.now) root.now }
 {
     match stack.innermost() {
         Some(scope) => scope,
-        None => package_name,
+        None => root,
     }
 }

@@ -3,6 +3,8 @@ ghost use Rattle.std.specs.Prelude.{◌≡◌, [], ◌∷◌, ◌++◌, flat_map
 ghost use Rattle.pq_syntax.specs.Places.{places};
 ghost use Rattle.pq_schema.specs.References.{is_one_of, references_at, references_by, references_of, scalars, type_reference};
 
+use crate::enclosing::Enclosing;
+use crate::full_name::FullName;
 use crate::outline::{innermost, package_of, scope_of};
 use crate::{Memory, Text};
 use pq_syntax::{Name, Node, Stack, Statement};
@@ -27,7 +29,7 @@ pub struct Reference {
     /// The part of the item that it is.
     pub part: TypePart,
     /// The full name of the message or service that contains the item, or the package.
-    pub within: Text,
+    pub within: FullName,
     /// The name as written.
     pub name: Text,
 }
@@ -37,25 +39,26 @@ pub fn references_in(alloc: Global, nodes: &[Node]) -> Result<Vec<Reference>, Me
     ensures references { IfOk result (λ v. v.items ≡ references_of nodes.now) }
 {
     let package_name = package_of(alloc, nodes)?;
-    let references = references_under(alloc, &package_name, nodes)?;
+    let package = Enclosing::package(alloc, &package_name)?;
+    let references = references_under(alloc, &package, nodes)?;
     Ok(references)
 }
 
-/// The type references of a file of the package `package_name`, in text order.
+/// The type references of a file of the package `root`, in text order.
 fn references_under(
     alloc: Global,
-    package_name: &Text,
+    root: &Enclosing,
     nodes: &[Node],
 ) -> Result<Vec<Reference>, Memory>
     ensures { IfOk result
-        (λ v. v.items ≡ flat_map (references_at package_name.now) (places nodes.now)) }
+        (λ v. v.items ≡ flat_map (references_at root.now) (places nodes.now)) }
 {
-    let mut stack: Stack<Text> = Stack::new(alloc);
+    let mut stack: Stack<Enclosing> = Stack::new(alloc);
     let mut references = Vec::new(alloc);
     'items: for item in 0..nodes.len() {
         let node = &nodes[item];
         stack.close_to(node.depth);
-        let scope = innermost(&stack, package_name);
+        let scope = innermost(&stack, root);
         let inside = scope_of(alloc, &node.statement, scope)?;
         refer(scope, item, &node.statement, &mut references)?;
         stack.open(node.depth, inside)?;
@@ -66,7 +69,7 @@ fn references_under(
 /// Adds the references of the item `item` with the statement `statement`, used in the scope
 /// `scope`.
 fn refer(
-    scope: &Text,
+    scope: &Enclosing,
     item: usize,
     statement: &Statement,
     out: &mut Vec<Reference>,
@@ -96,7 +99,12 @@ fn refer(
 }
 
 /// Adds the reference of a field's type, unless that is a scalar.
-fn put_type(scope: &Text, item: usize, name: &Name, out: &mut Vec<Reference>) -> Result<(), Memory>
+fn put_type(
+    scope: &Enclosing,
+    item: usize,
+    name: &Name,
+    out: &mut Vec<Reference>,
+) -> Result<(), Memory>
     ensures { OnOk result
         (out.new.items ≡ out.old.items ++ type_reference item scope.now name.now.text) }
 {
@@ -109,7 +117,7 @@ fn put_type(scope: &Text, item: usize, name: &Name, out: &mut Vec<Reference>) ->
 /// Adds the reference that the part `part` of the item `item` is.
 fn put(
     part: TypePart,
-    scope: &Text,
+    scope: &Enclosing,
     item: usize,
     name: &Name,
     out: &mut Vec<Reference>,
@@ -120,7 +128,7 @@ fn put(
     out.push(Reference {
         item,
         part,
-        within: scope.copy()?,
+        within: scope.name().copy()?,
         name: name.text.copy()?,
     })?;
     Ok(())

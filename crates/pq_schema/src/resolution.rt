@@ -6,6 +6,7 @@ ghost use Rattle.pq_schema.specs.declared.resolution.ResolveFault.TheVariants.{M
 
 use crate::definitions::DefinitionKind;
 use crate::files::Place;
+use crate::full_name::FullName;
 use crate::scope::Scope;
 use crate::search::{Outcome, look_up};
 use pq_lex::Span;
@@ -18,7 +19,7 @@ pub struct Target {
     /// The file that defines it.
     pub file: Text,
     /// Its full name, without a leading dot.
-    pub full_name: Text,
+    pub full_name: FullName,
     /// Whether it is an enum; else it is a message.
     pub is_enum: bool,
     /// The span of its name, in its file.
@@ -44,7 +45,7 @@ pub enum Resolution {
     /// The item `item` of the file `file` defines the type.
     Type {
         file: Text,
-        full_name: Text,
+        full_name: FullName,
         is_enum: bool,
         item: usize,
     },

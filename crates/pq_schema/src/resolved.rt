@@ -61,15 +61,11 @@ fn resolve_one(
 ) -> Result<ResolvedReference, Memory>
     ensures resolved { IfOk result (λ r. r ≡ resolved_in scope.now reference.now) }
 {
+    let within = reference.within.text(alloc)?;
     Ok(ResolvedReference {
         item: reference.item,
         part: reference.part,
-        resolution: find_resolution(
-            alloc,
-            scope,
-            reference.within.as_str(),
-            reference.name.as_str(),
-        )?,
+        resolution: find_resolution(alloc, scope, within.as_str(), reference.name.as_str())?,
     })
 }
 

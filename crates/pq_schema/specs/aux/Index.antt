@@ -2,13 +2,13 @@
 use Rattle.std.specs.Prelude.{ℕ, suc, List, [], ◌∷◌}
 use Rattle.std.specs.List.Sorted.{IsPermutation, IsSorted}
 use Rattle.std.specs.declared.cmp.Ordering.{Ordering}
-use Rattle.std.specs.Cmp.Lexicographic.{slice_cmp}
 use Rattle.std.specs.Ordering.{nat_cmp, ordering_then}
+use Rattle.pq_schema.specs.aux.NameParts.{name_order}
 use Rattle.pq_schema.specs.declared.definitions.Definition.{Definition}
 
 -- `entry_order a b` compares the entries `a` and `b`: first their names, then their places
 abbrev pub entry_order : List ℕ × ℕ → List ℕ × ℕ → Ordering
-entry_order a b = ordering_then (slice_cmp nat_cmp a.0 b.0) (nat_cmp a.1 b.1)
+entry_order a b = ordering_then (name_order a.0 b.0) (nat_cmp a.1 b.1)
 
 -- `entries n ds` lists the full names of the definitions `ds`, each with its place, where the first
 -- has the place `n`

@@ -1,11 +1,12 @@
 -- Auxiliary: the rule set of a schema keeps the laws, by what each query preserves of the names
 -- that the sources mention (used by proofs and invariants only).
-use Rattle.std.proofs.Common.{◌≡◌, ℕ, ◌≤◌, Bool, true, false, List, [], ◌∷◌, map, ◌⊎◌, Option, Some, None, refl, sym, ap, subst, inl, inr, arith}
+use Rattle.std.proofs.Common.{◌≡◌, ℕ, ◌≤◌, List, [], ◌∷◌, map, Option, Some, None, refl, sym, ap, subst, inl, inr, arith}
 use Rattle.std.specs.Prelude.{IsSome, ◌↔◌, unwrap_or}
 use Rattle.std.specs.Str.{bytes_eq}
 use Rattle.std.specs.declared.cmp.Ordering.{Ordering}
 use Rattle.std.specs.declared.cmp.Ordering.TheVariants.{Equal}
 use Rattle.pq_inputs.specs.Sources.{Sources, file_in}
+use Rattle.std.proofs.lemmas.Bool.{cases_Bool}
 use Rattle.pq_rules.specs.Laws.{Laws}
 use Rattle.pq_rules.specs.declared.turn.Turn.TheVariants.{Ask}
 use Rattle.pq_rules.specs.declared.turn.Answer.{Answer}
@@ -78,14 +79,10 @@ imports_in : (ns : List (List ℕ)) (is : Option (List Import)) → ((w : List �
 imports_in ns None sub = tt
 imports_in ns (Some is) sub = each_sub (map file_of is) ns sub
 
-either : (b : Bool) → (b ≡ true) ⊎ (b ≡ false)
-either true = inl refl
-either false = inr refl
-
 file_mentions : (files : Sources) (name w : List ℕ) → In w (mentioned (file_in files name).text) → In w (all_mentioned files)
 unfolding file_in
 file_mentions [] name w i = i
-file_mentions (x ∷ xs) name w i = elim (either (bytes_eq x.0 name)) [
+file_mentions (x ∷ xs) name w i = elim (cases_Bool (bytes_eq x.0 name)) [
   | inl h ↦ in_append_left w (mentioned x.1.text) (all_mentioned xs) (rw h at i)
   | inr h ↦ in_append_right w (mentioned x.1.text) (all_mentioned xs) (file_mentions xs name w (rw h at i))
 ]

@@ -10,14 +10,14 @@ pub files-preserved : goal.files-preserved
 files-preserved c =
     let files = c.args.files.now in
     let item = c.index-files-place.result in
-    let root : c.package_name.result.now ≡ item.defs.package_name =
-    c.package_name.ensures.name ∙ ap (λ (d : Defs). d.package_name) c.get.ensures.value in
+    let root : c.root.result.now ≡ item.defs.package_name =
+    c.root.ensures.name ∙ ap (λ (d : Defs). d.package_name) c.get.ensures.value in
     let below : IsBelow item =
-    subst (λ (d : Defs). AllBelow d.package_name d.definitions) c.get.ensures.value c.package_name.ensures.below in
+    subst (λ (d : Defs). AllBelow d.package_name d.definitions) c.get.ensures.value c.root.ensures.below in
     record {
-      names = λ q. names_more files c.files.place item c.package_name.result.now q _ _ (omega arith) c.index-files-place.is root
+      names = λ q. names_more files c.files.place item c.root.result.now q _ _ (omega arith) c.index-files-place.is root
           (c.files.invariant.names q) (c.in_ok-add_package.ensures.names q);
-      listed = listed_more _ _ files c.files.place item c.package_name.result.now c.index-files-place.is root
+      listed = listed_more _ _ files c.files.place item c.root.result.now c.index-files-place.is root
           c.in_ok-add_package.ensures.places c.files.invariant.listed;
       below = λ rest. c.files.invariant.below (below_more files c.files.place item (omega arith) c.index-files-place.is below rest);
     }

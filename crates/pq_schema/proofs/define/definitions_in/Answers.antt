@@ -14,19 +14,19 @@ emit scope i = defined_by scope i.number i.node.statement
 
 pub items-init : goal.items-init
 items-init c =
-    rw (c.new-stack.ensures, c.new-definitions.ensures.items) (walked_none keep c.args.package_name.now emit c.args.nodes.now)
+    rw (c.new-stack.ensures, c.new-definitions.ensures.items) (walked_none keep c.args.root.now emit c.args.nodes.now)
 
 pub items-preserved : goal.items-preserved
 items-preserved c =
     let node = c.index-nodes-item.result in
     let shut : c.close_to.new.self ≡ closed node.depth c.items.stack = c.close_to.ensures in
-    let inner : c.innermost-scope.result.now ≡ inner_at c.args.package_name.now c.items.stack node.depth =
-    c.innermost-scope.ensures ∙ ap (λ (es : List (ℕ × List ℕ)). unwrap_or (innermost es) c.args.package_name.now) shut in
+    let inner : c.innermost-scope.result.now ≡ inner_at c.args.root.now c.items.stack node.depth =
+    c.innermost-scope.ensures ∙ ap (λ (es : List (ℕ × List ℕ)). unwrap_or (innermost es) c.args.root.now) shut in
     let opened : c.open.new.self ≡ (node.depth, keep (item_at c.items.item node) c.innermost-scope.result.now) ∷ closed node.depth c.items.stack =
     c.in_ok-open.ensures.opened ∙ ap (λ (s : List ℕ). (node.depth, s) ∷ c.close_to.new.self) c.in_ok-inside.ensures
     ∙ ap (λ (es : List (ℕ × List ℕ)). (node.depth, keep (item_at c.items.item node) c.innermost-scope.result.now) ∷ es) shut in
-    walked_more keep c.args.package_name.now emit c.args.nodes.now c.items.stack c.open.new.self c.items.item c.items.definitions.items c.define.new.out.items node c.innermost-scope.result.now
+    walked_more keep c.args.root.now emit c.args.nodes.now c.items.stack c.open.new.self c.items.item c.items.definitions.items c.define.new.out.items node c.innermost-scope.result.now
     c.items-test.true c.index-nodes-item.is inner opened c.in_ok-define.ensures c.items.invariant
 
 pub returns : goal.returns
-returns c = walked_all keep c.args.package_name.now emit c.args.nodes.now c.items.stack c.items.item c.items.definitions.items c.items-test.false c.items.invariant
+returns c = walked_all keep c.args.root.now emit c.args.nodes.now c.items.stack c.items.item c.items.definitions.items c.items-test.false c.items.invariant

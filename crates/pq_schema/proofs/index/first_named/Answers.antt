@@ -1,20 +1,16 @@
-use Rattle.std.proofs.Common.{◌≡◌, ℕ, ◌<◌, ◌≤◌, Bool, List, length, get_or, true, false, not, Some, true≢false, refl, sym, ap, ◌∙◌, arith}
+use Rattle.std.proofs.Common.{◌≡◌, ℕ, ◌<◌, ◌≤◌, List, length, get_or, true, false, Some, true≢false, sym, ap, ◌∙◌, arith}
 use Rattle.std.specs.Prelude.{bytes_eq}
 use Rattle.std.specs.Cmp.Lexicographic.{bytes_decides}
 use Rattle.std.proofs.lemmas.List.{get_or_default}
 use Rattle.pq_schema.proofs.IndexLemmas.{no_entry, miss, hit, hit_within}
 use Rattle.pq_schema.proofs.index.first_named.Goals as goal
 
--- what `!=` tells of the name of the entry
-differs : (a b name : List ℕ) → a ≡ b → true ≡ not (bytes_eq a name) → b ≡ name → ⊥
-differs a b name same test is = true≢false (test ∙ ap not ((bytes_decides a name).1 (same ∙ is)))
+-- what the test tells of the name of the entry
+differs : (a b name : List ℕ) → a ≡ b → false ≡ bytes_eq a name → b ≡ name → ⊥
+differs a b name same test is = true≢false (sym ((bytes_decides a name).1 (same ∙ is)) ∙ sym test)
 
-not_false : (b : Bool) → false ≡ not b → b ≡ true
-not_false true e = refl
-not_false false e = absurd (true≢false (sym e))
-
-equals : (a b name : List ℕ) → a ≡ b → false ≡ not (bytes_eq a name) → b ≡ name
-equals a b name same test = sym same ∙ (bytes_decides a name).0 (not_false (bytes_eq a name) test)
+equals : (a b name : List ℕ) → a ≡ b → true ≡ bytes_eq a name → b ≡ name
+equals a b name same test = sym same ∙ (bytes_decides a name).0 (sym test)
 
 pub returns-then-first-index : goal.returns-then-first-index
 returns-then-first-index c =
@@ -22,14 +18,14 @@ returns-then-first-index c =
     sym (miss c.args.index.now c.args.definitions.now c.requires c.args.name.now c.lower_bound-first.result c.lower_bound-first.ensures.less c.lower_bound-first.ensures.others
     (λ within is. absurd (omega arith)))
 
-pub returns-then-ne : goal.returns-then-ne
-returns-then-ne c =
+pub returns-then-not-is : goal.returns-then-not-is
+returns-then-not-is c =
     let es = c.args.index.now in
     let p = c.lower_bound-first.result in
-    let name_is : c.as_str.result.now ≡ (get_or es p c.index-index-first.result).0 = c.as_str.ensures.same ∙ ap (λ (e : List ℕ × ℕ). e.0) c.index-index-first.is in
+    let e = c.index-index-first.result in
     sym (miss es c.args.definitions.now c.requires c.args.name.now p c.lower_bound-first.ensures.less c.lower_bound-first.ensures.others
-    (λ within is. differs c.as_str.result.now (get_or es p no_entry).0 c.args.name.now
-    (name_is ∙ ap (λ (e : List ℕ × ℕ). e.0) (get_or_default es p c.index-index-first.result no_entry within)) c.if-ne.ensures is))
+    (λ within is. differs e.0 (get_or es p no_entry).0 c.args.name.now
+    (ap (λ (x : List ℕ × ℕ). x.0) (c.index-index-first.is ∙ get_or_default es p e no_entry within)) c.if-not-is.ensures.is is))
 
 pub prove-unreachable-requires : goal.prove-unreachable-requires
 prove-unreachable-requires c =
@@ -40,7 +36,7 @@ prove-unreachable-requires c =
     let in_bounds = c.lower_bound-first.ensures.within in
     let within : p < length es = omega arith in
     let entry : c.index-index-first.result ≡ get_or es p no_entry = c.index-index-first.is ∙ get_or_default es p c.index-index-first.result no_entry within in
-    let is = equals c.as_str.result.now (get_or es p no_entry).0 c.args.name.now (c.as_str.ensures.same ∙ ap (λ (e : List ℕ × ℕ). e.0) entry) c.if-ne.ensures in
+    let is = equals c.index-index-first.result.0 (get_or es p no_entry).0 c.args.name.now (ap (λ (e : List ℕ × ℕ). e.0) entry) c.if-not-is.ensures.is in
     let below = hit_within es ds c.requires c.args.name.now p c.lower_bound-first.ensures.less c.lower_bound-first.ensures.others within is in
     let place : c.index-index-first.result.1 ≡ (get_or es p no_entry).1 = ap (λ (e : List ℕ × ℕ). e.1) entry in
     let past : length ds ≤ c.index-index-first.result.1 = c.if-prove.true in
@@ -55,7 +51,7 @@ returns c =
     let in_bounds = c.lower_bound-first.ensures.within in
     let within : p < length es = omega arith in
     let entry : c.index-index-first.result ≡ get_or es p no_entry = c.index-index-first.is ∙ get_or_default es p c.index-index-first.result no_entry within in
-    let is = equals c.as_str.result.now (get_or es p no_entry).0 c.args.name.now (c.as_str.ensures.same ∙ ap (λ (e : List ℕ × ℕ). e.0) entry) c.if-ne.ensures in
+    let is = equals c.index-index-first.result.0 (get_or es p no_entry).0 c.args.name.now (ap (λ (e : List ℕ × ℕ). e.0) entry) c.if-not-is.ensures.is in
     let d = c.index-definitions-place.result in
     let found = hit es ds c.requires c.args.name.now p c.lower_bound-first.ensures.less c.lower_bound-first.ensures.others d within is in
     ap Some (c.index-definitions-place.is ∙ ap (λ (e : List ℕ × ℕ). get_or ds e.1 d) entry) ∙ sym found

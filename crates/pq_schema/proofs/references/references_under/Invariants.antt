@@ -7,5 +7,5 @@ use Rattle.pq_schema.proofs.references.references_under.Given as goal
 
 abbrev pub invariant-items : goal.invariant-items
 invariant-items l =
-    Walked (λ (i : Item) (outer : List ℕ). scope_of i.node.statement outer) l.package_name (λ (scope : List ℕ) (i : Item). references_by scope i.number i.node.statement)
+    Walked (λ (i : Item) (outer : List ℕ). scope_of i.node.statement outer) l.root (λ (scope : List ℕ) (i : Item). references_by scope i.number i.node.statement)
     l.nodes l.stack l.item l.references.items

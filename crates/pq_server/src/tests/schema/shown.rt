@@ -74,7 +74,8 @@ fn shown_definition(alloc: Global, definition: &Definition) -> Result<String, Me
         DefinitionKind::Value => "value",
         DefinitionKind::Entry => "entry",
     };
-    let name = definition.full_name.as_str();
+    let full_name = definition.full_name.text(alloc)?;
+    let name = full_name.as_str();
     let place = shown_span(alloc, definition.span)?;
     format!(in alloc; " {name} {kind} {} {place};", definition.item)
 }
@@ -132,6 +133,7 @@ fn shown_resolution(alloc: Global, resolution: &Resolution) -> Result<String, Me
             item,
         } => {
             let kind = kind_name(*is_enum);
+            let full_name = full_name.text(alloc)?;
             format!(in alloc; "{} {} {kind} {item}", file.as_str(), full_name.as_str())
         }
         Resolution::NotFound => String::from_str(alloc, "NotFound"),
@@ -194,7 +196,8 @@ pub(super) fn shown_answer(
 fn shown_type(alloc: Global, target: &Target) -> Result<String, Memory> {
     let kind = kind_name(target.is_enum);
     let place = shown_span(alloc, target.span)?;
-    let (file, name) = (target.file.as_str(), target.full_name.as_str());
+    let full_name = target.full_name.text(alloc)?;
+    let (file, name) = (target.file.as_str(), full_name.as_str());
     format!(in alloc; "{file} {name} {kind} {place}")
 }
 

@@ -1,4 +1,4 @@
-use Rattle.std.proofs.Common.{sym, subst}
+use Rattle.std.proofs.Common.{◌≡◌, ℕ, List, sym, subst}
 use Rattle.pq_syntax.specs.Places.{places}
 use Rattle.pq_schema.specs.aux.InPackage.{AllBelow}
 use Rattle.pq_schema.specs.aux.Index.{IsIndexOf}
@@ -7,8 +7,10 @@ use Rattle.pq_schema.proofs.definitions.Defs.of.Goals as goal
 
 pub invariant_of-result : goal.invariant_of-result
 invariant_of-result c =
-    let below = all_below c.in_ok-package_name.package_name (places c.args.nodes.now) in
+    let root : c.in_ok-package.package ≡ c.in_ok-package_name.package_name = c.in_ok-package.ensures.name in
+    let ds = c.in_ok-definitions.definitions.items in
+    let below = subst (λ (r : List ℕ). AllBelow r ds) root (subst (AllBelow c.in_ok-package.package) (sym c.in_ok-definitions.ensures) (all_below c.in_ok-package.package (places c.args.nodes.now))) in
     let index = c.in_ok-index.ensures in (
-      subst (AllBelow c.in_ok-package_name.package_name) (sym c.in_ok-definitions.ensures) below,
+      below,
       subst (IsIndexOf c.in_ok-index.index.items) c.deref.ensures.value index,
     )

@@ -4,7 +4,7 @@ use Rattle.std.specs.Str.{IsUtf8}
 use Rattle.std.proofs.lemmas.Result.{IfOk-weaker}
 use Rattle.pq_schema.specs.Definitions.{entry_name}
 use Rattle.pq_schema.proofs.EntryNames.{entry_is_text, camel_end}
-use Rattle.pq_schema.proofs.full_names.entry_name.Goals as goal
+use Rattle.pq_schema.proofs.map_entries.entry_name.Goals as goal
 
 pub unreachable-requires : goal.unreachable-requires
 unreachable-requires c =

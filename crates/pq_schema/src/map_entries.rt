@@ -1,33 +1,9 @@
-//! Full names, and the names of the entries of map fields.
+//! The names of the entries of map fields.
 ghost use Rattle.std.specs.Prelude.{◌≡◌, List, ℕ, cond, ◌∷◌, ◌++◌, codes, string_bytes, IfOk, OnOk};
-ghost use Rattle.pq_schema.specs.Definitions.{qualified, entry_name, camel, is_small, is_letter, capital};
+ghost use Rattle.pq_schema.specs.Definitions.{entry_name, camel, is_small, is_letter, capital};
 
 use crate::{Memory, Text};
 use std::alloc::Global;
-
-/// The full name of `name` in the scope of the full name `scope`. In the empty scope it shares the
-/// bytes of `name`.
-pub(crate) fn qualified(alloc: Global, scope: &Text, name: &Text) -> Result<Text, Memory>
-    ensures { IfOk result (λ t. t ≡ qualified scope.now name.now) }
-{
-    if scope.as_str().is_empty() {
-        return name.copy();
-    }
-    let text = joined(alloc, scope.as_str(), name.as_str())?;
-    Text::from_string(alloc, text)
-}
-
-/// `scope` and `name` with a dot between.
-fn joined(alloc: Global, scope: &str, name: &str) -> Result<String, Memory>
-    ensures { IfOk result (λ t. string_bytes t ≡ scope.now ++ codes "." ++ name.now) }
-{
-    let room = scope.len().saturating_add(name.len()).saturating_add(1);
-    let mut text = String::with_capacity(alloc, room)?;
-    text.push_str(scope)?;
-    text.push_str(".")?;
-    text.push_str(name)?;
-    Ok(text)
-}
 
 /// The name of the entry message of the map field `field`.
 pub(crate) fn entry_name(alloc: Global, field: &str) -> Result<Text, Memory>
