@@ -1,12 +1,11 @@
 -- A step of a demand keeps its state, and lowers its weight (`goes`).
-use Rattle.std.proofs.Common.{◌≡◌, ℕ, ◌+◌, ◌*◌, ◌^◌, ◌<◌, ◌≤◌, ◌⊎◌, List, [], ◌∷◌, ◌++◌, length, Option, Some, refl, sym, ◌∙◌, ap, subst, inl, inr, arith}
+use Rattle.std.proofs.Common.{◌≡◌, ℕ, ◌+◌, ◌*◌, ◌^◌, ◌<◌, ◌≤◌, ◌⊎◌, List, [], ◌∷◌, ◌++◌, length, Option, refl, sym, ◌∙◌, ap, subst, inl, inr, arith}
 use mathlib.Core.Path.{fun_ext}
 use Rattle.std.specs.declared.cmp.Ordering.{Ordering}
 use Rattle.pq_inputs.specs.Sources.{Sources, Table}
 use Rattle.pq_rules.specs.declared.turn.Turn.{Turn}
 use Rattle.pq_rules.specs.declared.turn.Turn.TheVariants.{Ask}
-use Rattle.pq_rules.specs.declared.turn.Answer.{Answer}
-use Rattle.pq_rules.specs.Turns.{Instance, Machine, IsLower}
+use Rattle.pq_rules.specs.Turns.{Machine, IsLower}
 use Rattle.pq_rules.specs.Laws.{Laws}
 use Rattle.pq_rules.specs.Relations.{In}
 use Rattle.pq_rules.specs.aux.Evaluator.{left_number, Distinct}
@@ -21,14 +20,13 @@ use Rattle.pq_memo.specs.declared.look.Why.{Why}
 use Rattle.pq_memo.specs.declared.look.Why.TheVariants.{Fresh, Changed, Ring}
 use Rattle.pq_memo.specs.Sound.{Memo, at}
 use Rattle.pq_memo.specs.Kept.{Kept}
-use Rattle.pq_memo.specs.Look.{IsUpToDate}
 use Rattle.pq_memo.specs.Cause.{IsCause}
 use Rattle.pq_memo.specs.Table.{HasIn, IsSameTable}
 use Rattle.pq_memo.specs.Frames.{IsFrame, Awaits, Came, frame_keys}
 use Rattle.pq_memo.specs.Steps.{IsWhy, HasPart, IsWalking, StaysAt}
-use Rattle.pq_memo.specs.Demand.{IsCarried, IsVerified, carried_keys}
+use Rattle.pq_memo.specs.Demand.{IsVerified, carried_keys}
 use Rattle.pq_memo.specs.aux.Frames.{WaitsAt}
-use Rattle.pq_memo.specs.aux.Demand.{Fits, Linked, Stands, Tells, IsHandedOn, Asked, HasTaken, HasEntered, Enters, Starts, GoesOn, Advances, Wrote, Popped, waiting_key, waiting_keys, rank, weight}
+use Rattle.pq_memo.specs.aux.Demand.{Fits, Linked, Stands, Tells, IsHandedOn, Asked, Enters, Starts, GoesOn, Advances, Wrote, Popped, waiting_key, waiting_keys, rank, weight}
 use Rattle.pq_memo.proofs.Looks as looks
 use Rattle.pq_memo.proofs.Frames.{starts as first_turn}
 use Rattle.pq_memo.proofs.Wrote.{wrote_none}

@@ -1,5 +1,5 @@
 -- The state of a demand from its beginning to its end.
-use Rattle.std.proofs.Common.{◌≡◌, ℕ, ◌+◌, ◌<◌, ◌≤◌, ◌⊎◌, List, [], ◌∷◌, ◌++◌, length, slice_get, Option, Some, refl, sym, ◌∙◌, ap, subst, inl, inr, arith}
+use Rattle.std.proofs.Common.{◌≡◌, ℕ, ◌+◌, ◌<◌, ◌≤◌, List, [], ◌∷◌, ◌++◌, length, slice_get, Option, Some, refl, sym, ◌∙◌, ap, subst, inl, inr, arith}
 use Rattle.std.specs.declared.cmp.Ordering.{Ordering}
 use Rattle.std.proofs.lemmas.Option.{same_Some}
 use Rattle.pq_inputs.specs.Sources.{Sources, Table}
@@ -20,7 +20,7 @@ use Rattle.pq_memo.specs.Look.{IsUpToDate}
 use Rattle.pq_memo.specs.Table.{HasIn, IsSameTable}
 use Rattle.pq_memo.specs.Frames.{frame_keys}
 use Rattle.pq_memo.specs.Demand.{Differ, IsVerified, NoneLost, IsSameOrVerified, carried_keys}
-use Rattle.pq_memo.specs.aux.Demand.{Linked, Stands, Tells, Going, IsHandedOn, Advances, walks, weight}
+use Rattle.pq_memo.specs.aux.Demand.{Linked, Stands, Going, IsHandedOn, Advances, walks, weight}
 use Rattle.pq_memo.specs.aux.Frames.{IsReadAnswer}
 use Rattle.pq_memo.proofs.Makes.{now_right}
 use Rattle.pq_memo.proofs.Reading.{now_files}

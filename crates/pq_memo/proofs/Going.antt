@@ -1,25 +1,23 @@
 -- The state of a demand, over each kind of change: frames are popped with memos of their keys
 -- written, the last frame is replaced, a frame is pushed, and a rule's start is recorded.
-use Rattle.std.proofs.Common.{◌≡◌, ℕ, ◌+◌, ◌*◌, ◌<◌, ◌≤◌, ◌⊎◌, List, [], ◌∷◌, ◌++◌, length, Option, Some, refl, sym, ◌∙◌, ap, subst, inl, inr, arith, length-append}
+use Rattle.std.proofs.Common.{◌≡◌, ℕ, ◌+◌, ◌<◌, ◌≤◌, ◌⊎◌, List, [], ◌∷◌, ◌++◌, length, Option, refl, sym, ◌∙◌, ap, subst, inl, inr, arith, length-append}
 use Rattle.std.specs.declared.cmp.Ordering.{Ordering}
 use Rattle.pq_inputs.specs.Sources.{Table}
-use Rattle.pq_rules.specs.declared.turn.Turn.TheVariants.{Ask}
 use Rattle.pq_rules.specs.Turns.{Machine}
-use Rattle.pq_rules.specs.Laws.{Laws}
-use Rattle.pq_rules.specs.Relations.{Each, In}
+use Rattle.pq_rules.specs.Relations.{In}
 use Rattle.pq_rules.specs.aux.Evaluator.{Distinct}
-use Rattle.pq_rules.specs.aux.Lists.{in_append, in_append_left, in_append_right}
+use Rattle.pq_rules.specs.aux.Lists.{in_append, in_append_right}
 use Rattle.pq_rules.proofs.Characterisation.{each_append}
 use Rattle.pq_rules.proofs.Stack.{distinct_front, distinct_push}
 use Rattle.pq_rules.proofs.Weight.{Exact}
 use Rattle.pq_memo.specs.declared.frame.Frame.{Frame}
 use Rattle.pq_memo.specs.declared.demanded.Carried.{Carried}
-use Rattle.pq_memo.specs.Sound.{Memo, at}
+use Rattle.pq_memo.specs.Sound.{Memo}
 use Rattle.pq_memo.specs.Look.{IsUpToDate}
 use Rattle.pq_memo.specs.Table.{HasIn, IsSameTable}
 use Rattle.pq_memo.specs.Frames.{IsFrame, Awaits, frame_keys}
 use Rattle.pq_memo.specs.Demand.{IsCarried, IsVerified, carried_keys}
-use Rattle.pq_memo.specs.aux.Demand.{Fits, Linked, Stands, Tells, Wrote, Popped, walks, waiting_key, waiting_keys, is_seen, unseen, rank, weight}
+use Rattle.pq_memo.specs.aux.Demand.{Fits, Linked, Stands, Tells, Wrote, Popped, walks, waiting_keys, is_seen, unseen, rank, weight}
 use Rattle.pq_memo.proofs.TableCalls.{zero_or}
 use Rattle.pq_memo.proofs.Wrote as wrote
 use Rattle.pq_memo.proofs.Wrote.{wrote_none}

@@ -1,11 +1,11 @@
 -- The frames from a place of the stack on, the last of which waits for the key of the first: begun
 -- at the least key they are a round (`closes`), and their keys stay the same (`turned_keys`).
-use Rattle.std.proofs.Common.{◌≡◌, ℕ, zero, suc, ◌<◌, ◌≤◌, ◌⊎◌, List, [], ◌∷◌, ◌++◌, length, take, drop, get_or, refl, sym, ap, ap₂, subst, ◌∙◌, inl, inr, arith, false, append-nil, Option}
+use Rattle.std.proofs.Common.{◌≡◌, ℕ, ◌<◌, List, [], ◌∷◌, ◌++◌, length, take, drop, get_or, refl, sym, ap, ap₂, subst, ◌∙◌, inl, inr, false, append-nil, Option}
 use Rattle.std.specs.declared.cmp.Ordering.{Ordering}
 use Rattle.std.specs.declared.cmp.Ordering.TheVariants.{Equal, Less, Greater}
 use Rattle.std.specs.Ordering.{is_gt}
 use Rattle.pq_inputs.specs.declared.durability.Durability.{Durability}
-use Rattle.pq_inputs.specs.Sources.{Sources, Table}
+use Rattle.pq_inputs.specs.Sources.{Table}
 use Rattle.pq_rules.specs.Turns.{Machine}
 use Rattle.pq_rules.specs.Relations.{Each, In}
 use Rattle.pq_rules.specs.aux.Evaluator.{Distinct}
@@ -16,7 +16,7 @@ use Rattle.pq_memo.specs.declared.frame.Frame.{Frame}
 use Rattle.pq_memo.specs.Sound.{Memo}
 use Rattle.pq_memo.specs.Table.{HasIn}
 use Rattle.pq_memo.specs.Writes.{RingWritten, ring_keys}
-use Rattle.pq_memo.specs.Frames.{Awaits, RoundOf, IsRound, frame_keys}
+use Rattle.pq_memo.specs.Frames.{RoundOf, IsRound, frame_keys}
 use Rattle.pq_memo.specs.aux.Demand.{IsLeastKey, LastAwaits, Linked, Popped}
 use Rattle.pq_memo.proofs.Wrote.{wrote_ring}
 use Rattle.pq_memo.proofs.Stacked.{keys_append, in_keys_left, in_keys_right, in_keys_either, linked_back, last_awaits_back, round_of}

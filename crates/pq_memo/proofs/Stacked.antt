@@ -1,27 +1,25 @@
 -- The stack of a demand: what stays of its frames where memos of other keys are written, and its
 -- frames when some are added, popped and replaced.
-use Rattle.std.proofs.Common.{◌≡◌, ℕ, ◌+◌, ◌^◌, ◌<◌, ◌≤◌, ◌⊎◌, List, [], ◌∷◌, ◌++◌, length, take, get_or, zero, suc, Option, Some, refl, sym, ◌∙◌, ap, subst, inl, inr, arith}
+use Rattle.std.proofs.Common.{◌≡◌, ℕ, ◌^◌, ◌<◌, ◌≤◌, ◌⊎◌, List, [], ◌∷◌, ◌++◌, length, take, get_or, zero, suc, Option, refl, sym, ◌∙◌, ap, subst, inl, inr, arith}
 use Rattle.std.specs.declared.cmp.Ordering.{Ordering}
 use Rattle.std.proofs.lemmas.Option.{same_Some, slice_get_within}
-use Rattle.pq_inputs.specs.Sources.{Sources, Table}
+use Rattle.pq_inputs.specs.Sources.{Table}
 use Rattle.pq_rules.specs.declared.turn.Turn.{Turn}
 use Rattle.pq_rules.specs.declared.turn.Turn.TheVariants.{Ask}
 use Rattle.pq_rules.specs.Turns.{Machine}
 use Rattle.pq_rules.specs.Relations.{Each, In}
 use Rattle.pq_rules.specs.Value.{ComesBy, ComesTo}
 use Rattle.pq_rules.specs.aux.Lists.{in_append, in_append_left, in_append_right}
-use Rattle.pq_rules.proofs.Rings.{each_in}
-use Rattle.pq_rules.proofs.ListLemmas.{each_from}
 use Rattle.pq_memo.specs.declared.frame.Frame.{Frame}
 use Rattle.pq_memo.specs.declared.frame.Stage.{Stage}
 use Rattle.pq_memo.specs.declared.frame.Stage.TheVariants.{Walking, Waiting}
 use Rattle.pq_memo.specs.Sound.{Memo, at}
-use Rattle.pq_memo.specs.Look.{IsUpToDate, HasChanged, HasLapsed, IsStill}
+use Rattle.pq_memo.specs.Look.{IsUpToDate, HasChanged, IsStill}
 use Rattle.pq_memo.specs.Table.{HasIn}
 use Rattle.pq_memo.specs.Steps.{IsWalking}
-use Rattle.pq_memo.specs.Frames.{Came, Sits, IsFrame, IsWalked, WalksAt, Awaits, RoundOf, frame_keys}
+use Rattle.pq_memo.specs.Frames.{Came, Sits, IsFrame, Awaits, RoundOf, frame_keys}
 use Rattle.pq_memo.specs.aux.Frames.{WaitsAt}
-use Rattle.pq_memo.specs.aux.Demand.{Fits, LinksTo, Linked, LastAwaits, waiting_key, waiting_keys, Wrote, rank, top_rank}
+use Rattle.pq_memo.specs.aux.Demand.{Fits, LinksTo, Linked, LastAwaits, waiting_key, waiting_keys, Wrote}
 use Rattle.pq_memo.proofs.Wrote as wrote
 
 pub keys_append : {K P : Type 0} (xs ys : List (Frame K P)) → frame_keys (xs ++ ys) ≡ frame_keys xs ++ frame_keys ys
@@ -137,11 +135,6 @@ module _ {K P V : Type 0} (order : K → K → Ordering) (m : Machine K P V) (in
   linked_push [] f g a is fits l = (l.0, l.1, a, (is, fits, tt, tt))
   linked_push (x ∷ []) f g a is fits l = (l.0, l.1, l.2, linked_push [] f g a is fits l.3)
   linked_push (x ∷ (y ∷ ys)) f g a is fits l = (l.0, l.1, l.2, linked_push (y ∷ ys) f g a is fits l.3)
-
-  -- a frame pushed on the frames that wait for its key
-  pub linked_add : (fs : List (Frame K P)) (g : Frame K P) → IsFrame order m inputs.history inputs.revision (HasIn table) g.key g.stage → Fits m g.stage
-      → (f : Frame K P) → g.key ≡ f.key → Chained (fs ++ f ∷ []) → Chained (fs ++ g ∷ [])
-  linked_add fs g is fits f e l = linked_swap fs f g (sym e) is fits l
 
   -- frames that wait for each other, and the last for a key
   pub round_of : (z : K) (f : Frame K P) (fs : List (Frame K P)) → Chained (f ∷ fs) → LastAwaits order m inputs table z (f ∷ fs)

@@ -1,5 +1,5 @@
 -- The number that each step of a demand lowers.
-use Rattle.std.proofs.Common.{◌≡◌, ℕ, ◌+◌, ◌*◌, ◌^◌, ◌<◌, ◌≤◌, ◌⊎◌, List, [], ◌∷◌, ◌++◌, length, refl, sym, subst, ap, inl, inr, arith, Bool, true, false, cond, ◌||◌, nat_eq, Option, Some, None, ◌∙◌, length-append}
+use Rattle.std.proofs.Common.{◌≡◌, ℕ, ◌+◌, ◌*◌, ◌^◌, ◌<◌, ◌≤◌, ◌⊎◌, List, [], ◌∷◌, ◌++◌, length, refl, subst, ap, inl, inr, arith, Bool, true, false, cond, ◌||◌, Option, Some, None, ◌∙◌, length-append}
 use Rattle.std.specs.Cmp.{Equal-is, tied_itself}
 use Rattle.std.specs.declared.cmp.Ordering.{Ordering}
 use Rattle.std.specs.declared.cmp.Ordering.TheVariants.{Equal}
@@ -8,13 +8,12 @@ use Rattle.std.proofs.lemmas.Bool.{eqb-true, eq-eqb}
 use Rattle.pq_inputs.specs.Sources.{Table}
 use Rattle.pq_rules.specs.Turns.{Machine}
 use Rattle.pq_rules.specs.Relations.{In}
-use Rattle.pq_rules.specs.aux.Evaluator.{has, left_number}
+use Rattle.pq_rules.specs.aux.Evaluator.{has}
 use Rattle.pq_rules.proofs.Weight.{Exact}
 use Rattle.pq_memo.specs.declared.frame.Frame.{Frame}
 use Rattle.pq_memo.specs.declared.frame.Stage.{Stage}
 use Rattle.pq_memo.specs.declared.frame.Stage.TheVariants.{Walking, Waiting}
 use Rattle.pq_memo.specs.Sound.{Memo}
-use Rattle.pq_memo.specs.Table.{HasIn}
 use Rattle.pq_memo.specs.Frames.{frame_keys}
 use Rattle.pq_memo.specs.Demand.{IsVerified}
 use Rattle.pq_memo.specs.aux.Demand.{Fits, Linked, is_now, is_seen, unseen, rank, top_rank, weight}

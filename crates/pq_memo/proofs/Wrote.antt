@@ -1,7 +1,6 @@
 -- What the calls that write do to the table, as one relation (`Wrote`).
-use Rattle.std.proofs.Common.{◌≡◌, ℕ, ◌⊎◌, List, [], ◌∷◌, Option, Some, None, refl, sym, ◌∙◌, ap, subst, inl, inr}
+use Rattle.std.proofs.Common.{◌≡◌, ℕ, List, [], ◌∷◌, Option, Some, None, refl, sym, ◌∙◌, ap, subst, inl, inr}
 use Rattle.std.specs.declared.cmp.Ordering.{Ordering}
-use Rattle.std.proofs.lemmas.Option.{same_Some}
 use Rattle.pq_inputs.specs.declared.durability.Durability.{Durability}
 use Rattle.pq_inputs.specs.Sources.{Table}
 use Rattle.pq_rules.specs.declared.turn.Answer.{Answer}
@@ -11,7 +10,7 @@ use Rattle.pq_rules.proofs.Weight.{Exact}
 use Rattle.pq_memo.specs.Sound.{Memo}
 use Rattle.pq_memo.specs.Look.{IsUpToDate}
 use Rattle.pq_memo.specs.Table.{memo_at, HasIn, IsPut, IsSameTable}
-use Rattle.pq_memo.specs.Writes.{Dated, IsDated, IsMarked, IsPublished, RingWritten, ring_keys, remarked}
+use Rattle.pq_memo.specs.Writes.{Dated, IsMarked, IsPublished, RingWritten, ring_keys, remarked}
 use Rattle.pq_memo.specs.Steps.{IsFinished}
 use Rattle.pq_memo.specs.Demand.{IsVerified}
 use Rattle.pq_memo.specs.aux.Demand.{Wrote, IsHandedOn}

@@ -1,7 +1,7 @@
 -- What a demand answers and what it leaves. The names are those of `specs/Sound`.
 use Rattle.std.specs.Prelude.{ℕ, ◌≡◌, ◌⊎◌, List, [], ◌∷◌, Option}
 use Rattle.std.specs.declared.cmp.Ordering.{Ordering}
-use Rattle.pq_inputs.specs.Sources.{Sources, Table}
+use Rattle.pq_inputs.specs.Sources.{Sources}
 use Rattle.pq_rules.specs.Turns.{Machine}
 use Rattle.pq_rules.specs.Relations.{In}
 use Rattle.pq_memo.specs.declared.demanded.Carried.{Carried}

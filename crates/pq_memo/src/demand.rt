@@ -39,8 +39,8 @@ fn least_place<R: Rules>(_rules: &R, frames: &[Frame<R::Key, R::Part>]) -> usize
 }
 
 impl<R: Rules> Memos<R> {
-    /// Takes a turn of the rule of `key`, which has made these reads: pushes its frame, or publishes
-    /// its value.
+    /// Takes a turn of the rule of `key`, which has made these reads: pushes its frame, or
+    /// publishes its value.
     fn take_turn(
         &mut self,
         alloc: Global,

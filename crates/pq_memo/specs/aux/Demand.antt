@@ -1,9 +1,9 @@
 -- Auxiliary: a demand under way. Its state is the table, the stack of frames, and the list of the
 -- rules started so far. Each frame but the last waits for the key of the one above it.
 --
--- `order` is the order of the keys, `m` the rule set, `inputs` the inputs, and a table is a function
--- from keys. `old` is the table before the demand.
-use Rattle.std.specs.Prelude.{ℕ, ◌≡◌, ◌⊎◌, ◌<◌, ◌+◌, ◌*◌, ◌^◌, List, [], ◌∷◌, ◌++◌, length, Bool, true, false, ◌||◌, cond, nat_eq, slice_index_or, Option, Some, None}
+-- `order` is the order of the keys, `m` the rule set, `inputs` the inputs, and a table is a
+-- function from keys. `old` is the table before the demand.
+use Rattle.std.specs.Prelude.{ℕ, ◌≡◌, ◌⊎◌, ◌<◌, ◌+◌, ◌*◌, ◌^◌, List, [], ◌∷◌, ◌++◌, length, Bool, false, ◌||◌, cond, nat_eq, slice_index_or, Option, Some, None}
 use Rattle.std.specs.declared.cmp.Ordering.{Ordering}
 use Rattle.std.specs.Ordering.{is_gt}
 use Rattle.pq_inputs.specs.Sources.{Table}
@@ -39,8 +39,8 @@ abbrev pub LinksTo : {K P V : Type 0} → (K → K → Ordering) → Machine K P
 LinksTo order m inputs table f [] = Unit {0}
 LinksTo order m inputs table f (g ∷ gs) = Awaits order m inputs.history inputs.revision (HasIn table) f.key f.stage g.key
 
--- `Linked order m inputs table fs` is that each of `fs` can be brought up to date, and waits for the
--- key of the frame after it
+-- `Linked order m inputs table fs` is that each of `fs` can be brought up to date, and waits for
+-- the key of the frame after it
 unfoldable pub Linked : {K P V : Type 0} → (K → K → Ordering) → Machine K P V → Table → (K → Option (Memo K V)) → List (Frame K P) → Type 0
 Linked order m inputs table [] = Unit {0}
 Linked order m inputs table (f ∷ fs) =
@@ -75,7 +75,8 @@ abbrev pub IsHandedOn : {K V : Type 0} → ℕ → (K → Option (Memo K V)) →
 IsHandedOn {K} {V} now old table k =
     (table k ≡ old k) ⊎ ((memo : Memo K V) × HasIn table k memo × (memo.verified ≡ now) × Dated now (HasIn old) k memo)
 
--- `Stands order m inputs reach root table stack` is the invariant of the stack of a demand of `root`
+-- `Stands order m inputs reach root table stack` is the invariant of the stack of a demand of
+-- `root`
 pub record Stands {K P V : Type 0} (order : K → K → Ordering) (m : Machine K P V) (inputs : Table) (reach : List K) (root : K)
     (table : K → Option (Memo K V)) (stack : List (Frame K P)) : Type 0 where
   pub linked : Linked order m inputs table stack
@@ -84,8 +85,8 @@ pub record Stands {K P V : Type 0} (order : K → K → Ordering) (m : Machine K
   pub within : (k : K) → In k (frame_keys stack) → In k reach
   pub rooted : In root (frame_keys stack) ⊎ IsUpToDate m inputs.revision (HasIn table) root
 
--- `Tells order m inputs old table stack carried` is that `carried` are the rules started so far, each
--- for a cause before the demand
+-- `Tells order m inputs old table stack carried` is that `carried` are the rules started so far,
+-- each for a cause before the demand
 pub record Tells {K P V : Type 0} (order : K → K → Ordering) (m : Machine K P V) (inputs : Table) (old table : K → Option (Memo K V))
     (stack : List (Frame K P)) (carried : List (Carried K)) : Type 0 where
   pub handed_on : (k : K) → IsHandedOn inputs.revision old table k

@@ -1,13 +1,11 @@
-use Rattle.std.proofs.Common.{[], ◌≡◌, ◌<◌, ◌∷◌, ◌++◌, ℕ, List, refl, sym, ◌∙◌, ap, subst}
+use Rattle.std.proofs.Common.{[], ◌<◌, ◌∷◌, ◌++◌, List, refl, sym, ◌∙◌, ap, subst}
 use Rattle.pq_rules.specs.aux.Evaluator.{Distinct}
 use Rattle.pq_rules.proofs.ListLemmas.{not_both}
 use Rattle.pq_rules.proofs.Weight.{Exact}
 use Rattle.pq_memo.specs.declared.frame.Frame.{Frame}
-use Rattle.pq_memo.specs.declared.demanded.Carried.{Carried}
 use Rattle.pq_memo.specs.Sound.{sources_at}
 use Rattle.pq_memo.specs.Look.{IsUpToDate}
 use Rattle.pq_memo.specs.Table.{memo_at, HasIn}
-use Rattle.pq_memo.specs.Demand.{carried_keys}
 use Rattle.pq_memo.specs.aux.Demand.{Going, walks, weight}
 use Rattle.pq_memo.proofs.Demanding.{begins, ready, stepped, ended, handed_same}
 use Rattle.pq_memo.proofs.memos.Memos.bring_up_to_date.Goals as goal

@@ -1,9 +1,6 @@
-use Rattle.std.proofs.Common.{[], ◌≡◌, ◌++◌, ◌<◌, List, length, take, drop, sym, ◌∙◌, ap, subst, arith, length-drop}
-use Rattle.pq_rules.proofs.Weight.{Exact}
+use Rattle.std.proofs.Common.{[], ◌<◌, List, length, ◌∙◌, subst}
 use Rattle.pq_memo.specs.declared.frame.Frame.{Frame}
 use Rattle.pq_memo.specs.Table.{memo_at}
-use Rattle.pq_memo.specs.Writes.{ring_keys}
-use Rattle.pq_memo.specs.Frames.{frame_keys}
 use Rattle.pq_memo.specs.aux.Demand.{IsLeastKey}
 use Rattle.pq_memo.proofs.RoundTurned.{closes, popped_of}
 use Rattle.pq_memo.proofs.memos.Memos.close.Goals as goal

@@ -1,8 +1,6 @@
-use Rattle.std.proofs.Common.{[], ◌∷◌, ◌++◌, List, sym, subst, inl, inr}
-use Rattle.pq_rules.specs.Relations.{In}
+use Rattle.std.proofs.Common.{List, sym, subst}
 use Rattle.pq_memo.specs.declared.frame.Frame.{Frame}
 use Rattle.pq_memo.specs.Table.{memo_at}
-use Rattle.pq_memo.specs.Frames.{frame_keys}
 use Rattle.pq_memo.specs.aux.Demand.{LastAwaits}
 use Rattle.pq_memo.proofs.Stacked.{last_awaits}
 use Rattle.pq_memo.proofs.RoundTurned.{last_apart}

@@ -1,7 +1,5 @@
-use Rattle.std.proofs.Common.{List, [], sym, ◌∙◌, ap, subst}
-use Rattle.pq_rules.specs.declared.turn.Turn.{Turn}
-use Rattle.pq_memo.specs.Table.{memo_at, HasIn}
-use Rattle.pq_memo.specs.Frames.{Came}
+use Rattle.std.proofs.Common.{[], ◌∙◌, ap}
+use Rattle.pq_memo.specs.Table.{memo_at}
 use Rattle.pq_memo.proofs.Frames.{starts}
 use Rattle.pq_memo.proofs.Stacked.{came_as}
 use Rattle.pq_memo.proofs.memos.Memos.start.Goals as goal

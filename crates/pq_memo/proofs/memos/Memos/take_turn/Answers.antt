@@ -1,4 +1,4 @@
-use Rattle.std.proofs.Common.{[], ◌≡◌, ◌∙◌, ap, arith, refl, inl, inr, ◌<◌, ◌^◌}
+use Rattle.std.proofs.Common.{[], ◌∙◌, ap, arith, refl, inl, inr, ◌<◌, ◌^◌}
 use Rattle.pq_rules.proofs.Weight.{Exact}
 use Rattle.pq_memo.specs.declared.frame.Stage.TheVariants.{Waiting}
 use Rattle.pq_memo.proofs.Wrote.{wrote_published}

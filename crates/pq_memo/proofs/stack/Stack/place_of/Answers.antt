@@ -1,5 +1,4 @@
-use Rattle.std.proofs.Common.{◌≡◌, List, ℕ, arith, sym, ◌∙◌, ap, subst, length, get_or, Some, None, Option}
-use Rattle.std.proofs.lemmas.List.{get_or_default}
+use Rattle.std.proofs.Common.{List, sym, ◌∙◌, ap, subst, get_or}
 use Rattle.pq_rules.specs.Relations.{In}
 use Rattle.pq_rules.proofs.ListLemmas.{not_both}
 use Rattle.pq_memo.specs.declared.frame.Frame.{Frame}

@@ -1,4 +1,4 @@
-use Rattle.std.proofs.Common.{List, take, sym, subst}
+use Rattle.std.proofs.Common.{List, sym, subst}
 use Rattle.pq_memo.specs.declared.frame.Frame.{Frame}
 use Rattle.pq_memo.specs.aux.Stack.{IndexedFrom}
 use Rattle.pq_memo.proofs.Indexed.{indexed_take}
