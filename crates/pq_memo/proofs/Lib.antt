@@ -17,3 +17,12 @@ pub mod Frames
 pub mod RingClosed
 pub mod RingTurned
 pub mod RoundClosed
+pub mod Wrote
+pub mod Stacked
+pub mod RoundTurned
+pub mod Weights
+pub mod Going
+pub mod Advancing
+pub mod LeastPlace
+pub mod Demanding
+pub mod Indexed

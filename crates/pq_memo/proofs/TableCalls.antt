@@ -1,5 +1,5 @@
 -- What the calls that write keep, over the inputs and the places as contracts see them.
-use Rattle.std.proofs.Common.{◌≡◌, ℕ, ◌+◌, ◌⊎◌, ◌<◌, List, [], ◌∷◌, length, slice_get, Option, Some, cond, refl, sym, ◌∙◌, ap, ap₂, subst, inl, inr, arith}
+use Rattle.std.proofs.Common.{◌≡◌, ℕ, ◌+◌, ◌⊎◌, ◌<◌, List, [], ◌∷◌, ◌++◌, length, Result, Ok, Err, IfOk, OnOk, OnErr, slice_get, Option, Some, cond, refl, sym, ◌∙◌, ap, ap₂, subst, inl, inr, arith}
 use Rattle.std.specs.declared.cmp.Ordering.{Ordering}
 use Rattle.std.specs.Ordering.{is_eq}
 use Rattle.std.specs.Option.{option_map}
@@ -44,7 +44,17 @@ kept_next order m before after places next kept =
     (subst (λ (h : List Sources). Kept order m h (before.revision + 1) (HasIn (memo_at order places))) (sym next.history)
     (kept_edited order m before.history before.revision before.files after.files next.counted next.latest (HasIn (memo_at order places)) kept))
 
-zero_or : (n : ℕ) → (n ≡ 0) ⊎ (0 < n)
+-- a call of `set`
+pub set_kept : {K P V E : Type 0} (order : K → K → Ordering) (m : Machine K P V) (before after : Table) (places : List (K × Option (Memo K V)))
+    (r : Result ℕ E) → length before.history ≡ before.revision + 1 → slice_get before.history before.revision ≡ Some before.files
+    → IfOk r (λ v. (v ≡ before.revision + 1) × (after.revision ≡ v)) → OnOk r (after.history ≡ before.history ++ after.files ∷ [])
+    → OnErr r (after ≡ before) → KeptOver order m before places → KeptOver order m after places
+set_kept order m before after places (Ok v) counted latest revision history refused kept =
+    kept_next order m before after places (record { counted = counted; latest = latest; revision = revision.1 ∙ revision.0; history = history }) kept
+set_kept order m before after places (Err e) counted latest revision history refused kept =
+    subst (λ (t : Table). KeptOver order m t places) (sym refused) kept
+
+pub zero_or : (n : ℕ) → (n ≡ 0) ⊎ (0 < n)
 zero_or n = grind arith
 
 module _ {K P V : Type 0} (order : K → K → Ordering) (m : Machine K P V) (inputs : Table)

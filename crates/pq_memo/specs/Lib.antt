@@ -7,4 +7,6 @@ pub mod Table
 pub mod Writes
 pub mod Frames
 pub mod Steps
+pub mod Demand
+pub mod EngineView
 pub mod aux

@@ -34,17 +34,30 @@ abbrev pub HasPart : {K P : Type 0} → Stage K P → P → Type 0
 HasPart (Walking i) part = ⊥
 HasPart (Waiting other asked reads) part = other ≡ part
 
+-- `IsWalking stage` is that the key's frame walks at `stage`
+abbrev pub IsWalking : {K P : Type 0} → Stage K P → Type 0
+IsWalking (Walking i) = Unit {0}
+IsWalking (Waiting part asked reads) = ⊥
+
+-- `StaysAt before after` is that the frame walks at both stages, or that its rule waits at both for
+-- the same answer
+abbrev pub StaysAt : {K P : Type 0} → Stage K P → Stage K P → Type 0
+StaysAt (Walking i) (Walking j) = Unit {0}
+StaysAt (Walking i) (Waiting part asked reads) = ⊥
+StaysAt (Waiting part asked reads) (Walking i) = ⊥
+StaysAt (Waiting part asked reads) (Waiting other question front) = (part ≡ other) × (asked ≡ question) × (reads.items ≡ front.items)
+
 -- `IsStep order m inputs before after k stage step` is that a step of the frame of `k` at `stage`
 -- ends in `step`, and changes the places from `before` to `after`
 abbrev pub IsStep : {K P V : Type 0} → (K → K → Ordering) → Machine K P V → Table → List (K × Option (Memo K V)) → List (K × Option (Memo K V))
     → K → Stage K P → Step K P V → Type 0
 IsStep order m inputs before after k stage Finished = IsFinished order m inputs before after k
 IsStep order m inputs before after k stage (Needs frame q) =
-    IsSameTable (memo_at order before) (memo_at order after) × (frame.key ≡ k)
+    IsSameTable (memo_at order before) (memo_at order after) × (frame.key ≡ k) × StaysAt stage frame.stage
     × Awaits order m inputs.history inputs.revision (HasIn (memo_at order before)) k frame.stage q
     × (IsUpToDate m inputs.revision (HasIn (memo_at order before)) q → ⊥)
 IsStep order m inputs before after k stage (Starts key why) =
-    IsSameTable (memo_at order before) (memo_at order after) × (key ≡ k)
+    IsSameTable (memo_at order before) (memo_at order after) × (key ≡ k) × IsWalking stage
     × IsWhy m inputs.history inputs.revision (HasIn (memo_at order before)) k why
 IsStep order m inputs before after k stage (GoesOn key part answer reads) =
     IsSameTable (memo_at order before) (memo_at order after) × (key ≡ k) × HasPart stage part

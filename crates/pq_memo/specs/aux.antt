@@ -3,3 +3,5 @@ pub mod Tests
 pub mod Durabilities
 pub mod Written
 pub mod Frames
+pub mod Demand
+pub mod Stack

@@ -130,7 +130,7 @@ impl<R: Rules> Memos<R> {
     }
 
     /// The answer of `key`, if it is up to date.
-    fn read_answer(
+    pub(crate) fn read_answer(
         &self,
         alloc: Global,
         key: &R::Key,

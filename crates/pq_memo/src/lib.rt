@@ -9,14 +9,22 @@
 //! the answer of another key; `publish_round` publishes the ring of frames that wait for each
 //! other. A caller keeps the frames, on one stack or on many, and starts and advances the rules.
 //!
+//! `Engine` is such a caller, on one thread: inputs, and the memos of what was demanded. A demand
+//! keeps one stack. It starts each rule once at most, and only for a cause.
+//!
 //! Definitions: `specs/Sound` (memos, soundness), `specs/Kept` (the invariant), `specs/Look` and
 //! `specs/Looks` (what `look` answers), `specs/Cause`, `specs/Table` and `specs/Writes` (what calls
-//! write), `specs/Frames` and `specs/Steps`. Modules: `entry` (what is kept of a key), `look`,
-//! `state` (private tests), `memos` (the table, reading), `writes` (marking and publishing), `ring`
-//! (publishing a ring), `member` and `unpublished` (what goes in, and what comes back), `frame` and
-//! `restored` (a step), `round` (frames in a round), `laws`.
+//! write), `specs/Frames` and `specs/Steps`, `specs/Demand` and `specs/EngineView` (what a demand
+//! answers and leaves). Modules: `entry` (what is kept of a key), `look`, `state` (private tests),
+//! `memos` (the table, reading), `writes` (marking and publishing), `ring` (publishing a ring),
+//! `member` and `unpublished` (what goes in, and what comes back), `frame` and `restored` (a step),
+//! `round` (frames in a round), `engine` and `demanded` (what a demand answers), `demand` (bringing
+//! a key up to date), `stack` (its frames), `laws`.
 #![tactic(auto)]
 
+mod demand;
+mod demanded;
+mod engine;
 mod entry;
 mod frame;
 mod laws;
@@ -26,10 +34,13 @@ mod memos;
 mod restored;
 mod ring;
 mod round;
+mod stack;
 mod state;
 mod unpublished;
 mod writes;
 
+pub use demanded::{Carried, Demanded};
+pub use engine::Engine;
 pub use frame::{Frame, Stage, Step};
 pub use laws::{kept_is_sound, look_is_right, turns_are_right};
 pub use look::{Look, Why};

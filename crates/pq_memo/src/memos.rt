@@ -100,6 +100,13 @@ impl<R: Rules> Memos<R> {
         }
     }
 
+    /// Whether `key` is an input, or its memo was verified now.
+    pub(crate) fn is_up_to_date(&self, key: &R::Key, inputs: &Inputs) -> bool
+        ensures { IsTrue result ↔ IsUpToDate (R.machine self.now.rules) inputs.now.revision (HasIn (memo_at R.Key.cmp self.now.places)) key.now }
+    {
+        self.fresh_change(key, inputs).is_some()
+    }
+
     /// Goes over `reads` from the place `from` on; those before it are up to date and did not
     /// change after `since`.
     fn pass(&self, reads: &[R::Key], from: usize, since: u64, inputs: &Inputs) -> Passed

@@ -10,6 +10,7 @@ returns-in-Ok-Behind-clause-step g c =
     let s = rw c.in-Ok-Behind.field-0-is at f in (
       (λ q. refl),
       refl,
+      tt,
       walks_at g.R.Key.Ord.cmp (strict g.R.Key.Ord.cmp g.met.R.Key.Ord.total) (g.R.Rules.machine c.args.self.now.rules) c.args.inputs.now.history c.args.inputs.now.revision
           c.now-latest.ensures.counted (memo_at g.R.Key.Ord.cmp c.args.self.now.places) c.requires.kept c.args.key c.in-Ok-Behind.i c.in-Ok-Behind.read s.0 s.1 s.2,
       s.3,

@@ -1,0 +1,97 @@
+use Rattle.std.proofs.Common.{[], ◌<◌, ◌∷◌, ◌++◌, List, refl, sym, ◌∙◌, ap, subst}
+use Rattle.pq_rules.specs.aux.Evaluator.{Distinct}
+use Rattle.pq_rules.proofs.ListLemmas.{not_both}
+use Rattle.pq_rules.proofs.Weight.{Exact}
+use Rattle.pq_memo.specs.declared.frame.Frame.{Frame}
+use Rattle.pq_memo.specs.Sound.{sources_at}
+use Rattle.pq_memo.specs.Look.{IsUpToDate}
+use Rattle.pq_memo.specs.Table.{memo_at, HasIn}
+use Rattle.pq_memo.specs.aux.Demand.{Going, walks, weight}
+use Rattle.pq_memo.proofs.Demanding.{begins, ready, stepped, ended, handed_same}
+use Rattle.pq_memo.proofs.memos.Memos.bring_up_to_date.Goals as goal
+
+pub returns-then-is_up_to_date-clause-once : goal.returns-then-is_up_to_date-clause-once
+unfolding Distinct
+returns-then-is_up_to_date-clause-once g c = rw c.new-carried.ensures.items tt
+
+pub steps-init : goal.steps-init
+steps-init g c = record {
+  rules = refl;
+  going =
+      let laws = g.met.R.Rules.lawful c.args.self.now.rules (sources_at c.args.inputs.now.history c.args.inputs.now.revision) in
+      begins g.R.Key.Ord.cmp (g.R.Rules.machine c.args.self.now.rules) c.args.inputs.now
+      (g.R.Rules.reach c.args.self.now.rules (sources_at c.args.inputs.now.history c.args.inputs.now.revision)) c.args.key.now
+      (memo_at g.R.Key.Ord.cmp c.args.self.now.places) laws c.requires
+      (λ up. not_both (c.is_up_to_date.ensures.1 up) c.if-is_up_to_date.false)
+      c.push.new.self c.new-carried.result.items c.in_ok-copy.copy (c.in_ok-copy.ensures {u = tt}).copy
+      ((c.in_ok-push.ensures {u = tt}) ∙ ap (λ (l : List (Frame g.row.R-Key.Denot g.row.R-Part.Denot)). l ++ walks c.in_ok-copy.copy ∷ []) c.new-stack.ensures)
+      c.new-carried.ensures.items;
+}
+
+pub advance-requires-clause-stale : goal.advance-requires-clause-stale
+advance-requires-clause-stale g c =
+    let laws = g.met.R.Rules.lawful c.steps.self.rules (sources_at c.args.inputs.now.history c.args.inputs.now.revision) in
+    let exact : Exact g.R.Key.Ord.cmp = record { total = g.met.R.Key.Ord.total; exact = laws.exact } in
+    (ready g.R.Key.Ord.cmp exact (g.R.Rules.machine c.steps.self.rules) c.args.inputs.now
+    (g.R.Rules.reach c.steps.self.rules (sources_at c.args.inputs.now.history c.args.inputs.now.revision)) c.args.key.now
+    c.now-latest.ensures.counted laws (memo_at g.R.Key.Ord.cmp c.args.self.now.places) (memo_at g.R.Key.Ord.cmp c.steps.self.places)
+    c.steps.stack c.pop.new.self c.in-Some.frame c.steps.carried.items c.in-Some.ensures.items c.steps.invariant.going).stale
+
+pub steps-smaller : goal.steps-smaller
+steps-smaller g c =
+    let laws = g.met.R.Rules.lawful c.steps.self.rules (sources_at c.args.inputs.now.history c.args.inputs.now.revision) in
+    let exact : Exact g.R.Key.Ord.cmp = record { total = g.met.R.Key.Ord.total; exact = laws.exact } in
+    subst (λ (r : g.row.R.Denot).
+    weight g.R.Key.Ord.cmp (g.R.Rules.machine r) c.args.inputs.now.revision (g.R.Rules.reach r (sources_at c.args.inputs.now.history c.args.inputs.now.revision) c.args.key.now)
+    (memo_at g.R.Key.Ord.cmp c.advance.new.self.places) c.advance.new.stack
+    < weight g.R.Key.Ord.cmp (g.R.Rules.machine c.steps.self.rules) c.args.inputs.now.revision
+    (g.R.Rules.reach c.steps.self.rules (sources_at c.args.inputs.now.history c.args.inputs.now.revision) c.args.key.now)
+    (memo_at g.R.Key.Ord.cmp c.steps.self.places) c.steps.stack) (sym c.advance.ensures.rules)
+    (stepped g.R.Key.Ord.cmp exact (g.R.Rules.machine c.steps.self.rules) c.args.inputs.now
+    (g.R.Rules.reach c.steps.self.rules (sources_at c.args.inputs.now.history c.args.inputs.now.revision)) c.args.key.now
+    c.now-latest.ensures.counted laws (memo_at g.R.Key.Ord.cmp c.args.self.now.places) (memo_at g.R.Key.Ord.cmp c.steps.self.places) (memo_at g.R.Key.Ord.cmp c.advance.new.self.places)
+    c.steps.stack c.pop.new.self c.advance.new.stack c.in-Some.frame c.steps.carried.items c.advance.new.carried.items c.in-Some.ensures.items c.steps.invariant.going
+    c.advance.ensures.kept c.in_ok-advance.ensures.advanced).less
+
+pub steps-preserved : goal.steps-preserved
+steps-preserved g c = record {
+  rules = c.advance.ensures.rules ∙ c.steps.invariant.rules;
+  going =
+      let laws = g.met.R.Rules.lawful c.steps.self.rules (sources_at c.args.inputs.now.history c.args.inputs.now.revision) in
+      let exact : Exact g.R.Key.Ord.cmp = record { total = g.met.R.Key.Ord.total; exact = laws.exact } in
+      subst (λ (r : g.row.R.Denot).
+      Going g.R.Key.Ord.cmp (g.R.Rules.machine r) c.args.inputs.now (g.R.Rules.reach r (sources_at c.args.inputs.now.history c.args.inputs.now.revision) c.args.key.now) c.args.key.now
+      (memo_at g.R.Key.Ord.cmp c.args.self.now.places) (memo_at g.R.Key.Ord.cmp c.advance.new.self.places) c.advance.new.stack c.advance.new.carried.items) (sym c.advance.ensures.rules)
+      (stepped g.R.Key.Ord.cmp exact (g.R.Rules.machine c.steps.self.rules) c.args.inputs.now
+      (g.R.Rules.reach c.steps.self.rules (sources_at c.args.inputs.now.history c.args.inputs.now.revision)) c.args.key.now
+      c.now-latest.ensures.counted laws (memo_at g.R.Key.Ord.cmp c.args.self.now.places) (memo_at g.R.Key.Ord.cmp c.steps.self.places) (memo_at g.R.Key.Ord.cmp c.advance.new.self.places)
+      c.steps.stack c.pop.new.self c.advance.new.stack c.in-Some.frame c.steps.carried.items c.advance.new.carried.items c.in-Some.ensures.items c.steps.invariant.going
+      c.advance.ensures.kept c.in_ok-advance.ensures.advanced).state;
+}
+
+pub returns-in_err-advance-clause-handed_on : goal.returns-in_err-advance-clause-handed_on
+returns-in_err-advance-clause-handed_on g c k =
+    handed_same c.args.inputs.now.revision (memo_at g.R.Key.Ord.cmp c.args.self.now.places) (memo_at g.R.Key.Ord.cmp c.steps.self.places) (memo_at g.R.Key.Ord.cmp c.advance.new.self.places)
+    c.in_err-advance.ensures.refused c.steps.invariant.going.tells.handed_on k
+
+pub returns-clause-up_to_date : goal.returns-clause-up_to_date
+returns-clause-up_to_date g c =
+    let empty = rw c.in_default.is at c.pop.ensures.empty in
+    let laws = g.met.R.Rules.lawful c.steps.self.rules (sources_at c.args.inputs.now.history c.args.inputs.now.revision) in
+    let exact : Exact g.R.Key.Ord.cmp = record { total = g.met.R.Key.Ord.total; exact = laws.exact } in
+    subst (λ (r : g.row.R.Denot).
+    IsUpToDate (g.R.Rules.machine r) c.args.inputs.now.revision (HasIn (memo_at g.R.Key.Ord.cmp c.steps.self.places)) c.args.key.now) c.steps.invariant.rules
+    (ended g.R.Key.Ord.cmp exact (g.R.Rules.machine c.steps.self.rules) c.args.inputs.now
+    (g.R.Rules.reach c.steps.self.rules (sources_at c.args.inputs.now.history c.args.inputs.now.revision)) c.args.key.now
+    c.now-latest.ensures.counted laws (memo_at g.R.Key.Ord.cmp c.args.self.now.places) (memo_at g.R.Key.Ord.cmp c.steps.self.places)
+    c.steps.stack c.steps.carried.items empty c.steps.invariant.going).up_to_date
+
+pub returns-clause-covered : goal.returns-clause-covered
+returns-clause-covered g c =
+    let empty = rw c.in_default.is at c.pop.ensures.empty in
+    let laws = g.met.R.Rules.lawful c.steps.self.rules (sources_at c.args.inputs.now.history c.args.inputs.now.revision) in
+    let exact : Exact g.R.Key.Ord.cmp = record { total = g.met.R.Key.Ord.total; exact = laws.exact } in
+    (ended g.R.Key.Ord.cmp exact (g.R.Rules.machine c.steps.self.rules) c.args.inputs.now
+    (g.R.Rules.reach c.steps.self.rules (sources_at c.args.inputs.now.history c.args.inputs.now.revision)) c.args.key.now
+    c.now-latest.ensures.counted laws (memo_at g.R.Key.Ord.cmp c.args.self.now.places) (memo_at g.R.Key.Ord.cmp c.steps.self.places)
+    c.steps.stack c.steps.carried.items empty c.steps.invariant.going).covered
