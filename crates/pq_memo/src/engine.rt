@@ -10,10 +10,12 @@ ghost use Rattle.pq_rules.specs.Turns.{over};
 ghost use Rattle.pq_rules.specs.Relations.{Each};
 ghost use Rattle.pq_rules.specs.Value.{Means};
 ghost use Rattle.pq_memo.specs.Look.{IsUpToDate};
+ghost use Rattle.pq_memo.specs.Sound.{Sound};
 ghost use Rattle.pq_memo.specs.Table.{memo_at, HasIn};
 ghost use Rattle.pq_memo.specs.Demand.{Differ, IsCarried, IsVerified, IsSameOrVerified, NoneLost, carried_keys};
 
 use crate::demanded::Demanded;
+use crate::laws::kept_is_sound;
 use crate::memos::Memos;
 use pq_inputs::{Durability, InputFault, Inputs, Revision, SetRefused};
 use pq_rules::{Memory, Rules};
@@ -118,4 +120,13 @@ impl<R: Rules> Engine<R> {
             None => unreachable!(),
         }
     }
+}
+
+/// The memos of an engine are sound: each is right at the revision at which it was verified and at
+/// the one at which its answer changed, its reads are those of its rule in order, and its
+/// durability is at most that of each input below it.
+pub fn engine_is_sound<R: Rules>(engine: &Engine<R>)
+    ensures { Sound R.Key.cmp (R.machine engine.now.rules) engine.now.inputs.history engine.now.inputs.revision (HasIn (memo_at R.Key.cmp engine.now.places)) }
+{
+    kept_is_sound(&engine.memos);
 }

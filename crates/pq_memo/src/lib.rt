@@ -40,7 +40,7 @@ mod unpublished;
 mod writes;
 
 pub use demanded::{Carried, Demanded};
-pub use engine::Engine;
+pub use engine::{Engine, engine_is_sound};
 pub use frame::{Frame, Stage, Step};
 pub use laws::{kept_is_sound, look_is_right, turns_are_right};
 pub use look::{Look, Why};
