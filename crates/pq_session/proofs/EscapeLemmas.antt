@@ -1,6 +1,6 @@
 -- The escapes of a printed path, and that they come back.
-use Rattle.std.proofs.Common.{◌≡◌, refl, sym, ◌∙◌, ap, subst, ℕ, ◌+◌, ◌<◌, ◌≤◌, ◌/◌, ◌%◌, List, [], ◌∷◌, ◌++◌, append_assoc, Bool, true, false, not, ltb, All, arith}
-use Rattle.std.specs.Prelude.{codes, flat_map, IsUtf8, if◌then◌else◌, ◌&&◌}
+use Rattle.std.proofs.Common.{◌≡◌, refl, sym, ◌∙◌, ap, subst, ℕ, ◌<◌, ◌≤◌, List, [], ◌∷◌, ◌++◌, append_assoc, Bool, true, false, not, ltb, All, arith}
+use Rattle.std.specs.Prelude.{codes, IsUtf8, if◌then◌else◌, ◌&&◌}
 use Rattle.std.specs.Char.{IsScalar, encode_utf8}
 use Rattle.std.specs.Str.{all_scalars, encode_utf8_all}
 use Rattle.std.proofs.lemmas.Bool.{agree_below, agree_below_at, cond_both, cond-true, cond-false}

@@ -1,5 +1,5 @@
 -- Roots, and the names that URIs have below them.
-use Rattle.std.proofs.Common.{◌≡◌, ◌≢◌, refl, sym, ◌∙◌, ap, subst, ℕ, ◌+◌, ◌<◌, List, [], ◌∷◌, ◌++◌, append_assoc, length, take, drop, get_or, reverse, Bool, true, false, not, ◌==◌, ◌⊎◌, inl, inr, ⊎_elim, Option, Some, None, option_map, is_some, arith, lit<}
+use Rattle.std.proofs.Common.{◌≡◌, refl, sym, ◌∙◌, ap, subst, ℕ, ◌+◌, ◌<◌, List, [], ◌∷◌, ◌++◌, append_assoc, length, drop, get_or, reverse, Bool, true, false, not, ◌==◌, ◌⊎◌, inl, inr, Option, Some, None, option_map, is_some, arith, lit<}
 use Rattle.std.specs.Prelude.{codes, nat_eq, if◌then◌else◌, ◌&&◌, ◌↔◌, option_and_then, unwrap_or, IsUtf8}
 use Rattle.std.specs.List.{starts_with}
 use Rattle.std.specs.Str.{is_utf8}

@@ -1,4 +1,3 @@
-use Rattle.std.specs.Prelude.{List, ℕ}
 use Rattle.pq_session.specs.Uri.{root_of}
 use Rattle.pq_session.proofs.RootLemmas.{comes_back, uri_names}
 use Rattle.pq_session.proofs.laws.uris_come_back.Goals as goal
