@@ -1,5 +1,5 @@
 -- The findings of a tree lie where its statements do: each is at the span of a statement or of a part of one.
-use Rattle.std.specs.Prelude.{ℕ, ◌≡◌, cond, Bool, true, false, List, [], ◌∷◌, ◌++◌, map, All, Contains}
+use Rattle.std.specs.Prelude.{ℕ, cond, Bool, true, false, List, [], ◌∷◌, ◌++◌, All}
 use Rattle.std.specs.List.{flat_map}
 use Rattle.std.proofs.Common.{arith, get_or}
 use Rattle.std.proofs.lemmas.List.Elements.{All-append, All-weaker, All-cons, All-contains, All-head, All-nil, All-tail, Contains-get_or}

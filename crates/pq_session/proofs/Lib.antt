@@ -1,4 +1,7 @@
 pub mod UriLemmas
+pub mod ChangeLemmas
+pub mod EscapeLemmas
+pub mod RootLemmas
 pub mod ReplyLemmas
 pub mod Known
 pub mod Total

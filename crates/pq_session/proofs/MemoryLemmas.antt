@@ -39,7 +39,7 @@ never_edit (Some fault) other e = let same : fault ≡ input.Memory = cc e in ot
 never_meant : (state : ScriptState) (message : Meaning) (after : ScriptState) → RespondsTo state message (refuses input.Memory) after → ⊥
 never_meant state (asks label query) after (text, is, e, same) = absurd (cc e)
 never_meant state (says text) after (e, same) = absurd (cc e)
-never_meant state (edits name text) after (e, same) = never_edit (edit_refusal state name text) (never_refused (record { files = state.files; revision = state.revision; history = [] }) name text) (sym e)
+never_meant state (edits name file) after (e, same) = never_edit (edit_refusal state name file) (never_refused (record { files = state.files; revision = state.revision; history = [] }) name file.text) (sym e)
 never_meant state ignores after (e, same) = absurd (cc e)
 never_meant state (ends status) after (e, same) = absurd (cc e)
 

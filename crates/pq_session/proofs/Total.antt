@@ -24,7 +24,7 @@ json_some bytes = json_by bytes (is_utf8 bytes) (read bytes) refl refl
 meant_some : (state : ScriptState) (message : Meaning) → (told : Response) × (after : ScriptState) × RespondsTo state message told after
 meant_some state (asks label query) = (replies (answer_text state label query), state, (answer_text state label query, inl refl, refl, refl))
 meant_some state (says text) = (replies text, state, (refl, refl))
-meant_some state (edits name text) = (edit_response (edit_refusal state name text), edited state name text (edit_refusal state name text), (refl, refl))
+meant_some state (edits name file) = (edit_response (edit_refusal state name file), edited state name file (edit_refusal state name file), (refl, refl))
 meant_some state ignores = (silent, state, (refl, refl))
 meant_some state (ends status) = (finishes status, state, (refl, refl))
 

@@ -4,13 +4,14 @@ use Rattle.serde_json.specs.Data.{Data}
 use Rattle.pq_frame.specs.Json.{IsJson}
 use Rattle.pq_frame.specs.Labels.{LabelModel}
 use Rattle.pq_frame.specs.Messages.{message_of}
-use Rattle.pq_inputs.specs.declared.durability.Durability.TheVariants.{Low}
 use Rattle.pq_inputs.specs.declared.fault.InputFault.{InputFault}
-use Rattle.pq_inputs.specs.Sources.{Sources, file_in, with_file}
+use Rattle.pq_inputs.specs.Sources.{File, Sources, file_in, with_file}
 use Rattle.pq_inputs.specs.Refusal.{refusal}
-use Rattle.pq_session.specs.declared.state.outcome.Phase.{Phase}
-use Rattle.pq_session.specs.declared.state.outcome.Phase.TheVariants.{Fresh}
-use Rattle.pq_session.specs.Session.{QueryModel, file_diagnostics, Meaning, asks, says, edits, ignores, ends, meaning_of, next_phase}
+use Rattle.pq_session.specs.declared.state.phase.Phase.{Phase}
+use Rattle.pq_session.specs.declared.state.phase.Phase.TheVariants.{Fresh}
+use Rattle.pq_session.specs.declared.state.items.Query.{Query}
+use Rattle.pq_session.specs.declared.state.items.Query.TheVariants.{Diagnostics}
+use Rattle.pq_session.specs.Session.{Meaning, asks, says, edits, ignores, ends, meaning_of, next_phase}
 use Rattle.pq_session.specs.Reply.{diagnostics_text, out_of_memory_text}
 use Rattle.pq_session.specs.Compile.{diagnostics_of}
 
@@ -34,36 +35,36 @@ pub data Response : Type 0 where
   refuses : InputFault → Response
 
 -- `answer_text state label query` is the response that answers `query` by the sources of `state`.
-abbrev pub answer_text : ScriptState → LabelModel → QueryModel → List ℕ
-answer_text state label (file_diagnostics name) = diagnostics_text label (diagnostics_of (file_in state.files name).text) state.revision
+abbrev pub answer_text : ScriptState → LabelModel → Query → List ℕ
+answer_text state label (Diagnostics name) = diagnostics_text label (diagnostics_of (file_in state.files name).text) state.revision
 
 -- `IsAnswer state label query text` is that `text` answers `query`, or says that an allocation
 -- failed.
-abbrev pub IsAnswer : ScriptState → LabelModel → QueryModel → List ℕ → Type 0
+abbrev pub IsAnswer : ScriptState → LabelModel → Query → List ℕ → Type 0
 IsAnswer state label query text = (text ≡ answer_text state label query) ⊎ (text ≡ out_of_memory_text label)
 
--- `edit_refusal state name text` is the error of the edit that gives the file `name` this text, if
+-- `edit_refusal state name file` is the error of the edit that makes the file `name` this `file`, if
 -- it is refused.
-abbrev pub edit_refusal : ScriptState → List ℕ → Option (List ℕ) → Option InputFault
-edit_refusal state name text = refusal (record { files = state.files; revision = state.revision; history = [] }) name text
+abbrev pub edit_refusal : ScriptState → List ℕ → File → Option InputFault
+edit_refusal state name file = refusal (record { files = state.files; revision = state.revision; history = [] }) name file.text
 
 -- `edit_response refusal` is the response to an edit with this refusal: an accepted edit has none.
 abbrev pub edit_response : Option InputFault → Response
 edit_response None = silent
 edit_response (Some fault) = refuses fault
 
--- `edited state name text refusal` is the state after an edit. An accepted one makes a revision, in
--- which the file `name` has this text and Low durability.
-abbrev pub edited : ScriptState → List ℕ → Option (List ℕ) → Option InputFault → ScriptState
-edited state name text None = record { phase = state.phase; files = with_file state.files name (record { text = text; durability = Low }); revision = state.revision + 1 }
-edited state name text (Some fault) = state
+-- `edited state name file refusal` is the state after an edit. An accepted one makes a revision, in
+-- which the file `name` is `file`.
+abbrev pub edited : ScriptState → List ℕ → File → Option InputFault → ScriptState
+edited state name file None = record { phase = state.phase; files = with_file state.files name file; revision = state.revision + 1 }
+edited state name file (Some fault) = state
 
 -- `RespondsTo state meaning response after` is that a script in `state` may give `response` to a
 -- message of this meaning, and is then in the state `after`.
 abbrev pub RespondsTo : ScriptState → Meaning → Response → ScriptState → Type 0
 RespondsTo state (asks label query) response after = (text : List ℕ) × IsAnswer state label query text × (response ≡ replies text) × (after ≡ state)
 RespondsTo state (says text) response after = (response ≡ replies text) × (after ≡ state)
-RespondsTo state (edits name text) response after = (response ≡ edit_response (edit_refusal state name text)) × (after ≡ edited state name text (edit_refusal state name text))
+RespondsTo state (edits name file) response after = (response ≡ edit_response (edit_refusal state name file)) × (after ≡ edited state name file (edit_refusal state name file))
 RespondsTo state ignores response after = (response ≡ silent) × (after ≡ state)
 RespondsTo state (ends status) response after = (response ≡ finishes status) × (after ≡ state)
 

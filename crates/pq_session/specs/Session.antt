@@ -1,34 +1,35 @@
 -- What the messages of a client mean, by the phase of the session (LSP 3.17, "Server lifecycle",
 -- "Text Document Synchronization", "Document Diagnostics"; JSON-RPC 2.0, "Request object",
 -- "Notification").
-use Rattle.std.specs.Prelude.{ℕ, List, codes, if◌then◌else◌, Option, Some, None, option_and_then}
+use Rattle.std.specs.Prelude.{ℕ, Bool, true, List, [], ◌∷◌, codes, if◌then◌else◌, Option, Some, None, option_and_then, option_map, is_some}
+use Rattle.std.specs.List.{last_or}
 use Rattle.std.specs.Str.{bytes_eq}
-use Rattle.serde_json.specs.Data.{Data}
-use Rattle.serde_json.specs.Find.{get, as_str}
+use Rattle.serde_json.specs.Data.{Data, Items, no_items, item}
+use Rattle.serde_json.specs.Find.{get, as_array, as_null, as_str}
 use Rattle.pq_frame.specs.Labels.{LabelModel, no_label}
 use Rattle.pq_frame.specs.Messages.{MessageModel, bad_json, invalid, ask, notice, response}
+use Rattle.pq_inputs.specs.declared.durability.Durability.TheVariants.{Low}
+use Rattle.pq_inputs.specs.Sources.{File}
 use Rattle.pq_session.specs.declared.protocol.methods.RequestMethod.{RequestMethod}
 use Rattle.pq_session.specs.declared.protocol.methods.RequestMethod.TheVariants.{Initialize, Shutdown, DocumentDiagnostic}
 use Rattle.pq_session.specs.declared.protocol.methods.NotificationMethod.{NotificationMethod}
-use Rattle.pq_session.specs.declared.protocol.methods.NotificationMethod.TheVariants.{Exit, DidOpen}
-use Rattle.pq_session.specs.declared.state.outcome.Phase.{Phase}
-use Rattle.pq_session.specs.declared.state.outcome.Phase.TheVariants.{Fresh, Serving, Closing}
+use Rattle.pq_session.specs.declared.protocol.methods.NotificationMethod.TheVariants.{Exit, DidOpen, DidChange, RemoveFile}
+use Rattle.pq_session.specs.declared.state.items.Query.{Query}
+use Rattle.pq_session.specs.declared.state.items.Query.TheVariants.{Diagnostics}
+use Rattle.pq_session.specs.declared.state.phase.Phase.{Phase}
+use Rattle.pq_session.specs.declared.state.phase.Phase.TheVariants.{Fresh, Serving, Closing}
 use Rattle.pq_session.specs.declared.protocol.refusals.Refusal.TheVariants.{ParseError, InvalidRequest, MethodNotFound, InvalidParams, NotInitialized}
-use Rattle.pq_session.specs.Uri.{file_of}
+use Rattle.pq_session.specs.Uri.{root_of, file_of}
 use Rattle.pq_session.specs.Reply.{refusal_text, initialized_text, null_text}
-
--- A query of a request: the diagnostics of the file of a name.
-pub data QueryModel : Type 0 where
-  file_diagnostics : List ℕ → QueryModel
 
 -- The meaning of a message.
 pub data Meaning : Type 0 where
   -- The response to the request of this label is the answer to this query by the sources.
-  asks : LabelModel → QueryModel → Meaning
+  asks : LabelModel → Query → Meaning
   -- The response has this text, whatever the sources are.
   says : List ℕ → Meaning
-  -- The file of this name gets this text, or is removed.
-  edits : List ℕ → Option (List ℕ) → Meaning
+  -- The file of this name becomes this file.
+  edits : List ℕ → File → Meaning
   ignores : Meaning
   -- The session ends with this status.
   ends : ℕ → Meaning
@@ -44,33 +45,57 @@ request_method name =
     (if bytes_eq name (codes "textDocument/diagnostic") then Some DocumentDiagnostic else None))
 
 -- `notification_method name` is the method of a notification of this name. Any other name is
--- unknown in a notification.
+-- unknown in a notification, also `textDocument/didClose`: a file that is closed keeps its text.
 abbrev pub notification_method : List ℕ → Option NotificationMethod
 notification_method name =
     if bytes_eq name (codes "exit") then Some Exit else
-    (if bytes_eq name (codes "textDocument/didOpen") then Some DidOpen else None)
+    (if bytes_eq name (codes "textDocument/didOpen") then Some DidOpen else
+    (if bytes_eq name (codes "textDocument/didChange") then Some DidChange else
+    (if bytes_eq name (codes "proto/removeFile") then Some RemoveFile else None)))
 
--- ---- the parameters (LSP 3.17, "TextDocumentIdentifier", "TextDocumentItem")
+-- ---- the parameters
 
--- `document_text name params` is the string member `name` of the member `textDocument` of `params`.
+-- `text_member name value` is the string member `name` of `value`.
+abbrev pub text_member : List ℕ → Option Data → Option (List ℕ)
+text_member name value = option_and_then as_str (option_and_then (get name) value)
+
+-- `document_text name params` is the string member `name` of the member `textDocument` of `params`
+-- (LSP 3.17, "TextDocumentIdentifier", "TextDocumentItem").
 abbrev pub document_text : List ℕ → Option Data → Option (List ℕ)
-document_text name params = option_and_then as_str (option_and_then (get name) (option_and_then (get (codes "textDocument")) params))
+document_text name params = text_member name (option_and_then (get (codes "textDocument")) params)
 
--- `root` is the root folder of a session. It is empty: a path names itself.
-abbrev pub root : List ℕ
-root = codes ""
+-- `is_whole range` is whether a change of this `range` replaces the whole text: `range` is absent or
+-- null.
+abbrev pub is_whole : Option Data → Bool
+is_whole None = true
+is_whole (Some range) = is_some (as_null range)
 
--- `file_named uri` is the name of the file of `uri`, if there is a `uri` that names a file.
-abbrev pub file_named : Option (List ℕ) → Option (List ℕ)
-file_named uri = option_and_then (file_of root) uri
+-- `change_text change` is the `text` of `change`, if `change` is readable: it replaces the whole
+-- text, and `text` is a string (LSP 3.17, "TextDocumentContentChangeEvent").
+abbrev pub change_text : Data → Option (List ℕ)
+change_text change = if is_whole (get (codes "range") change) then text_member (codes "text") (Some change) else None
+
+-- `change_texts changes` is the texts of `changes`, in order, if each of them is readable.
+abbrev pub change_texts : Items → Option (List (List ℕ))
+change_texts no_items = Some []
+change_texts (item change changes) = option_and_then (λ text. option_map (λ texts. text ∷ texts) (change_texts changes)) (change_text change)
+
+-- `changed_texts params` is the texts of the changes in the member `contentChanges` of `params`, if
+-- it is a list and each change is readable (LSP 3.17, "DidChangeTextDocumentParams").
+abbrev pub changed_texts : Option Data → Option (List (List ℕ))
+changed_texts params = option_and_then change_texts (option_and_then as_array (option_and_then (get (codes "contentChanges")) params))
 
 -- ---- requests, by phase and method
+
+-- `file_named root uri` is the name of the file of `uri`, if there is a `uri` that names a file.
+abbrev pub file_named : List ℕ → Option (List ℕ) → Option (List ℕ)
+file_named root uri = option_and_then (file_of root) uri
 
 -- `file_meaning label file` is the meaning of a request for the diagnostics of `file`, or of one
 -- that names no file.
 abbrev pub file_meaning : LabelModel → Option (List ℕ) → Meaning
 file_meaning label None = says (refusal_text label InvalidParams)
-file_meaning label (Some file) = asks label (file_diagnostics file)
+file_meaning label (Some file) = asks label (Diagnostics file)
 
 -- `request_meaning phase label method params` is the meaning of a request. All but `initialize` is
 -- refused before it, all after `shutdown`, and a second `initialize`.
@@ -79,10 +104,10 @@ request_meaning Fresh label (Some Initialize) params = says (initialized_text la
 request_meaning Fresh label (Some Shutdown) params = says (refusal_text label NotInitialized)
 request_meaning Fresh label (Some DocumentDiagnostic) params = says (refusal_text label NotInitialized)
 request_meaning Fresh label None params = says (refusal_text label NotInitialized)
-request_meaning Serving label (Some Initialize) params = says (refusal_text label InvalidRequest)
-request_meaning Serving label (Some Shutdown) params = says (null_text label)
-request_meaning Serving label (Some DocumentDiagnostic) params = file_meaning label (file_named (document_text (codes "uri") params))
-request_meaning Serving label None params = says (refusal_text label MethodNotFound)
+request_meaning (Serving root) label (Some Initialize) params = says (refusal_text label InvalidRequest)
+request_meaning (Serving root) label (Some Shutdown) params = says (null_text label)
+request_meaning (Serving root) label (Some DocumentDiagnostic) params = file_meaning label (file_named root (document_text (codes "uri") params))
+request_meaning (Serving root) label None params = says (refusal_text label MethodNotFound)
 request_meaning Closing label method params = says (refusal_text label InvalidRequest)
 
 -- ---- notifications, by phase and method
@@ -91,34 +116,61 @@ request_meaning Closing label method params = says (refusal_text label InvalidRe
 -- else 1.
 abbrev pub exit_status : Phase → ℕ
 exit_status Fresh = 1
-exit_status Serving = 1
+exit_status (Serving root) = 1
 exit_status Closing = 0
 
 -- `unreadable_parameters` is the status of a session that an edit of unreadable parameters ends.
 abbrev pub unreadable_parameters : ℕ
 unreadable_parameters = 3
 
--- `edit_meaning file text` is the meaning of an edit: `file` gets `text`. A URI that names no file
--- is ignored.
-abbrev pub edit_meaning : Option (List ℕ) → List ℕ → Meaning
+-- `edit_meaning file text` is the meaning of an edit: `file` gets `text`, or is removed, and has Low
+-- durability. An edit whose URI names no file is ignored.
+abbrev pub edit_meaning : Option (List ℕ) → Option (List ℕ) → Meaning
 edit_meaning None text = ignores
-edit_meaning (Some file) text = edits file (Some text)
+edit_meaning (Some file) text = edits file (record { text = text; durability = Low })
 
--- `open_meaning uri text` is the meaning of `textDocument/didOpen`. Its parameters are unreadable
--- if `uri` or `text` is absent or not a string.
-abbrev pub open_meaning : Option (List ℕ) → Option (List ℕ) → Meaning
-open_meaning None text = ends unreadable_parameters
-open_meaning (Some uri) None = ends unreadable_parameters
-open_meaning (Some uri) (Some text) = edit_meaning (file_of root uri) text
+-- `last_meaning file text` is the meaning of an edit to the last of some texts, or of one without
+-- texts, which is ignored.
+abbrev pub last_meaning : Option (List ℕ) → Option (List ℕ) → Meaning
+last_meaning file None = ignores
+last_meaning file (Some text) = edit_meaning file (Some text)
+
+-- `open_meaning root uri text` is the meaning of `textDocument/didOpen`. Its parameters are
+-- unreadable if `uri` or `text` is absent or not a string.
+abbrev pub open_meaning : List ℕ → Option (List ℕ) → Option (List ℕ) → Meaning
+open_meaning root None text = ends unreadable_parameters
+open_meaning root (Some uri) None = ends unreadable_parameters
+open_meaning root (Some uri) (Some text) = edit_meaning (file_of root uri) (Some text)
+
+-- `change_meaning root uri texts` is the meaning of `textDocument/didChange`: the file of `uri` gets
+-- the last of `texts`. Its parameters are unreadable if `uri` is, or one of the changes.
+abbrev pub change_meaning : List ℕ → Option (List ℕ) → Option (List (List ℕ)) → Meaning
+change_meaning root None texts = ends unreadable_parameters
+change_meaning root (Some uri) None = ends unreadable_parameters
+change_meaning root (Some uri) (Some texts) = last_meaning (file_of root uri) (last_or None texts)
+
+-- `remove_meaning root uri` is the meaning of `proto/removeFile`.
+abbrev pub remove_meaning : List ℕ → Option (List ℕ) → Meaning
+remove_meaning root None = ends unreadable_parameters
+remove_meaning root (Some uri) = edit_meaning (file_of root uri) None
+
+-- `served_meaning root method params` is the meaning of a notification between `initialize` and
+-- `shutdown`, other than `exit`.
+abbrev pub served_meaning : List ℕ → NotificationMethod → Option Data → Meaning
+served_meaning root Exit params = ends (exit_status (Serving root))
+served_meaning root DidOpen params = open_meaning root (document_text (codes "uri") params) (document_text (codes "text") params)
+served_meaning root DidChange params = change_meaning root (document_text (codes "uri") params) (changed_texts params)
+served_meaning root RemoveFile params = remove_meaning root (document_text (codes "uri") params)
 
 -- `notification_meaning phase method params` is the meaning of a notification. Between `initialize`
 -- and `shutdown` edits count, and `exit` always does.
 abbrev pub notification_meaning : Phase → Option NotificationMethod → Option Data → Meaning
-notification_meaning phase (Some Exit) params = ends (exit_status phase)
-notification_meaning Fresh (Some DidOpen) params = ignores
-notification_meaning Serving (Some DidOpen) params = open_meaning (document_text (codes "uri") params) (document_text (codes "text") params)
-notification_meaning Closing (Some DidOpen) params = ignores
 notification_meaning phase None params = ignores
+notification_meaning Fresh (Some Exit) params = ends (exit_status Fresh)
+notification_meaning Fresh (Some method) params = ignores
+notification_meaning (Serving root) (Some method) params = served_meaning root method params
+notification_meaning Closing (Some Exit) params = ends (exit_status Closing)
+notification_meaning Closing (Some method) params = ignores
 
 -- ---- messages
 
@@ -130,21 +182,28 @@ meaning_of phase (ask label method params) = request_meaning phase label (reques
 meaning_of phase (notice method params) = notification_meaning phase (notification_method method) params
 meaning_of phase response = ignores
 
--- `phase_after phase method` is the phase after a request of this method.
-abbrev pub phase_after : Phase → Option RequestMethod → Phase
-phase_after Fresh (Some Initialize) = Serving
-phase_after Fresh (Some Shutdown) = Fresh
-phase_after Fresh (Some DocumentDiagnostic) = Fresh
-phase_after Serving (Some Initialize) = Serving
-phase_after Serving (Some Shutdown) = Closing
-phase_after Serving (Some DocumentDiagnostic) = Serving
-phase_after Closing (Some method) = Closing
-phase_after phase None = phase
+-- `phase_after phase method params` is the phase after a request. The root is read of `initialize`,
+-- and stays up to `shutdown` (LSP 3.17, "InitializeParams").
+abbrev pub phase_after : Phase → Option RequestMethod → Option Data → Phase
+phase_after Fresh (Some Initialize) params = Serving (root_of (text_member (codes "rootUri") params))
+phase_after Fresh (Some Shutdown) params = Fresh
+phase_after Fresh (Some DocumentDiagnostic) params = Fresh
+phase_after (Serving root) (Some Initialize) params = Serving root
+phase_after (Serving root) (Some Shutdown) params = Closing
+phase_after (Serving root) (Some DocumentDiagnostic) params = Serving root
+phase_after Closing (Some method) params = Closing
+phase_after phase None params = phase
 
 -- `next_phase phase message` is the phase after `message`. Requests alone change it.
 unfoldable pub next_phase : Phase → MessageModel → Phase
 next_phase phase bad_json = phase
 next_phase phase (invalid label) = phase
-next_phase phase (ask label method params) = phase_after phase (request_method method)
+next_phase phase (ask label method params) = phase_after phase (request_method method) params
 next_phase phase (notice method params) = phase
 next_phase phase response = phase
+
+-- `root_in phase` is the root of a session in `phase`, between `initialize` and `shutdown`.
+abbrev pub root_in : Phase → Option (List ℕ)
+root_in Fresh = None
+root_in (Serving root) = Some root
+root_in Closing = None

@@ -1,8 +1,10 @@
--- The file that a URI names (RFC 3986, section 2.1; RFC 8089, section 2; LSP 3.17, "URI").
-use Rattle.std.specs.Prelude.{ℕ, ◌==◌, List, [], ◌∷◌, length, drop, codes, if◌then◌else◌, Option, Some, None, option_and_then, is_some, nat_eq}
-use Rattle.std.specs.List.{starts_with}
-use Rattle.std.specs.Str.{is_utf8}
-use Rattle.percent_encoding.specs.Percent.{percent_decode}
+-- The file that a URI names below the root of a session, and the URI that is printed of a file (RFC
+-- 3986, sections 2.1 and 2.3; RFC 8089, section 2; LSP 3.17, "URI").
+use Rattle.std.specs.Prelude.{ℕ, Bool, not, ◌==◌, ◌||◌, List, [], ◌∷◌, ◌++◌, length, drop, reverse, codes, if◌then◌else◌, Option, Some, None, option_and_then, option_map, unwrap_or, is_some, nat_eq}
+use Rattle.std.specs.Char.{is_ascii_alphanumeric}
+use Rattle.std.specs.List.{starts_with, flat_map}
+use Rattle.std.specs.Str.{is_utf8, byte}
+use Rattle.percent_encoding.specs.Percent.{percent_decode, percent_encode_byte}
 
 -- `slash` is the byte between the parts of a path.
 abbrev pub slash : ℕ
@@ -12,9 +14,13 @@ slash = 47
 abbrev pub strip_prefix : List ℕ → List ℕ → Option (List ℕ)
 strip_prefix prefix text = if starts_with nat_eq text prefix then Some (drop (length prefix) text) else None
 
+-- `is_absolute path` is whether `path` begins with `/`.
+abbrev pub is_absolute : List ℕ → Bool
+is_absolute path = is_some (strip_prefix (codes "/") path)
+
 -- `absolute path` is `path`, if it begins with `/`.
 abbrev pub absolute : List ℕ → Option (List ℕ)
-absolute path = if is_some (strip_prefix (codes "/") path) then Some path else None
+absolute path = if is_absolute path then Some path else None
 
 -- `path_of uri` is the path of `uri`, with its escapes, if `uri` has the scheme `file` and no host.
 -- `?` and `#` belong to the path.
@@ -25,17 +31,38 @@ path_of uri = option_and_then absolute (strip_prefix (codes "file://") uri)
 abbrev pub text_of : List ℕ → Option (List ℕ)
 text_of path = if is_utf8 (percent_decode path) then Some (percent_decode path) else None
 
+-- `decoded_path uri` is the path of `uri` without escapes, if `uri` names a path.
+abbrev pub decoded_path : List ℕ → Option (List ℕ)
+decoded_path uri = option_and_then text_of (path_of uri)
+
 -- `without_slashes path` is `path` from its first byte that is not `/`.
 abbrev pub without_slashes : List ℕ → List ℕ
 without_slashes [] = []
 without_slashes (b ∷ rest) = if b == slash then without_slashes rest else b ∷ rest
+
+-- `without_last_slashes path` is `path` up to its last byte that is not `/`.
+abbrev pub without_last_slashes : List ℕ → List ℕ
+without_last_slashes path = reverse (without_slashes (reverse path))
+
+-- ---- the root
+
+-- `root_of uri` is the root that the member `rootUri` gives: its path without slashes at its end.
+-- The root is empty if there is no `uri`, or if it names no path.
+abbrev pub root_of : Option (List ℕ) → List ℕ
+root_of uri = unwrap_or (option_map without_last_slashes (option_and_then decoded_path uri)) []
+
+-- ---- reading
+
+-- `below root path` is what follows `root` and `/` in `path`, if `path` begins with them.
+abbrev pub below : List ℕ → List ℕ → Option (List ℕ)
+below root path = option_and_then (strip_prefix (codes "/")) (strip_prefix root path)
 
 -- `name_of text` is `text`, if it is not empty.
 abbrev pub name_of : List ℕ → Option (List ℕ)
 name_of [] = None
 name_of (b ∷ rest) = Some (b ∷ rest)
 
--- `file_below path below` is the name of the file at `path`: the path `below` the root, or `path`
+-- `file_below path rest` is the name of the file at `path`: the `rest` below the root, or `path`
 -- itself if it is not there.
 abbrev pub file_below : List ℕ → Option (List ℕ) → Option (List ℕ)
 file_below path None = Some path
@@ -43,8 +70,33 @@ file_below path (Some rest) = name_of (without_slashes rest)
 
 -- `file_at root path` is the name of the file at `path`.
 abbrev pub file_at : List ℕ → List ℕ → Option (List ℕ)
-file_at root path = file_below path (option_and_then (strip_prefix (codes "/")) (strip_prefix root path))
+file_at root path = file_below path (below root path)
 
--- `file_of root uri` is the name of the file of `uri`, if it names one. `root` does not end in `/`.
+-- `file_of root uri` is the name of the file of `uri`, if it names one.
 unfoldable pub file_of : List ℕ → List ℕ → Option (List ℕ)
-file_of root uri = option_and_then (file_at root) (option_and_then text_of (path_of uri))
+file_of root uri = option_and_then (file_at root) (decoded_path uri)
+
+-- ---- printing
+
+-- `is_kept b` is whether the byte `b` of a path is printed as itself: an ASCII letter or digit, or
+-- one of `-`, `.`, `_`, `~` and `/`.
+abbrev pub is_kept : ℕ → Bool
+is_kept b = is_ascii_alphanumeric b || (b == byte "-") || (b == byte ".") || (b == byte "_") || (b == byte "~") || (b == slash)
+
+-- `encoded path` is `path` with an escape of capital hexadecimal digits for each other byte.
+unfoldable pub encoded : List ℕ → List ℕ
+encoded path = flat_map (λ b. if is_kept b then b ∷ [] else percent_encode_byte b) path
+
+-- `path_in root name` is the path of the file `name`: `name` itself if it begins with `/`, else the
+-- one below `root`.
+abbrev pub path_in : List ℕ → List ℕ → List ℕ
+path_in root name = if is_absolute name then name else root ++ slash ∷ name
+
+-- `uri_of root name` is the URI that is printed of the file `name`.
+unfoldable pub uri_of : List ℕ → List ℕ → List ℕ
+uri_of root name = codes "file://" ++ encoded (path_in root name)
+
+-- `is_file_name root name` is whether some URI names the file `name`: a path that is not below
+-- `root`, or a text that is not empty and does not begin with `/`.
+abbrev pub is_file_name : List ℕ → List ℕ → Bool
+is_file_name root name = if is_absolute name then not (is_some (below root name)) else is_some (name_of name)

@@ -1,7 +1,7 @@
 -- Auxiliary: definitions that proofs, invariants and private clauses use. No public contract rests
 -- on them.
 pub mod Models
-pub mod Outcomes
+pub mod ItemOf
 pub mod Placed
 pub mod ServerState
 pub mod Answered

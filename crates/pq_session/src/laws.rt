@@ -3,8 +3,9 @@
 //!
 //! The definition of an output leaves no input without one (`each_output`). A script that stops
 //! early has written a prefix of one (`stops_at_a_front`). `in_order` sorts and drops duplicates
-//! (`findings_in_order`).
-ghost use Rattle.std.specs.Prelude.{◌≡◌, ◌↔◌, true, List, ℕ, AllPairs, Contains};
+//! (`findings_in_order`). Reading the URI that was printed of a file gives its name back
+//! (`uris_come_back`).
+ghost use Rattle.std.specs.Prelude.{◌≡◌, ◌↔◌, true, List, ℕ, Option, Some, AllPairs, Contains, IsUtf8};
 ghost use Rattle.pq_frame.specs.Frames.{Frames, State};
 ghost use Rattle.pq_session.specs.Responses.{fresh};
 ghost use Rattle.std.specs.Io.{StartsWith};
@@ -12,6 +13,7 @@ ghost use Rattle.pq_session.specs.Output.{Output, Outputs};
 ghost use Rattle.pq_session.specs.Script.{StopsWithin};
 ghost use Rattle.pq_session.specs.declared.diagnose.findings.Finding.{Finding};
 ghost use Rattle.pq_session.specs.Findings.{in_order, is_before};
+ghost use Rattle.pq_session.specs.Uri.{root_of, file_of, uri_of, is_file_name};
 
 /// Every list of bodies has an output.
 pub fn each_output()
@@ -29,4 +31,15 @@ pub fn stops_at_a_front()
 pub fn findings_in_order()
     ensures ordered { (fs : List Finding) → AllPairs (λ f g. is_before f g ≡ true) (in_order fs) }
     ensures members { (fs : List Finding) (f : Finding) → Contains (in_order fs) f ↔ Contains fs f }
+{}
+
+/// Reading the URI that was printed of a text gives the text back exactly if the text is the name of
+/// a file, and every URI names such a text, for each root.
+pub fn uris_come_back()
+    ensures exact { (root_uri : Option (List ℕ)) (name : List ℕ) → IsUtf8 name →
+        (file_of (root_of root_uri) (uri_of (root_of root_uri) name) ≡ Some name)
+        ↔ (is_file_name (root_of root_uri) name ≡ true) }
+    ensures names { (root_uri : Option (List ℕ)) (uri name : List ℕ) →
+        file_of (root_of root_uri) uri ≡ Some name →
+        IsUtf8 name × (is_file_name (root_of root_uri) name ≡ true) }
 {}

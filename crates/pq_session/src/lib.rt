@@ -8,8 +8,9 @@
 //! counted.
 //!
 //! `specs/Script` and `specs/Output` say which bytes are written for which input, `specs/Session`
-//! what a message means, `specs/Responses` what the response to it may be, and `specs/Compile` with
-//! `specs/Findings` the diagnostics of a file. `laws` has the theorems about all of them.
+//! with `specs/Items` what a message means, `specs/Uri` which file a URI names, `specs/Responses`
+//! what the response to a message may be, and `specs/Compile` with `specs/Findings` the diagnostics
+//! of a file. `laws` has the theorems about all of them.
 #![tactic(auto)]
 
 mod bodies;
@@ -24,7 +25,10 @@ mod state;
 
 pub use counted::Counted;
 pub use fault::ScriptFault;
-pub use laws::{each_output, findings_in_order, stops_at_a_front};
+pub use laws::{each_output, findings_in_order, stops_at_a_front, uris_come_back};
+pub use protocol::root::Root;
 pub use run::{MAX_READS, script};
+pub use state::items::{Change, Item, Query, Request, Want};
 pub use state::notifications::UNREADABLE_PARAMETERS;
+pub use state::sessions::Session;
 pub use std::alloc::AllocError as Memory;

@@ -3,7 +3,7 @@
 use Rattle.std.specs.Prelude.{◌≡◌, ℕ, List, Option, Some, None, Result, Ok, Err}
 use Rattle.pq_frame.specs.Frames.{Frames, State, Reading, Failed}
 use Rattle.pq_session.specs.declared.fault.ScriptFault.{ScriptFault}
-use Rattle.pq_session.specs.declared.fault.ScriptFault.TheVariants.{Write, Memory, Frame, Cut, Edit, Read, TooManyReads}
+use Rattle.pq_session.specs.declared.fault.ScriptFault.TheVariants.{Write, Memory, Frame, Edit}
 use Rattle.pq_session.specs.Session.{Meaning}
 use Rattle.pq_session.specs.Responses.{refuses, ScriptState, Responds, RespondsTo}
 use Rattle.pq_session.specs.Output.{Ending, exits, refused, Stopped}

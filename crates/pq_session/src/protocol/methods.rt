@@ -34,6 +34,10 @@ pub(crate) enum NotificationMethod {
     Exit,
     /// `textDocument/didOpen`
     DidOpen,
+    /// `textDocument/didChange`
+    DidChange,
+    /// `proto/removeFile`
+    RemoveFile,
 }
 
 impl NotificationMethod {
@@ -44,6 +48,8 @@ impl NotificationMethod {
         match name {
             "exit" => Some(NotificationMethod::Exit),
             "textDocument/didOpen" => Some(NotificationMethod::DidOpen),
+            "textDocument/didChange" => Some(NotificationMethod::DidChange),
+            "proto/removeFile" => Some(NotificationMethod::RemoveFile),
             _ => None,
         }
     }

@@ -1,16 +1,23 @@
 //! The parameters of requests and notifications.
 ghost use Rattle.std.specs.Prelude.{◌≡◌, option_map, string_bytes};
 ghost use Rattle.serde_json.specs.View.{view};
-ghost use Rattle.pq_session.specs.Session.{document_text as text_of_document};
+ghost use Rattle.pq_session.specs.Session.{text_member, document_text as text_of_document};
 
 use serde_json::Value;
+
+/// The string member `name` of `value`.
+pub(crate) fn text_member<'a>(value: Option<&'a Value>, name: &str) -> Option<&'a str>
+    ensures { option_map (λ text. text.now) result ≡ text_member name.now (option_map (λ d. view d.now) value.entry) }
+{
+    value?.get(name)?.as_str()
+}
 
 /// The string member `name` of `params.textDocument` (LSP 3.17, "TextDocumentIdentifier",
 /// "TextDocumentItem").
 pub(crate) fn document_text<'a>(params: Option<&'a Value>, name: &str) -> Option<&'a str>
     ensures { option_map (λ text. text.now) result ≡ text_of_document name.now (option_map (λ d. view d.now) params.entry) }
 {
-    params?.get("textDocument")?.get(name)?.as_str()
+    text_member(params?.get("textDocument"), name)
 }
 
 /// The string member `name` of `params.textDocument`, moved out of `params`.

@@ -1,62 +1,95 @@
 //! What a notification asks for, by phase and method.
-ghost use Rattle.std.specs.Prelude.{◌≡◌, codes, option_map, IfOk, None};
+ghost use Rattle.std.specs.Prelude.{◌≡◌, codes, option_map, string_bytes, IfOk, None};
+ghost use Rattle.std.specs.List.{last_or};
 ghost use Rattle.serde_json.specs.View.{view};
-ghost use Rattle.pq_session.specs.Session.{open_meaning, notification_meaning, exit_status as status_of_exit, document_text as document_text_of};
-ghost use Rattle.pq_session.specs.aux.Outcomes.{IsItemOf};
+ghost use Rattle.pq_session.specs.Session.{edit_meaning, open_meaning, change_meaning, remove_meaning, served_meaning, notification_meaning, changed_texts, document_text as document_text_of};
+ghost use Rattle.pq_session.specs.aux.ItemOf.{IsItemOf};
 
+use crate::protocol::changes::take_last_change;
 use crate::protocol::methods::NotificationMethod;
 use crate::protocol::params::{document_text, take_document_text};
-use crate::protocol::uris::named_file;
-use crate::state::outcome::{Change, Item, Phase};
-use crate::state::requests::ROOT;
+use crate::protocol::root::Root;
+use crate::state::items::{Change, Item, Query};
+use crate::state::phase::Phase;
+use pq_inputs::Durability;
+use pq_names::Text;
 use serde_json::Value;
 use std::alloc::{AllocError, Global};
 
 /// The status of a session that an edit of unreadable parameters ends.
 pub const UNREADABLE_PARAMETERS: u8 = 3;
 
-/// The status of a session that `exit` ends in this phase.
-fn exit_status(phase: Phase) -> u8
-    ensures { result ≡ status_of_exit phase }
+/// The item of an edit: `file` gets `text`, or is removed. A URI that names no file is ignored.
+fn edit(file: Option<Text>, text: Option<String>) -> Item<Query>
+    ensures { IsItemOf (edit_meaning file (option_map string_bytes text)) None result }
 {
-    match phase {
-        Phase::Closing => 0,
-        Phase::Fresh | Phase::Serving => 1,
+    match file {
+        Some(file) => Item::Edit(Change {
+            file,
+            text,
+            durability: Durability::Low,
+        }),
+        None => Item::Ignore,
     }
 }
 
 /// The item of `textDocument/didOpen`.
-fn open(alloc: Global, params: Option<Value>) -> Result<Item, AllocError>
-    ensures { IfOk result (IsItemOf (open_meaning (document_text_of (codes "uri") (option_map view params)) (document_text_of (codes "text") (option_map view params))) None) }
+fn open(alloc: Global, root: &Root, params: Option<Value>) -> Result<Item<Query>, AllocError>
+    ensures { IfOk result (IsItemOf (open_meaning root.now (document_text_of (codes "uri") (option_map view params)) (document_text_of (codes "text") (option_map view params))) None) }
 {
     let Some(uri) = document_text(params.as_ref(), "uri") else {
         return Ok(Item::End(UNREADABLE_PARAMETERS));
     };
-    let file = named_file(alloc, ROOT, uri)?;
+    let file = root.file_of(alloc, uri)?;
     let Some(text) = take_document_text(params, "text") else {
         return Ok(Item::End(UNREADABLE_PARAMETERS));
     };
-    match file {
-        Some(file) => Ok(Item::Edit(Change {
-            file,
-            text: Some(text),
-        })),
+    Ok(edit(file, Some(text)))
+}
+
+/// The item of `textDocument/didChange`. An edit without changes is ignored.
+fn change(alloc: Global, root: &Root, params: Option<Value>) -> Result<Item<Query>, AllocError>
+    ensures { IfOk result (IsItemOf (change_meaning root.now (document_text_of (codes "uri") (option_map view params)) (changed_texts (option_map view params))) None) }
+{
+    let Some(uri) = document_text(params.as_ref(), "uri") else {
+        return Ok(Item::End(UNREADABLE_PARAMETERS));
+    };
+    let file = root.file_of(alloc, uri)?;
+    let Some(last) = take_last_change(params) else {
+        return Ok(Item::End(UNREADABLE_PARAMETERS));
+    };
+    match last {
+        Some(text) => Ok(edit(file, Some(text))),
         None => Ok(Item::Ignore),
+    }
+}
+
+/// The item of `proto/removeFile`.
+fn remove(alloc: Global, root: &Root, params: Option<&Value>) -> Result<Item<Query>, AllocError>
+    ensures { IfOk result (IsItemOf (remove_meaning root.now (document_text_of (codes "uri") (option_map (λ d. view d.now) params.entry))) None) }
+{
+    match document_text(params, "uri") {
+        Some(uri) => Ok(edit(root.file_of(alloc, uri)?, None)),
+        None => Ok(Item::End(UNREADABLE_PARAMETERS)),
     }
 }
 
 /// What a notification asks for.
 pub(crate) fn on_notification(
     alloc: Global,
-    phase: Phase,
+    phase: &Phase,
     method: Option<NotificationMethod>,
     params: Option<Value>,
-) -> Result<Item, AllocError>
-    ensures { IfOk result (IsItemOf (notification_meaning phase method (option_map view params)) None) }
+) -> Result<Item<Query>, AllocError>
+    ensures { IfOk result (IsItemOf (notification_meaning phase.now method (option_map view params)) None) }
 {
     match (phase, method) {
-        (_, Some(NotificationMethod::Exit)) => Ok(Item::End(exit_status(phase))),
-        (Phase::Serving, Some(NotificationMethod::DidOpen)) => open(alloc, params),
+        (_, Some(NotificationMethod::Exit)) => Ok(Item::End(phase.exit_status())),
+        (Phase::Serving(root), Some(NotificationMethod::DidOpen)) => open(alloc, root, params),
+        (Phase::Serving(root), Some(NotificationMethod::DidChange)) => change(alloc, root, params),
+        (Phase::Serving(root), Some(NotificationMethod::RemoveFile)) => {
+            remove(alloc, root, params.as_ref())
+        }
         _ => Ok(Item::Ignore),
     }
 }

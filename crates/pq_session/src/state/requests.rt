@@ -3,24 +3,23 @@ ghost use Rattle.std.specs.Prelude.{◌≡◌, codes, option_map, IfOk, string_b
 ghost use Rattle.serde_json.specs.View.{view};
 ghost use Rattle.pq_frame.specs.Labels.{label_model};
 ghost use Rattle.pq_session.specs.Reply.{refusal_text as text_of_refusal, initialized_text as text_of_initialized, null_text as text_of_null};
-ghost use Rattle.pq_session.specs.Session.{says, request_meaning, file_meaning, phase_after as phase_after_request, document_text as document_text_of, file_named as file_of_uri};
-ghost use Rattle.pq_session.specs.aux.Outcomes.{IsItemOf};
+ghost use Rattle.pq_session.specs.Session.{says, request_meaning, file_meaning, document_text as document_text_of, file_named as file_of_uri};
+ghost use Rattle.pq_session.specs.aux.ItemOf.{IsItemOf};
 
 use crate::protocol::methods::RequestMethod;
 use crate::protocol::params::document_text;
 use crate::protocol::refusals::Refusal;
 use crate::protocol::replies::{initialized_text, null_text, refusal_text};
-use crate::protocol::uris::named_file;
-use crate::state::outcome::{Item, Phase, Query, Request, Want};
+use crate::protocol::root::Root;
+use crate::state::items::{Item, Query, Request, Want};
+use crate::state::phase::Phase;
 use pq_frame::Label;
+use pq_names::Text;
 use serde_json::Value;
 use std::alloc::{AllocError, Global};
 
-/// The root folder of the session. It is empty: a path names itself.
-pub(crate) const ROOT: &str = "";
-
 /// The item of a request that is answered with `text`, whatever the sources are.
-fn fixed(label: Label, text: String) -> Item
+fn fixed(label: Label, text: String) -> Item<Query>
     ensures { IsItemOf (says (string_bytes text)) (Some (label_model label)) result }
 {
     Item::Say(Request {
@@ -30,7 +29,11 @@ fn fixed(label: Label, text: String) -> Item
 }
 
 /// The item of a request, or of a body that is not a message, that is refused.
-pub(crate) fn refused(alloc: Global, label: Label, refusal: Refusal) -> Result<Item, AllocError>
+pub(crate) fn refused(
+    alloc: Global,
+    label: Label,
+    refusal: Refusal,
+) -> Result<Item<Query>, AllocError>
     ensures { IfOk result (IsItemOf (says (text_of_refusal (label_model label) refusal)) (Some (label_model label))) }
 {
     let text = refusal_text(alloc, &label, refusal)?;
@@ -38,7 +41,7 @@ pub(crate) fn refused(alloc: Global, label: Label, refusal: Refusal) -> Result<I
 }
 
 /// The item of `initialize`.
-fn initialized(alloc: Global, label: Label) -> Result<Item, AllocError>
+fn initialized(alloc: Global, label: Label) -> Result<Item<Query>, AllocError>
     ensures { IfOk result (IsItemOf (says (text_of_initialized (label_model label))) (Some (label_model label))) }
 {
     let text = initialized_text(alloc, &label)?;
@@ -46,7 +49,7 @@ fn initialized(alloc: Global, label: Label) -> Result<Item, AllocError>
 }
 
 /// The item of `shutdown`.
-fn shut_down(alloc: Global, label: Label) -> Result<Item, AllocError>
+fn shut_down(alloc: Global, label: Label) -> Result<Item<Query>, AllocError>
     ensures { IfOk result (IsItemOf (says (text_of_null (label_model label))) (Some (label_model label))) }
 {
     let text = null_text(alloc, &label)?;
@@ -54,11 +57,11 @@ fn shut_down(alloc: Global, label: Label) -> Result<Item, AllocError>
 }
 
 /// The name of the file of `uri`, if there is a `uri` that names one.
-fn file_of(alloc: Global, uri: Option<&str>) -> Result<Option<String>, AllocError>
-    ensures { IfOk result (λ file. option_map string_bytes file ≡ file_of_uri (option_map (λ text. text.now) uri.entry)) }
+fn file_of(alloc: Global, root: &Root, uri: Option<&str>) -> Result<Option<Text>, AllocError>
+    ensures { IfOk result (λ file. file ≡ file_of_uri root.now (option_map (λ text. text.now) uri.entry)) }
 {
     match uri {
-        Some(uri) => named_file(alloc, ROOT, uri),
+        Some(uri) => root.file_of(alloc, uri),
         None => Ok(None),
     }
 }
@@ -66,12 +69,13 @@ fn file_of(alloc: Global, uri: Option<&str>) -> Result<Option<String>, AllocErro
 /// The item of a request for the diagnostics of a file.
 fn diagnostic_request(
     alloc: Global,
+    root: &Root,
     label: Label,
-    params: Option<Value>,
-) -> Result<Item, AllocError>
-    ensures { IfOk result (IsItemOf (file_meaning (label_model label) (file_of_uri (document_text_of (codes "uri") (option_map view params)))) (Some (label_model label))) }
+    params: Option<&Value>,
+) -> Result<Item<Query>, AllocError>
+    ensures { IfOk result (IsItemOf (file_meaning (label_model label) (file_of_uri root.now (document_text_of (codes "uri") (option_map (λ d. view d.now) params.entry)))) (Some (label_model label))) }
 {
-    match file_of(alloc, document_text(params.as_ref(), "uri"))? {
+    match file_of(alloc, root, document_text(params, "uri"))? {
         Some(file) => Ok(Item::Ask(Request {
             label,
             want: Want::Demand(Query::Diagnostics(file)),
@@ -83,35 +87,24 @@ fn diagnostic_request(
 /// What a request asks for.
 pub(crate) fn on_request(
     alloc: Global,
-    phase: Phase,
+    phase: &Phase,
     label: Label,
     method: Option<RequestMethod>,
-    params: Option<Value>,
-) -> Result<Item, AllocError>
-    ensures { IfOk result (IsItemOf (request_meaning phase (label_model label) method (option_map view params)) (Some (label_model label))) }
+    params: Option<&Value>,
+) -> Result<Item<Query>, AllocError>
+    ensures { IfOk result (IsItemOf (request_meaning phase.now (label_model label) method (option_map (λ d. view d.now) params.entry)) (Some (label_model label))) }
 {
     match (phase, method) {
         (Phase::Fresh, Some(RequestMethod::Initialize)) => initialized(alloc, label),
         (Phase::Fresh, _) => refused(alloc, label, Refusal::NotInitialized),
-        (Phase::Serving, Some(RequestMethod::Initialize)) => {
+        (Phase::Serving(_), Some(RequestMethod::Initialize)) => {
             refused(alloc, label, Refusal::InvalidRequest)
         }
-        (Phase::Serving, Some(RequestMethod::Shutdown)) => shut_down(alloc, label),
-        (Phase::Serving, Some(RequestMethod::DocumentDiagnostic)) => {
-            diagnostic_request(alloc, label, params)
+        (Phase::Serving(_), Some(RequestMethod::Shutdown)) => shut_down(alloc, label),
+        (Phase::Serving(root), Some(RequestMethod::DocumentDiagnostic)) => {
+            diagnostic_request(alloc, root, label, params)
         }
-        (Phase::Serving, None) => refused(alloc, label, Refusal::MethodNotFound),
+        (Phase::Serving(_), None) => refused(alloc, label, Refusal::MethodNotFound),
         (Phase::Closing, _) => refused(alloc, label, Refusal::InvalidRequest),
-    }
-}
-
-/// The phase after a request of this method.
-pub(crate) fn phase_after(phase: Phase, method: Option<RequestMethod>) -> Phase
-    ensures { result ≡ phase_after_request phase method }
-{
-    match (phase, method) {
-        (Phase::Fresh, Some(RequestMethod::Initialize)) => Phase::Serving,
-        (Phase::Serving, Some(RequestMethod::Shutdown)) => Phase::Closing,
-        _ => phase,
     }
 }

@@ -4,10 +4,10 @@
 //! out: it answers a query by the sources, makes an edit, or ends the session.
 ghost use Rattle.std.specs.Prelude.{◌≡◌, IfOk, OnOk, IfErr, option_map, string_bytes, Some, None};
 ghost use Rattle.pq_frame.specs.Labels.{label_model};
+ghost use Rattle.pq_inputs.specs.Sources.{File};
 ghost use Rattle.pq_session.specs.Session.{edits};
+ghost use Rattle.pq_session.specs.Items.{item_meaning, answer_meaning};
 ghost use Rattle.pq_session.specs.Responses.{Responds, RespondsTo, answer_text, fresh, replies, silent};
-ghost use Rattle.pq_session.specs.aux.Models.{query_model};
-ghost use Rattle.pq_session.specs.aux.Outcomes.{item_meaning, answer_meaning};
 ghost use Rattle.pq_session.specs.aux.ServerState.{state_of, response_of};
 ghost use Rattle.pq_session.specs.aux.Steps.{Refuses, RefusesMeaning};
 
@@ -15,10 +15,10 @@ use crate::diagnose::file_diagnostics;
 use crate::fault::ScriptFault;
 use crate::protocol::refusals::Refusal;
 use crate::protocol::replies::{diagnostics_text, refusal_text};
-use crate::state::outcome::{Change, Item, Query, Request, Want};
+use crate::state::items::{Change, Item, Query, Request, Want};
 use crate::state::sessions::Session;
 use pq_frame::{Label, Message};
-use pq_inputs::{Durability, InputFault, Inputs};
+use pq_inputs::{InputFault, Inputs};
 use std::alloc::{AllocError, Global};
 
 /// A session, and the sources that its edits made.
@@ -53,7 +53,7 @@ impl ServerState {
     /// The response that answers `query` by the sources.
     fn answer(&self, alloc: Global, label: &Label, query: &Query) -> Result<String, AllocError>
         ensures { IfOk result (λ text. string_bytes text
-            ≡ answer_text (state_of self.now) (label_model label.now) (query_model query.now)) }
+            ≡ answer_text (state_of self.now) (label_model label.now) query.now) }
     {
         match query {
             Query::Diagnostics(name) => {
@@ -64,7 +64,7 @@ impl ServerState {
     }
 
     /// The response to `request`. After an allocation failure a query is refused.
-    fn reply(&self, alloc: Global, request: Request) -> Result<String, AllocError>
+    fn reply(&self, alloc: Global, request: Request<Query>) -> Result<String, AllocError>
         ensures { IfOk result (λ text. RespondsTo (state_of self.now) (answer_meaning request)
             (replies (string_bytes text)) (state_of self.now)) }
     {
@@ -80,15 +80,19 @@ impl ServerState {
 
     /// Makes an edit. A refused edit leaves the sources as they were.
     fn edit(&mut self, change: Change) -> Result<(), ScriptFault>
-        ensures ok { OnOk result (RespondsTo (state_of self.old)
-            (edits (string_bytes change.file) (option_map string_bytes change.text))
+        ensures ok { let file : File = record { text = option_map string_bytes change.text; durability = change.durability } in
+            OnOk result (RespondsTo (state_of self.old) (edits change.file file)
             silent (state_of self.new)) }
-        ensures err { IfErr result (λ fault. RefusesMeaning (state_of self.old)
-            (edits (string_bytes change.file) (option_map string_bytes change.text))
+        ensures err { let file : File = record { text = option_map string_bytes change.text; durability = change.durability } in
+            IfErr result (λ fault. RefusesMeaning (state_of self.old) (edits change.file file)
             fault (state_of self.new)) }
     {
-        let Change { file, text } = change;
-        match self.inputs.set(file.as_str(), text, Durability::Low) {
+        let Change {
+            file,
+            text,
+            durability,
+        } = change;
+        match self.inputs.set(file.as_str(), text, durability) {
             Ok(_) => Ok(()),
             Err(refused) => match refused.fault {
                 InputFault::Memory => Err(ScriptFault::Memory),
@@ -98,7 +102,7 @@ impl ServerState {
     }
 
     /// Does what a message asks for.
-    fn carry_out(&mut self, alloc: Global, item: Item) -> Result<Step, ScriptFault>
+    fn carry_out(&mut self, alloc: Global, item: Item<Query>) -> Result<Step, ScriptFault>
         ensures ok { IfOk result (λ step.
             RespondsTo (state_of self.old) (item_meaning item) (response_of step) (state_of self.new)) }
         ensures err { IfErr result (λ fault.

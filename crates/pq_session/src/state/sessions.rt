@@ -1,23 +1,28 @@
 //! A session with one client: its phase, and what each message asks for.
-ghost use Rattle.std.specs.Prelude.{◌≡◌, IfOk, OnOk, OnErr};
+ghost use Rattle.std.specs.Prelude.{◌≡◌, IfOk, OnOk, OnErr, option_map, unwrap_or};
 ghost use Rattle.pq_frame.specs.Messages.{message_model};
-ghost use Rattle.pq_session.specs.Session.{meaning_of, next_phase};
-ghost use Rattle.pq_session.specs.aux.Outcomes.{reply_label, item_meaning, item_label, HasFittingWant, IsItemOf};
-ghost use Rattle.pq_session.specs.declared.state.outcome.Phase.{Phase};
-ghost use Rattle.pq_session.specs.declared.state.outcome.Phase.TheVariants.{Fresh};
+ghost use Rattle.pq_session.specs.Session.{meaning_of, next_phase, root_in};
+ghost use Rattle.pq_session.specs.Items.{reply_label, item_meaning, item_label, HasFittingWant};
+ghost use Rattle.pq_session.specs.aux.ItemOf.{IsItemOf};
+ghost use Rattle.pq_session.specs.declared.state.phase.Phase.{Phase};
+ghost use Rattle.pq_session.specs.declared.state.phase.Phase.TheVariants.{Fresh};
 
 use crate::protocol::methods::{NotificationMethod, RequestMethod};
 use crate::protocol::refusals::Refusal;
+use crate::protocol::root::Root;
+use crate::state::items::{Item, Query};
 use crate::state::notifications::on_notification;
-use crate::state::outcome::{Item, Phase};
-use crate::state::requests::{on_request, phase_after, refused};
+use crate::state::phase::Phase;
+use crate::state::requests::{on_request, refused};
 use pq_frame::{Label, Message};
 use std::alloc::{AllocError, Global};
 use std::marker::Model;
 
 /// A session with one client, which contracts see as its phase (LSP 3.17, "Server lifecycle").
+///
+/// It has no sources: it says what each message asks for, and the caller does it.
 #[derive(Debug, Drop)]
-pub(crate) struct Session {
+pub struct Session {
     phase: Phase,
 }
 
@@ -29,7 +34,7 @@ impl Model for Session {
 
 impl Session {
     /// A session before `initialize`.
-    pub(crate) fn new() -> Session
+    pub fn new() -> Session
         ensures { result ≡ Fresh }
     {
         Session {
@@ -37,9 +42,20 @@ impl Session {
         }
     }
 
-    /// What the client's next message asks for. An allocation failure leaves the session as it was,
-    /// and the message is lost.
-    pub(crate) fn on(&mut self, alloc: Global, message: Message) -> Result<Item, AllocError>
+    /// The root that `initialize` gave, up to `shutdown`. It never changes, so a copy of it serves
+    /// whoever prints the URIs of files.
+    pub fn root(&self) -> Option<&Root>
+        ensures { option_map (λ root. root.now) result ≡ root_in self.now }
+    {
+        self.phase.root()
+    }
+
+    /// What the client's next message asks for. A message of one that is not allowed in the phase
+    /// gets an error as its response. An edit of unreadable parameters ends the session with
+    /// `UNREADABLE_PARAMETERS`. The text of an edit is moved out of the message, not copied.
+    ///
+    /// An allocation failure leaves the session as it was, and the message is lost.
+    pub fn on(&mut self, alloc: Global, message: Message) -> Result<Item<Query>, AllocError>
         ensures meaning { IfOk result (λ item.
             item_meaning item ≡ meaning_of self.old (message_model message)) }
         ensures label { IfOk result (λ item.
@@ -48,39 +64,42 @@ impl Session {
         ensures phase { OnOk result (self.new ≡ next_phase self.old (message_model message)) }
         ensures kept { OnErr result (self.new ≡ self.old) }
     {
-        let (item, phase) = item_and_phase(alloc, self.phase, message)?;
-        self.phase = phase;
+        let (item, next) = item_and_phase(alloc, &self.phase, message)?;
+        if let Some(phase) = next {
+            self.phase = phase;
+        }
         Ok(item)
     }
 }
 
-/// What `message` asks for in a session of this phase, and the phase after it.
+/// What `message` asks for in a session of this phase, and the phase after it, if it is another one.
 #[tactic(auto, unfolding(crate::specs::Session::meaning_of, crate::specs::Session::next_phase))]
 fn item_and_phase(
     alloc: Global,
-    phase: Phase,
+    phase: &Phase,
     message: Message,
-) -> Result<(Item, Phase), AllocError>
-    ensures item { IfOk result (λ both. IsItemOf (meaning_of phase (message_model message))
+) -> Result<(Item<Query>, Option<Phase>), AllocError>
+    ensures item { IfOk result (λ both. IsItemOf (meaning_of phase.now (message_model message))
         (reply_label (message_model message)) both.0) }
-    ensures phase { IfOk result (λ both. both.1 ≡ next_phase phase (message_model message)) }
+    ensures phase { IfOk result (λ both.
+        unwrap_or both.1 phase.now ≡ next_phase phase.now (message_model message)) }
 {
     match message {
-        Message::BadJson => Ok((refused(alloc, Label::None, Refusal::ParseError)?, phase)),
-        Message::Invalid(label) => Ok((refused(alloc, label, Refusal::InvalidRequest)?, phase)),
+        Message::BadJson => Ok((refused(alloc, Label::None, Refusal::ParseError)?, None)),
+        Message::Invalid(label) => Ok((refused(alloc, label, Refusal::InvalidRequest)?, None)),
         Message::Ask {
             label,
             method,
             params,
         } => {
             let method = RequestMethod::named(method.as_str());
-            let item = on_request(alloc, phase, label, method, params)?;
-            Ok((item, phase_after(phase, method)))
+            let item = on_request(alloc, phase, label, method, params.as_ref())?;
+            Ok((item, phase.after(alloc, method, params.as_ref())?))
         }
         Message::Notice { method, params } => {
             let method = NotificationMethod::named(method.as_str());
-            Ok((on_notification(alloc, phase, method, params)?, phase))
+            Ok((on_notification(alloc, phase, method, params)?, None))
         }
-        Message::Response => Ok((Item::Ignore, phase)),
+        Message::Response => Ok((Item::Ignore, None)),
     }
 }

@@ -86,13 +86,15 @@ const BEFORE: &str =
 {"id":-1,"method":"initialize"} => {"error":{"code":-32600,"message":"invalid request"},"id":-1,"jsonrpc":"2.0"} => before
 {"jsonrpc":"2.0","method":"initialize"} => - => before
 {"jsonrpc":"2.0","method":"textDocument/didOpen","params":{"textDocument":{"uri":"file:///a.proto","text":"hi"}}} => - => before
+{"jsonrpc":"2.0","method":"textDocument/didChange"} => - => before
+{"jsonrpc":"2.0","method":"proto/removeFile"} => - => before
 {"jsonrpc":"2.0","method":"exit"} => ends 1 => -
 {"jsonrpc":"2.0","id":5,"result":null} => - => before"#;
 
 #[test]
 fn before_initialize(rt: HostRuntime) -> Result<(), Fail> {
-    check_rows(&rt, &[], 10, BEFORE)?;
-    check_rows(&rt, &[SHUTDOWN, DIAGNOSTIC, OPEN], 10, BEFORE)
+    check_rows(&rt, &[], 12, BEFORE)?;
+    check_rows(&rt, &[SHUTDOWN, DIAGNOSTIC, OPEN], 12, BEFORE)
 }
 
 const BETWEEN: &str =
@@ -101,6 +103,8 @@ const BETWEEN: &str =
 {"jsonrpc":"2.0","id":1,"method":"textDocument/diagnostic","params":{"textDocument":{"uri":"file:///a.proto"}}} => {"id":1,"jsonrpc":"2.0","result":{"items":[],"kind":"full","resultId":"0"}} => between
 {"jsonrpc":"2.0","id":18446744073709551615,"method":"textDocument/didOpen"} => {"error":{"code":-32601,"message":"method not found"},"id":18446744073709551615,"jsonrpc":"2.0"} => between
 {"jsonrpc":"2.0","id":3,"method":"exit"} => {"error":{"code":-32601,"message":"method not found"},"id":3,"jsonrpc":"2.0"} => between
+{"jsonrpc":"2.0","id":3,"method":"textDocument/didChange"} => {"error":{"code":-32601,"message":"method not found"},"id":3,"jsonrpc":"2.0"} => between
+{"jsonrpc":"2.0","id":3,"method":"proto/removeFile"} => {"error":{"code":-32601,"message":"method not found"},"id":3,"jsonrpc":"2.0"} => between
 {"jsonrpc":"2.0","id":3,"method":"textDocument/diagnostic"} => {"error":{"code":-32602,"message":"invalid params"},"id":3,"jsonrpc":"2.0"} => between
 {"jsonrpc":"2.0","id":3,"method":"textDocument/diagnostic","params":{"textDocument":{"uri":7}}} => {"error":{"code":-32602,"message":"invalid params"},"id":3,"jsonrpc":"2.0"} => between
 {"jsonrpc":"2.0","id":3,"method":"textDocument/diagnostic","params":{"textDocument":{"uri":"file:///"}}} => {"error":{"code":-32602,"message":"invalid params"},"id":3,"jsonrpc":"2.0"} => between
@@ -116,7 +120,7 @@ const BETWEEN: &str =
 
 #[test]
 fn between(rt: HostRuntime) -> Result<(), Fail> {
-    check_rows(&rt, &[INITIALIZE], 17, BETWEEN)
+    check_rows(&rt, &[INITIALIZE], 19, BETWEEN)
 }
 
 const AFTER: &str =
@@ -126,9 +130,11 @@ const AFTER: &str =
 {"jsonrpc":"2.0","id":5,"method":"no/such"} => {"error":{"code":-32600,"message":"invalid request"},"id":5,"jsonrpc":"2.0"} => after
 {"jsonrpc":"2.0","method":"textDocument/didOpen","params":{"textDocument":{"uri":"file:///a.proto","text":"hi"}}} => - => after
 {"jsonrpc":"2.0","method":"textDocument/didOpen"} => - => after
+{"jsonrpc":"2.0","method":"textDocument/didChange"} => - => after
+{"jsonrpc":"2.0","method":"proto/removeFile"} => - => after
 {"jsonrpc":"2.0","method":"exit"} => ends 0 => -"#;
 
 #[test]
 fn after_shutdown(rt: HostRuntime) -> Result<(), Fail> {
-    check_rows(&rt, &[INITIALIZE, SHUTDOWN], 7, AFTER)
+    check_rows(&rt, &[INITIALIZE, SHUTDOWN], 9, AFTER)
 }

@@ -1,65 +1,48 @@
-//! The files that URIs name (RFC 3986, section 2.1; RFC 8089, section 2; LSP 3.17, "URI").
-ghost use Rattle.std.specs.Prelude.{◌≡◌, codes, Some, None};
-ghost use Rattle.pq_session.specs.Uri.{file_at};
-
-use super::{HI, INITIALIZE, INITIALIZED, check_replies, report};
-use crate::tests::support::{check_row_count, split_row};
-use pq_session::Memory;
+//! The files that URIs name below a root, and the URIs that are printed of them (RFC 3986, sections
+//! 2.1 and 2.3; RFC 8089, section 2; LSP 3.17, "URI").
+use super::{check_replies, item_of_length, report};
+use crate::tests::support::{check_row_count, check_text, split_row};
+use pq_session::{Memory, Root};
 use std::alloc::Global;
 use std::process::Abort;
 use std::test::Fail;
 
-/// A notification that opens the file at `uri` with the text `hi`.
-fn open_at(alloc: Global, uri: &str) -> Result<String, Memory> {
-    format!(in alloc;
-        r#"{{"jsonrpc":"2.0","method":"textDocument/didOpen","params":{{"textDocument":{{"uri":"{uri}","text":"hi"}}}}}}"#
-    )
-}
-
-/// A request for the diagnostics of the file at `uri`.
-fn diagnostic_at(alloc: Global, uri: &str) -> Result<String, Memory> {
-    format!(in alloc;
-        r#"{{"id":1,"jsonrpc":"2.0","method":"textDocument/diagnostic","params":{{"textDocument":{{"uri":"{uri}"}}}}}}"#
-    )
-}
-
-const INVALID_PARAMS: &str =
-    r#"{"error":{"code":-32602,"message":"invalid params"},"id":1,"jsonrpc":"2.0"}"#;
-
-/// Checks that a file opened at `uri` is the one at `plain`.
-fn check_same_file(rt: &(impl Abort + AllocGlobal), uri: &str, plain: &str) -> Result<(), Fail> {
-    let alloc = rt.alloc();
-    let opened = open_at(alloc, uri)?;
-    let asked = diagnostic_at(alloc, plain)?;
-    let reply = report(alloc, HI, "1")?;
-    let bodies = [INITIALIZE, opened.as_str(), asked.as_str()];
-    check_replies(rt, &bodies, &[INITIALIZED, reply.as_str()], "1", uri)
-}
-
-/// Checks that `uri` names no file: a request about it is refused.
-fn check_no_file(rt: &(impl Abort + AllocGlobal), uri: &str) -> Result<(), Fail> {
-    let opened = open_at(rt.alloc(), uri)?;
-    let asked = diagnostic_at(rt.alloc(), uri)?;
-    let bodies = [INITIALIZE, opened.as_str(), asked.as_str()];
-    check_replies(rt, &bodies, &[INITIALIZED, INVALID_PARAMS], "1", uri)
-}
-
-/// Checks a row: `name` is the file's name, or `none`.
-fn check_uri(rt: &(impl Abort + AllocGlobal), uri: &str, name: &str) -> Result<(), Fail> {
-    if name == "none" {
-        return check_no_file(rt, uri);
+/// The name of the file of `uri` below `root`, and its printed URI, or `none`.
+fn shown_file(alloc: Global, root: &Root, uri: &str) -> Result<String, Memory> {
+    match root.file_of(alloc, uri)? {
+        Some(name) => {
+            let printed = root.uri_of(alloc, name.as_str())?;
+            format!(in alloc; "{} => {printed}", name.as_str())
+        }
+        None => String::from_str(alloc, "none"),
     }
-    let plain = format!(in rt.alloc(); "file:///{name}")?;
-    check_same_file(rt, uri, plain.as_str())
 }
 
-const URIS: &str = "\
-file:///a.proto => a.proto
-file:///x%20y.proto => x y.proto
-file:////a => a
-file:///a?b#c => a?b#c
-file:///%zz => %zz
-file:///%C3%A9 => é
+/// Checks the `count` rows `URI => NAME => PRINTED` below the root of `root_uri`.
+fn check_files(
+    rt: &(impl Abort + AllocGlobal),
+    root_uri: Option<&str>,
+    count: usize,
+    rows: &str,
+) -> Result<(), Fail> {
+    check_row_count(rt, count, rows);
+    let root = Root::of(rt.alloc(), root_uri)?.copy()?;
+    for row in rows.lines() {
+        let (uri, want) = split_row(rt, row, " => ");
+        let found = shown_file(rt.alloc(), &root, uri)?;
+        check_text(rt, found.as_str(), want, row);
+    }
+    Ok(())
+}
+
+const WITHOUT_A_ROOT: &str = "\
+file:///a.proto => a.proto => file:///a.proto
+file:///x%20y.proto => x y.proto => file:///x%20y.proto
+file:////a => a => file:///a
+file:///a?b#c => a?b#c => file:///a%3Fb%23c
+file:///%zz => %zz => file:///%25zz
+file:///%c3%a9 => é => file:///%C3%A9
+file:///A9-._~/z => A9-._~/z => file:///A9-._~/z
 file:///%ff => none
 FILE:///a => none
 file://a => none
@@ -67,30 +50,57 @@ file://%2fa => none
 file:/// => none
  => none";
 
-// A name without escapes, after `file:///`, names itself.
+const BELOW_A_ROOT: &str = "\
+file:///home/u/p/x%20y.proto => x y.proto => file:///home/u/p/x%20y.proto
+file:///home/u/%70/x => x => file:///home/u/p/x
+file:///home/u/p//x => x => file:///home/u/p/x
+file:///home/u/p/ => none
+file:///home/u/p => /home/u/p => file:///home/u/p
+file:///home/u/pq => /home/u/pq => file:///home/u/pq
+file:///etc/z.proto => /etc/z.proto => file:///etc/z.proto";
+
 #[test]
 fn files_of_uris(rt: HostRuntime) -> Result<(), Fail> {
-    check_row_count(&rt, 12, URIS);
-    for row in URIS.lines() {
-        let (uri, name) = split_row(&rt, row, " => ");
-        check_uri(&rt, uri, name)?;
-    }
-    Ok(())
+    check_files(&rt, None, 13, WITHOUT_A_ROOT)?;
+    check_files(&rt, Some("file:///home/u/p"), 7, BELOW_A_ROOT)?;
+    check_files(&rt, Some("file:///home/u/%70//"), 7, BELOW_A_ROOT)?;
+    let by_itself = "file:///a => a => file:///a";
+    check_files(&rt, Some("file:///"), 1, by_itself)?;
+    check_files(&rt, Some("http://h/a"), 1, by_itself)?;
+    let escaped = "file:///%C3%A9/a => a => file:///%C3%A9/a";
+    check_files(&rt, Some("file:///é"), 1, escaped)
 }
 
-/// Rows of the definition of a path's file below a root: the function is proved to follow it.
-///
-/// The paths are those of the URIs, without escapes. No session has a root yet.
-fn paths_below_a_root()
-    ensures escaped { file_at (codes "/home/u/p") (codes "/home/u/p/x y.proto") ≡ Some (codes "x y.proto") }
-    ensures slashes { file_at (codes "/home/u/p") (codes "/home/u/p//x") ≡ Some (codes "x") }
-    ensures root_and_slash { file_at (codes "/home/u/p") (codes "/home/u/p/") ≡ None }
-    ensures root { file_at (codes "/home/u/p") (codes "/home/u/p") ≡ Some (codes "/home/u/p") }
-    ensures longer_name { file_at (codes "/home/u/p") (codes "/home/u/pq") ≡ Some (codes "/home/u/pq") }
-    ensures elsewhere { file_at (codes "/home/u/p") (codes "/etc/z.proto") ≡ Some (codes "/etc/z.proto") }
-{}
+/// Checks that a session with this `rootUri` takes `uri` and `other` for one file.
+fn check_one_file(
+    rt: &(impl Abort + AllocGlobal),
+    root_uri: &str,
+    uri: &str,
+    other: &str,
+) -> Result<(), Fail> {
+    let alloc = rt.alloc();
+    let initialize = format!(in alloc;
+        r#"{{"id":0,"jsonrpc":"2.0","method":"initialize","params":{{"rootUri":{root_uri}}}}}"#
+    )?;
+    let open = format!(in alloc;
+        r#"{{"jsonrpc":"2.0","method":"textDocument/didOpen","params":{{"textDocument":{{"uri":"{uri}","text":"hi"}}}}}}"#
+    )?;
+    let ask = format!(in alloc;
+        r#"{{"id":1,"jsonrpc":"2.0","method":"textDocument/diagnostic","params":{{"textDocument":{{"uri":"{other}"}}}}}}"#
+    )?;
+    let reply = report(alloc, item_of_length(alloc, "2")?.as_str(), "1")?;
+    let bodies = [initialize.as_str(), open.as_str(), ask.as_str()];
+    check_replies(rt, &bodies, &[super::INITIALIZED, reply.as_str()], "1", uri)
+}
 
 #[test]
-fn files_below_a_root() {
-    paths_below_a_root();
+fn the_root_of_a_session(rt: HostRuntime) -> Result<(), Fail> {
+    check_one_file(
+        &rt,
+        r#""file:///home/u/p""#,
+        "file:///home/u/p/x%20y.proto",
+        "file:///home/u/p//x y.proto",
+    )?;
+    check_one_file(&rt, "null", "file:///p/x", "file:////p/x")?;
+    check_one_file(&rt, "7", "file:///p/x", "file:////p/x")
 }

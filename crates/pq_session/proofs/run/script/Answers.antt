@@ -1,4 +1,4 @@
-use Rattle.std.proofs.Common.{◌+◌, ◌≡◌, ◌≤◌, ◌++◌, [], None, length, take, sym, refl, ◌∙◌, ap, inl, arith, subst}
+use Rattle.std.proofs.Common.{◌+◌, ◌≡◌, ◌++◌, [], None, take, sym, refl, ◌∙◌, ap, inl, arith, subst}
 use Rattle.std.specs.Io.KnownBytes.{IsAtEnd}
 use Rattle.std.proofs.lemmas.List.{append-nil}
 use Rattle.std.proofs.lemmas.Result.{err_from_is_err_and}
@@ -6,7 +6,7 @@ use Rattle.pq_frame.specs.Frames.{Reading}
 use Rattle.pq_frame.proofs.RunLemmas.{at_first}
 use Rattle.pq_session.specs.Counts.{one_more, inner_of, reads_of}
 use Rattle.pq_session.specs.Responses.{ScriptState, fresh}
-use Rattle.pq_session.specs.Script.{max_reads, max_piece}
+use Rattle.pq_session.specs.Script.{max_reads}
 use Rattle.pq_session.specs.aux.Answered.{Answered}
 use Rattle.pq_session.specs.aux.ServerState.{state_of}
 use Rattle.pq_session.proofs.Known.{appends_none, appends_more, consumes_none, consumes_more, consumes_kept, one_failed}

@@ -4,60 +4,55 @@
 //! The code that routes messages reads from the item whether the sources are needed. The code that
 //! writes the response gets the request alone, and reads it from the want. `HasFittingWant` keeps
 //! both in step.
+//!
+//! The types are generic over the key `K` of a query. `Session::on` makes them of `Query`.
 use pq_frame::Label;
+use pq_inputs::Durability;
+use pq_names::Text;
 
-/// The phase of a session (LSP 3.17, "Server lifecycle").
-#[derive(Clone, Copy, Debug, PartialEq, Eq)]
-pub(crate) enum Phase {
-    /// Before `initialize`.
-    Fresh,
-    /// Between `initialize` and `shutdown`.
-    Serving,
-    /// After `shutdown`.
-    Closing,
-}
-
-/// A query by the sources.
+/// A query by the sources: the key of the answer.
 #[derive(Debug, Drop)]
-pub(crate) enum Query {
+pub enum Query {
     /// The diagnostics of the file of this name.
-    Diagnostics(String),
+    Diagnostics(Text),
 }
 
 /// What answers a request.
 #[derive(Debug, Drop)]
-pub(crate) enum Want {
-    /// The answer to a query by the sources.
-    Demand(Query),
-    /// This text, whatever the sources are.
+pub enum Want<K> {
+    /// The answer to this query by the sources.
+    Demand(K),
+    /// This text, the whole body of the response, whatever the sources are.
     Fixed(String),
 }
 
 /// A request, or a body that is not a message, and what answers it.
 #[derive(Debug, Drop)]
-pub(crate) struct Request {
+pub struct Request<K> {
     /// The `id` of the response.
     pub label: Label,
     /// What answers it.
-    pub want: Want,
+    pub want: Want<K>,
 }
 
 /// An edit of a file.
 #[derive(Debug, Drop)]
-pub(crate) struct Change {
+pub struct Change {
     /// The file's name.
-    pub file: String,
+    pub file: Text,
     /// Its new text, or `None` if it is removed.
     pub text: Option<String>,
+    /// Its new durability.
+    pub durability: Durability,
 }
 
 /// What a message asks for.
 #[derive(Debug, Drop)]
-pub(crate) enum Item {
+pub enum Item<K> {
     /// A request that a query by the sources answers.
-    Ask(Request),
+    Ask(Request<K>),
     /// A request that a fixed text answers.
-    Say(Request),
+    Say(Request<K>),
     /// An edit of the sources.
     Edit(Change),
     /// Nothing.

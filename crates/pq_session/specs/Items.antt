@@ -1,15 +1,14 @@
--- Auxiliary (used by private clauses only): the items of the program, their meanings and their
--- labels.
+-- The items of a session: what the item of a message means, and the label of the response to it.
 use Rattle.std.specs.Prelude.{◌≡◌, Bool, true, false, Option, Some, None, option_map, string_bytes}
 use Rattle.pq_frame.specs.Labels.{LabelModel, no_label, label_model}
 use Rattle.pq_frame.specs.Messages.{MessageModel, bad_json, invalid, ask, notice, response}
-use Rattle.pq_session.specs.declared.state.outcome.Want.{Want}
-use Rattle.pq_session.specs.declared.state.outcome.Want.TheVariants.{Demand, Fixed}
-use Rattle.pq_session.specs.declared.state.outcome.Request.{Request}
-use Rattle.pq_session.specs.declared.state.outcome.Item.{Item}
-use Rattle.pq_session.specs.declared.state.outcome.Item.TheVariants.{Ask, Say, Edit, Ignore, End}
+use Rattle.pq_session.specs.declared.state.items.Query.{Query}
+use Rattle.pq_session.specs.declared.state.items.Want.{Want}
+use Rattle.pq_session.specs.declared.state.items.Want.TheVariants.{Demand, Fixed}
+use Rattle.pq_session.specs.declared.state.items.Request.{Request}
+use Rattle.pq_session.specs.declared.state.items.Item.{Item}
+use Rattle.pq_session.specs.declared.state.items.Item.TheVariants.{Ask, Say, Edit, Ignore, End}
 use Rattle.pq_session.specs.Session.{Meaning, asks, says, edits, ignores, ends}
-use Rattle.pq_session.specs.aux.Models.{query_model}
 
 -- `reply_label message` is the label of the response to `message`, if it gets one.
 abbrev pub reply_label : MessageModel → Option LabelModel
@@ -21,24 +20,24 @@ reply_label response = None
 
 -- `want_meaning label want` is the meaning of a request with this label that is answered with
 -- `want`.
-abbrev pub want_meaning : LabelModel → Want → Meaning
-want_meaning label (Demand query) = asks label (query_model query)
+abbrev pub want_meaning : LabelModel → Want Query → Meaning
+want_meaning label (Demand query) = asks label query
 want_meaning label (Fixed text) = says (string_bytes text)
 
 -- `answer_meaning request` is the meaning of `request`.
-abbrev pub answer_meaning : Request → Meaning
+abbrev pub answer_meaning : Request Query → Meaning
 answer_meaning request = want_meaning (label_model request.label) request.want
 
 -- `item_meaning item` is the meaning of a message that asks for `item`.
-abbrev pub item_meaning : Item → Meaning
+abbrev pub item_meaning : Item Query → Meaning
 item_meaning (Ask request) = answer_meaning request
 item_meaning (Say request) = answer_meaning request
-item_meaning (Edit change) = edits (string_bytes change.file) (option_map string_bytes change.text)
+item_meaning (Edit change) = edits change.file (record { text = option_map string_bytes change.text; durability = change.durability })
 item_meaning Ignore = ignores
 item_meaning (End status) = ends status
 
 -- `item_label item` is the label of the request in `item`, if there is one.
-abbrev pub item_label : Item → Option LabelModel
+abbrev pub item_label : Item Query → Option LabelModel
 item_label (Ask request) = Some (label_model request.label)
 item_label (Say request) = Some (label_model request.label)
 item_label (Edit change) = None
@@ -46,18 +45,14 @@ item_label Ignore = None
 item_label (End status) = None
 
 -- `is_demand want` is whether `want` is a demand.
-abbrev pub is_demand : Want → Bool
+abbrev pub is_demand : Want Query → Bool
 is_demand (Demand query) = true
 is_demand (Fixed text) = false
 
 -- `HasFittingWant item` is that an `Ask` has a demand, and a `Say` a fixed response.
-abbrev pub HasFittingWant : Item → Type 0
+abbrev pub HasFittingWant : Item Query → Type 0
 HasFittingWant (Ask request) = is_demand request.want ≡ true
 HasFittingWant (Say request) = is_demand request.want ≡ false
 HasFittingWant (Edit change) = Unit {0}
 HasFittingWant Ignore = Unit {0}
 HasFittingWant (End status) = Unit {0}
-
--- `IsItemOf meaning label item` is that `item` has this meaning and this label, and fits.
-abbrev pub IsItemOf : Meaning → Option LabelModel → Item → Type 0
-IsItemOf meaning label item = (item_meaning item ≡ meaning) × (item_label item ≡ label) × HasFittingWant item

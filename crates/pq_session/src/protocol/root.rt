@@ -1,0 +1,98 @@
+//! The root folder of a session: the files that URIs name below it, and the URIs of files.
+//!
+//! A path that begins with the root and `/` names the file of what follows. Another path names
+//! itself. So a file has one name, whichever escapes a client writes, and the names of files below
+//! the root are those that import statements write.
+ghost use Rattle.std.specs.Prelude.{◌≡◌, option_map, string_bytes, IfOk};
+ghost use Rattle.pq_session.specs.Uri.{root_of, file_of, uri_of};
+
+use crate::protocol::uris::{decoded_path, file_at, is_absolute, push_encoded, trim_last_slashes};
+use pq_names::Text;
+use std::alloc::{AllocError, Global};
+use std::marker::Model;
+
+/// The root folder of a session. Contracts see it as its path, without slashes at its end; the path
+/// is empty if the client named no root.
+///
+/// It is a small value that never changes, and copies share a long path. It can be sent to other
+/// threads and shared among them.
+#[derive(Debug, Drop)]
+pub struct Root {
+    path: Text,
+}
+
+impl Model for Root {
+    ghost use Rattle.std.specs.Prelude.{List, ℕ};
+
+    ghost Value = { List ℕ };
+
+    ghost view = { λ root. root.path };
+}
+
+impl Root {
+    /// The root of the member `rootUri` of `initialize` (LSP 3.17, "InitializeParams"). It is empty
+    /// if `uri` is absent or names no path.
+    pub fn of(alloc: Global, uri: Option<&str>) -> Result<Root, AllocError>
+        ensures { IfOk result (λ root. root ≡ root_of (option_map (λ text. text.now) uri.entry)) }
+    {
+        let path = match uri {
+            Some(uri) => decoded_path(alloc, uri)?,
+            None => None,
+        };
+        let path = match &path {
+            Some(path) => trim_last_slashes(path.as_str()),
+            None => "",
+        };
+        Ok(Root {
+            path: Text::new(alloc, path)?,
+        })
+    }
+
+    /// A copy, which takes no memory. `Memory` comes only where a long path has as many copies as can
+    /// be counted.
+    pub fn copy(&self) -> Result<Root, AllocError>
+        ensures { IfOk result (λ root. root ≡ self.now) }
+    {
+        Ok(Root {
+            path: self.path.copy()?,
+        })
+    }
+
+    /// The path.
+    pub fn path(&self) -> &str
+        ensures { result.now ≡ self.now }
+    {
+        self.path.as_str()
+    }
+
+    /// The name of the file of `uri`, if it names one.
+    #[tactic(auto, unfolding(crate::specs::Uri::file_of))]
+    pub fn file_of(&self, alloc: Global, uri: &str) -> Result<Option<Text>, AllocError>
+        ensures { IfOk result (λ file. file ≡ file_of self.now uri.now) }
+    {
+        let Some(path) = decoded_path(alloc, uri)? else {
+            return Ok(None);
+        };
+        match file_at(self.path.as_str(), path.as_str()) {
+            Some(name) => Ok(Some(Text::new(alloc, name)?)),
+            None => Ok(None),
+        }
+    }
+
+    /// The URI of the file `name`. `file_of` of it gives `name` back, if `name` is the name of a file
+    /// (the law `uris_come_back`).
+    #[tactic(auto, using(crate::proofs::EscapeLemmas::uri_absolute, crate::proofs::EscapeLemmas::uri_relative))]
+    pub fn uri_of(&self, alloc: Global, name: &str) -> Result<String, AllocError>
+        ensures { IfOk result (λ uri. string_bytes uri ≡ uri_of self.now name.now) }
+    {
+        let mut uri = String::from_str(alloc, "file://")?;
+        if is_absolute(name) {
+            push_encoded(&mut uri, name)?;
+            return Ok(uri);
+        }
+        push_encoded(&mut uri, self.path.as_str())?;
+        uri.push_str("/")?;
+        push_encoded(&mut uri, name)?;
+        Ok(uri)
+    }
+}
