@@ -250,6 +250,7 @@ impl<R: Rules> Memos<R> {
         ensures rules { self.new.rules ≡ self.old.rules }
         ensures kept { KeptOver R.Key.cmp (R.machine self.old.rules) inputs.now self.new.places }
         ensures up_to_date { OnOk result (IsUpToDate (R.machine self.old.rules) inputs.now.revision (HasIn (memo_at R.Key.cmp self.new.places)) key.now) }
+        ensures idle { IfOk result (λ v. IsUpToDate (R.machine self.old.rules) inputs.now.revision (HasIn (memo_at R.Key.cmp self.old.places)) key.now → v.items ≡ []) }
         ensures carried { IfOk result (λ v. Each (IsCarried R.Key.cmp (R.machine self.old.rules) inputs.now.history inputs.now.revision (HasIn (memo_at R.Key.cmp self.old.places))) v.items) }
         ensures once { IfOk result (λ v. Distinct (carried_keys v.items)) }
         ensures covered { IfOk result (λ v. Each (IsVerified inputs.now.revision (memo_at R.Key.cmp self.new.places)) (carried_keys v.items)) }

@@ -97,7 +97,8 @@ impl<R: Rules> Engine<R> {
     /// Demands the answer of `key` at the sources now, and returns it with the rules that were
     /// started for it, in order.
     ///
-    /// If an allocation fails, the memos published so far stay, and no memo is lost.
+    /// For an input, and for a key that was demanded since the last change, no rule is started. If
+    /// an allocation fails, the memos published so far stay, and no memo is lost.
     pub fn demand(
         &mut self,
         alloc: Global,
@@ -107,6 +108,7 @@ impl<R: Rules> Engine<R> {
         ensures inputs { self.new.inputs ≡ self.old.inputs }
         ensures value { IfOk result (λ d. Means (over R.Key.cmp (R.machine self.old.rules) self.old.inputs.files) key.now d.answer) }
         ensures up_to_date { OnOk result (IsUpToDate (R.machine self.old.rules) self.old.inputs.revision (HasIn (memo_at R.Key.cmp self.new.places)) key.now) }
+        ensures idle { IfOk result (λ d. IsUpToDate (R.machine self.old.rules) self.old.inputs.revision (HasIn (memo_at R.Key.cmp self.old.places)) key.now → d.carried.items ≡ []) }
         ensures carried { IfOk result (λ d. Each (IsCarried R.Key.cmp (R.machine self.old.rules) self.old.inputs.history self.old.inputs.revision (HasIn (memo_at R.Key.cmp self.old.places))) d.carried.items) }
         ensures once { IfOk result (λ d. Differ (carried_keys d.carried.items)) }
         ensures covered { IfOk result (λ d. Each (IsVerified self.old.inputs.revision (memo_at R.Key.cmp self.new.places)) (carried_keys d.carried.items)) }

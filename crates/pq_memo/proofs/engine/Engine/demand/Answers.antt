@@ -1,8 +1,9 @@
-use Rattle.std.proofs.Common.{[], subst}
+use Rattle.std.proofs.Common.{[], ◌≡◌, subst}
 use Rattle.pq_rules.specs.Turns.{over}
 use Rattle.pq_rules.specs.Value.{Means}
 use Rattle.pq_rules.proofs.Weight.{Exact}
 use Rattle.pq_memo.specs.EngineView.{EngineView}
+use Rattle.pq_memo.specs.Look.{IsUpToDate}
 use Rattle.pq_memo.specs.Table.{memo_at, HasIn}
 use Rattle.pq_memo.specs.Demand.{NoneLost, IsSameOrVerified, carried_keys}
 use Rattle.pq_memo.specs.aux.Frames.{IsReadAnswer}
@@ -19,6 +20,18 @@ returns-clause-value g c =
     (memo_at g.R.Key.Ord.cmp c.bring_up_to_date.new.self.places) c.bring_up_to_date.ensures.kept c.args.key.now c.in-Some.answer
     (subst (λ (r : g.row.R.Denot). IsReadAnswer g.R.Key.Ord.cmp (g.R.Rules.machine r) c.self.inside.inputs.files c.self.inside.inputs.revision
     (HasIn (memo_at g.R.Key.Ord.cmp c.bring_up_to_date.new.self.places)) c.args.key.now c.in-Some.answer) c.bring_up_to_date.ensures.rules read))
+
+pub returns-clause-up_to_date : goal.returns-clause-up_to_date
+returns-clause-up_to_date g c =
+    subst (λ (v : EngineView g.row.R.Denot g.row.R-Key.Denot g.row.R-Value.Denot).
+    IsUpToDate (g.R.Rules.machine v.rules) v.inputs.revision (HasIn (memo_at g.R.Key.Ord.cmp c.bring_up_to_date.new.self.places)) c.args.key.now) c.self.view_is
+    c.in_ok-carried.ensures.up_to_date
+
+pub returns-clause-idle : goal.returns-clause-idle
+returns-clause-idle g c =
+    subst (λ (v : EngineView g.row.R.Denot g.row.R-Key.Denot g.row.R-Value.Denot).
+    IsUpToDate (g.R.Rules.machine v.rules) v.inputs.revision (HasIn (memo_at g.R.Key.Ord.cmp v.places)) c.args.key.now → c.in_ok-carried.carried.items ≡ []) c.self.view_is
+    c.in_ok-carried.ensures.idle
 
 pub returns-clause-once : goal.returns-clause-once
 returns-clause-once g c = differ (carried_keys c.in_ok-carried.carried.items) c.in_ok-carried.ensures.once

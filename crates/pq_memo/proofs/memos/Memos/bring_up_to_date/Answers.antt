@@ -86,6 +86,9 @@ returns-clause-up_to_date g c =
     c.now-latest.ensures.counted laws (memo_at g.R.Key.Ord.cmp c.args.self.now.places) (memo_at g.R.Key.Ord.cmp c.steps.self.places)
     c.steps.stack c.steps.carried.items empty c.steps.invariant.going).up_to_date
 
+pub returns-clause-idle : goal.returns-clause-idle
+returns-clause-idle g c up = absurd (not_both (c.is_up_to_date.ensures.1 up) c.if-is_up_to_date.false)
+
 pub returns-clause-covered : goal.returns-clause-covered
 returns-clause-covered g c =
     let empty = rw c.in_default.is at c.pop.ensures.empty in
