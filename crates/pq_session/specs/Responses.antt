@@ -43,8 +43,8 @@ answer_text state label (Diagnostics name) = diagnostics_text label (diagnostics
 abbrev pub IsAnswer : ScriptState → LabelModel → Query → List ℕ → Type 0
 IsAnswer state label query text = (text ≡ answer_text state label query) ⊎ (text ≡ out_of_memory_text label)
 
--- `edit_refusal state name file` is the error of the edit that makes the file `name` this `file`, if
--- it is refused.
+-- `edit_refusal state name file` is the error of the edit that makes the file `name` this `file`,
+-- if it is refused.
 abbrev pub edit_refusal : ScriptState → List ℕ → File → Option InputFault
 edit_refusal state name file = refusal (record { files = state.files; revision = state.revision; history = [] }) name file.text
 

@@ -64,8 +64,8 @@ text_member name value = option_and_then as_str (option_and_then (get name) valu
 abbrev pub document_text : List ℕ → Option Data → Option (List ℕ)
 document_text name params = text_member name (option_and_then (get (codes "textDocument")) params)
 
--- `is_whole range` is whether a change of this `range` replaces the whole text: `range` is absent or
--- null.
+-- `is_whole range` is whether a change of this `range` replaces the whole text: `range` is absent
+-- or null.
 abbrev pub is_whole : Option Data → Bool
 is_whole None = true
 is_whole (Some range) = is_some (as_null range)
@@ -123,8 +123,8 @@ exit_status Closing = 0
 abbrev pub unreadable_parameters : ℕ
 unreadable_parameters = 3
 
--- `edit_meaning file text` is the meaning of an edit: `file` gets `text`, or is removed, and has Low
--- durability. An edit whose URI names no file is ignored.
+-- `edit_meaning file text` is the meaning of an edit: `file` gets `text`, or is removed, and has
+-- Low durability. An edit whose URI names no file is ignored.
 abbrev pub edit_meaning : Option (List ℕ) → Option (List ℕ) → Meaning
 edit_meaning None text = ignores
 edit_meaning (Some file) text = edits file (record { text = text; durability = Low })
@@ -142,8 +142,8 @@ open_meaning root None text = ends unreadable_parameters
 open_meaning root (Some uri) None = ends unreadable_parameters
 open_meaning root (Some uri) (Some text) = edit_meaning (file_of root uri) (Some text)
 
--- `change_meaning root uri texts` is the meaning of `textDocument/didChange`: the file of `uri` gets
--- the last of `texts`. Its parameters are unreadable if `uri` is, or one of the changes.
+-- `change_meaning root uri texts` is the meaning of `textDocument/didChange`: the file of `uri`
+-- gets the last of `texts`. Its parameters are unreadable if `uri` is, or one of the changes.
 abbrev pub change_meaning : List ℕ → Option (List ℕ) → Option (List (List ℕ)) → Meaning
 change_meaning root None texts = ends unreadable_parameters
 change_meaning root (Some uri) None = ends unreadable_parameters

@@ -33,8 +33,8 @@ pub fn findings_in_order()
     ensures members { (fs : List Finding) (f : Finding) → Contains (in_order fs) f ↔ Contains fs f }
 {}
 
-/// Reading the URI that was printed of a text gives the text back exactly if the text is the name of
-/// a file, and every URI names such a text, for each root.
+/// Reading the URI that was printed of a text gives the text back exactly if the text is the name
+/// of a file. Every name that a URI has is such a text.
 pub fn uris_come_back()
     ensures exact { (root_uri : Option (List ℕ)) (name : List ℕ) → IsUtf8 name →
         (file_of (root_of root_uri) (uri_of (root_of root_uri) name) ≡ Some name)

@@ -1,8 +1,8 @@
 //! The state of the server, and what each message asks of it.
 //!
 //! `sessions` finds what a message asks for: `requests` by the phase and method of a request,
-//! `notifications` by those of a notification. `phase` has the phases and what changes them, `items`
-//! what can be asked for. `server_state` carries items out over the sources.
+//! `notifications` by those of a notification. `phase` has the phases and what changes them,
+//! `items` what can be asked for. `server_state` carries items out over the sources.
 
 pub(crate) mod items;
 pub(crate) mod notifications;

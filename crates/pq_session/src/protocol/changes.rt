@@ -52,8 +52,8 @@ fn take_text(mut change: Value) -> Option<String>
     }
 }
 
-/// The text of the last of `changes`, which is moved out of it, or `Some(None)` if there are none. It
-/// is `None` if one of them is not readable.
+/// The text of the last of `changes`, which is moved out of it, or `Some(None)` if there are none.
+/// It is `None` if one of them is not readable.
 fn take_last(mut changes: Vec<Value>) -> Option<Option<String>>
     ensures { option_map (option_map string_bytes) result ≡ option_map (last_or None) (change_texts (items_view changes.items)) }
 {
@@ -70,8 +70,8 @@ fn take_last(mut changes: Vec<Value>) -> Option<Option<String>>
 }
 
 /// The text of the last change in `params.contentChanges`, which is moved out of `params`, or
-/// `Some(None)` if there are no changes. It is `None` if the parameters are unreadable: the member is
-/// not a list, or a change in it is not readable.
+/// `Some(None)` if there are no changes. It is `None` if the parameters are unreadable: the member
+/// is not a list, or a change in it is not readable.
 pub(crate) fn take_last_change(params: Option<Value>) -> Option<Option<String>>
     ensures { option_map (option_map string_bytes) result ≡ option_map (last_or None) (changed_texts (option_map view params)) }
 {

@@ -48,8 +48,8 @@ impl Root {
         })
     }
 
-    /// A copy, which takes no memory. `Memory` comes only where a long path has as many copies as can
-    /// be counted.
+    /// A copy, which takes no memory. `Memory` comes only where a long path has as many copies as
+    /// can be counted.
     pub fn copy(&self) -> Result<Root, AllocError>
         ensures { IfOk result (λ root. root ≡ self.now) }
     {
@@ -79,8 +79,8 @@ impl Root {
         }
     }
 
-    /// The URI of the file `name`. `file_of` of it gives `name` back, if `name` is the name of a file
-    /// (the law `uris_come_back`).
+    /// The URI of the file `name`. `file_of` of it gives `name` back, if `name` is the name of a
+    /// file (the law `uris_come_back`).
     #[tactic(auto, using(crate::proofs::EscapeLemmas::uri_absolute, crate::proofs::EscapeLemmas::uri_relative))]
     pub fn uri_of(&self, alloc: Global, name: &str) -> Result<String, AllocError>
         ensures { IfOk result (λ uri. string_bytes uri ≡ uri_of self.now name.now) }

@@ -1,8 +1,8 @@
 //! The path that a URI names, the file at a path below a root, and the escapes of a path.
 //!
 //! A URI begins with `file://`, in lower case, and then a path that begins with `/`. The escapes of
-//! the path are bytes of UTF-8, and a `%` without two hexadecimal digits is itself (RFC 3986, section
-//! 2.1; RFC 8089, section 2).
+//! the path are bytes of UTF-8, and a `%` without two hexadecimal digits is itself (RFC 3986,
+//! section 2.1; RFC 8089, section 2).
 ghost use Rattle.std.specs.Prelude.{◌≡◌, ◌++◌, option_map, string_bytes, IfOk, OnOk};
 ghost use Rattle.std.specs.Cow.{cow_str_bytes};
 ghost use Rattle.pq_session.specs.Uri.{strip_prefix as strip_prefix_of, is_absolute as is_absolute_path, path_of as path_of_uri, without_slashes, without_last_slashes, file_at as file_at_path, text_of, decoded_path as decoded_path_of, encoded};

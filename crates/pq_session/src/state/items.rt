@@ -1,7 +1,7 @@
 //! What a message of a client asks for: the item of the message.
 //!
-//! `Item::Ask` and `Item::Say` say of a request what `Want::Demand` and `Want::Fixed` say inside it.
-//! The code that routes messages reads from the item whether the sources are needed. The code that
+//! `Item::Ask` and `Item::Say` say of a request what `Want::Demand` and `Want::Fixed` say inside
+//! it. The code that routes messages reads from the item whether the sources are needed. The code that
 //! writes the response gets the request alone, and reads it from the want. `HasFittingWant` keeps
 //! both in step.
 //!

@@ -72,7 +72,7 @@ impl Session {
     }
 }
 
-/// What `message` asks for in a session of this phase, and the phase after it, if it is another one.
+/// What `message` asks for in a session of this phase, and the phase after it if that is another.
 #[tactic(auto, unfolding(crate::specs::Session::meaning_of, crate::specs::Session::next_phase))]
 fn item_and_phase(
     alloc: Global,

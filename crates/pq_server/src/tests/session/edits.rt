@@ -1,8 +1,8 @@
 //! Notifications that edit (LSP 3.17, "Text Document Synchronization"; `proto/removeFile`).
 //!
-//! A row is `METHOD PARAMS => WANT`, after `a.proto` was opened with the text `hi`. `DOC` stands for
-//! the member `textDocument` of `a.proto`. WANT is `LENGTH REVISION`, the length of the text of `a.proto`
-//! afterwards, or `-` if it is absent, or `ends STATUS`.
+//! A row is `METHOD PARAMS => WANT`, after `a.proto` was opened with the text `hi`. `DOC` stands
+//! for the member `textDocument` of `a.proto`. WANT is `ends STATUS`, or `LENGTH REVISION`: the
+//! length of the text of `a.proto` afterwards, `-` if it is absent.
 use super::{DIAGNOSTIC, INITIALIZE, INITIALIZED, check_replies, item_of_length, open, report};
 use crate::tests::support::{check_row_count, split_row};
 use pq_session::Memory;
