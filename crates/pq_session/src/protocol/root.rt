@@ -1,8 +1,8 @@
 //! The root folder of a session: the files that URIs name below it, and the URIs of files.
 //!
 //! A path that begins with the root and `/` names the file of what follows. Another path names
-//! itself. So a file has one name, whichever escapes a client writes, and the names of files below
-//! the root are those that import statements write.
+//! itself. So the escapes that a client writes make no other name, and the names of files below the
+//! root are those that import statements write.
 ghost use Rattle.std.specs.Prelude.{◌≡◌, option_map, string_bytes, IfOk};
 ghost use Rattle.pq_session.specs.Uri.{root_of, file_of, uri_of};
 

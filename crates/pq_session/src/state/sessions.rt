@@ -50,8 +50,8 @@ impl Session {
         self.phase.root()
     }
 
-    /// What the client's next message asks for. A message of one that is not allowed in the phase
-    /// gets an error as its response. An edit of unreadable parameters ends the session with
+    /// What the client's next message asks for. A request that the phase does not allow gets an
+    /// error as its response. An edit of unreadable parameters ends the session with
     /// `UNREADABLE_PARAMETERS`. The text of an edit is moved out of the message, not copied.
     ///
     /// An allocation failure leaves the session as it was, and the message is lost.
