@@ -1,0 +1,248 @@
+-- In every rule set in which the query of checks is embedded beside those of a schema, each answer
+-- of the checks of a file is what the sources say of its errors.
+use Rattle.std.proofs.Common.{◌≡◌, ℕ, ◌<◌, List, [], ◌∷◌, ◌++◌, map, Option, Some, None, refl, sym, ap, subst, ◌∙◌, inl, inr, arith}
+use Rattle.std.specs.Prelude.{slice_get, unwrap_or}
+use Rattle.pq_inputs.specs.Sources.{Sources, file_in}
+use Rattle.pq_rules.specs.declared.turn.Turn.{Turn}
+use Rattle.pq_rules.specs.declared.turn.Turn.TheVariants.{Ask, Done}
+use Rattle.pq_rules.specs.declared.turn.Answer.{Answer}
+use Rattle.pq_rules.specs.declared.turn.Answer.TheVariants.{Value, Cycle}
+use Rattle.pq_rules.specs.Turns.{Instance}
+use Rattle.pq_rules.specs.Relations.{Each, In, Chain, Leads, IsRing, LeadsInto}
+use Rattle.pq_rules.specs.Value.{Trace, Means}
+use Rattle.pq_rules.specs.Embedding.{Runs}
+use Rattle.pq_rules.proofs.LowerReads.{lower_runs}
+use Rattle.pq_rules.proofs.OneRead.{once}
+use Rattle.pq_rules.proofs.Rings.{each_in}
+use Rattle.pq_links.specs.Files.{read_file, graph_of}
+use Rattle.pq_links.specs.ImportGraph.{Graph, file_of, imported, IsGood, IsBad, IsNext, IsRingOf}
+use Rattle.pq_links.specs.LinkedKeys.{LinkedIs}
+use Rattle.pq_links.specs.declared.files.ParsedFile.{ParsedFile}
+use Rattle.pq_links.specs.declared.links.Import.{Import}
+use Rattle.pq_links.proofs.GraphLemmas.{ends_or_walks}
+use Rattle.pq_schema.specs.Contents.{Defs}
+use Rattle.pq_schema.specs.Compile.{defs_at, AreResolved}
+use Rattle.pq_schema.specs.SchemaSum.{SchemaSum, SchemaMeans}
+use Rattle.pq_schema.proofs.BadFiles.{ring_bad}
+use Rattle.pq_checks.specs.Answers.{CheckWords, AsksStates, AsksNext, AsksLinks, if_ring, surroundings_by}
+use Rattle.pq_checks.specs.ChecksSum.{ChecksSum, ChecksMeans, words_of}
+use Rattle.pq_checks.specs.Compile.{AreSurroundings, IsRingAt, file_faults, IsChecked}
+use Rattle.pq_checks.specs.Diagnostics.{ordered, AreDiagnostics}
+use Rattle.pq_checks.specs.Surroundings.{state_of, other_files}
+use Rattle.pq_checks.specs.aux.DiagnosticsTurns.{diagnostics_level, diagnostics_starts, diagnostics_advances}
+use Rattle.pq_checks.specs.aux.Queries.{check_level, link_next, staged, placed, with_state, link_follows, link_placed, check_starts, check_advances}
+use Rattle.pq_checks.specs.declared.checked.CheckPart.{CheckPart}
+use Rattle.pq_checks.specs.declared.checked.CheckPart.TheVariants.{ReadFile, ReadImports, ReadLinks, ReadDefs, ReadScope, ReadReferences, ReadState, ReadNext}
+use Rattle.pq_checks.specs.declared.gathered.Known.{Known}
+use Rattle.pq_checks.specs.declared.surroundings.Checked.{Checked}
+use Rattle.pq_checks.specs.declared.surroundings.Imported.{Imported}
+use Rattle.pq_checks.proofs.ByAnswers.{checks_given}
+
+-- ---- rings of imports
+
+in_middle : (before after : List (List ℕ)) (h : List ℕ) → In h (before ++ h ∷ after)
+in_middle [] after h = inl refl
+in_middle (x ∷ xs) after h = inr (in_middle xs after h)
+
+chain_next : (g : Graph) (f : List ℕ) (xs : List (List ℕ)) (z : List ℕ) → Chain (IsNext g) f xs z → (h : List ℕ) × IsNext g f h
+unfolding Chain
+chain_next g f [] z c = (z, c)
+chain_next g f (x ∷ xs) z c = (x, c.0)
+
+-- a file that leads into a ring has a next file
+ring_next : (g : Graph) (f : List ℕ) (ring : List (List ℕ)) → IsRingOf g f ring → (h : List ℕ) × IsNext g f h
+unfolding IsRing LeadsInto Leads
+ring_next g f [] r = absurd r.0
+ring_next g f (z ∷ zs) r = elim r.1 [
+  | inl e ↦ subst (λ (x : List ℕ). (h : List ℕ) × IsNext g x h) (sym e) (chain_next g z zs z r.0.0)
+  | inr c ↦ chain_next g f c.0 z c.1
+]
+
+-- so not all its imports are good
+not_all_good : (g : Graph) (f : List ℕ) (ring : List (List ℕ)) → IsRingOf g f ring → Each (IsGood g) (imported g f) → ⊥
+not_all_good g f ring r good =
+    let n = ring_next g f ring r in
+    let is = n.1 in
+    let among : In n.0 (imported g f) = subst (λ (hs : List (List ℕ)). In n.0 hs) (sym is.2) (in_middle is.0 is.1 n.0) in
+    let ends = each_in (IsGood g) n.0 (imported g f) good among in
+    ends_or_walks g ends.0 n.0 ends.1 (is.4 ends.0)
+
+-- `NextOf g hs next` is that `next` is the first bad file of `hs`, or `None` where all are good
+abbrev NextOf : Graph → List (List ℕ) → Option (List ℕ) → Type 0
+NextOf g hs None = Each (IsGood g) hs
+NextOf g hs (Some h) = (before after : List (List ℕ)) × (hs ≡ before ++ h ∷ after) × Each (IsGood g) before × IsBad g h
+
+good_more : (g : Graph) (x : List ℕ) (hs : List (List ℕ)) (next : Option (List ℕ)) → IsGood g x → NextOf g hs next → NextOf g (x ∷ hs) next
+good_more g x hs None good n = (good, n)
+good_more g x hs (Some h) good n = (x ∷ n.0, n.1, ap (λ (ys : List (List ℕ)). x ∷ ys) n.2, (good, n.3), n.4)
+
+ring_at : (g : Graph) (f : List ℕ) (ring : List (List ℕ)) (next : Option (List ℕ)) → IsRingOf g f ring → NextOf g (imported g f) next → IsRingAt g f (Some ring) next
+ring_at g f ring None r n = not_all_good g f ring r n
+ring_at g f ring (Some h) r n = (r, n)
+
+module _ {K P V : Type 0} (m : Instance K P V) (files : Sources) (s : SchemaSum m files) (c : ChecksSum m files s) (t : SchemaMeans m files s) where
+  abbrev w : CheckWords K (Answer K V)
+  w = words_of s c.referred_read c.ring_files
+
+  abbrev advances : CheckPart → Answer K V → Turn K CheckPart Checked
+  advances q a = check_advances w q a
+
+  abbrev g : Graph
+  g = graph_of files
+
+  -- ---- the rule asks keys of lower levels alone
+
+  abbrev IsLow : Turn K CheckPart Checked → Type 0
+  IsLow x = (k : K) (q : CheckPart) → x ≡ Ask k q → m.level k < check_level
+
+  low : (k : K) (n : ℕ) → m.level k ≡ n → n < check_level → m.level k < check_level
+  low k n e l = subst (λ (i : ℕ). i < check_level) (sym e) l
+
+  ask_low : (j : K) (p : CheckPart) → m.level j < check_level → IsLow (Ask j p)
+  ask_low j p l k q e = let key : j ≡ k = cc in subst (λ (x : K). m.level x < check_level) key l
+
+  done_low : (x : Checked) → IsLow (Done x)
+  done_low x k q e = cc
+
+  parse_low : (f : List ℕ) → m.level (s.parse f) < check_level
+  parse_low f = low (s.parse f) 1 (s.parse_embeds.level_is f) (omega arith)
+
+  linked_low : (f : List ℕ) → m.level (s.linked f) < check_level
+  linked_low f = low (s.linked f) 3 (s.linked_embeds.level_is f) (omega arith)
+
+  link_next_low : (k : Known) (ring : Option (List (List ℕ))) (first : Option Import) (left : List Import) (is : List Imported)
+      → IsLow (placed k left is (link_next s.linked k ring first is))
+  link_next_low k (Some ring) (Some i) left is = ask_low (s.linked i.file) (ReadNext k k.linked.imports is) (linked_low i.file)
+  link_next_low k (Some ring) None left is = done_low _
+  link_next_low k None first left is = done_low _
+
+  staged_low : (k : Known) (next : Option Import) (left : List Import) (is : List Imported) → IsLow (placed k left is (staged s.linked s.parse k next is))
+  staged_low k (Some i) left is = ask_low (s.parse i.file) (ReadState k left is) (parse_low i.file)
+  staged_low k None left is = link_next_low k k.linked.ring (slice_get k.linked.imports 0) left is
+
+  link_low : (k : Known) (i : Import) (second : Option Import) (ring : Option (List (List ℕ))) (left : List Import) (is : List Imported)
+      → IsLow (link_placed k left is (link_follows s.linked k (Some i) second ring is))
+  link_low k i second (Some ring) left is = done_low _
+  link_low k i (Some j) None left is = ask_low (s.linked j.file) (ReadNext k left is) (linked_low j.file)
+  link_low k i None None left is = done_low _
+
+  advance_low : (p : CheckPart) (a : Answer K V) → IsLow (advances p a)
+  advance_low (ReadFile f) a = ask_low (s.imports f) _ (low (s.imports f) 2 (s.imports_embeds.level_is f) (omega arith))
+  advance_low (ReadImports f p) a = ask_low (s.linked f) _ (linked_low f)
+  advance_low (ReadLinks f p is) a = ask_low (s.defs f) _ (low (s.defs f) 4 (s.defs_embeds.level_is f) (omega arith))
+  advance_low (ReadDefs l) a = ask_low (s.scope l.file) _ (low (s.scope l.file) 5 (s.scope_embeds.level_is l.file) (omega arith))
+  advance_low (ReadScope l d) a = ask_low (s.resolved l.file) _ (low (s.resolved l.file) 6 (s.resolved_embeds.level_is l.file) (omega arith))
+  advance_low (ReadReferences l d sc) a =
+      staged_low (record { linked = l; defs = d; scope = sc; references = c.referred_read a }) (slice_get l.imports 0) l.imports []
+  advance_low (ReadState k [] is) a = done_low _
+  advance_low (ReadState k (i ∷ left) is) a = staged_low k (slice_get left 0) left (with_state (Some i) (s.parsed_read a) is)
+  advance_low (ReadNext k [] is) a = done_low _
+  advance_low (ReadNext k (i ∷ left) is) a = link_low k i (slice_get left 0) (c.ring_files a) left is
+
+  runs_low : (x : Turn K CheckPart Checked) → IsLow x → (es : Trace K V) (k : K) (q : CheckPart) → Runs advances x es (Ask k q) → m.level k < check_level
+  unfolding Runs
+  runs_low x l [] k q r = l k q r
+  runs_low x l (e ∷ es) k q r = runs_low (advances r.0 e.1) (advance_low r.0 e.1) es k q r.2
+
+  lower : (f : List ℕ) (es : Trace K V) (k : K) (q : CheckPart) → Runs advances (check_starts s.parse f) es (Ask k q) → m.level k < check_level
+  lower f es k q r = runs_low (check_starts s.parse f) (ask_low (s.parse f) (ReadFile f) (parse_low f)) es k q r
+
+  -- ---- what right answers say
+
+  abbrev file_at : List ℕ → ParsedFile
+  file_at f = read_file (file_in files f).text
+
+  parsed_is : (f : List ℕ) (a : Answer K V) → Means m (s.parse f) a → s.parsed_read a ≡ file_at f
+  parsed_is f a h = ap s.parsed_read ((t.parse f a).0 h) ∙ s.parsed_back (file_at f)
+
+  abbrev with_file : List ℕ → Imported
+  with_file h = record { file = h; state = state_of (file_at h) }
+
+  states_are : (is : List Import) (es rest : Trace K V) (imported : List Imported) → AsksStates w is es rest imported → Each (λ e. Means m e.0 e.1) es
+      → (imported ≡ map with_file (map file_of is)) × Each (λ e. Means m e.0 e.1) rest
+  states_are [] es rest imported p told = (p.1, subst (λ (xs : Trace K V). Each (λ e. Means m e.0 e.1) xs) (sym p.0) told)
+  states_are (i ∷ is) [] rest imported p told = absurd p
+  states_are (i ∷ is) (e ∷ es) rest imported p told =
+      let means : Means m (s.parse i.file) e.1 = subst (λ (k : K). Means m k e.1) p.1 told.0 in
+      let others = states_are is es rest p.0 p.3 told.1 in
+      let made = λ (x : ParsedFile) (more : List Imported). record { file = i.file; state = state_of x } ∷ more in
+      (p.2 ∙ ap (λ (x : ParsedFile). made x p.0) (parsed_is i.file e.1 means) ∙ ap (made (file_at i.file)) others.0, others.1)
+
+  -- an answer for the links of an import
+  next_step : (x : List ℕ) (is : List Import) (es : Trace K V) (next : Option (List ℕ)) (a : Answer K V) → LinkedIs g s.linked s.linked_value x a
+      → (AsksNext w is es next → NextOf g (map file_of is) next)
+      → if_ring (c.ring_files a) ((es ≡ []) × (next ≡ Some x)) (AsksNext w is es next) → NextOf g (x ∷ map file_of is) next
+  next_step x is es next (Value v) l on p =
+      let none : c.ring_files (Value v) ≡ None = ap (λ (y : V). c.ring_files (Value y)) l.1 ∙ c.no_ring l.0 in
+      let rest : AsksNext w is es next = subst (λ (r : Option (List (List ℕ))). if_ring r ((es ≡ []) × (next ≡ Some x)) (AsksNext w is es next)) none p in
+      good_more g x (map file_of is) next (l.2.0, l.2.1) (on rest)
+  next_step x is es next (Cycle r) l on p =
+      let some : c.ring_files (Cycle r) ≡ Some l.0 = ap (λ (y : List K). c.ring_files (Cycle y)) l.1 ∙ c.ring_back l.0 in
+      let end : (es ≡ []) × (next ≡ Some x) = subst (λ (o : Option (List (List ℕ))). if_ring o ((es ≡ []) × (next ≡ Some x)) (AsksNext w is es next)) some p in
+      let ring : IsRingOf g x l.0 = l.2 in
+      subst (λ (n : Option (List ℕ)). NextOf g (x ∷ map file_of is) n) (sym end.1) ([], map file_of is, refl, tt, ring_bad g x l.0 ring)
+
+  next_is : (is : List Import) (es : Trace K V) (next : Option (List ℕ)) → AsksNext w is es next → Each (λ e. Means m e.0 e.1) es → NextOf g (map file_of is) next
+  next_is [] es next p told = subst (λ (n : Option (List ℕ)). NextOf g [] n) (sym p.1) tt
+  next_is (i ∷ is) [] next p told = absurd p
+  next_is (i ∷ is) (e ∷ es) next p told =
+      let means : Means m (s.linked i.file) e.1 = subst (λ (k : K). Means m k e.1) p.0 told.0 in
+      next_step i.file is es next e.1 ((t.linked i.file e.1).0 means) (λ q. next_is is es next q told.1) p.1
+
+  -- the ring and the next file, by the answers for links
+  ring_is : (f : List ℕ) (a : Answer K V) (is : List Import) (es : Trace K V) (next : Option (List ℕ)) → map file_of is ≡ imported g f
+      → LinkedIs g s.linked s.linked_value f a → AsksLinks w (c.ring_files a) is es next → Each (λ e. Means m e.0 e.1) es → IsRingAt g f (c.ring_files a) next
+  ring_is f (Value v) is es next same l p told =
+      let none : c.ring_files (Value v) ≡ None = ap (λ (y : V). c.ring_files (Value y)) l.1 ∙ c.no_ring l.0 in
+      let end : (es ≡ []) × (next ≡ None) = subst (λ (r : Option (List (List ℕ))). AsksLinks w r is es next) none p in
+      let good : IsGood g f = (l.2.0, l.2.1) in
+      subst (λ (r : Option (List (List ℕ))). IsRingAt g f r next) (sym none) (subst (λ (n : Option (List ℕ)). IsRingAt g f None n) (sym end.1) good)
+  ring_is f (Cycle r) is es next same l p told =
+      let some : c.ring_files (Cycle r) ≡ Some l.0 = ap (λ (y : List K). c.ring_files (Cycle y)) l.1 ∙ c.ring_back l.0 in
+      let asks : AsksNext w is es next = subst (λ (o : Option (List (List ℕ))). AsksLinks w o is es next) some p in
+      let ring : IsRingOf g f l.0 = l.2 in
+      let first : NextOf g (imported g f) next = subst (λ (hs : List (List ℕ)). NextOf g hs next) same (next_is is es next asks told) in
+      subst (λ (o : Option (List (List ℕ))). IsRingAt g f o next) (sym some) (ring_at g f l.0 next ring first)
+
+  checks_are : (f : List ℕ) (a : Answer K V) → Means m (c.checks f) a → (x : Checked) × (a ≡ Value (c.checks_value x)) × IsChecked files f x
+  checks_are f a h =
+      let r = lower_runs m c.checks c.checks_part c.checks_value check_level (check_starts s.parse) advances c.checks_embeds (omega arith) lower f a h in
+      let x = r.1 in
+      let given = checks_given w f r.0 x r.2 in
+      let told = subst (λ (xs : Trace K V). Each (λ e. Means m e.0 e.1) xs) given.10 r.4 in
+      let parsed = parsed_is f given.0 told.0 in
+      let imports : s.imports_read given.1 ≡ g f = ap s.imports_read ((t.imports f given.1).0 told.1.0) ∙ s.imports_back (g f) in
+      let links = (t.linked f given.2).0 told.1.1.0 in
+      let defs : s.defs_read given.3 ≡ defs_at files f = ap s.defs_read ((t.defs f given.3).0 told.1.1.1.0) ∙ s.defs_back (defs_at files f) in
+      let scope = (t.scope f given.4).0 told.1.1.1.1.0 in
+      let scoped : s.scope_read given.4 ≡ scope.0 = ap s.scope_read scope.1 ∙ s.scope_back scope.0 in
+      let resolved = (t.resolved f given.5).0 told.1.1.1.1.1.0 in
+      let referred : c.referred_read given.5 ≡ resolved.0 = ap c.referred_read resolved.1 ∙ c.referred_back resolved.0 in
+      let states = states_are (unwrap_or (s.imports_read given.1) []) given.6 given.7 given.8 given.11 told.1.1.1.1.1.1 in
+      let same : map file_of (unwrap_or (s.imports_read given.1) []) ≡ imported g f = ap (λ (o : Option (List Import)). map file_of (unwrap_or o [])) imports in
+      let around = surroundings_by f given.8 (c.ring_files given.2) given.9 (s.defs_read given.3) (s.scope_read given.4) (c.referred_read given.5) in
+      let are : AreSurroundings files f around = record {
+        imported_are = states.0 ∙ ap (map with_file) same;
+        ring_is = ring_is f given.2 (unwrap_or (s.imports_read given.1) []) given.7 given.9 same links given.12 states.1;
+        definitions_are = ap (λ (d : Defs). d.definitions) defs;
+        others_are = (scope.0, scope.2, ap (other_files f) scoped);
+        references_are = subst (AreResolved files f) (sym referred) resolved.2;
+      } in
+      let faults : x.faults ≡ file_faults around (file_at f) = ap (λ (y : Checked). y.faults) given.13 ∙ ap (file_faults around) parsed in
+      (x, r.3, ((around, are, faults), ap (λ (y : Checked). y.file) given.13 ∙ parsed))
+
+  -- ---- the diagnostics
+
+  checks_low : (f : List ℕ) → m.level (c.checks f) < diagnostics_level
+  checks_low f = subst (λ (i : ℕ). i < diagnostics_level) (sym (c.checks_embeds.level_is f)) (omega arith)
+
+  diagnostics_are : (f : List ℕ) (a : Answer K V) → Means m (c.diagnostics f) a → (d : Checked) × (a ≡ Value (c.diagnostics_value d)) × AreDiagnostics files f d
+  diagnostics_are f a h =
+      let o = once m c.diagnostics c.diagnostics_part c.diagnostics_value diagnostics_level (diagnostics_starts c.checks) (λ q b. diagnostics_advances (c.checked_read b)) c.diagnostics_embeds
+      c.checks (λ x. tt) (λ x b. ordered (c.checked_read b)) (λ x. refl) (λ x b. refl) checks_low f a h in
+      let x = checks_are f o.0 o.1 in
+      let read : c.checked_read o.0 ≡ x.0 = ap c.checked_read x.1 ∙ c.checked_back x.0 in
+      (ordered (c.checked_read o.0), o.2, (x.0, x.2, ap ordered read))
+
+  pub checks_mean : ChecksMeans m files s c
+  checks_mean = record { checks = checks_are; diagnostics = diagnostics_are }

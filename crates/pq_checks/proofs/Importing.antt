@@ -1,0 +1,96 @@
+-- The errors of imports, by what the code looks up: states by name, and names listed before.
+use Rattle.std.proofs.Common.{◌≡◌, ℕ, zero, suc, arith, ◌+◌, ◌<◌, Bool, true, false, cond, List, [], ◌∷◌, ◌++◌, take, drop, length, get_or, map, refl, sym, ◌∙◌, ap, append_assoc, add-one, drop-cons}
+use Rattle.std.specs.Prelude.{◌||◌, bytes_eq, codes, Option, Some, None, unwrap_or}
+use Rattle.std.specs.List.{list_any}
+use Rattle.std.specs.Borrow.{Bor}
+use Rattle.std.proofs.lemmas.List.{take-map}
+use Rattle.pq_syntax.specs.declared.parts.Strings.{Strings}
+use Rattle.std.specs.Str.{is_utf8}
+use Rattle.pq_checks.specs.declared.code.Code.TheVariants as code
+use Rattle.pq_checks.specs.Faults.{at, arrowed, ring_text, ring_faults, import_faults, is_listed, state_faults}
+use Rattle.pq_checks.specs.Surroundings.{state_in}
+use Rattle.pq_checks.specs.aux.Imports.{found_in, first_name, import_line, ring_line, listed_line, by_imports}
+use Rattle.pq_checks.specs.aux.Views.{all_now}
+use Rattle.pq_checks.specs.declared.surroundings.FileState.{FileState}
+use Rattle.pq_checks.specs.declared.surroundings.FileState.TheVariants.{Readable}
+use Rattle.pq_checks.specs.declared.surroundings.Imported.{Imported}
+
+-- ---- states
+
+choice : (name : List ℕ) (i : Imported) (is : List Imported) (b : Bool) → state_in is name ≡ unwrap_or (found_in is name) Readable
+    → cond b i.state (state_in is name) ≡ unwrap_or (cond b (Some i.state) (found_in is name)) Readable
+choice name i is true rest = refl
+choice name i is false rest = rest
+
+-- a state as the map finds it
+pub state_found : (imported : List Imported) (name : List ℕ) → state_in imported name ≡ unwrap_or (found_in imported name) Readable
+state_found [] name = refl
+state_found (i ∷ is) name = choice name i is (bytes_eq i.file name) (state_found is name)
+
+-- one more file before the others
+pub found_more : (imported : List Imported) (i : ℕ) (d : Imported) (name : List ℕ) → i < length imported → d ≡ get_or imported i d
+    → found_in (drop i imported) name ≡ cond (bytes_eq d.file name) (Some d.state) (found_in (drop (i + 1) imported) name)
+found_more imported i d name lt is =
+    ap (λ (is : List Imported). found_in is name) (drop-cons imported i d lt ∙ ap (λ n. get_or imported i d ∷ drop n imported) (sym (add-one i)))
+    ∙ ap (λ (x : Imported). cond (bytes_eq x.file name) (Some x.state) (found_in (drop (i + 1) imported) name)) (sym is)
+
+-- ---- the message about a ring
+
+-- one more name
+pub arrow_more : (last text named after whole : List ℕ) (ring : List (List ℕ)) (i : ℕ) (d : List ℕ) → i < length ring → d ≡ get_or ring i d
+    → named ≡ text ++ d → after ≡ named ++ codes " -> " → text ++ arrowed (drop i ring) last ≡ whole → after ++ arrowed (drop (i + 1) ring) last ≡ whole
+arrow_more last text named after whole ring i d lt is put arrow so_far =
+    let rest = arrowed (drop (i + 1) ring) last in
+    let cut : arrowed (drop i ring) last ≡ d ++ codes " -> " ++ rest =
+    ap (λ (fs : List (List ℕ)). arrowed fs last) (drop-cons ring i d lt ∙ ap (λ n. get_or ring i d ∷ drop n ring) (sym (add-one i)))
+    ∙ ap (λ x. x ++ codes " -> " ++ rest) (sym is) in
+    ap (λ t. t ++ rest) (arrow ∙ ap (λ t. t ++ codes " -> ") put ∙ append_assoc text d (codes " -> "))
+    ∙ append_assoc text (d ++ codes " -> ") rest
+    ∙ ap (λ t. text ++ t) (sym cut)
+    ∙ so_far
+
+-- the message is the names with arrows, and the first again
+pub ring_said : (ring : List (List ℕ)) → ring_text ring ≡ codes "import cycle: " ++ arrowed ring (first_name ring)
+ring_said [] = refl
+ring_said (f ∷ fs) = refl
+
+-- ---- lists of what references lend
+
+pub any_map : {A B : Type 0} (p : B → Bool) (f : A → B) (xs : List A) → list_any p (map f xs) ≡ list_any (λ (x : A). p (f x)) xs
+any_map p f [] = refl
+any_map p f (x ∷ xs) = ap (λ b. p (f x) || b) (any_map p f xs)
+
+pub length_now : {A : Type 0} (xs : List (Bor A)) → length (all_now xs) ≡ length xs
+length_now [] = refl
+length_now (x ∷ xs) = ap (λ n. suc n) (length_now xs)
+
+at_map : {A : Type 0} (xs : List (Bor A)) (i : ℕ) (d : Bor A) → i < length xs → get_or (all_now xs) i d.now ≡ (get_or xs i d).now
+at_map [] i d lt = absurd (omega arith)
+at_map (x ∷ xs) zero d lt = refl
+at_map (x ∷ xs) (suc i) d lt = at_map xs i d (omega arith)
+
+pub now_at : {A : Type 0} (xs : List (Bor A)) (i : ℕ) (d : Bor A) → i < length xs → d ≡ get_or xs i d → d.now ≡ get_or (all_now xs) i d.now
+now_at {A = A} xs i d lt is = ap (λ (x : Bor A). x.now) is ∙ sym (at_map xs i d lt)
+
+-- the names listed before, as references to them
+pub listed_now : (name : List ℕ) (i : ℕ) (xs : List (Bor Strings)) → is_listed name (take i (all_now xs)) ≡ list_any (λ (x : Bor Strings). bytes_eq name x.now.value) (take i xs)
+listed_now name i xs =
+    ap (list_any (λ (e : Strings). bytes_eq name e.value)) (take-map (λ (x : Bor Strings). x.now) i xs)
+    ∙ any_map (λ (e : Strings). bytes_eq name e.value) (λ (x : Bor Strings). x.now) (take i xs)
+
+-- ---- one import
+
+ring_same : (ring : Option (List (List ℕ))) (next : Option (List ℕ)) (earlier : List Strings) (i : Strings)
+    → ring_faults ring next earlier i ≡ ring_line ring next (is_listed i.value earlier) i
+ring_same None next earlier i = refl
+ring_same (Some ring) None earlier i = refl
+ring_same (Some ring) (Some next) earlier i = refl
+
+-- the errors of an import, by its state and whether its name is repeated
+pub import_said : (imported : List Imported) (ring : Option (List (List ℕ))) (next : Option (List ℕ)) (earlier : List Strings) (i : Strings) (state : FileState) (repeated : Bool)
+    → state ≡ state_in imported i.value → repeated ≡ is_listed i.value earlier → import_line state ring next repeated i ≡ import_faults (by_imports imported ring next) earlier i
+import_said imported ring next earlier i state repeated is_state is_repeated =
+    ap (λ s. import_line s ring next repeated i) is_state
+    ∙ ap (λ b. import_line (state_in imported i.value) ring next b i) is_repeated
+    ∙ ap (λ rs. cond (is_utf8 i.value) (state_faults (state_in imported i.value) i ++ listed_line (is_listed i.value earlier) i ++ rs) (at i.span code.ImportNotText (codes "import name is not UTF-8") ∷ []))
+    (sym (ring_same ring next earlier i))

@@ -1,0 +1,36 @@
+-- The steps of a loop over a list that appends what is said of each element, and its end.
+use Rattle.std.proofs.Common.{◌≡◌, ℕ, ◌+◌, ◌<◌, ◌≤◌, List, ◌∷◌, ◌++◌, take, drop, length, get_or, sym, ◌∙◌, ap, append_assoc, append-nil, add-one, drop-cons}
+use Rattle.std.specs.Prelude.{flat_map}
+use Rattle.std.proofs.lemmas.List.{drop_all}
+use Rattle.pq_checks.specs.Earlier.{of_each_after}
+use Rattle.pq_checks.proofs.SaidAfter.{each_said_more}
+
+module _ {A B : Type 0} (f : A → List B) where
+  -- one more element
+  pub each_more : (done after whole : List B) (xs : List A) (i : ℕ) (d : A) → i < length xs → d ≡ get_or xs i d → after ≡ done ++ f d
+      → done ++ flat_map f (drop i xs) ≡ whole → after ++ flat_map f (drop (i + 1) xs) ≡ whole
+  each_more done after whole xs i d lt is said so_far =
+      let cut : drop i xs ≡ get_or xs i d ∷ drop (i + 1) xs = drop-cons xs i d lt ∙ ap (λ n. get_or xs i d ∷ drop n xs) (sym (add-one i)) in
+      ap (λ ys. ys ++ flat_map f (drop (i + 1) xs)) (said ∙ ap (λ x. done ++ f x) is)
+      ∙ append_assoc done (f (get_or xs i d)) (flat_map f (drop (i + 1) xs))
+      ∙ ap (λ ys. done ++ flat_map f ys) (sym cut)
+      ∙ so_far
+
+  -- no element is left
+  pub each_all : (done whole : List B) (xs : List A) (i : ℕ) → length xs ≤ i → done ++ flat_map f (drop i xs) ≡ whole → done ≡ whole
+  each_all done whole xs i past so_far =
+      sym (append-nil done) ∙ ap (λ ys. done ++ flat_map f ys) (sym (drop_all i xs past)) ∙ so_far
+
+module _ {A B : Type 0} (f : List A → A → List B) where
+  -- one more element, said by those before it
+  pub after_more : (done after whole : List B) (xs : List A) (i : ℕ) (d : A) → i < length xs → d ≡ get_or xs i d → after ≡ done ++ f (take i xs) d
+      → done ++ of_each_after f (take i xs) (drop i xs) ≡ whole → after ++ of_each_after f (take (i + 1) xs) (drop (i + 1) xs) ≡ whole
+  after_more done after whole xs i d lt is said so_far =
+      ap (λ ys. ys ++ of_each_after f (take (i + 1) xs) (drop (i + 1) xs)) (said ∙ ap (λ x. done ++ f (take i xs) x) is)
+      ∙ each_said_more f done whole xs i d lt so_far
+
+  -- no element is left
+  pub after_all : (done whole : List B) (xs : List A) (i : ℕ) → length xs ≤ i → done ++ of_each_after f (take i xs) (drop i xs) ≡ whole → done ≡ whole
+  unfolding of_each_after
+  after_all done whole xs i past so_far =
+      sym (append-nil done) ∙ ap (λ ys. done ++ of_each_after f (take i xs) ys) (sym (drop_all i xs past)) ∙ so_far

@@ -1,0 +1,7 @@
+use Rattle.std.proofs.Common.{◌≡◌, map, take}
+use Rattle.std.specs.Prelude.{flat_map}
+use Rattle.pq_checks.specs.aux.Seen.{opted_seen, option_in}
+use Rattle.pq_checks.proofs.members.options.Given as goal
+
+abbrev pub invariant-spots : goal.invariant-spots
+invariant-spots l = map opted_seen l.options.items ≡ flat_map option_in (take l.spot-index l.spots)

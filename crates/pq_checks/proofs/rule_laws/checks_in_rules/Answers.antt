@@ -1,0 +1,11 @@
+use Rattle.pq_rules.specs.Turns.{over}
+use Rattle.pq_schema.proofs.SchemaMeaning.{schema_means}
+use Rattle.pq_checks.proofs.ChecksMeaning.{checks_mean}
+use Rattle.pq_checks.proofs.rule_laws.checks_in_rules.Goals as goal
+
+pub returns : goal.returns
+returns g c = record {
+  means = λ files s q.
+      let m = over g.R.Key.Ord.cmp (g.R.Rules.machine c.args._rules.now) files in
+      checks_mean m files s q (schema_means m files s);
+}

@@ -1,0 +1,59 @@
+-- What the sources say of the errors of a file. No query is named here.
+use Rattle.std.specs.Prelude.{ℕ, ◌≡◌, List, [], ◌∷◌, map, Option, Some, None}
+use Rattle.pq_inputs.specs.Sources.{Sources, file_in}
+use Rattle.pq_syntax.specs.declared.fault.Parsed.{Parsed}
+use Rattle.pq_syntax.specs.declared.fault.Parsed.TheVariants.{Tree, Fault as SyntaxFault}
+use Rattle.pq_links.specs.Files.{graph_of, read_file}
+use Rattle.pq_links.specs.ImportGraph.{Graph, IsGood, IsNext, IsRingOf, imported}
+use Rattle.pq_links.specs.declared.files.ParsedFile.{ParsedFile}
+use Rattle.pq_links.specs.declared.files.ParsedFile.TheVariants.{Absent, Present}
+use Rattle.pq_schema.specs.Compile.{IsScope, AreResolved, defs_at}
+use Rattle.pq_schema.specs.ScopeContents.{Scope}
+use Rattle.pq_checks.specs.Codes.{syntax_code, syntax_text}
+use Rattle.pq_checks.specs.Faults.{at, faults}
+use Rattle.pq_checks.specs.Surroundings.{Surroundings, other_files, state_of}
+use Rattle.pq_checks.specs.declared.surroundings.Imported.{Imported}
+use Rattle.pq_checks.specs.declared.fault.Fault.{Fault}
+use Rattle.pq_checks.specs.declared.surroundings.Checked.{Checked}
+
+-- `imported_at files f` lists the files that the file `f` imports, each with its state
+abbrev pub imported_at : Sources → List ℕ → List Imported
+imported_at files f =
+    map (λ (h : List ℕ). record { file = h; state = state_of (read_file (file_in files h).text) }) (imported (graph_of files) f)
+
+-- `IsRingAt g f ring next` is that `ring` and `next` are the ring of imports into which the file
+-- `f` leads and its first bad import, or both `None` if `f` is good
+abbrev pub IsRingAt : Graph → List ℕ → Option (List (List ℕ)) → Option (List ℕ) → Type 0
+IsRingAt g f None None = IsGood g f
+IsRingAt g f None (Some next) = ⊥
+IsRingAt g f (Some ring) None = ⊥
+IsRingAt g f (Some ring) (Some next) = IsRingOf g f ring × IsNext g f next
+
+-- `AreSurroundings files f s` is that `s` is what the checks of the file `f` know beside its tree
+pub record AreSurroundings (files : Sources) (f : List ℕ) (s : Surroundings) : Type 0 where
+  pub imported_are : s.imported ≡ imported_at files f
+  pub ring_is : IsRingAt (graph_of files) f s.ring s.next
+  pub definitions_are : s.definitions ≡ (defs_at files f).definitions
+  pub others_are : (scope : Scope) × IsScope files f scope × (s.others ≡ other_files f scope)
+  pub references_are : AreResolved files f s.references
+
+-- `parsed_faults s p` lists the errors of a text with the tree or syntax error `p` and the
+-- surroundings `s`: a syntax error is the only one
+abbrev pub parsed_faults : Surroundings → Parsed → List Fault
+parsed_faults s (Tree nodes) = faults s nodes
+parsed_faults s (SyntaxFault span code) = at span (syntax_code code) (syntax_text code) ∷ []
+
+-- `file_faults s file` lists the errors of a file that is read as `file`, with the surroundings
+-- `s`; an absent file has none
+abbrev pub file_faults : Surroundings → ParsedFile → List Fault
+file_faults s Absent = []
+file_faults s (Present p lines) = parsed_faults s p
+
+-- `AreFaults files f fs` is that `fs` lists the errors of the file `f`
+abbrev pub AreFaults : Sources → List ℕ → List Fault → Type 0
+AreFaults files f fs =
+    (s : Surroundings) × AreSurroundings files f s × (fs ≡ file_faults s (read_file (file_in files f).text))
+
+-- `IsChecked files f c` is that `c` is the errors of the file `f` and what it is read as
+abbrev pub IsChecked : Sources → List ℕ → Checked → Type 0
+IsChecked files f c = AreFaults files f c.faults × (c.file ≡ read_file (file_in files f).text)

@@ -1,0 +1,373 @@
+-- The errors of a file: a table with a clause for each kind, which says when it holds, where it is,
+-- and what the user is told (proto3 language specification; the codes are this project's own).
+--
+-- `faults s nodes` lists the errors of a file with the tree `nodes` and the surroundings `s`. The
+-- law `each_fault` reads it as the table, and `faults_in_order` says what its diagnostics are.
+use Rattle.std.specs.Prelude.{ℕ, nat_eq, ◌&&◌, not, ℤ, pos, cond, Bool, true, false, List, [], ◌∷◌, ◌++◌, codes, flat_map, is_some, bytes_eq, Option, Some, None, slice_get}
+use Rattle.std.specs.Fmt.{signed_decimal}
+use Rattle.std.specs.List.{list_any}
+use Rattle.std.specs.Option.{option_eq}
+use Rattle.std.specs.Ordering.{int_eq}
+use Rattle.std.specs.Str.{is_utf8}
+use Rattle.pq_lex.specs.declared.token.Span.{Span}
+use Rattle.pq_syntax.specs.declared.parts.Constant.{Constant}
+use Rattle.pq_syntax.specs.declared.parts.ConstantKind.{ConstantKind}
+use Rattle.pq_syntax.specs.declared.parts.ConstantKind.TheVariants.{Identifier, Float, Aggregate}
+use Rattle.pq_syntax.specs.declared.parts.Name.{Name}
+use Rattle.pq_syntax.specs.declared.parts.NamePart.{NamePart}
+use Rattle.pq_syntax.specs.declared.parts.Strings.{Strings}
+use Rattle.pq_syntax.specs.declared.tree.Node.{Node}
+use Rattle.pq_syntax.specs.declared.tree.Statement.{Statement}
+use Rattle.pq_syntax.specs.declared.tree.Statement.TheVariants.{Field, MapField, Method}
+use Rattle.pq_schema.specs.declared.definitions.Definition.{Definition}
+use Rattle.pq_schema.specs.declared.definitions.DefinitionKind.{DefinitionKind}
+use Rattle.pq_schema.specs.declared.definitions.DefinitionKind.TheVariants as kinds
+use Rattle.pq_schema.specs.declared.references.TypePart.{TypePart}
+use Rattle.pq_schema.specs.declared.references.TypePart.TheVariants as parts
+use Rattle.pq_schema.specs.declared.resolution.Resolution.{Resolution}
+use Rattle.pq_schema.specs.declared.resolution.Resolution.TheVariants as resolutions
+use Rattle.pq_schema.specs.declared.resolved.ResolvedReference.{ResolvedReference}
+use Rattle.pq_schema.specs.declared.scope.FileDefs.{FileDefs}
+use Rattle.pq_checks.specs.Earlier.{of_each_after}
+use Rattle.pq_checks.specs.Members.{Member, fields, values, Body, oneofs, enums, ranges, ReservedName, reserved_names, packages, imports, Opted, option_statements, constants, extends}
+use Rattle.pq_checks.specs.Numbers.{Limits, field_limits, enum_limits, number_in, bounds_of, is_between}
+use Rattle.pq_checks.specs.Owners.{limits_by}
+use Rattle.pq_checks.specs.Surroundings.{Surroundings, state_in, first_with}
+use Rattle.pq_checks.specs.declared.surroundings.FileState.{FileState}
+use Rattle.pq_checks.specs.declared.surroundings.FileState.TheVariants.{Missing, Unreadable, Readable}
+use Rattle.pq_checks.specs.declared.code.Code.{Code}
+use Rattle.pq_checks.specs.declared.code.Code.TheVariants as code
+use Rattle.pq_checks.specs.declared.fault.Fault.{Fault}
+use Rattle.pq_checks.specs.declared.members.Reserved.{Reserved}
+use Rattle.pq_checks.specs.declared.numbers.Bounds.{Bounds}
+
+-- ---- how a line is said
+
+-- `at span c text` is the error of the code `c` with the message `text` at `span`
+abbrev pub at : Span → Code → List ℕ → Fault
+at span c text = record { start = span.start; end = span.end; code = c; text = text }
+
+-- `when holds f` lists `f` if `holds`
+abbrev pub when : Bool → Fault → List Fault
+when holds f = cond holds (f ∷ []) []
+
+-- `quoted name` is `name` between quotation marks
+abbrev pub quoted : List ℕ → List ℕ
+quoted name = codes "\"" ++ name ++ codes "\""
+
+-- `same_item a b` is whether `a` and `b` are the same number of a statement, or both `None`
+abbrev pub same_item : Option ℕ → Option ℕ → Bool
+same_item = option_eq nat_eq
+
+-- `number_text n` is the decimal text of the number `n`
+abbrev pub number_text : Option ℤ → List ℕ
+number_text None = []
+number_text (Some z) = signed_decimal z
+
+-- ---- P020 to P022: what is not read
+
+-- `kind_faults kind span` is P020 and P022 of a constant of the kind `kind` at `span`
+abbrev pub kind_faults : ConstantKind → Span → List Fault
+kind_faults Aggregate span = at span code.AggregateConstant (codes "aggregate option value is not read") ∷ []
+kind_faults Float span = at span code.FloatConstant (codes "float literal is not read") ∷ []
+kind_faults _ span = []
+
+-- `constant_faults c` is the errors of the constant `c` of an option
+abbrev pub constant_faults : Constant → List Fault
+constant_faults c = kind_faults c.kind c.span
+
+-- `extend_faults span` is P021 of an extend block at `span`
+abbrev pub extend_faults : Span → List Fault
+extend_faults span = at span code.ExtendBlock (codes "extend block is not read") ∷ []
+
+-- ---- P101: the package
+
+-- `package_faults earlier p` is the error of the package `p` after the packages `earlier`
+abbrev pub package_faults : List Name → Name → List Fault
+package_faults [] p = []
+package_faults (q ∷ qs) p = at p.span code.PackageTwice (codes "package is given twice") ∷ []
+
+-- ---- P102 to P106: imports
+
+-- `state_faults state s` is P102 and P104 of an import of the name `s` of a file in the state
+-- `state`
+abbrev pub state_faults : FileState → Strings → List Fault
+state_faults Missing s = at s.span code.ImportNotFound (codes "import " ++ quoted s.value ++ codes " is not found") ∷ []
+state_faults Unreadable s = at s.span code.ImportWithError (codes "import " ++ quoted s.value ++ codes " has a syntax fault") ∷ []
+state_faults Readable s = []
+
+-- `is_listed name earlier` is whether one of the imports `earlier` has the name `name`
+abbrev pub is_listed : List ℕ → List Strings → Bool
+is_listed name earlier = list_any (λ (e : Strings). bytes_eq name e.value) earlier
+
+-- `arrowed files last` is the names `files` and then `last`, with arrows between
+abbrev pub arrowed : List (List ℕ) → List ℕ → List ℕ
+arrowed [] last = last
+arrowed (f ∷ fs) last = f ++ codes " -> " ++ arrowed fs last
+
+-- `ring_text ring` is the message about the ring of imports `ring`: its first name comes again at
+-- the end
+abbrev pub ring_text : List (List ℕ) → List ℕ
+ring_text [] = codes "import cycle: "
+ring_text (f ∷ fs) = codes "import cycle: " ++ arrowed (f ∷ fs) f
+
+-- `ring_faults ring next earlier s` is P105 of the import of the name `s` after the imports
+-- `earlier`, in a file with the ring `ring` and the first bad import `next`
+abbrev pub ring_faults : Option (List (List ℕ)) → Option (List ℕ) → List Strings → Strings → List Fault
+ring_faults (Some ring) (Some next) earlier s =
+    when (bytes_eq s.value next && not (is_listed s.value earlier)) (at s.span code.ImportCycle (ring_text ring))
+ring_faults _ _ earlier s = []
+
+-- `import_faults s earlier i` is the errors of the import of the name `i` after the imports
+-- `earlier`, in a file with the surroundings `s`. Of a name that is not UTF-8 only that is said.
+abbrev pub import_faults : Surroundings → List Strings → Strings → List Fault
+import_faults s earlier i =
+    cond (is_utf8 i.value)
+    (state_faults (state_in s.imported i.value) i
+    ++ when (is_listed i.value earlier) (at i.span code.ImportTwice (codes "import " ++ quoted i.value ++ codes " is listed twice"))
+    ++ ring_faults s.ring s.next earlier i)
+    (at i.span code.ImportNotText (codes "import name is not UTF-8") ∷ [])
+
+-- ---- P110 and P111: definitions
+
+-- `twice_faults earlier d` is P110 of the definition `d` after the definitions `earlier`
+abbrev pub twice_faults : List Definition → Definition → List Fault
+twice_faults earlier d =
+    when (list_any (λ (e : Definition). bytes_eq d.full_name e.full_name) earlier) (at d.span code.DefinedTwice (quoted d.full_name ++ codes " is already defined"))
+
+-- `deepest kind` is the depth of a statement at file level that defines something of the kind
+-- `kind`: a message, an enum or a service at no depth, a value in an enum at file level. Other
+-- definitions are never at file level.
+abbrev pub deepest : DefinitionKind → Option ℕ
+deepest kinds.Message = Some 0
+deepest kinds.Enum = Some 0
+deepest kinds.Service = Some 0
+deepest kinds.Value = Some 1
+deepest _ = None
+
+-- `is_at_top nodes d` is whether the definition `d` of a file with the statements `nodes` is at
+-- file level
+abbrev pub is_at_top : List Node → Definition → Bool
+is_at_top nodes d = by (deepest d.kind) (slice_get nodes d.item)
+  where
+    by : Option ℕ → Option Node → Bool
+    by (Some depth) (Some n) = nat_eq n.depth depth
+    by _ _ = false
+
+-- `other_faults other d` is P111 of the definition `d`, where `other` is the first other visible
+-- file that defines its full name
+abbrev pub other_faults : Option (List ℕ) → Definition → List Fault
+other_faults None d = []
+other_faults (Some file) d =
+    at d.span code.DefinedElsewhere (quoted d.full_name ++ codes " is already defined in " ++ file) ∷ []
+
+-- `elsewhere_faults others nodes d` is P111 of the definition `d` of a file with the statements
+-- `nodes` that also sees the files `others`
+abbrev pub elsewhere_faults : List FileDefs → List Node → Definition → List Fault
+elsewhere_faults others nodes d =
+    cond (is_at_top nodes d) (other_faults (first_with d.full_name others) d) []
+
+-- ---- P120 to P125: fields and reserved ranges
+
+-- `has_number limits owner number members` is whether one of `members` of the message or enum
+-- `owner` has the number `number`, which is within `limits`
+abbrev pub has_number : Limits → Option ℕ → Option ℤ → List Member → Bool
+has_number limits owner None members = false
+has_number limits owner (Some z) members =
+    list_any (λ (e : Member). same_item owner e.owner && option_eq int_eq (Some z) (number_in limits e.number)) members
+
+-- `covers bounds z` is whether the range `bounds` has the number `z`
+abbrev pub covers : Option Bounds → ℤ → Bool
+covers None z = false
+covers (Some b) z = is_between b.first b.last z
+
+-- `is_reserved owner number reserved` is whether one of the ranges `reserved` of the message or
+-- enum `owner` has the number `number`
+abbrev pub is_reserved : Option ℕ → Option ℤ → List Reserved → Bool
+is_reserved owner None reserved = false
+is_reserved owner (Some z) reserved =
+    list_any (λ (r : Reserved). same_item owner r.owner && covers (bounds_of (limits_by r.in_enum) r.range) z) reserved
+
+-- `is_reserved_name owner name names` is whether one of the reserved names `names` of the message
+-- or enum `owner` is `name`
+abbrev pub is_reserved_name : Option ℕ → List ℕ → List ReservedName → Bool
+is_reserved_name owner name names =
+    list_any (λ (r : ReservedName). same_item owner r.owner && bytes_eq name r.value) names
+
+-- `is_for_protobuf number` is whether `number` is from 19000 to 19999
+abbrev pub is_for_protobuf : Option ℤ → Bool
+is_for_protobuf None = false
+is_for_protobuf (Some z) = is_between (pos 19000) (pos 19999) z
+
+-- `field_number_faults reserved earlier f` is P120 to P123 of the field `f` after the fields
+-- `earlier`, where `reserved` lists the reserved ranges
+abbrev pub field_number_faults : List Reserved → List Member → Member → List Fault
+field_number_faults reserved earlier f = let number = number_in field_limits f.number in
+    when (not (is_some number)) (at f.number.span code.FieldNumberOutOfRange (codes "field number must be from 1 to 536870911"))
+    ++ when (is_for_protobuf number) (at f.number.span code.FieldNumberOfProtobuf (codes "field numbers 19000 to 19999 are reserved"))
+    ++ when (has_number field_limits f.owner number earlier) (at f.number.span code.FieldNumberTwice (codes "field number " ++ number_text number ++ codes " is used twice"))
+    ++ when (is_reserved f.owner number reserved) (at f.number.span code.FieldNumberReserved (codes "field number " ++ number_text number ++ codes " is reserved"))
+
+-- `field_name_faults names f` is P124 of the field `f`, where `names` lists the reserved names
+abbrev pub field_name_faults : List ReservedName → Member → List Fault
+field_name_faults names f =
+    when (is_reserved_name f.owner f.name.text names) (at f.name.span code.FieldNameReserved (codes "field name " ++ quoted f.name.text ++ codes " is reserved"))
+
+-- `range_faults r` is P125 of the reserved range `r`
+abbrev pub range_faults : Reserved → List Fault
+range_faults r =
+    when (not (is_some (bounds_of (limits_by r.in_enum) r.range))) (at r.range.span code.BadRange (codes "reserved range is empty or out of range"))
+
+-- ---- P126 to P135: oneofs and enums
+
+-- `is_empty body members` is whether none of `members` is in the body of the statement `body`
+abbrev pub is_empty : ℕ → List Member → Bool
+is_empty body members = not (list_any (λ (m : Member). same_item (Some body) m.holder) members)
+
+-- `oneof_faults fields o` is P126 of the oneof `o`
+abbrev pub oneof_faults : List Member → Body → List Fault
+oneof_faults fields o = when (is_empty o.number fields) (at o.name.span code.EmptyOneof (codes "oneof has no field"))
+
+-- `enum_faults values e` is P130 of the enum `e`
+abbrev pub enum_faults : List Member → Body → List Fault
+enum_faults values e = when (is_empty e.number values) (at e.name.span code.EmptyEnum (codes "enum has no value"))
+
+-- `is_named name parts` is whether an option's name with the parts `parts` is the one name `name`
+abbrev pub is_named : List ℕ → List NamePart → Bool
+is_named name (part ∷ []) = not part.is_extension && bytes_eq part.text name
+is_named name _ = false
+
+-- `is_identifier kind` is whether `kind` is that of identifiers
+abbrev pub is_identifier : ConstantKind → Bool
+is_identifier Identifier = true
+is_identifier _ = false
+
+-- `is_true c` is whether the constant `c` is the identifier `true`
+abbrev pub is_true : Constant → Bool
+is_true c = is_identifier c.kind && bytes_eq c.text (codes "true")
+
+-- `is_alias_of enum o` is whether `o` is the option `allow_alias` of the enum `enum`
+abbrev pub is_alias_of : Option ℕ → Opted → Bool
+is_alias_of enum o = same_item o.holder enum && is_named (codes "allow_alias") o.setting.parts
+
+-- `last_alias so_far options enum` is whether the last option `allow_alias` of the enum `enum`
+-- among `options` is true, or `so_far` if there is none
+abbrev pub last_alias : Bool → List Opted → Option ℕ → Bool
+last_alias so_far [] enum = so_far
+last_alias so_far (o ∷ os) enum = last_alias (cond (is_alias_of enum o) (is_true o.setting.constant) so_far) os enum
+
+-- `allows_alias options enum` is whether the enum `enum` allows two values with one number
+abbrev pub allows_alias : List Opted → Option ℕ → Bool
+allows_alias options enum = last_alias false options enum
+
+-- `is_first v earlier` is whether the enum value `v` is the first of its enum, after the values
+-- `earlier`
+abbrev pub is_first : Member → List Member → Bool
+is_first v earlier = not (list_any (λ (e : Member). same_item v.owner e.owner) earlier)
+
+-- `is_zero number` is whether `number` is 0
+abbrev pub is_zero : Option ℤ → Bool
+is_zero None = false
+is_zero (Some z) = int_eq z (pos 0)
+
+-- `value_number_faults reserved options earlier v` is P131 to P134 of the enum value `v` after the
+-- values `earlier`, where `reserved` lists the reserved ranges and `options` the options
+abbrev pub value_number_faults : List Reserved → List Opted → List Member → Member → List Fault
+value_number_faults reserved options earlier v = let number = number_in enum_limits v.number in
+    when (is_first v earlier && not (is_zero number)) (at v.number.span code.FirstValueNotZero (codes "the first enum value must be 0"))
+    ++ when (not (is_some number)) (at v.number.span code.EnumNumberOutOfRange (codes "enum number must be from -2147483648 to 2147483647"))
+    ++ when (has_number enum_limits v.owner number earlier && not (allows_alias options v.owner)) (at v.number.span code.EnumNumberTwice (codes "enum number " ++ number_text number ++ codes " is used twice without allow_alias"))
+    ++ when (is_reserved v.owner number reserved) (at v.number.span code.EnumNumberReserved (codes "enum number " ++ number_text number ++ codes " is reserved"))
+
+-- `value_name_faults names v` is P135 of the enum value `v`, where `names` lists the reserved names
+abbrev pub value_name_faults : List ReservedName → Member → List Fault
+value_name_faults names v =
+    when (is_reserved_name v.owner v.name.text names) (at v.name.span code.EnumValueNameReserved (codes "enum value name " ++ quoted v.name.text ++ codes " is reserved"))
+
+-- ---- P150 to P153: type references
+
+-- `is_method part` is whether a type reference of the part `part` is one of a method
+abbrev pub is_method : TypePart → Bool
+is_method parts.«Type» = false
+is_method parts.Input = true
+is_method parts.Output = true
+
+-- `resolution_faults part name r` is the errors of the type reference `name`, the part `part` of
+-- its statement, which resolves to `r`
+abbrev pub resolution_faults : TypePart → Name → Resolution → List Fault
+resolution_faults part t resolutions.NotFound = at t.span code.TypeNotFound (codes "type " ++ quoted t.text ++ codes " is not found") ∷ []
+resolution_faults part t (resolutions.NotVisible file) = at t.span code.TypeNotImported (codes "type " ++ quoted t.text ++ codes " is in " ++ file ++ codes ", which is not imported") ∷ []
+resolution_faults part t resolutions.NotAType = at t.span code.NotAType (quoted t.text ++ codes " is not a type") ∷ []
+resolution_faults part t (resolutions.«Type» file full_name is_enum item) =
+    when (is_method part && is_enum) (at t.span code.NotAMessage (quoted t.text ++ codes " is not a message"))
+
+-- `named_type part s` is the name of the type that the part `part` of the statement `s` is
+abbrev pub named_type : TypePart → Statement → Option Name
+named_type parts.«Type» (Field label kind name number options) = Some kind
+named_type parts.«Type» (MapField key value name number options) = Some value
+named_type parts.Input (Method name input output) = Some input.type_name
+named_type parts.Output (Method name input output) = Some output.type_name
+named_type _ _ = None
+
+-- `reference_faults nodes r` is the errors of the type reference `r` of the statements `nodes`
+abbrev pub reference_faults : List Node → ResolvedReference → List Fault
+reference_faults nodes r = of_node (slice_get nodes r.item)
+  where
+    of_name : Option Name → List Fault
+    of_name None = []
+    of_name (Some name) = resolution_faults r.part name r.resolution
+
+    of_node : Option Node → List Fault
+    of_node None = []
+    of_node (Some n) = of_name (named_type r.part n.statement)
+
+-- ---- the file
+
+-- `unread_faults nodes` is P020 to P022
+abbrev pub unread_faults : List Node → List Fault
+unread_faults nodes = flat_map constant_faults (constants nodes) ++ flat_map extend_faults (extends nodes)
+
+-- `link_faults s nodes` is P101 to P106
+abbrev pub link_faults : Surroundings → List Node → List Fault
+link_faults s nodes =
+    of_each_after package_faults [] (packages nodes)
+    ++ of_each_after (import_faults s) [] (imports nodes)
+
+-- `in_good s fs` is `fs` in a file with the surroundings `s` that is good, and nothing in a bad one
+abbrev pub in_good : Surroundings → List Fault → List Fault
+in_good s fs = cond (is_some s.ring) [] fs
+
+-- `definition_faults s nodes` is P110 and P111
+abbrev pub definition_faults : Surroundings → List Node → List Fault
+definition_faults s nodes =
+    of_each_after twice_faults [] s.definitions
+    ++ in_good s (flat_map (elsewhere_faults s.others nodes) s.definitions)
+
+-- `message_faults nodes` is P120 to P126
+abbrev pub message_faults : List Node → List Fault
+message_faults nodes =
+    of_each_after (field_number_faults (ranges nodes)) [] (fields nodes)
+    ++ flat_map (field_name_faults (reserved_names nodes)) (fields nodes)
+    ++ flat_map range_faults (ranges nodes)
+    ++ flat_map (oneof_faults (fields nodes)) (oneofs nodes)
+
+-- `enumeration_faults nodes` is P130 to P135
+abbrev pub enumeration_faults : List Node → List Fault
+enumeration_faults nodes =
+    flat_map (enum_faults (values nodes)) (enums nodes)
+    ++ of_each_after (value_number_faults (ranges nodes) (option_statements nodes)) [] (values nodes)
+    ++ flat_map (value_name_faults (reserved_names nodes)) (values nodes)
+
+-- `type_faults s nodes` is P150 to P153
+abbrev pub type_faults : Surroundings → List Node → List Fault
+type_faults s nodes = in_good s (flat_map (reference_faults nodes) s.references)
+
+-- `faults s nodes` lists the errors of a file with the statements `nodes` and the surroundings `s`
+abbrev pub faults : Surroundings → List Node → List Fault
+faults s nodes =
+    unread_faults nodes
+    ++ link_faults s nodes
+    ++ definition_faults s nodes
+    ++ message_faults nodes
+    ++ enumeration_faults nodes
+    ++ type_faults s nodes

@@ -1,0 +1,15 @@
+pub mod Codes
+pub mod Earlier
+pub mod InOrder
+pub mod Numbers
+pub mod Owners
+pub mod Members
+pub mod Surroundings
+pub mod Faults
+pub mod FaultOrder
+pub mod EachFault
+pub mod Compile
+pub mod Answers
+pub mod ChecksSum
+pub mod Diagnostics
+pub mod aux

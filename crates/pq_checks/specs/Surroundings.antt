@@ -1,0 +1,63 @@
+-- What the checks of a file know beside its tree: its imports' files, its definitions, what its
+-- type references resolve to, and the definitions that it sees.
+use Rattle.std.specs.Prelude.{ℕ, Bool, cond, bytes_eq, not, find, filter, List, [], ◌∷◌, Option, option_map}
+use Rattle.std.specs.List.{list_any}
+use Rattle.pq_syntax.specs.declared.fault.Parsed.{Parsed}
+use Rattle.pq_syntax.specs.declared.fault.Parsed.TheVariants.{Tree, Fault}
+use Rattle.pq_links.specs.declared.files.ParsedFile.{ParsedFile}
+use Rattle.pq_links.specs.declared.files.ParsedFile.TheVariants.{Absent, Present}
+use Rattle.pq_schema.specs.ScopeContents.{Scope}
+use Rattle.pq_schema.specs.declared.definitions.Definition.{Definition}
+use Rattle.pq_schema.specs.declared.resolved.ResolvedReference.{ResolvedReference}
+use Rattle.pq_schema.specs.declared.scope.FileDefs.{FileDefs}
+use Rattle.pq_checks.specs.declared.surroundings.FileState.{FileState}
+use Rattle.pq_checks.specs.declared.surroundings.FileState.TheVariants.{Missing, Unreadable, Readable}
+use Rattle.pq_checks.specs.declared.surroundings.Imported.{Imported}
+use Rattle.pq_checks.specs.declared.surroundings.Checked.{Checked}
+
+-- `parsed_state p` is the state of a file whose text has the tree or error `p`
+abbrev pub parsed_state : Parsed → FileState
+parsed_state (Tree nodes) = Readable
+parsed_state (Fault span code) = Unreadable
+
+-- `state_of file` is the state of a file that is read as `file`
+abbrev pub state_of : ParsedFile → FileState
+state_of Absent = Missing
+state_of (Present p lines) = parsed_state p
+
+-- `Surroundings` is what the checks of a file know beside its tree
+pub record Surroundings : Type 0 where
+  -- the files that it imports, each with its state
+  pub imported : List Imported
+  -- the ring of imports into which a bad file leads, and its first bad import; `None` of a good
+  -- file
+  pub ring : Option (List (List ℕ))
+  pub next : Option (List ℕ)
+  -- the definitions of the file, in text order
+  pub definitions : List Definition
+  -- the other files that it sees, in order, with their definitions
+  pub others : List FileDefs
+  -- the type references of the file, in text order, with what they resolve to
+  pub references : List ResolvedReference
+
+-- `other_files f s` lists the files of the scope `s` that the file `f` sees, but `f` itself
+abbrev pub other_files : List ℕ → Scope → List FileDefs
+other_files f s = filter (λ (v : FileDefs). not (bytes_eq v.file f)) s.visible
+
+-- `state_in imported file` is the state of the file named `file` among `imported`; a file that is
+-- not among them counts as readable
+abbrev pub state_in : List Imported → List ℕ → FileState
+state_in [] file = Readable
+state_in (i ∷ is) file = cond (bytes_eq i.file file) i.state (state_in is file)
+
+-- `defines full_name file` is whether `file` has a definition with the full name `full_name`
+abbrev pub defines : List ℕ → FileDefs → Bool
+defines full_name file = list_any (λ (d : Definition). bytes_eq d.full_name full_name) file.defs.definitions
+
+-- `first_with full_name files` is the name of the first of `files` that defines `full_name`
+abbrev pub first_with : List ℕ → List FileDefs → Option (List ℕ)
+first_with full_name files = option_map (λ (f : FileDefs). f.file) (find (defines full_name) files)
+
+-- `no_checked` is the checks of an absent file: it has no errors
+abbrev pub no_checked : Checked
+no_checked = record { faults = []; file = Absent }

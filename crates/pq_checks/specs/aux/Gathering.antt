@@ -1,0 +1,27 @@
+-- Auxiliary: what the rule of a file's checks has gathered, as the surroundings of the file (used
+-- by proofs and invariants only).
+use Rattle.std.specs.Prelude.{ℕ, List, Option}
+use Rattle.pq_checks.specs.Compile.{file_faults}
+use Rattle.pq_checks.specs.Surroundings.{Surroundings, other_files}
+use Rattle.pq_checks.specs.declared.gathered.Known.{Known}
+use Rattle.pq_checks.specs.declared.surroundings.Checked.{Checked}
+use Rattle.pq_checks.specs.declared.surroundings.Imported.{Imported}
+
+-- `surroundings_of k imported next` is the surroundings of the file of `k`, which imports the files
+-- `imported`, and the first bad import of which is `next`
+abbrev pub surroundings_of : Known → List Imported → Option (List ℕ) → Surroundings
+surroundings_of k imported next = record {
+  imported = imported;
+  ring = k.linked.ring;
+  next = next;
+  definitions = k.defs.definitions;
+  others = other_files k.linked.file k.scope;
+  references = k.references;
+}
+
+-- `checked_of k imported next` is the checks of that file
+abbrev pub checked_of : Known → List Imported → Option (List ℕ) → Checked
+checked_of k imported next = record {
+  faults = file_faults (surroundings_of k imported next) k.linked.parsed;
+  file = k.linked.parsed;
+}

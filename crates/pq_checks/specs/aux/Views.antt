@@ -1,0 +1,28 @@
+-- Auxiliary: words between the definitions and the code that keeps its own look-ups (used by proofs
+-- and invariants only).
+use Rattle.std.specs.Prelude.{ℕ, Bool, List, [], ◌∷◌, ◌++◌, codes, map, Option, Some, None}
+use Rattle.std.specs.Borrow.{Bor}
+use Rattle.std.specs.Cmp.Lexicographic.{slice_cmp}
+use Rattle.std.specs.Ordering.{nat_cmp}
+use Rattle.std.specs.declared.cmp.Ordering.{Ordering}
+use Rattle.pq_schema.specs.declared.definitions.Definition.{Definition}
+use Rattle.pq_checks.specs.Faults.{at, when, quoted}
+use Rattle.pq_checks.specs.declared.code.Code.TheVariants as code
+use Rattle.pq_checks.specs.declared.fault.Fault.{Fault}
+
+-- `all_now xs` is the values of the references `xs`
+abbrev pub all_now : {A : Type 0} → List (Bor A) → List A
+all_now {A = A} xs = map (λ (x : Bor A). x.now) xs
+
+-- `twice_line repeated d` is the error of the definition `d` if its full name is `repeated`
+abbrev pub twice_line : Bool → Definition → List Fault
+twice_line repeated d = when repeated (at d.span code.DefinedTwice (quoted d.full_name ++ codes " is already defined"))
+
+-- `listed o` is the list of `o`, if it is there
+abbrev pub listed : {A : Type 0} → Option A → List A
+listed None = []
+listed (Some x) = x ∷ []
+
+-- `lent_cmp x y` is the order of the texts that `x` and `y` lend
+abbrev pub lent_cmp : Bor (List ℕ) → Bor (List ℕ) → Ordering
+lent_cmp x y = slice_cmp nat_cmp x.now y.now

@@ -1,0 +1,17 @@
+//! One error of a file.
+
+use crate::code::Code;
+use pq_names::Text;
+
+/// An error of a file. Errors are ordered by their fields, in this order.
+#[derive(Drop, PartialEq, Eq, PartialOrd, Ord)]
+pub struct Fault {
+    /// The byte offset of its first character.
+    pub start: usize,
+    /// The byte offset after its last character.
+    pub end: usize,
+    /// What is wrong, or not read.
+    pub code: Code,
+    /// What the user is told.
+    pub text: Text,
+}

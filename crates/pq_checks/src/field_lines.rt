@@ -1,0 +1,121 @@
+//! Errors P120 to P123: the numbers of fields.
+ghost use Rattle.std.specs.Prelude.{◌≡◌, ◌++◌, ◌&&◌, [], is_some, map, IfOk};
+ghost use Rattle.pq_checks.specs.Earlier.{of_each_after};
+ghost use Rattle.pq_checks.specs.Faults.{field_number_faults, is_for_protobuf};
+ghost use Rattle.pq_checks.specs.Owners.{limits_by};
+ghost use Rattle.pq_checks.specs.aux.Lines.{field_lines, key_of};
+ghost use Rattle.pq_checks.specs.aux.Seen.{member_seen};
+
+use crate::Memory;
+use crate::code::Code;
+use crate::cover::is_covered;
+use crate::fault::Fault;
+use crate::members::{Member, Reserved};
+use crate::numbers::number_of;
+use crate::range_lines::{Key, reserved_keys};
+use crate::repeats::repeats;
+use crate::tell::{both, tell_if, tell_number};
+use std::alloc::Global;
+
+/// The first field number that is kept for protobuf itself.
+const FIRST_OF_PROTOBUF: i64 = 19_000;
+
+/// The last field number that is kept for protobuf itself.
+const LAST_OF_PROTOBUF: i64 = 19_999;
+
+/// The keys of `members`, whose numbers are those of enum values or of fields.
+pub(crate) fn number_keys(
+    alloc: Global,
+    members: &[Member<'_>],
+    in_enum: bool,
+) -> Result<Vec<Key>, Memory>
+    ensures keys { IfOk result (λ ks. ks.items ≡ map (key_of (limits_by in_enum)) (map member_seen members.now)) }
+{
+    let mut keys = Vec::with_capacity(alloc, members.len())?;
+    'each: for member in members {
+        keys.push((member.owner, number_of(in_enum, member.number)))?;
+    }
+    Ok(keys)
+}
+
+/// Whether `number` is kept for protobuf itself.
+fn is_for_protobuf(number: Option<i64>) -> bool
+    ensures { result ≡ is_for_protobuf number }
+{
+    match number {
+        Some(number) => number >= FIRST_OF_PROTOBUF && number <= LAST_OF_PROTOBUF,
+        None => false,
+    }
+}
+
+/// Adds the errors of the field `field` of the number `number`: `repeated` is whether an earlier
+/// field has the number, and `covered` whether it is reserved, if there is one.
+fn push_lines(
+    alloc: Global,
+    faults: &mut Vec<Fault>,
+    field: &Member<'_>,
+    number: Option<i64>,
+    repeated: bool,
+    covered: bool,
+) -> Result<(), Memory>
+    ensures { IfOk result (λ _. faults.new.items ≡ faults.old.items
+        ++ field_lines number (repeated && is_some number) (covered && is_some number) (member_seen field.now)) }
+{
+    let span = field.number.span;
+    let is_number = number.is_some();
+    let twice = both(repeated, is_number);
+    let reserved = both(covered, is_number);
+    let text = "field number must be from 1 to 536870911";
+    let code = Code::FieldNumberOutOfRange;
+    tell_if(alloc, faults, !is_number, span, code, text)?;
+    let text = "field numbers 19000 to 19999 are reserved";
+    let code = Code::FieldNumberOfProtobuf;
+    tell_if(alloc, faults, is_for_protobuf(number), span, code, text)?;
+    let before = "field number ";
+    let code = Code::FieldNumberTwice;
+    tell_number(
+        alloc,
+        faults,
+        twice,
+        span,
+        code,
+        before,
+        number,
+        " is used twice",
+    )?;
+    let code = Code::FieldNumberReserved;
+    tell_number(
+        alloc,
+        faults,
+        reserved,
+        span,
+        code,
+        before,
+        number,
+        " is reserved",
+    )
+}
+
+/// Adds the errors of the numbers of `fields`, where `reserved` lists the reserved ranges.
+pub(crate) fn push_field_number_faults(
+    alloc: Global,
+    faults: &mut Vec<Fault>,
+    fields: &[Member<'_>],
+    reserved: &[Reserved],
+) -> Result<(), Memory>
+    ensures { IfOk result (λ _. faults.new.items ≡ faults.old.items ++ of_each_after (field_number_faults reserved.now) [] (map member_seen fields.now)) }
+{
+    let keys = number_keys(alloc, fields, false)?;
+    let listed = keys.as_slice();
+    let flags = repeats(alloc, listed)?;
+    let flags = flags.as_slice();
+    let taken = reserved_keys(alloc, reserved)?;
+    let taken = taken.as_slice();
+    'each: for i in 0..fields.len() {
+        let field = &fields[i];
+        let key = keys[i];
+        let covered = is_covered(taken, key);
+        push_lines(alloc, faults, field, key.1, flags[i], covered)?;
+    }
+    Ok(())
+}

@@ -1,0 +1,333 @@
+//! What the rule of a file's checks has gathered, and the errors by it.
+ghost use Rattle.std.specs.Prelude.{◌≡◌, ◌-◌, ◌∷◌, [], ◌++◌, IfOk, OnOk, OnErr, cond, drop, flat_map, is_some, take, length, slice_get};
+ghost use Rattle.std.specs.Option.{option_copied};
+ghost use Rattle.pq_checks.specs.Compile.{parsed_faults, file_faults};
+ghost use Rattle.pq_checks.specs.Faults.{elsewhere_faults, faults, link_faults, definition_faults, type_faults};
+ghost use Rattle.pq_checks.specs.Surroundings.{other_files};
+ghost use Rattle.pq_checks.specs.aux.Gathering.{surroundings_of, checked_of};
+
+use crate::Memory;
+use crate::code::{syntax_code, syntax_text};
+use crate::definition_lines::{other_files, push_elsewhere_faults, push_twice_faults};
+use crate::fault::Fault;
+use crate::import_lines::push_import_faults;
+use crate::member_lines::push_member_faults;
+use crate::reference_lines::push_reference_faults;
+use crate::said::tell;
+use crate::surroundings::{Checked, Imported};
+use crate::unread_lines::{push_package_faults, push_unread_faults};
+use pq_links::{Import, ParsedFile};
+use pq_rules::{Shared, Text};
+use pq_schema::{Defs, ResolvedReference, Scope};
+use pq_syntax::{Items, Node, Parsed};
+use std::alloc::Global;
+use std::marker::Model;
+
+/// A file with its imports, and the ring of imports into which it leads.
+#[derive(Drop)]
+pub struct LinkedFile {
+    /// The name of the file.
+    pub file: Text,
+    /// What it is read as.
+    pub parsed: Shared<ParsedFile>,
+    /// Its imports.
+    pub imports: Shared<Items<Import>>,
+    /// The ring of a bad file, `None` of a good one.
+    pub ring: Option<Shared<Items<Text>>>,
+}
+
+/// All that the checks of a file know before they look at the files that it imports.
+#[derive(Drop)]
+pub struct Known {
+    /// The file.
+    pub linked: LinkedFile,
+    /// Its definitions.
+    pub defs: Shared<Defs>,
+    /// Its scope.
+    pub scope: Shared<Scope>,
+    /// Its type references, with what they resolve to.
+    pub references: Shared<Items<ResolvedReference>>,
+}
+
+/// The files that a file imports, as far as their states were read. Contracts see the list.
+#[derive(Drop)]
+pub struct States {
+    states: Vec<Imported>,
+}
+
+impl Model for States {
+    ghost use Rattle.std.specs.Prelude.{List};
+    ghost use Rattle.pq_checks.specs.declared.surroundings.Imported.{Imported};
+
+    ghost Value = { List Imported };
+
+    ghost view = { λ s. s.states.items };
+}
+
+impl States {
+    /// No file.
+    pub(crate) fn new(alloc: Global) -> States
+        ensures none { result ≡ [] }
+    {
+        States {
+            states: Vec::new(alloc),
+        }
+    }
+
+    /// The files, in order.
+    pub(crate) fn as_slice(&self) -> &[Imported]
+        ensures value { result.now ≡ self.now }
+    {
+        self.states.as_slice()
+    }
+
+    /// Adds the file `imported`.
+    pub(crate) fn push(&mut self, imported: Imported) -> Result<(), Memory>
+        ensures added { OnOk result (self.new ≡ self.old ++ imported ∷ []) }
+        ensures same { OnErr result (self.new ≡ self.old) }
+    {
+        self.states.push(imported)?;
+        Ok(())
+    }
+
+    /// Takes the last file away.
+    pub(crate) fn pop(&mut self)
+        ensures first { self.new ≡ take (length self.old - 1) self.old }
+    {
+        self.states.pop();
+    }
+}
+
+/// Imports of which some are left. Contracts see the list of those.
+#[derive(Drop)]
+pub struct Waiting {
+    imports: Shared<Items<Import>>,
+    passed: usize,
+}
+
+impl Model for Waiting {
+    ghost use Rattle.std.specs.Prelude.{List, drop};
+    ghost use Rattle.pq_links.specs.declared.links.Import.{Import};
+
+    ghost Value = { List Import };
+
+    ghost view = { λ w. drop w.passed w.imports };
+}
+
+impl Waiting {
+    /// All of `imports`.
+    pub(crate) fn new(imports: Shared<Items<Import>>) -> Waiting
+        ensures all { result ≡ imports }
+    {
+        Waiting { imports, passed: 0 }
+    }
+
+    /// The first import that is left.
+    pub(crate) fn first(&self) -> Option<&Import>
+        ensures first { option_copied result ≡ slice_get self.now 0 }
+    {
+        self.imports.get().as_slice().get(self.passed)
+    }
+
+    /// The import after the first that is left.
+    pub(crate) fn second(&self) -> Option<&Import>
+        ensures second { option_copied result ≡ slice_get self.now 1 }
+    {
+        let imports = self.imports.get().as_slice();
+        if self.passed >= imports.len() {
+            return None;
+        }
+        imports.get(self.passed + 1)
+    }
+
+    /// Passes the first import that is left, if there is one.
+    pub(crate) fn step(&mut self)
+        ensures rest { self.new ≡ drop 1 self.old }
+    {
+        if self.passed < self.imports.get().as_slice().len() {
+            self.passed += 1;
+        }
+    }
+
+    /// The number of imports that are left.
+    pub(crate) fn left(&self) -> usize
+        ensures left { result ≡ length self.now }
+    {
+        self.imports
+            .get()
+            .as_slice()
+            .len()
+            .saturating_sub(self.passed)
+    }
+}
+
+impl LinkedFile {
+    /// The names of the ring, `None` of a good file.
+    fn ring(&self) -> Option<&[Text]>
+        ensures ring { option_copied result ≡ self.now.ring }
+    {
+        match &self.ring {
+            Some(ring) => Some(ring.get().as_slice()),
+            None => None,
+        }
+    }
+}
+
+/// Adds the errors of the package and of the imports.
+fn push_links(
+    alloc: Global,
+    faults: &mut Vec<Fault>,
+    known: &Known,
+    imported: &[Imported],
+    next: Option<&Text>,
+    nodes: &[Node],
+) -> Result<(), Memory>
+    ensures said { IfOk result (λ _. faults.new.items ≡ faults.old.items
+        ++ link_faults (surroundings_of known.now imported.now (option_copied next.entry)) nodes.now) }
+{
+    push_package_faults(alloc, faults, nodes)?;
+    push_import_faults(alloc, faults, nodes, imported, known.linked.ring(), next)
+}
+
+/// Adds the errors of definitions that other files have too, in a good file.
+fn push_elsewhere(
+    alloc: Global,
+    faults: &mut Vec<Fault>,
+    known: &Known,
+    nodes: &[Node],
+) -> Result<(), Memory>
+    ensures said { IfOk result (λ _. faults.new.items ≡ faults.old.items
+        ++ cond (is_some known.now.linked.ring) [] (flat_map (elsewhere_faults (other_files known.now.linked.file known.now.scope) nodes.now) known.now.defs.definitions)) }
+{
+    if known.linked.ring.is_some() {
+        return Ok(());
+    }
+    let others = other_files(alloc, known.linked.file.as_str(), known.scope.get())?;
+    push_elsewhere_faults(
+        alloc,
+        faults,
+        others.as_slice(),
+        nodes,
+        known.defs.get().definitions(),
+    )
+}
+
+/// Adds the errors of the definitions.
+fn push_definitions(
+    alloc: Global,
+    faults: &mut Vec<Fault>,
+    known: &Known,
+    imported: &[Imported],
+    next: Option<&Text>,
+    nodes: &[Node],
+) -> Result<(), Memory>
+    ensures said { IfOk result (λ _. faults.new.items ≡ faults.old.items
+        ++ definition_faults (surroundings_of known.now imported.now (option_copied next.entry)) nodes.now) }
+{
+    push_twice_faults(alloc, faults, known.defs.get().definitions())?;
+    push_elsewhere(alloc, faults, known, nodes)
+}
+
+/// Adds the errors of the type references.
+fn push_types(
+    alloc: Global,
+    faults: &mut Vec<Fault>,
+    known: &Known,
+    imported: &[Imported],
+    next: Option<&Text>,
+    nodes: &[Node],
+) -> Result<(), Memory>
+    ensures said { IfOk result (λ _. faults.new.items ≡ faults.old.items
+        ++ type_faults (surroundings_of known.now imported.now (option_copied next.entry)) nodes.now) }
+{
+    if known.linked.ring.is_some() {
+        return Ok(());
+    }
+    push_reference_faults(alloc, faults, nodes, known.references.get().as_slice())
+}
+
+/// The errors of a file with the statements `nodes`.
+fn tree_faults(
+    alloc: Global,
+    known: &Known,
+    imported: &[Imported],
+    next: Option<&Text>,
+    nodes: &[Node],
+) -> Result<Vec<Fault>, Memory>
+    ensures faults { IfOk result (λ fs. fs.items
+        ≡ faults (surroundings_of known.now imported.now (option_copied next.entry)) nodes.now) }
+{
+    let mut faults = Vec::new(alloc);
+    push_unread_faults(alloc, &mut faults, nodes)?;
+    push_links(alloc, &mut faults, known, imported, next, nodes)?;
+    push_definitions(alloc, &mut faults, known, imported, next, nodes)?;
+    push_member_faults(alloc, &mut faults, nodes)?;
+    push_types(alloc, &mut faults, known, imported, next, nodes)?;
+    Ok(faults)
+}
+
+/// The errors of a text with the tree or syntax error `parsed`.
+fn text_faults(
+    alloc: Global,
+    known: &Known,
+    imported: &[Imported],
+    next: Option<&Text>,
+    parsed: &Parsed,
+) -> Result<Vec<Fault>, Memory>
+    ensures faults { IfOk result (λ fs. fs.items
+        ≡ parsed_faults (surroundings_of known.now imported.now (option_copied next.entry)) parsed.now) }
+{
+    match parsed {
+        Parsed::Tree(nodes) => tree_faults(alloc, known, imported, next, nodes.as_slice()),
+        Parsed::Fault { span, code } => {
+            let mut faults = Vec::new(alloc);
+            tell(
+                alloc,
+                &mut faults,
+                *span,
+                syntax_code(*code),
+                syntax_text(*code),
+            )?;
+            Ok(faults)
+        }
+    }
+}
+
+/// The errors of the file of `known`, which imports the files `imported`, and the first bad import
+/// of which is `next`.
+fn faults_of(
+    alloc: Global,
+    known: &Known,
+    imported: &[Imported],
+    next: Option<&Text>,
+) -> Result<Vec<Fault>, Memory>
+    ensures faults { IfOk result (λ fs. fs.items
+        ≡ file_faults (surroundings_of known.now imported.now (option_copied next.entry)) known.now.linked.parsed) }
+{
+    match known.linked.parsed.get() {
+        ParsedFile::Absent => Ok(Vec::new(alloc)),
+        ParsedFile::Present { parsed, .. } => text_faults(alloc, known, imported, next, parsed),
+    }
+}
+
+/// The checks of the file of `known`, which imports the files `imported`, and the first bad import
+/// of which is `next`.
+pub(crate) fn check(
+    alloc: Global,
+    known: &Known,
+    imported: &[Imported],
+    next: Option<&Text>,
+) -> Result<Shared<Checked>, Memory>
+    ensures checked { IfOk result
+        (λ v. v ≡ checked_of known.now imported.now (option_copied next.entry)) }
+{
+    let faults = faults_of(alloc, known, imported, next)?;
+    let file = known.linked.parsed.copy()?;
+    Shared::new(
+        alloc,
+        Checked {
+            faults: Items::new(faults),
+            file,
+        },
+    )
+}

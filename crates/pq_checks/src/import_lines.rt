@@ -1,0 +1,267 @@
+//! The errors of imports: files that are absent or have a syntax error, names that are listed twice
+//! or are not UTF-8, and the ring of imports into which a bad file leads.
+//!
+//! The states of the imported files lie in a map by name, and the names so far in a set, so a file
+//! with N imports takes N log N comparisons. Both are ordered and nothing is hashed: whoever writes
+//! the names could make them collide.
+ghost use Rattle.std.specs.Prelude.{◌≡◌, ◌++◌, [], List, cond, IfOk, Some, None, string_bytes};
+ghost use Rattle.std.specs.Option.{option_copied};
+ghost use Rattle.std.specs.Str.{is_utf8};
+ghost use Rattle.pq_checks.specs.Earlier.{of_each_after};
+ghost use Rattle.pq_checks.specs.Faults.{ring_text, state_faults, import_faults};
+ghost use Rattle.pq_checks.specs.Members.{import_by, imports};
+ghost use Rattle.pq_checks.specs.Surroundings.{state_in};
+ghost use Rattle.pq_checks.specs.aux.Imports.{IsStateMap, by_imports, first_name, import_line, text_line, ring_line, listed_line};
+ghost use Rattle.pq_checks.specs.aux.Views.{all_now, listed};
+ghost use Rattle.pq_checks.specs.declared.surroundings.Imported.{Imported};
+
+use crate::Memory;
+use crate::code::Code;
+use crate::fault::Fault;
+use crate::said::{around, push, tell};
+use crate::surroundings::{FileState, Imported};
+use pq_names::Text;
+use pq_syntax::{Node, Statement, Strings};
+use std::alloc::Global;
+use std::collections::{BTreeMap, BTreeSet};
+
+/// The states of imported files by their names.
+type States<'a> = BTreeMap<&'a [u8], FileState>;
+
+/// The states of the files `imported` by their names. The first of two files of one name counts.
+fn states_of<'a>(alloc: Global, imported: &'a [Imported]) -> Result<States<'a>, Memory>
+    ensures states { IfOk result (λ m. IsStateMap m imported.now) }
+{
+    let mut states = BTreeMap::new(alloc);
+    let mut left = imported.len();
+    'files: while left > 0 {
+        left -= 1;
+        let file = &imported[left];
+        states.insert(file.file.as_str().as_bytes(), file.state)?;
+    }
+    Ok(states)
+}
+
+/// The state of the file named `name` among those of `states`.
+fn state_named<'a>(states: &States<'a>, name: &'a [u8]) -> FileState
+    ensures state { (imported : List Imported) → IsStateMap states.now imported → result ≡ state_in imported name.now }
+{
+    match states.get(&name) {
+        Some(state) => *state,
+        None => FileState::Readable,
+    }
+}
+
+/// The name of the import that `statement` is, if any.
+fn import_in(statement: &Statement) -> Option<&Strings>
+    ensures name { listed (option_copied result) ≡ import_by statement.now }
+{
+    match statement {
+        Statement::Import { file, .. } => Some(file),
+        _ => None,
+    }
+}
+
+/// The names of the imports among the statements `nodes`.
+fn import_names<'a>(alloc: Global, nodes: &'a [Node]) -> Result<Vec<&'a Strings>, Memory>
+    ensures names { IfOk result (λ v. all_now v.items ≡ imports nodes.now) }
+{
+    let mut names = Vec::new(alloc);
+    'nodes: for node in nodes {
+        if let Some(name) = import_in(&node.statement) {
+            names.push(name)?;
+        }
+    }
+    Ok(names)
+}
+
+/// The text of `bytes`, if they are UTF-8.
+fn as_text(bytes: &[u8]) -> Option<&str>
+    ensures text { option_copied result ≡ cond (is_utf8 bytes.now) (Some bytes.now) None }
+{
+    match str::from_utf8(bytes) {
+        Ok(text) => Some(text),
+        Err(_) => None,
+    }
+}
+
+/// Adds the first name of `ring` to `text`, if there is one.
+fn push_first(text: &mut String, ring: &[Text]) -> Result<(), Memory>
+    ensures first { IfOk result (λ _. string_bytes text.new ≡ string_bytes text.old ++ first_name ring.now) }
+{
+    if let Some(first) = ring.first() {
+        text.push_str(first.as_str())?;
+    }
+    Ok(())
+}
+
+/// The message about the ring of imports `ring`.
+fn ring_text(alloc: Global, ring: &[Text]) -> Result<Text, Memory>
+    ensures text { IfOk result (λ t. t ≡ ring_text ring.now) }
+{
+    let mut text = String::from_str(alloc, "import cycle: ")?;
+    'files: for file in ring {
+        text.push_str(file.as_str())?;
+        text.push_str(" -> ")?;
+    }
+    push_first(&mut text, ring)?;
+    Text::from_string(alloc, text)
+}
+
+/// Adds the errors of the import `import` of a file in the state `state`, whose name is `name`.
+fn push_state(
+    alloc: Global,
+    faults: &mut Vec<Fault>,
+    state: FileState,
+    import: &Strings,
+    name: &str,
+) -> Result<(), Memory>
+    requires named { name.now ≡ import.now.value }
+    ensures said { IfOk result
+        (λ _. faults.new.items ≡ faults.old.items ++ state_faults state import.now) }
+{
+    match state {
+        FileState::Missing => {
+            let text = around(alloc, "import ", name, " is not found")?;
+            push(faults, import.span, Code::ImportNotFound, text)
+        }
+        FileState::Unreadable => {
+            let text = around(alloc, "import ", name, " has a syntax fault")?;
+            push(faults, import.span, Code::ImportWithError, text)
+        }
+        FileState::Readable => Ok(()),
+    }
+}
+
+/// Adds the error of the import `import` with the name `name` if the name is `repeated`.
+fn push_listed(
+    alloc: Global,
+    faults: &mut Vec<Fault>,
+    repeated: bool,
+    import: &Strings,
+    name: &str,
+) -> Result<(), Memory>
+    requires named { name.now ≡ import.now.value }
+    ensures said { IfOk result
+        (λ _. faults.new.items ≡ faults.old.items ++ listed_line repeated import.now) }
+{
+    if repeated {
+        let text = around(alloc, "import ", name, " is listed twice")?;
+        return push(faults, import.span, Code::ImportTwice, text);
+    }
+    Ok(())
+}
+
+/// Adds the error of the import `import` with the name `name`, which is `repeated` or not, if it is
+/// the first of the next file on the way into the ring `ring`.
+fn push_ring(
+    alloc: Global,
+    faults: &mut Vec<Fault>,
+    ring: Option<&[Text]>,
+    next: Option<&Text>,
+    repeated: bool,
+    import: &Strings,
+    name: &str,
+) -> Result<(), Memory>
+    requires named { name.now ≡ import.now.value }
+    ensures said { IfOk result (λ _. faults.new.items ≡ faults.old.items
+        ++ ring_line (option_copied ring.entry) (option_copied next.entry) repeated import.now) }
+{
+    let Some(ring) = ring else {
+        return Ok(());
+    };
+    let Some(next) = next else {
+        return Ok(());
+    };
+    if name == next.as_str() && !repeated {
+        let text = ring_text(alloc, ring)?;
+        return push(faults, import.span, Code::ImportCycle, text);
+    }
+    Ok(())
+}
+
+/// Adds the errors of the import `import`, whose name is `name`.
+fn push_named(
+    alloc: Global,
+    faults: &mut Vec<Fault>,
+    state: FileState,
+    ring: Option<&[Text]>,
+    next: Option<&Text>,
+    repeated: bool,
+    import: &Strings,
+    name: &str,
+) -> Result<(), Memory>
+    requires named { name.now ≡ import.now.value }
+    ensures said { IfOk result (λ _. faults.new.items ≡ faults.old.items
+        ++ text_line state (option_copied ring.entry) (option_copied next.entry) repeated import.now) }
+{
+    push_state(alloc, faults, state, import, name)?;
+    push_listed(alloc, faults, repeated, import, name)?;
+    push_ring(alloc, faults, ring, next, repeated, import, name)
+}
+
+/// Adds the errors of the import `import` of a file in the state `state`, where its name is
+/// `repeated` or not.
+fn push_import(
+    alloc: Global,
+    faults: &mut Vec<Fault>,
+    state: FileState,
+    ring: Option<&[Text]>,
+    next: Option<&Text>,
+    repeated: bool,
+    import: &Strings,
+) -> Result<(), Memory>
+    ensures said { IfOk result (λ _. faults.new.items ≡ faults.old.items
+        ++ import_line state (option_copied ring.entry) (option_copied next.entry) repeated import.now) }
+{
+    match as_text(import.value.as_slice()) {
+        Some(name) => push_named(alloc, faults, state, ring, next, repeated, import, name),
+        None => tell(
+            alloc,
+            faults,
+            import.span,
+            Code::ImportNotText,
+            "import name is not UTF-8",
+        ),
+    }
+}
+
+/// Adds the errors of the imports `names`, where the files of `states` have these states.
+fn push_each<'a>(
+    alloc: Global,
+    faults: &mut Vec<Fault>,
+    states: &States<'a>,
+    ring: Option<&[Text]>,
+    next: Option<&Text>,
+    names: &[&'a Strings],
+) -> Result<(), Memory>
+    ensures said { (imported : List Imported) → IsStateMap states.now imported → IfOk result (λ _. faults.new.items
+        ≡ faults.old.items ++ of_each_after (import_faults (by_imports imported (option_copied ring.entry) (option_copied next.entry))) [] (all_now names.now)) }
+{
+    let mut seen = BTreeSet::new(alloc);
+    'names: for name in names {
+        let import = *name;
+        let is_new = seen.insert(import.value.as_slice())?;
+        let state = state_named(states, import.value.as_slice());
+        push_import(alloc, faults, state, ring, next, !is_new, import)?;
+    }
+    Ok(())
+}
+
+/// Adds the errors of the imports among the statements `nodes` of a file that imports the files
+/// `imported`. A bad file leads into the ring `ring`, and its first bad import is `next`.
+pub(crate) fn push_import_faults(
+    alloc: Global,
+    faults: &mut Vec<Fault>,
+    nodes: &[Node],
+    imported: &[Imported],
+    ring: Option<&[Text]>,
+    next: Option<&Text>,
+) -> Result<(), Memory>
+    ensures said { IfOk result (λ _. faults.new.items ≡ faults.old.items
+        ++ of_each_after (import_faults (by_imports imported.now (option_copied ring.entry) (option_copied next.entry))) [] (imports nodes.now)) }
+{
+    let states = states_of(alloc, imported)?;
+    let names = import_names(alloc, nodes)?;
+    push_each(alloc, faults, &states, ring, next, names.as_slice())
+}

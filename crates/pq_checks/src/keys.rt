@@ -1,0 +1,63 @@
+//! What a sum of queries offers the queries of this crate.
+ghost use Rattle.std.specs.Prelude.{◌≡◌, ℕ, [], List, Option, IfOk, is_some, option_copied, unwrap_or};
+ghost use Rattle.pq_links.specs.declared.files.ParsedFile.TheVariants.{Absent};
+ghost use Rattle.pq_schema.specs.declared.resolved.ResolvedReference.{ResolvedReference};
+ghost use Rattle.pq_checks.specs.Surroundings.{no_checked};
+ghost use Rattle.pq_checks.specs.declared.surroundings.Checked.{Checked as CheckedContents};
+
+use crate::surroundings::Checked;
+use pq_links::ParsedFile;
+use pq_rules::{Memory, Shared, Text};
+use pq_schema::{ResolvedReference, SchemaKeys};
+use pq_syntax::Items;
+use std::alloc::Global;
+
+/// A sum of queries, as the queries of this crate see it: it makes the keys that they ask and reads
+/// the answers that they get. An answer of another kind reads as that of an absent file.
+pub trait CheckKeys: SchemaKeys {
+    /// The key of the resolved references of a file.
+    ghost resolved: { List ℕ → Self.Key };
+
+    /// The key of the checks of a file.
+    ghost checks: { List ℕ → Self.Key };
+
+    /// The resolved references that an answer holds.
+    ghost referred: { Self.Answer → List ResolvedReference };
+
+    /// The files of the cycle that an answer is, `None` if it is a value.
+    ghost ring: { Self.Answer → Option (List (List ℕ)) };
+
+    /// The checks of a file that an answer holds.
+    ghost checked: { Self.Answer → CheckedContents };
+
+    /// Makes the key of the resolved references of `file`.
+    fn resolved_key(file: &Text) -> Result<Self::Key, Memory>
+        ensures key { IfOk result (λ k. k ≡ resolved file.now) };
+
+    /// Makes the key of the checks of `file`.
+    fn checks_key(file: &Text) -> Result<Self::Key, Memory>
+        ensures key { IfOk result (λ k. k ≡ checks file.now) };
+
+    /// Reads what a file is read as, to be shared; `None` only where that is `Absent`.
+    fn read_file<'a>(answer: &'a Self::Answer) -> Option<&'a Shared<ParsedFile>>
+        ensures parsed { unwrap_or (option_copied result) Absent ≡ Self.parsed answer.now };
+
+    /// Reads the resolved references of a file, `None` only where it has none.
+    fn read_resolved<'a>(answer: &'a Self::Answer) -> Option<&'a Shared<Items<ResolvedReference>>>
+        ensures references { unwrap_or (option_copied result) [] ≡ referred answer.now };
+
+    /// Reads the files of a cycle, `None` for a value.
+    fn read_ring(
+        alloc: Global,
+        answer: &Self::Answer,
+    ) -> Result<Option<Shared<Items<Text>>>, Memory>
+        ensures ring { IfOk result (λ r. r ≡ ring answer.now) };
+
+    /// Whether `answer` is a cycle.
+    fn is_cycle(answer: &Self::Answer) -> bool
+        ensures cycle { result ≡ is_some (ring answer.now) };
+
+    /// Reads the checks of a file, `None` only where it has no errors and is `Absent`.
+    fn read_checked<'a>(answer: &'a Self::Answer) -> Option<&'a Shared<Checked>>
+        ensures checked { unwrap_or (option_copied result) no_checked ≡ checked answer.now };
+}

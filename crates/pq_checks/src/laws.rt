@@ -1,0 +1,63 @@
+//! Laws of definitions and of the queries, each as the contract of a function that does nothing.
+//!
+//! A law of a query is of every sum of queries `S` and of every list `es` of questions with their
+//! answers by which the query's own rule runs from its start to a value. It says what the questions
+//! were, in order, and that the value is the definition, applied to what these answers say.
+ghost use Rattle.std.specs.Prelude.{◌≡◌, ◌↔◌, ℕ, List, [], Contains};
+ghost use Rattle.pq_checks.specs.Diagnostics.{AreDiagnosticsBy};
+ghost use Rattle.pq_checks.specs.aux.DiagnosticsTurns.{diagnostics_starts, diagnostics_advances};
+ghost use Rattle.std.specs.declared.cmp.Ordering.TheVariants.{Equal};
+ghost use Rattle.pq_rules.specs.declared.turn.Turn.TheVariants.{Done};
+ghost use Rattle.pq_rules.specs.Embedding.{Runs};
+ghost use Rattle.pq_checks.specs.Answers.{AreChecksBy};
+ghost use Rattle.pq_checks.specs.aux.Queries.{check_starts, check_advances};
+ghost use Rattle.pq_checks.specs.declared.checked.CheckPart.{CheckPart};
+ghost use Rattle.pq_checks.specs.declared.surroundings.Checked.{Checked};
+ghost use Rattle.pq_checks.specs.Earlier.{of_each_after, IsSaidOfOne};
+ghost use Rattle.pq_checks.specs.EachFault.{IsFault};
+ghost use Rattle.pq_checks.specs.FaultOrder.{fault_cmp};
+ghost use Rattle.pq_checks.specs.Faults.{faults};
+ghost use Rattle.pq_checks.specs.InOrder.{in_order, IsInOrder};
+ghost use Rattle.pq_checks.specs.Surroundings.{Surroundings};
+ghost use Rattle.pq_checks.specs.declared.fault.Fault.{Fault};
+ghost use Rattle.pq_syntax.specs.declared.tree.Node.{Node};
+
+use crate::keys::CheckKeys;
+
+/// Where equal elements are one, a list put in order is the only list in order that contains what
+/// it contains.
+pub fn one_order<T: Ord>()
+    ensures ordered { (xs : List T) → IsInOrder T.cmp (in_order T.cmp xs) }
+    ensures members { ((x y : T) → T.cmp x y ≡ Equal → x ≡ y) → (xs : List T) (x : T) → Contains (in_order T.cmp xs) x ↔ Contains xs x }
+    ensures only { ((x y : T) → T.cmp x y ≡ Equal → x ≡ y) → (xs ys : List T) → IsInOrder T.cmp ys → ((x : T) → Contains ys x ↔ Contains xs x) → ys ≡ in_order T.cmp xs }
+{}
+
+/// What is said of each element by those before it is what is said of some element.
+pub fn said_of_one<A, B>()
+    ensures { (f : List A → A → List B) (xs : List A) (x : B) → Contains (of_each_after f [] xs) x ↔ IsSaidOfOne f xs x }
+{}
+
+/// Errors that are put in order rise by start, end, code and message, and are the same errors; no
+/// other list is so.
+pub fn faults_in_order()
+    ensures ordered { (fs : List Fault) → IsInOrder fault_cmp (in_order fault_cmp fs) }
+    ensures members { (fs : List Fault) (f : Fault) → Contains (in_order fault_cmp fs) f ↔ Contains fs f }
+    ensures only { (fs gs : List Fault) → IsInOrder fault_cmp gs → ((f : Fault) → Contains gs f ↔ Contains fs f) → gs ≡ in_order fault_cmp fs }
+{}
+
+/// The errors of a file are those that a line of the table says of one part of the file.
+pub fn each_fault()
+    ensures each { (s : Surroundings) (nodes : List Node) (f : Fault) → Contains (faults s nodes) f ↔ IsFault s nodes f }
+{}
+
+/// The diagnostics of a file ask for its checks, and are the errors by these in order.
+pub fn diagnostics_by_answers<S: CheckKeys>()
+    ensures gives { (f : List ℕ) (es : List (S.Key × S.Answer)) (d : Checked) → Runs (λ (q : Unit {0}) (a : S.Answer). diagnostics_advances (S.checked a)) (diagnostics_starts S.checks f) es (Done d) → AreDiagnosticsBy S.checks S.checked f es d }
+{}
+
+/// The checks of a file ask what it is read as, its imports, its links, its definitions, its scope
+/// and its resolved references, then what each imported file is read as, and in a bad file the
+/// links of each import up to the first cycle. They end in the errors of the file by these answers.
+pub fn checks_by_answers<S: CheckKeys>()
+    ensures gives { (f : List ℕ) (es : List (S.Key × S.Answer)) (v : Checked) → Runs (λ (q : CheckPart) (a : S.Answer). check_advances (record { parse = S.parse; imports = S.imports; linked = S.linked; defs = S.defs; scope = S.scope; resolved = S.resolved; parsed = S.parsed; imported = S.imported; ring = S.ring; defined = S.defined; scoped = S.scoped; referred = S.referred }) q a) (check_starts S.parse f) es (Done v) → AreChecksBy (record { parse = S.parse; imports = S.imports; linked = S.linked; defs = S.defs; scope = S.scope; resolved = S.resolved; parsed = S.parsed; imported = S.imported; ring = S.ring; defined = S.defined; scoped = S.scoped; referred = S.referred }) f es v }
+{}

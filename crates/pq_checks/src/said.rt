@@ -1,0 +1,82 @@
+//! How an error is said: the pieces of its message joined, and the error put after the others.
+ghost use Rattle.std.specs.Prelude.{◌≡◌, [], ◌∷◌, ◌++◌, IfOk, string_bytes};
+ghost use Rattle.pq_checks.specs.Faults.{at, quoted};
+
+use crate::Memory;
+use crate::code::Code;
+use crate::fault::Fault;
+use pq_lex::Span;
+use pq_names::Text;
+use std::alloc::Global;
+
+/// Adds the error of the code `code` at `span` with the message `text`.
+pub(crate) fn push(
+    faults: &mut Vec<Fault>,
+    span: Span,
+    code: Code,
+    text: Text,
+) -> Result<(), Memory>
+    ensures said { IfOk result (λ _. faults.new.items ≡ faults.old.items ++ at span code text ∷ []) }
+{
+    faults.push(Fault {
+        start: span.start,
+        end: span.end,
+        code,
+        text,
+    })?;
+    Ok(())
+}
+
+/// Adds the error of the code `code` at `span` with the message `text`.
+pub(crate) fn tell(
+    alloc: Global,
+    faults: &mut Vec<Fault>,
+    span: Span,
+    code: Code,
+    text: &str,
+) -> Result<(), Memory>
+    ensures said { IfOk result (λ _. faults.new.items ≡ faults.old.items ++ at span code text.now ∷ []) }
+{
+    let text = Text::new(alloc, text)?;
+    push(faults, span, code, text)
+}
+
+/// The text `before`, then `name` between quotation marks, then `after`.
+fn quoting(alloc: Global, before: &str, name: &str, after: &str) -> Result<String, Memory>
+    ensures text { IfOk result
+        (λ t. string_bytes t ≡ before.now ++ quoted name.now ++ after.now) }
+{
+    let mut text = String::new(alloc);
+    text.push_str(before)?;
+    text.push('"')?;
+    text.push_str(name)?;
+    text.push('"')?;
+    text.push_str(after)?;
+    Ok(text)
+}
+
+/// The text `before`, then `name` between quotation marks, then `after`.
+pub(crate) fn around(alloc: Global, before: &str, name: &str, after: &str) -> Result<Text, Memory>
+    ensures text { IfOk result (λ t. t ≡ before.now ++ quoted name.now ++ after.now) }
+{
+    let text = quoting(alloc, before, name, after)?;
+    Text::from_string(alloc, text)
+}
+
+/// The text `before`, then `name` between quotation marks, then `after`, `file` and `last`.
+pub(crate) fn around_file(
+    alloc: Global,
+    before: &str,
+    name: &str,
+    after: &str,
+    file: &str,
+    last: &str,
+) -> Result<Text, Memory>
+    ensures text { IfOk result
+        (λ t. t ≡ before.now ++ quoted name.now ++ after.now ++ file.now ++ last.now) }
+{
+    let mut text = quoting(alloc, before, name, after)?;
+    text.push_str(file)?;
+    text.push_str(last)?;
+    Text::from_string(alloc, text)
+}

@@ -1,0 +1,131 @@
+//! Errors P131 to P134: the numbers of enum values.
+ghost use Rattle.std.specs.Prelude.{◌≡◌, ◌++◌, ◌&&◌, not, is_some, [], map, IfOk};
+ghost use Rattle.pq_checks.specs.Earlier.{of_each_after};
+ghost use Rattle.pq_checks.specs.Faults.{is_zero, value_number_faults};
+ghost use Rattle.pq_checks.specs.aux.Lines.{value_lines};
+ghost use Rattle.pq_checks.specs.aux.Seen.{member_seen, opted_seen, owner_seen};
+
+use crate::Memory;
+use crate::aliases::{aliases, allows};
+use crate::code::Code;
+use crate::cover::is_covered;
+use crate::fault::Fault;
+use crate::field_lines::number_keys;
+use crate::members::{Member, Opted, Reserved};
+use crate::range_lines::reserved_keys;
+use crate::repeats::repeats;
+use crate::tell::{both, tell_if, tell_number};
+use std::alloc::Global;
+
+/// The numbers of the enums of `values`.
+fn owners(alloc: Global, values: &[Member<'_>]) -> Result<Vec<Option<usize>>, Memory>
+    ensures owners { IfOk result (λ os. os.items ≡ map owner_seen (map member_seen values.now)) }
+{
+    let mut owners = Vec::with_capacity(alloc, values.len())?;
+    'each: for value in values {
+        owners.push(value.owner)?;
+    }
+    Ok(owners)
+}
+
+/// Whether `number` is 0.
+fn is_zero(number: Option<i64>) -> bool
+    ensures { result ≡ is_zero number }
+{
+    match number {
+        Some(number) => number == 0,
+        None => false,
+    }
+}
+
+/// What is looked up of an enum value.
+#[derive(Clone, Copy)]
+pub(crate) struct Known {
+    /// Whether a value of its enum comes before it.
+    later: bool,
+    /// Whether such a value has its number, if it has one.
+    repeated: bool,
+    /// Whether its enum allows that.
+    allowed: bool,
+    /// Whether its number is reserved, if it has one.
+    covered: bool,
+}
+
+/// Adds the errors of the enum value `value` of the number `number`, of which `known` is looked up.
+fn push_lines(
+    alloc: Global,
+    faults: &mut Vec<Fault>,
+    value: &Member<'_>,
+    number: Option<i64>,
+    known: Known,
+) -> Result<(), Memory>
+    ensures { IfOk result (λ _. faults.new.items ≡ faults.old.items
+        ++ value_lines number (not known.later) ((known.repeated && is_some number) && not known.allowed) (known.covered && is_some number) (member_seen value.now)) }
+{
+    let span = value.number.span;
+    let is_number = number.is_some();
+    let is_zero = is_zero(number);
+    let wrong_first = both(!known.later, !is_zero);
+    let twice = both(both(known.repeated, is_number), !known.allowed);
+    let reserved = both(known.covered, is_number);
+    let text = "the first enum value must be 0";
+    let code = Code::FirstValueNotZero;
+    tell_if(alloc, faults, wrong_first, span, code, text)?;
+    let text = "enum number must be from -2147483648 to 2147483647";
+    let code = Code::EnumNumberOutOfRange;
+    tell_if(alloc, faults, !is_number, span, code, text)?;
+    let before = "enum number ";
+    let after = " is used twice without allow_alias";
+    let code = Code::EnumNumberTwice;
+    tell_number(alloc, faults, twice, span, code, before, number, after)?;
+    let code = Code::EnumNumberReserved;
+    tell_number(
+        alloc,
+        faults,
+        reserved,
+        span,
+        code,
+        before,
+        number,
+        " is reserved",
+    )
+}
+
+/// Adds the errors of the numbers of the enum values `values`, where `reserved` lists the reserved
+/// ranges and `options` the option statements.
+pub(crate) fn push_value_number_faults(
+    alloc: Global,
+    faults: &mut Vec<Fault>,
+    values: &[Member<'_>],
+    reserved: &[Reserved],
+    options: &[Opted<'_>],
+) -> Result<(), Memory>
+    ensures { IfOk result (λ _. faults.new.items ≡ faults.old.items
+        ++ of_each_after (value_number_faults reserved.now (map opted_seen options.now)) [] (map member_seen values.now)) }
+{
+    let keys = number_keys(alloc, values, true)?;
+    let listed = keys.as_slice();
+    let flags = repeats(alloc, listed)?;
+    let flags = flags.as_slice();
+    let owners = owners(alloc, values)?;
+    let owners = owners.as_slice();
+    let later = repeats(alloc, owners)?;
+    let later = later.as_slice();
+    let taken = reserved_keys(alloc, reserved)?;
+    let taken = taken.as_slice();
+    let aliases = aliases(alloc, options)?;
+    'each: for i in 0..values.len() {
+        let value = &values[i];
+        let key = keys[i];
+        let allowed = allows(&aliases, key.0);
+        let covered = is_covered(taken, key);
+        let known = Known {
+            later: later[i],
+            repeated: flags[i],
+            allowed,
+            covered,
+        };
+        push_lines(alloc, faults, value, key.1, known)?;
+    }
+    Ok(())
+}
