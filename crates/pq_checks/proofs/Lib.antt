@@ -12,6 +12,7 @@ pub mod EachLine
 pub mod Joined
 pub mod Spotted
 pub mod Seen
+pub mod SeenNames
 pub mod References
 pub mod Elsewhere
 pub mod Importing

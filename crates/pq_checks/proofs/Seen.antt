@@ -19,13 +19,13 @@ pub not_twice : (b : Bool) → not (not b) ≡ b
 not_twice true = refl
 not_twice false = refl
 
-or_test : (b c : Bool) → cond b true c ≡ (c || b)
+pub or_test : (b c : Bool) → cond b true c ≡ (c || b)
 or_test true true = refl
 or_test true false = refl
 or_test false true = refl
 or_test false false = refl
 
-turned : (xs ys : List ℕ) → bytes_eq xs ys ≡ bytes_eq ys xs
+pub turned : (xs ys : List ℕ) → bytes_eq xs ys ≡ bytes_eq ys xs
 turned xs ys =
     same_from_decides (bytes_eq xs ys) (bytes_eq ys xs) (bytes_eq-Decides xs ys)
     (Decides-like (bytes_eq ys xs) (λ e. sym e) (λ e. sym e) (bytes_eq-Decides ys xs))

@@ -13,7 +13,7 @@ ghost use Rattle.pq_checks.specs.aux.Views.{all_now, twice_line};
 use crate::Memory;
 use crate::code::Code;
 use crate::fault::Fault;
-use crate::said::{around, around_file, push};
+use crate::said::{around_name, around_name_and_file, push};
 use pq_names::Text;
 use pq_schema::{Definition, DefinitionKind, FileDefs, Scope};
 use pq_syntax::Node;
@@ -30,12 +30,7 @@ fn push_twice(
     ensures said { IfOk result (λ _. faults.new.items ≡ faults.old.items ++ twice_line repeated definition.now) }
 {
     if repeated {
-        let text = around(
-            alloc,
-            "",
-            definition.full_name.as_str(),
-            " is already defined",
-        )?;
+        let text = around_name(alloc, &definition.full_name, " is already defined")?;
         return push(faults, definition.span, Code::DefinedTwice, text);
     }
     Ok(())
@@ -52,7 +47,7 @@ pub(crate) fn push_twice_faults(
 {
     let mut seen = BTreeSet::new(alloc);
     'definitions: for definition in definitions {
-        let is_new = seen.insert(definition.full_name.as_str())?;
+        let is_new = seen.insert(definition.full_name.copy()?)?;
         push_twice(alloc, faults, definition, !is_new)?;
     }
     Ok(())
@@ -132,13 +127,11 @@ fn push_other(
     ensures said { IfOk result (λ _. faults.new.items
         ≡ faults.old.items ++ other_faults (Some other.now) definition.now) }
 {
-    let text = around_file(
+    let text = around_name_and_file(
         alloc,
-        "",
-        definition.full_name.as_str(),
+        &definition.full_name,
         " is already defined in ",
         other.as_str(),
-        "",
     )?;
     push(faults, definition.span, Code::DefinedElsewhere, text)
 }
@@ -158,7 +151,9 @@ fn push_elsewhere(
     if !is_at_top(nodes, definition) {
         return Ok(());
     }
-    match first_with(others, definition.full_name.as_str()) {
+    let mut full_name = String::new(alloc);
+    definition.full_name.push_to(&mut full_name)?;
+    match first_with(others, full_name.as_str()) {
         Some(other) => push_other(alloc, faults, definition, other),
         None => Ok(()),
     }

@@ -7,6 +7,7 @@ use crate::code::Code;
 use crate::fault::Fault;
 use pq_lex::Span;
 use pq_names::Text;
+use pq_schema::FullName;
 use std::alloc::Global;
 
 /// Adds the error of the code `code` at `span` with the message `text`.
@@ -78,5 +79,39 @@ pub(crate) fn around_file(
     let mut text = quoting(alloc, before, name, after)?;
     text.push_str(file)?;
     text.push_str(last)?;
+    Text::from_string(alloc, text)
+}
+
+/// `full_name` between quotation marks, then `after`.
+fn quoting_name(alloc: Global, full_name: &FullName, after: &str) -> Result<String, Memory>
+    ensures text { IfOk result (λ t. string_bytes t ≡ quoted full_name.now ++ after.now) }
+{
+    let mut text = String::new(alloc);
+    text.push('"')?;
+    full_name.push_to(&mut text)?;
+    text.push('"')?;
+    text.push_str(after)?;
+    Ok(text)
+}
+
+/// `full_name` between quotation marks, then `after`.
+pub(crate) fn around_name(alloc: Global, full_name: &FullName, after: &str) -> Result<Text, Memory>
+    ensures text { IfOk result (λ t. t ≡ quoted full_name.now ++ after.now) }
+{
+    let text = quoting_name(alloc, full_name, after)?;
+    Text::from_string(alloc, text)
+}
+
+/// `full_name` between quotation marks, then `after` and `file`.
+pub(crate) fn around_name_and_file(
+    alloc: Global,
+    full_name: &FullName,
+    after: &str,
+    file: &str,
+) -> Result<Text, Memory>
+    ensures text { IfOk result (λ t. t ≡ quoted full_name.now ++ after.now ++ file.now) }
+{
+    let mut text = quoting_name(alloc, full_name, after)?;
+    text.push_str(file)?;
     Text::from_string(alloc, text)
 }

@@ -2,7 +2,7 @@ use Rattle.std.proofs.Common.{◌≡◌, ◌++◌, [], take, drop}
 use Rattle.pq_schema.specs.declared.definitions.Definition.{Definition}
 use Rattle.pq_checks.specs.Earlier.{of_each_after}
 use Rattle.pq_checks.specs.Faults.{twice_faults}
-use Rattle.pq_checks.proofs.Seen.{Has}
+use Rattle.pq_checks.proofs.SeenNames.{Has}
 use Rattle.pq_checks.proofs.definition_lines.push_twice_faults.Given as goal
 
 abbrev pub invariant-definitions : goal.invariant-definitions
