@@ -1,0 +1,9 @@
+pub mod Bodies
+pub mod Lists
+pub mod Settings
+pub mod Reserved
+pub mod Types
+pub mod Descriptor
+pub mod Symbols
+pub mod Definition
+pub mod aux

@@ -1,0 +1,7 @@
+-- Auxiliary: nothing below this module has to be believed (used by proofs and invariants only).
+pub mod Rests
+pub mod Sizes
+pub mod Firsts
+pub mod Printed
+pub mod Parts
+pub mod Views
