@@ -1,5 +1,5 @@
 //! pq_rules: answers of sums from scratch, cycles among them.
-mod counted;
+pub(super) mod counted;
 
 use super::support::{check_row_count, check_text, split_row};
 use pq_inputs::{Durability, Inputs};
@@ -29,7 +29,7 @@ fn set(inputs: &mut Inputs, name: &str, text: Option<String>) -> Result<(), Fail
 }
 
 /// The key that `asked` writes as `Text NAME`, `Sum NAME` or `Total NAME`.
-fn key_of(rt: &(impl Abort + AllocGlobal), asked: &str) -> Result<SumsKey, Memory> {
+pub(super) fn key_of(rt: &(impl Abort + AllocGlobal), asked: &str) -> Result<SumsKey, Memory> {
     let (query, name) = split_row(rt, asked, " ");
     let name = Text::new(rt.alloc(), name)?;
     match query {
@@ -40,7 +40,7 @@ fn key_of(rt: &(impl Abort + AllocGlobal), asked: &str) -> Result<SumsKey, Memor
 }
 
 /// A key as [`key_of`] reads it.
-fn shown_key(alloc: Global, key: &SumsKey) -> Result<String, Memory> {
+pub(super) fn shown_key(alloc: Global, key: &SumsKey) -> Result<String, Memory> {
     match key {
         SumsKey::Input(name) => format!(in alloc; "Text {}", name.as_str()),
         SumsKey::Sum(name) => format!(in alloc; "Sum {}", name.as_str()),
@@ -59,7 +59,10 @@ fn shown_ring(alloc: Global, ring: &Ring<SumsKey>) -> Result<String, Memory> {
 }
 
 /// An answer: a number, a text between quotes, `absent`, or the keys of a cycle.
-fn shown_answer(alloc: Global, answer: &Answer<SumsKey, SumsValue>) -> Result<String, Memory> {
+pub(super) fn shown_answer(
+    alloc: Global,
+    answer: &Answer<SumsKey, SumsValue>,
+) -> Result<String, Memory> {
     match answer {
         Answer::Value(SumsValue::Number(number)) => format!(in alloc; "{number}"),
         Answer::Value(SumsValue::Source(Some(text))) => format!(in alloc; "'{}'", text.as_str()),

@@ -12,8 +12,8 @@ use std::test::Fail;
 
 /// The sums, each start counted.
 #[derive(Clone, Copy)]
-struct Counted<'a> {
-    starts: &'a Cell<u32>,
+pub(crate) struct Counted<'a> {
+    pub(crate) starts: &'a Cell<u32>,
 }
 
 impl<'a> Rules for Counted<'a> {
