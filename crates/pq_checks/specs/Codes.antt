@@ -1,4 +1,4 @@
--- The codes of errors as they are printed, and how grave each is (Language Server Protocol 3.17,
+-- The codes of errors as they are printed, and the severity of each (Language Server Protocol 3.17,
 -- "DiagnosticSeverity"); the code and the message of each syntax error.
 use Rattle.std.specs.Prelude.{ℕ, List, codes}
 use Rattle.pq_lex.specs.declared.token.Code.TheVariants as lexical
@@ -48,7 +48,7 @@ code_text code.TypeNotImported = codes "P151"
 code_text code.NotAType = codes "P152"
 code_text code.NotAMessage = codes "P153"
 
--- `severity c` is how grave the code `c` is: information for what is not read, else an error
+-- `severity c` is the severity of the code `c`: information for a skipped construct, else an error
 abbrev pub severity : Code → Severity
 severity code.AggregateConstant = Information
 severity code.ExtendBlock = Information

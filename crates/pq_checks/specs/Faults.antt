@@ -1,5 +1,5 @@
 -- The errors of a file: a table with a clause for each kind, which says when it holds, where it is,
--- and what the user is told (proto3 language specification; the codes are this project's own).
+-- and its message (proto3 language specification; the codes are this project's own).
 --
 -- `faults s nodes` lists the errors of a file with the tree `nodes` and the surroundings `s`. The
 -- law `each_fault` reads it as the table, and `faults_in_order` says what its diagnostics are.
@@ -64,7 +64,7 @@ abbrev pub number_text : Option ℤ → List ℕ
 number_text None = []
 number_text (Some z) = signed_decimal z
 
--- ---- P020 to P022: what is not read
+-- ---- P020 to P022: skipped constructs
 
 -- `kind_faults kind span` is P020 and P022 of a constant of the kind `kind` at `span`
 abbrev pub kind_faults : ConstantKind → Span → List Fault

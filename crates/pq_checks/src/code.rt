@@ -5,7 +5,7 @@ ghost use Rattle.pq_checks.specs.Codes.{code_text, severity, severity_number, sy
 use pq_lex::Code as LexicalCode;
 use pq_syntax::Code as SyntaxCode;
 
-/// How grave a diagnostic is (Language Server Protocol 3.17, "DiagnosticSeverity").
+/// The severity of a diagnostic (Language Server Protocol 3.17, "DiagnosticSeverity").
 #[derive(Clone, Copy, Debug, PartialEq, Eq)]
 pub enum Severity {
     /// The file is not valid.
@@ -65,7 +65,7 @@ pub enum Code {
     FieldNumberReserved,
     /// The message reserves the name of the field.
     FieldNameReserved,
-    /// A reserved range is empty, or has a bound that is no number of its message or enum.
+    /// A reserved range is empty, or has a bound outside the numbers of its kind.
     BadRange,
     /// A oneof without a field.
     EmptyOneof,
@@ -148,7 +148,7 @@ impl Code {
         }
     }
 
-    /// The severity: information for what is not read, an error for all else.
+    /// The severity: information for a skipped construct, else an error.
     pub fn severity(self) -> Severity
         ensures severity { result ≡ severity self }
     {

@@ -10,8 +10,8 @@ pub struct Fault {
     pub start: usize,
     /// The byte offset after its last character.
     pub end: usize,
-    /// What is wrong, or not read.
+    /// The code.
     pub code: Code,
-    /// What the user is told.
+    /// The message.
     pub text: Text,
 }

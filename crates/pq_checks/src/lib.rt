@@ -1,5 +1,5 @@
-//! The errors of a proto3 file, as queries over sources: what is wrong in it, or not read, where,
-//! and what the user is told.
+//! The errors of a proto3 file, as queries over sources: the codes, spans and messages
+//! of what is invalid in it and of what is skipped.
 //!
 //! The table of all errors is in `specs/Faults`; `each_fault` reads it line by line, and
 //! `specs/Compile` says what the sources say of a file. A check looks up names and numbers in

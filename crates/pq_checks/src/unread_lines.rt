@@ -1,4 +1,4 @@
-//! Errors P020 to P022 and P101: what is not read, and a second package.
+//! Errors P020 to P022 and P101: skipped constructs, and a second package.
 ghost use Rattle.std.specs.Prelude.{◌≡◌, ◌++◌, [], flat_map, map, IfOk};
 ghost use Rattle.pq_checks.specs.Earlier.{of_each_after};
 ghost use Rattle.pq_checks.specs.Faults.{constant_faults, extend_faults, kind_faults, package_faults, unread_faults};
@@ -110,7 +110,7 @@ fn push_extends(alloc: Global, faults: &mut Vec<Fault>, nodes: &[Node]) -> Resul
     Ok(())
 }
 
-/// Adds the errors of a file with the statements `nodes` about what is not read.
+/// Adds the errors of a file with the statements `nodes` about skipped constructs.
 #[tactic(auto, using(crate::proofs::SaidOfParts::of_constants, crate::proofs::SaidOfParts::of_extends))]
 pub(crate) fn push_unread_faults(
     alloc: Global,

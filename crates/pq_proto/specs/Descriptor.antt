@@ -2,7 +2,7 @@
 -- "FieldDescriptorProto", "EnumDescriptorProto", "ServiceDescriptorProto").
 --
 -- All members of an object are always there, in byte order of their names. Lists are in text order.
--- It speaks of each tree; only that of a file without an error is told.
+-- It speaks of each tree; only that of a file without an error is sent.
 use Rattle.std.specs.Prelude.{ℕ, cond, Bool, true, false, ℤ, pos, List, [], ◌∷◌, ◌++◌, codes, Option, Some, None}
 use Rattle.std.specs.Str.{is_utf8}
 use Rattle.serde_json.specs.Data.{Data, boolean, number, string, object, unsigned, member, no_members}
