@@ -128,7 +128,7 @@ ascii_column xs i h e =
 more_than_none : (n : ℕ) → (suc n == 0) ≡ false
 more_than_none n = grind (arith, nat_tests)
 
-nonempty_row : (xs : List ℕ) → is_ascii xs ≡ false → (length (map units_of xs) == 0) ≡ false
+pub nonempty_row : (xs : List ℕ) → is_ascii xs ≡ false → (length (map units_of xs) == 0) ≡ false
 nonempty_row [] h = cc
 nonempty_row (x ∷ xs) h = more_than_none (length (map units_of xs))
 

@@ -13,11 +13,11 @@ use Rattle.pq_lex.proofs.Positions.{at_line, line_facts, start_below}
 use Rattle.pq_lex.proofs.Columns.{end_starts, starts_character, line_length, row_length, unit_at, lead_is, column_is, kept_is, continuation_unit}
 use Rattle.pq_lex.proofs.UnitLemmas.{lead_stop}
 
-mark_start : (text : List ℕ) (xs : List ℕ) → map (λ m. m.start) (map (mark text) xs) ≡ xs
+pub mark_start : (text : List ℕ) (xs : List ℕ) → map (λ m. m.start) (map (mark text) xs) ≡ xs
 mark_start text [] = refl
 mark_start text (x ∷ xs) = ap (λ ys. x ∷ ys) (mark_start text xs)
 
-marks_start : (lines : List Line) → map (λ m. m.start) (marks_of lines) ≡ starts_of lines
+pub marks_start : (lines : List Line) → map (λ m. m.start) (marks_of lines) ≡ starts_of lines
 marks_start [] = refl
 marks_start (l ∷ ls) = ap (λ ys. l.start ∷ ys) (marks_start ls)
 

@@ -8,9 +8,11 @@ pub mod Indexed
 pub mod LineFacts
 pub mod LineLen
 pub mod NumberEnds
+pub mod Offsets
 pub mod OnePiece
 pub mod Ordered
 pub mod Pieces
+pub mod Places
 pub mod Positions
 pub mod Readings
 pub mod RunLemmas

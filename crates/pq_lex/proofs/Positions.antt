@@ -135,6 +135,23 @@ module _ (text : List ℕ) where
         ]
       ]
 
+  -- the lines up to an offset's start at the offset or before it, and the next after it
+  pub starts_before : (o n i : ℕ) → o ≤ n → i ≤ line_number text o → get_or (starts_to text n) i 0 ≤ o
+  starts_before o n i le h =
+      let l = later o n le in
+      let c = numbered o in
+      let below = c.below i (omega (arith, h, c.count)) in
+      let same : get_or (starts_to text n) i 0 ≡ get_or (starts_to text o) i 0 = ap (λ xs. get_or xs i 0) l.is ∙ get_left (starts_to text o) l.rest i (omega (arith, h, c.count)) in
+      omega (arith, below, same)
+
+  pub starts_after : (o n : ℕ) → o ≤ n → line_number text o + 1 < length (starts_to text n) → o < get_or (starts_to text n) (line_number text o + 1) 0
+  starts_after o n le h =
+      let l = later o n le in
+      let c = numbered o in
+      let same : get_or (starts_to text n) (line_number text o + 1) 0 ≡ get_or l.rest (line_number text o + 1 - length (starts_to text o)) 0 = ap (λ xs. get_or xs (line_number text o + 1) 0) l.is ∙ get_right (starts_to text o) l.rest (line_number text o + 1) (omega (arith, c.count)) in
+      let b = l.after (line_number text o + 1 - length (starts_to text o)) (omega (arith, c.count, h, ap length l.is, length-append (starts_to text o) l.rest)) in
+      omega (arith, same, b)
+
   pub line_facts : (n k : ℕ) → k < length (starts_to text n) → (starts_line text (get_or (starts_to text n) k 0) ≡ true) × (line_number text (get_or (starts_to text n) k 0) ≡ k) × (get_or (starts_to text n) k 0 ≤ n)
   line_facts n k h = let c = numbered n in (c.each k h, c.number k h, c.below k h)
 

@@ -7,7 +7,7 @@ ghost use Rattle.pq_lex.specs.declared.token.Code.{Code};
 ghost use Rattle.pq_lex.specs.declared.position.Position.{Position};
 ghost use Rattle.pq_lex.specs.Classes.{is_continuation};
 ghost use Rattle.pq_lex.specs.Lines.{IsOffset, line_end, position_of};
-ghost use Rattle.pq_lex.specs.aux.LineMarks.{LineMark, same_lines};
+ghost use Rattle.pq_lex.specs.aux.LineMarks.{LineMark, lines_of, offset_in, place_in, same_lines};
 ghost use Rattle.pq_lex.specs.Order.{InOrder};
 ghost use Rattle.pq_lex.specs.Tokens.{Lexes};
 ghost use Rattle.pq_lex.specs.aux.Reading.{tokens_of};
@@ -40,6 +40,18 @@ pub fn one_offset()
 /// A character starts at a byte that is not a continuation byte (RFC 3629).
 pub fn offset_comes_back()
     ensures { (text : List ℕ) (offset : ℕ) (answer : Option ℕ) → offset ≤ length text → is_continuation (slice_index text offset) ≡ false → offset ≤ line_end text offset → IsOffset text (position_of text offset) answer → answer ≡ Some offset }
+{}
+
+/// `place_in` the lines of a text is the position of each offset up to the end of that text.
+/// `LineIndex::position` answers it.
+pub fn positions_of_lines()
+    ensures { (text : List ℕ) (offset : ℕ) → offset ≤ length text → place_in (lines_of text) offset ≡ position_of text offset }
+{}
+
+/// `offset_in` the lines of a text is the largest offset at or before each position, or `None` if
+/// the text has no such line. `LineIndex::offset` answers it.
+pub fn offsets_of_lines()
+    ensures { (text : List ℕ) (p : Position) → IsOffset text p (offset_in (lines_of text) p) }
 {}
 
 /// `==` of indexes, also through a `T: PartialEq` bound, is equality of what contracts see of them.

@@ -19,7 +19,8 @@ mod token;
 mod values;
 
 pub use laws::{
-    each_text, equal_indexes, offset_comes_back, one_lexing, one_offset, tokens_in_order,
+    each_text, equal_indexes, offset_comes_back, offsets_of_lines, one_lexing, one_offset,
+    positions_of_lines, tokens_in_order,
 };
 pub use lexer::lex;
 pub use lines::LineIndex;

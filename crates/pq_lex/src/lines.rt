@@ -11,7 +11,7 @@
 ghost use Rattle.std.specs.Prelude.{◌≡◌, ℕ, true, ◌+◌, ◌*◌, ◌<◌, ◌≤◌, ◌==◌, ◌&&◌, [], ◌^◌, cond, length, List, map, drop, slice_index, slice_range, sum, take, IfOk};
 ghost use Rattle.std.specs.Cmp.{partial_equiv_from_equiv};
 ghost use Rattle.pq_lex.specs.Lines.{IsOffset, line_len, position_of, units_of};
-ghost use Rattle.pq_lex.specs.aux.LineMarks.{IsByte, lead_index, is_ascii, kept_column, lines_of, mark, same_lines, same_lines_equiv, units_kept};
+ghost use Rattle.pq_lex.specs.aux.LineMarks.{IsByte, lead_index, is_ascii, kept_column, lines_of, mark, offset_in, place_in, same_lines, same_lines_equiv, units_kept};
 ghost use Rattle.pq_lex.specs.aux.Kept.{IsCounted, count_before, mark_of, starts_of};
 
 use crate::Memory;
@@ -308,11 +308,12 @@ impl LineIndex {
         }
     }
 
-    /// Returns the position of `offset`, for each offset up to the end of the text.
-    /// An offset inside a character counts as the character's start, and one inside a terminator as
-    /// the terminator's.
+    /// Returns the position of `offset`.
+    /// An offset inside a character counts as the character's start, one inside a terminator as the
+    /// terminator's, and one after the end of the text as that end.
     pub fn position(&self, offset: usize) -> Position
-        ensures { (text : List ℕ) → self.now ≡ lines_of text → offset ≤ length text → result ≡ position_of text offset }
+        ensures of_text { (text : List ℕ) → self.now ≡ lines_of text → offset ≤ length text → result ≡ position_of text offset }
+        ensures exact { result ≡ place_in self.now offset }
     {
         let number = line_of(&self.lines, offset);
         let line = &self.lines[number];
@@ -327,7 +328,8 @@ impl LineIndex {
     /// A column past the line's end gives that end, and a column inside a character the character's
     /// start.
     pub fn offset(&self, position: Position) -> Option<usize>
-        ensures { (text : List ℕ) → self.now ≡ lines_of text → IsOffset text position result }
+        ensures of_text { (text : List ℕ) → self.now ≡ lines_of text → IsOffset text position result }
+        ensures exact { result ≡ offset_in self.now position }
     {
         let lines = self.lines.as_slice();
         if position.line >= lines.len() {

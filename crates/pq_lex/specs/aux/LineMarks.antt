@@ -1,11 +1,13 @@
--- Auxiliary: what an index of lines keeps of a text (used by proofs, invariants and equality). The
--- contracts of `position` and `offset` tie `lines_of` to the meaning: `position_of` and `IsOffset`
--- of `Lines`.
-use Rattle.std.specs.Prelude.{◌≡◌, ℕ, zero, suc, ◌<◌, ◌≤◌, ◌==◌, Bool, ◌&&◌, cond, List, [], ◌∷◌, ◌++◌, length, map, sum, slice_index, slice_range, take, nat_lt}
+-- Auxiliary: what an index of lines keeps of a text (used by proofs, invariants and equality), and
+-- what it answers by these lines alone (used by contracts). The laws `positions_of_lines` and
+-- `offsets_of_lines` and the contracts of `position` and `offset` tie both to the meaning:
+-- `position_of` and `IsOffset` of `Lines`.
+use Rattle.std.specs.Prelude.{◌≡◌, ℕ, zero, suc, ◌+◌, ◌-◌, ◌<◌, ◌≤◌, ◌==◌, Bool, true, ◌&&◌, cond, List, [], ◌∷◌, ◌++◌, length, map, min, sum, slice_index, slice_range, take, nat_lt, Option, Some, None}
 use Rattle.std.specs.List.{list_all}
 use Rattle.std.specs.Ordering.{eq_of_both, on}
 use Rattle.std.specs.Cmp.{IsEquivalence, and_equiv, nat_eq_equiv, on_equiv}
 use Rattle.std.specs.Cmp.Lexicographic.{lists_equiv, nat_list_eq_equiv, pointwise}
+use Rattle.pq_lex.specs.declared.position.Position.{Position}
 use Rattle.pq_lex.specs.Lines.{starts_line, end_of_line, units_of}
 
 -- A `LineMark` is a line: its start, its end before the terminator, and the units of its bytes, or
@@ -70,3 +72,46 @@ pub record IsByte (units : List ℕ) (column at : ℕ) : Type 0 where
   pub start : at < length units → slice_index units at ≡ 0 → ⊥
   pub fits : sum (take at units) ≤ column
   pub most : (q : ℕ) → at < q → q ≤ length units → column < sum (take q units)
+
+-- `column_in m offset` is the column of `offset` in the line `m`. An offset after the line's end
+-- counts as that end.
+abbrev pub column_in : LineMark → ℕ → ℕ
+column_in m offset = kept_column m.units (min offset m.end - m.start)
+
+-- `is_before ms offset` is whether `offset` is before the first of the lines `ms`, or `ms` is empty.
+abbrev pub is_before : List LineMark → ℕ → Bool
+is_before [] offset = true
+is_before (m ∷ ms) offset = nat_lt offset m.start
+
+-- `place_from n ms offset` is the position of `offset` in the lines `ms`, the first of which has
+-- the number `n`. The line of `offset` is the first whose next line starts after `offset`, or the
+-- last.
+unfoldable pub place_from : ℕ → List LineMark → ℕ → Position
+place_from n [] offset = record { line = n; character = 0 }
+place_from n (m ∷ ms) offset = cond (is_before ms offset) (record { line = n; character = column_in m offset }) (place_from (suc n) ms offset)
+
+-- `place_in ms offset` is the position of `offset` in the text with the lines `ms`.
+abbrev pub place_in : List LineMark → ℕ → Position
+place_in ms offset = place_from 0 ms offset
+
+-- `byte_of units column` is, in a line with these `units`, the last byte at or before `column` that
+-- starts a character, or the line's end.
+unfoldable pub byte_of : List ℕ → ℕ → ℕ
+byte_of [] column = 0
+byte_of (u ∷ us) column = cond (nat_lt column u) 0 (suc (byte_of us (column - u)))
+
+-- `byte_in m column` is that byte of the line `m`. In a line of ASCII each byte is one unit.
+abbrev pub byte_in : LineMark → ℕ → ℕ
+byte_in m column = cond (length m.units == 0) (min column (m.end - m.start)) (byte_of m.units column)
+
+-- `offset_from ms n column` is the offset of `column` in the line number `n` of `ms`, or `None` if
+-- `ms` has no such line.
+unfoldable pub offset_from : List LineMark → ℕ → ℕ → Option ℕ
+offset_from [] n column = None
+offset_from (m ∷ ms) zero column = Some (m.start + byte_in m column)
+offset_from (m ∷ ms) (suc n) column = offset_from ms n column
+
+-- `offset_in ms p` is the largest offset at or before the position `p` in the text with the lines
+-- `ms`, or `None` if the text has no such line.
+abbrev pub offset_in : List LineMark → Position → Option ℕ
+offset_in ms p = offset_from ms p.line p.character
