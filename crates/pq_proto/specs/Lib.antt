@@ -1,4 +1,5 @@
 pub mod Bodies
+pub mod Compile
 pub mod Lists
 pub mod Settings
 pub mod Reserved

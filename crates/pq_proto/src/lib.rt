@@ -10,7 +10,7 @@
 //! Modules: `bodies` (walks), `references` (the look-up of types), `printer` (tokens), `lists`
 //! (what is printed of each statement of a body); `settings` (options), `reserved`, `names` (full names),
 //! `types`, `fields`, `enums`, `messages`, `services`, `descriptor`; `symbols`; `definition` over
-//! `type_item`; `key`, `laws`.
+//! `type_item`; `key`, `value`, `laws`.
 #![tactic(auto)]
 
 mod bodies;
@@ -31,6 +31,7 @@ mod settings;
 mod symbols;
 mod type_item;
 mod types;
+mod value;
 
 pub use definition::definition_at;
 pub use descriptor::descriptor_text;
@@ -39,3 +40,4 @@ pub use laws::equal_keys;
 pub use std::alloc::AllocError as Memory;
 pub use symbols::{Positions, symbols_text};
 pub use type_item::TypeItem;
+pub use value::{Location, ProtoValue};

@@ -1,0 +1,144 @@
+-- What the files of the sources compile to. The definitions speak of sources, trees and the import
+-- graph; no query is named here.
+use Rattle.std.specs.Prelude.{ℕ, ◌≡◌, Bool, true, false, not, ◌&&◌, cond, List, codes, Option, Some, None, option_and_then, slice_get}
+use Rattle.std.specs.List.{list_any}
+use Rattle.std.specs.Option.{option_map}
+use Rattle.serde_json.specs.Written.{compact_text}
+use Rattle.pq_inputs.specs.Sources.{Sources, file_in}
+use Rattle.pq_rules.specs.declared.turn.Answer.{Answer}
+use Rattle.pq_rules.specs.declared.turn.Answer.TheVariants.{Value}
+use Rattle.pq_lex.specs.aux.LineMarks.{place_in, offset_in}
+use Rattle.pq_lex.specs.declared.position.Position.{Position}
+use Rattle.pq_lex.specs.declared.token.Span.{Span}
+use Rattle.pq_syntax.specs.declared.tree.Node.{Node}
+use Rattle.pq_syntax.specs.declared.tree.Statement.{Statement}
+use Rattle.pq_syntax.specs.declared.tree.Statement.TheVariants.{Message, Enum}
+use Rattle.pq_links.specs.Files.{graph_of, read_file}
+use Rattle.pq_links.specs.LinkedKeys.{LinkedIs}
+use Rattle.pq_links.specs.declared.files.ParsedFile.{ParsedFile}
+use Rattle.pq_links.specs.declared.files.ParsedFile.TheVariants.{Absent, Present}
+use Rattle.pq_schema.specs.Missing.{nodes_of}
+use Rattle.pq_schema.specs.Compile.{defs_at, IsScope, AreResolved}
+use Rattle.pq_schema.specs.ScopeContents.{Scope}
+use Rattle.pq_schema.specs.declared.resolved.ResolvedReference.{ResolvedReference}
+use Rattle.pq_checks.specs.Codes.{severity}
+use Rattle.pq_checks.specs.Compile.{IsChecked}
+use Rattle.pq_checks.specs.Diagnostics.{AreDiagnostics}
+use Rattle.pq_checks.specs.declared.code.Severity.{Severity}
+use Rattle.pq_checks.specs.declared.code.Severity.TheVariants.{Error, Information}
+use Rattle.pq_checks.specs.declared.fault.Fault.{Fault}
+use Rattle.pq_checks.specs.declared.surroundings.Checked.{Checked}
+use Rattle.pq_proto.specs.Definition.{definition_at}
+use Rattle.pq_proto.specs.Descriptor.{descriptor}
+use Rattle.pq_proto.specs.Symbols.{symbols}
+use Rattle.pq_proto.specs.declared.key.Place.{Place}
+use Rattle.pq_proto.specs.declared.key.ProtoKey.{ProtoKey}
+use Rattle.pq_proto.specs.declared.key.ProtoKey.TheVariants as keys
+use Rattle.pq_proto.specs.declared.type_item.TypeItem.{TypeItem}
+use Rattle.pq_proto.specs.declared.value.Location.{Location}
+use Rattle.pq_proto.specs.declared.value.ProtoValue.{ProtoValue}
+use Rattle.pq_proto.specs.declared.value.ProtoValue.TheVariants as values
+
+-- ---- positions
+
+-- `position_in file offset` is the position of `offset` in a file that is read as `file`; an absent
+-- file has the first position alone
+abbrev pub position_in : ParsedFile → ℕ → Position
+position_in Absent offset = record { line = 0; character = 0 }
+position_in (Present p lines) offset = place_in lines offset
+
+-- `offset_at file place` is the offset at `place` in a file that is read as `file`, or `None` if the
+-- file has no such line. A place after the line's end is that end.
+abbrev pub offset_at : ParsedFile → Place → Option ℕ
+offset_at Absent place = None
+offset_at (Present p lines) place = offset_in lines (record { line = place.line; character = place.character })
+
+-- `place_at file offset` is the position of `offset` as a place
+abbrev pub place_at : ParsedFile → ℕ → Place
+place_at file offset = record { line = (position_in file offset).line; character = (position_in file offset).character }
+
+-- ---- descriptors
+
+-- `is_severe s` is whether the severity `s` is that of errors
+abbrev pub is_severe : Severity → Bool
+is_severe Error = true
+is_severe Information = false
+
+-- `is_present file` is whether a file that is read as `file` has a text
+abbrev pub is_present : ParsedFile → Bool
+is_present Absent = false
+is_present (Present p lines) = true
+
+-- `is_sent d` is whether a file with the diagnostics `d` has a descriptor: it has a text, and no
+-- diagnostic of the severity of errors
+abbrev pub is_sent : Checked → Bool
+is_sent d = is_present d.file && not (list_any (λ (f : Fault). is_severe (severity f.code)) d.faults)
+
+-- `descriptor_by f d references` is the descriptor of the file `f` as a text, `null` where it has
+-- none. `d` is its diagnostics, and `references` its resolved references.
+abbrev pub descriptor_by : List ℕ → Checked → List ResolvedReference → List ℕ
+descriptor_by f d references = cond (is_sent d) (compact_text (descriptor references f (nodes_of d.file))) (codes "null")
+
+-- `IsDescriptor files f t` is that `t` is the descriptor of the file `f` as a text
+abbrev pub IsDescriptor : Sources → List ℕ → List ℕ → Type 0
+IsDescriptor files f t =
+    (d : Checked) × (references : List ResolvedReference)
+    × AreDiagnostics files f d × AreResolved files f references × (t ≡ descriptor_by f d references)
+
+-- ---- symbols
+
+-- `symbols_by file` is the list of the symbols of a file that is read as `file`, as a text
+abbrev pub symbols_by : ParsedFile → List ℕ
+symbols_by file = compact_text (symbols (position_in file) (nodes_of file))
+
+-- ---- definitions
+
+-- `type_name statement` is the span of the name of the type that `statement` defines
+abbrev pub type_name : Statement → Option Span
+type_name (Message name) = Some name.span
+type_name (Enum name) = Some name.span
+type_name _ = None
+
+-- `location_of t file` is the location of the name of the type item `t`, whose file is read as
+-- `file`
+abbrev pub location_of : TypeItem → ParsedFile → Option Location
+location_of t file =
+    option_map (λ (s : Span). record { file = t.file; start = place_at file s.start; end = place_at file s.end })
+        (option_and_then (λ (n : Node). type_name n.statement) (slice_get (nodes_of file) t.item))
+
+-- `type_at file place references` is the type that is referred to at `place` in a file that is read
+-- as `file` and has the resolved references `references`
+abbrev pub type_at : ParsedFile → Place → List ResolvedReference → Option TypeItem
+type_at file place references = option_and_then (λ (o : ℕ). definition_at (nodes_of file) o references) (offset_at file place)
+
+-- `definition_by read f place references` is the definition of what is at `place` in the file `f`
+-- with the resolved references `references`, where `read` gives what a file is read as
+abbrev pub definition_by : (List ℕ → ParsedFile) → List ℕ → Place → List ResolvedReference → Option Location
+definition_by read f place references = option_and_then (λ (t : TypeItem). location_of t (read t.file)) (type_at (read f) place references)
+
+-- `read_in files f` is what the file `f` of the sources is read as
+abbrev pub read_in : Sources → List ℕ → ParsedFile
+read_in files f = read_file (file_in files f).text
+
+-- `IsDefinition files f place d` is that `d` is the definition of what is at `place` in the file `f`
+abbrev pub IsDefinition : Sources → List ℕ → Place → Option Location → Type 0
+IsDefinition files f place d =
+    (references : List ResolvedReference) × AreResolved files f references × (d ≡ definition_by (read_in files) f place references)
+
+-- ---- all keys
+
+-- `Compiles files key a` is that the key `key` compiles to the answer `a`. The links of a bad file
+-- are the cycle of the ring of imports into which it leads.
+abbrev pub Compiles : Sources → ProtoKey → Answer ProtoKey ProtoValue → Type 0
+Compiles files (keys.Input f) a = a ≡ Value (values.Source (file_in files f).text)
+Compiles files (keys.Parse f) a = a ≡ Value (values.Parse (read_in files f))
+Compiles files (keys.Imports f) a = a ≡ Value (values.Imports (graph_of files f))
+Compiles files (keys.Linked f) a = LinkedIs (graph_of files) (λ n. keys.Linked n) (λ l. values.Linked l) f a
+Compiles files (keys.Defs f) a = a ≡ Value (values.Defs (defs_at files f))
+Compiles files (keys.Scope f) a = (s : Scope) × (a ≡ Value (values.Scope s)) × IsScope files f s
+Compiles files (keys.Resolved f) a = (rs : List ResolvedReference) × (a ≡ Value (values.Resolved rs)) × AreResolved files f rs
+Compiles files (keys.Checks f) a = (c : Checked) × (a ≡ Value (values.Checks c)) × IsChecked files f c
+Compiles files (keys.Diagnostics f) a = (d : Checked) × (a ≡ Value (values.Diagnostics d)) × AreDiagnostics files f d
+Compiles files (keys.Descriptor f) a = (t : List ℕ) × (a ≡ Value (values.Descriptor t)) × IsDescriptor files f t
+Compiles files (keys.Symbols f) a = a ≡ Value (values.Symbols (symbols_by (read_in files f)))
+Compiles files (keys.Definition f place) a = (d : Option Location) × (a ≡ Value (values.Definition d)) × IsDefinition files f place d
