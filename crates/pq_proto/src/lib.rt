@@ -37,6 +37,7 @@ pub use definition::definition_at;
 pub use descriptor::descriptor_text;
 pub use key::{Place, ProtoKey};
 pub use laws::equal_keys;
+pub use printer::Printer;
 pub use std::alloc::AllocError as Memory;
 pub use symbols::{Positions, symbols_text};
 pub use type_item::TypeItem;

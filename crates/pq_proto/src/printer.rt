@@ -9,9 +9,9 @@ use pq_names::Text;
 use std::alloc::Global;
 use std::marker::Model;
 
-/// A text that is printed. Contracts see its tokens so far.
+/// A JSON text that is printed (RFC 8259). Contracts see its tokens so far.
 #[derive(Drop)]
-pub(crate) struct Printer {
+pub struct Printer {
     out: Writer,
 }
 
@@ -30,7 +30,7 @@ impl Model for Printer {
 
 impl Printer {
     /// A text without tokens, which takes its memory from `alloc`.
-    pub(crate) fn new(alloc: Global) -> Printer
+    pub fn new(alloc: Global) -> Printer
         ensures { result ≡ [] }
     {
         Printer {
@@ -39,7 +39,7 @@ impl Printer {
     }
 
     /// The text.
-    pub(crate) fn into_text(self, alloc: Global) -> Result<Text, Memory>
+    pub fn into_text(self, alloc: Global) -> Result<Text, Memory>
         ensures { IfOk result (λ t. t ≡ print self) }
     {
         let bytes = self.out.into_inner();
@@ -50,7 +50,7 @@ impl Printer {
     }
 
     /// Prints the start of an object.
-    pub(crate) fn begin_object(&mut self) -> Result<(), Memory>
+    pub fn begin_object(&mut self) -> Result<(), Memory>
         ensures { OnOk result (self.new ≡ self.old ++ begin_object ∷ []) }
     {
         self.out.begin_object()?;
@@ -58,7 +58,7 @@ impl Printer {
     }
 
     /// Prints the end of an object.
-    pub(crate) fn end_object(&mut self) -> Result<(), Memory>
+    pub fn end_object(&mut self) -> Result<(), Memory>
         ensures { OnOk result (self.new ≡ self.old ++ end_object ∷ []) }
     {
         self.out.end_object()?;
@@ -66,7 +66,7 @@ impl Printer {
     }
 
     /// Prints the start of a list.
-    pub(crate) fn begin_array(&mut self) -> Result<(), Memory>
+    pub fn begin_array(&mut self) -> Result<(), Memory>
         ensures { OnOk result (self.new ≡ self.old ++ begin_array ∷ []) }
     {
         self.out.begin_array()?;
@@ -74,7 +74,7 @@ impl Printer {
     }
 
     /// Prints the end of a list.
-    pub(crate) fn end_array(&mut self) -> Result<(), Memory>
+    pub fn end_array(&mut self) -> Result<(), Memory>
         ensures { OnOk result (self.new ≡ self.old ++ end_array ∷ []) }
     {
         self.out.end_array()?;
@@ -82,7 +82,7 @@ impl Printer {
     }
 
     /// Prints the name of a member.
-    pub(crate) fn key(&mut self, name: &str) -> Result<(), Memory>
+    pub fn key(&mut self, name: &str) -> Result<(), Memory>
         ensures { OnOk result (self.new ≡ self.old ++ key name.now ∷ []) }
     {
         self.out.key(name)?;
@@ -90,7 +90,7 @@ impl Printer {
     }
 
     /// Prints a text.
-    pub(crate) fn text(&mut self, text: &str) -> Result<(), Memory>
+    pub fn text(&mut self, text: &str) -> Result<(), Memory>
         ensures { OnOk result (self.new ≡ self.old ++ string text.now ∷ []) }
     {
         self.out.string(text)?;
@@ -98,7 +98,7 @@ impl Printer {
     }
 
     /// Prints the number `n`.
-    pub(crate) fn unsigned(&mut self, n: u64) -> Result<(), Memory>
+    pub fn unsigned(&mut self, n: u64) -> Result<(), Memory>
         ensures { OnOk result (self.new ≡ self.old ++ number (decimal n) ∷ []) }
     {
         self.out.u64(n)?;
@@ -106,7 +106,7 @@ impl Printer {
     }
 
     /// Prints a number by its text.
-    pub(crate) fn number(&mut self, text: &str) -> Result<(), Memory>
+    pub fn number(&mut self, text: &str) -> Result<(), Memory>
         requires { IsNumber text.now }
         ensures { OnOk result (self.new ≡ self.old ++ number text.now ∷ []) }
     {
@@ -115,7 +115,7 @@ impl Printer {
     }
 
     /// Prints `true` or `false`.
-    pub(crate) fn boolean(&mut self, b: bool) -> Result<(), Memory>
+    pub fn boolean(&mut self, b: bool) -> Result<(), Memory>
         ensures { OnOk result (self.new ≡ self.old ++ boolean b ∷ []) }
     {
         self.out.boolean(b)?;
@@ -123,7 +123,7 @@ impl Printer {
     }
 
     /// Prints `null`.
-    pub(crate) fn null(&mut self) -> Result<(), Memory>
+    pub fn null(&mut self) -> Result<(), Memory>
         ensures { OnOk result (self.new ≡ self.old ++ null ∷ []) }
     {
         self.out.null()?;
@@ -131,7 +131,7 @@ impl Printer {
     }
 
     /// Prints the member `name` with the text `text`.
-    pub(crate) fn text_member(&mut self, name: &str, text: &str) -> Result<(), Memory>
+    pub fn text_member(&mut self, name: &str, text: &str) -> Result<(), Memory>
         ensures { OnOk result (self.new ≡ self.old ++ key name.now ∷ string text.now ∷ []) }
     {
         self.key(name)?;
@@ -140,7 +140,7 @@ impl Printer {
     }
 
     /// Prints the member `name` with the number `n`.
-    pub(crate) fn unsigned_member(&mut self, name: &str, n: u64) -> Result<(), Memory>
+    pub fn unsigned_member(&mut self, name: &str, n: u64) -> Result<(), Memory>
         ensures { OnOk result (self.new ≡ self.old ++ key name.now ∷ number (decimal n) ∷ []) }
     {
         self.key(name)?;
@@ -149,7 +149,7 @@ impl Printer {
     }
 
     /// Prints the member `name` with `true` or `false`.
-    pub(crate) fn boolean_member(&mut self, name: &str, b: bool) -> Result<(), Memory>
+    pub fn boolean_member(&mut self, name: &str, b: bool) -> Result<(), Memory>
         ensures { OnOk result (self.new ≡ self.old ++ key name.now ∷ boolean b ∷ []) }
     {
         self.key(name)?;
@@ -158,7 +158,7 @@ impl Printer {
     }
 
     /// Prints the member `name` with null.
-    pub(crate) fn null_member(&mut self, name: &str) -> Result<(), Memory>
+    pub fn null_member(&mut self, name: &str) -> Result<(), Memory>
         ensures { OnOk result (self.new ≡ self.old ++ key name.now ∷ null ∷ []) }
     {
         self.key(name)?;
@@ -167,7 +167,7 @@ impl Printer {
     }
 
     /// Prints the member `name` with the empty list.
-    pub(crate) fn empty_member(&mut self, name: &str) -> Result<(), Memory>
+    pub fn empty_member(&mut self, name: &str) -> Result<(), Memory>
         ensures { OnOk result (self.new
             ≡ self.old ++ key name.now ∷ begin_array ∷ end_array ∷ []) }
     {
