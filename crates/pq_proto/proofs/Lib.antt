@@ -5,4 +5,8 @@ pub mod ListSteps
 pub mod ReferenceSteps
 pub mod FirstSteps
 pub mod NumberTexts
-pub mod KeyOrder
+pub mod GraphDecided
+pub mod Existence
+pub mod ProtoMeaning
+pub mod Answered
+pub mod OneCompilation

@@ -5,3 +5,9 @@ pub mod Firsts
 pub mod Printed
 pub mod Parts
 pub mod Views
+pub mod Outputs
+pub mod KeyOrder
+pub mod RuleSet
+pub mod CheckKinds
+pub mod ProtoLaws
+pub mod Exact

@@ -10,12 +10,16 @@
 //! Modules: `bodies` (walks), `references` (the look-up of types), `printer` (tokens), `lists`
 //! (what is printed of each statement of a body); `settings` (options), `reserved`, `names` (full names),
 //! `types`, `fields`, `enums`, `messages`, `services`, `descriptor`; `symbols`; `definition` over
-//! `type_item`; `key`, `value`, `laws`.
+//! `type_item`; `key`, `value`, `queries` (those of descriptors, symbols and
+//! definitions); `rules` (the rule set of all queries) over `embedded` and `reads`, `compilation`;
+//! `laws`, `rule_laws`.
 #![tactic(auto)]
 
 mod bodies;
+mod compilation;
 mod definition;
 mod descriptor;
+mod embedded;
 mod enums;
 mod fields;
 mod key;
@@ -24,8 +28,12 @@ mod lists;
 mod messages;
 mod names;
 mod printer;
+mod queries;
+mod reads;
 mod references;
 mod reserved;
+mod rule_laws;
+mod rules;
 mod services;
 mod settings;
 mod symbols;
@@ -33,11 +41,15 @@ mod type_item;
 mod types;
 mod value;
 
+pub use compilation::compile;
 pub use definition::definition_at;
 pub use descriptor::descriptor_text;
 pub use key::{Place, ProtoKey};
 pub use laws::equal_keys;
 pub use printer::Printer;
+pub use queries::{DefinitionPart, DefinitionQuery, DescriptorPart, DescriptorQuery, SymbolsQuery};
+pub use rule_laws::proto_values;
+pub use rules::{ProtoPart, ProtoRules};
 pub use std::alloc::AllocError as Memory;
 pub use symbols::{Positions, symbols_text};
 pub use type_item::TypeItem;

@@ -2,6 +2,7 @@
 ghost use Rattle.std.specs.Prelude.{◌≡◌, ◌++◌, IfOk, OnOk};
 ghost use Rattle.std.specs.Option.{option_map};
 ghost use Rattle.serde_json.specs.Written.{compact_text};
+ghost use Rattle.pq_proto.specs.Compile.{position_in};
 ghost use Rattle.pq_proto.specs.Lists.{list_data};
 ghost use Rattle.pq_proto.specs.Symbols.{position_data, range_data, symbol_data, symbols, symbols_by, symbols_in};
 ghost use Rattle.pq_proto.specs.aux.Printed.{tokens_of, values_of};
@@ -12,6 +13,7 @@ use crate::Memory;
 use crate::bodies::{Body, Held, sizes_of};
 use crate::printer::Printer;
 use pq_lex::{Position, Span};
+use pq_links::ParsedFile;
 use pq_names::Text;
 use pq_syntax::{Name, Node, Statement};
 use std::alloc::Global;
@@ -26,6 +28,20 @@ pub trait Positions {
     /// The position of `offset`.
     fn position_of(&self, offset: usize) -> Position
         ensures { result ≡ place self.now offset };
+}
+
+impl Positions for ParsedFile {
+    ghost place = { position_in };
+
+    fn position_of(&self, offset: usize) -> Position {
+        match self {
+            ParsedFile::Absent => Position {
+                line: 0,
+                character: 0,
+            },
+            ParsedFile::Present { lines, .. } => lines.position(offset),
+        }
+    }
 }
 
 /// Prints the position `position`.

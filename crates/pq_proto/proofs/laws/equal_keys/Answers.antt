@@ -1,4 +1,4 @@
-use Rattle.pq_proto.proofs.KeyOrder.{key_exact}
+use Rattle.pq_proto.specs.aux.KeyOrder.{key_exact}
 use Rattle.pq_proto.proofs.laws.equal_keys.Goals as goal
 
 pub returns : goal.returns

@@ -1,5 +1,5 @@
--- Keys that compare as equal are equal, by the shape of the derived order: variant by variant, and
--- field by field.
+-- Auxiliary: keys that compare as equal are equal, by the shape of the derived order: variant by
+-- variant, and field by field (used by proofs and invariants only).
 use Rattle.std.specs.Prelude.{◌≡◌, ℕ, List, [], ◌∷◌, refl}
 use Rattle.std.proofs.Common.{inl, inr, ◌∙◌, ap}
 use Rattle.std.specs.Ordering.{nat_cmp, ordering_then}

@@ -1,0 +1,317 @@
+-- The rule set embeds the queries of links, of schemas, of checks and of this crate, so each answer
+-- of a key is what the key compiles to.
+--
+-- What pq_schema and pq_checks say of every rule set that embeds their queries gives the answers of
+-- their keys. The three queries above ask these keys alone: their runs have at most three reads.
+use Rattle.std.proofs.Common.{◌≡◌, ℕ, ◌<◌, ◌≤◌, Bool, true, false, cond, List, [], ◌∷◌, map, Option, Some, None, refl, sym, ap, subst, ◌∙◌, inl, inr, arith}
+use Rattle.std.specs.Prelude.{codes, option_and_then}
+use Rattle.std.specs.Cmp.Lexicographic.{slice_cmp}
+use Rattle.std.specs.Ordering.{nat_cmp}
+use Rattle.std.specs.declared.cmp.Ordering.{Ordering}
+use Rattle.serde_json.specs.Written.{compact_text}
+use Rattle.pq_inputs.specs.Sources.{Sources}
+use Rattle.pq_rules.specs.declared.turn.Turn.{Turn}
+use Rattle.pq_rules.specs.declared.turn.Turn.TheVariants.{Ask, Done}
+use Rattle.pq_rules.specs.declared.turn.Answer.{Answer}
+use Rattle.pq_rules.specs.declared.turn.Answer.TheVariants.{Value, Cycle}
+use Rattle.pq_rules.specs.Turns.{Instance, over}
+use Rattle.pq_rules.specs.Relations.{Each}
+use Rattle.pq_rules.specs.Value.{Trace, Means}
+use Rattle.pq_rules.specs.Embedding.{Runs, Embeds}
+use Rattle.pq_rules.proofs.LowerReads.{lower_runs}
+use Rattle.pq_rules.proofs.OneRead.{once}
+use Rattle.pq_rules.proofs.Order.{strict}
+use Rattle.pq_rules.proofs.Rings.{Strict}
+use Rattle.pq_links.specs.declared.files.ParsedFile.{ParsedFile}
+use Rattle.pq_schema.specs.Compile.{AreResolved}
+use Rattle.pq_schema.specs.Missing.{nodes_of}
+use Rattle.pq_schema.specs.SchemaSum.{SchemaSum, SchemaMeans}
+use Rattle.pq_schema.specs.declared.resolved.ResolvedReference.{ResolvedReference}
+use Rattle.pq_schema.proofs.SchemaMeaning.{schema_means}
+use Rattle.pq_checks.proofs.ChecksMeaning.{checks_mean}
+use Rattle.pq_checks.specs.ChecksSum.{ChecksSum, ChecksMeans}
+use Rattle.pq_checks.specs.Diagnostics.{AreDiagnostics}
+use Rattle.pq_checks.specs.declared.surroundings.Checked.{Checked}
+use Rattle.pq_proto.specs.Compile.{Compiles, IsDefinition, IsDescriptor, definition_by, descriptor_by, is_sent, location_of, offset_at, read_in, symbols_by, type_at}
+use Rattle.pq_proto.specs.Definition.{definition_at}
+use Rattle.pq_proto.specs.Descriptor.{descriptor}
+use Rattle.pq_proto.specs.aux.Outputs.{output_level, parsed_read, resolved_read, diagnostics_read, descriptor_starts, descriptor_next, descriptor_advances, symbols_starts, symbols_advances, definition_starts, references_turn, target_turn, definition_advances}
+use Rattle.pq_proto.specs.aux.RuleSet.{text_read, imports_read, links_read, defs_read, scope_read, checks_read, ring_read, own_name, proto_level, proto_rules}
+use Rattle.pq_proto.specs.contracts.key.ProtoKeyOrd.TheImpl as key_order
+use Rattle.pq_proto.specs.contracts.key.ProtoKeyOrd.TheImpl.Laws.{total-law}
+use Rattle.pq_proto.specs.declared.key.Place.{Place}
+use Rattle.pq_proto.specs.declared.key.ProtoKey.{ProtoKey}
+use Rattle.pq_proto.specs.declared.key.ProtoKey.TheVariants as keys
+use Rattle.pq_proto.specs.declared.queries.definition.DefinitionPart.{DefinitionPart}
+use Rattle.pq_proto.specs.declared.queries.definition.DefinitionPart.TheVariants as definitions
+use Rattle.pq_proto.specs.declared.queries.descriptor.DescriptorPart.{DescriptorPart}
+use Rattle.pq_proto.specs.declared.queries.descriptor.DescriptorPart.TheVariants as descriptors
+use Rattle.pq_proto.specs.declared.rules.ProtoPart.{ProtoPart}
+use Rattle.pq_proto.specs.declared.rules.ProtoPart.TheVariants.{Parsing, Importing, LinkingFiles, Defining, Scoping, Resolving, Checking, Diagnosing, Describing, Listing, Locating}
+use Rattle.pq_proto.specs.declared.type_item.TypeItem.{TypeItem}
+use Rattle.pq_proto.specs.declared.value.Location.{Location}
+use Rattle.pq_proto.specs.declared.value.ProtoValue.{ProtoValue}
+use Rattle.pq_proto.specs.declared.value.ProtoValue.TheVariants as values
+use Rattle.pq_proto.proofs.Existence.{resolved_exist}
+
+abbrev A : Type 0
+A = Answer ProtoKey ProtoValue
+
+pub names_back : (ring : List (List ℕ)) → map own_name (map (λ f. keys.Linked f) ring) ≡ ring
+names_back [] = refl
+names_back (f ∷ fs) = ap (λ xs. f ∷ xs) (names_back fs)
+
+module _ (order : ProtoKey → ProtoKey → Ordering) (files : Sources)
+    (order_is : (f h : List ℕ) → order (keys.Linked f) (keys.Linked h) ≡ slice_cmp nat_cmp f h) (strict : Strict order) where
+  abbrev pub m : Instance ProtoKey ProtoPart ProtoValue
+  m = over order proto_rules files
+
+  pub one_link : (f h : List ℕ) → keys.Linked f ≡ keys.Linked h → f ≡ h
+  one_link f h e = cc
+
+  abbrev pub schema : SchemaSum m files
+  schema = record {
+    input = λ f. keys.Input f;
+    parse = λ f. keys.Parse f;
+    imports = λ f. keys.Imports f;
+    linked = λ f. keys.Linked f;
+    defs = λ f. keys.Defs f;
+    scope = λ f. keys.Scope f;
+    resolved = λ f. keys.Resolved f;
+    parse_part = λ q. Parsing;
+    imports_part = λ q. Importing;
+    linked_part = λ q. LinkingFiles q;
+    defs_part = λ q. Defining;
+    scope_part = λ q. Scoping q;
+    resolved_part = λ q. Resolving q;
+    text_value = λ x. values.Source x;
+    parse_value = λ x. values.Parse x;
+    imports_value = λ x. values.Imports x;
+    linked_value = λ x. values.Linked x;
+    defs_value = λ x. values.Defs x;
+    scope_value = λ x. values.Scope x;
+    resolved_value = λ x. values.Resolved x;
+    text_read = text_read;
+    parsed_read = parsed_read;
+    imports_read = imports_read;
+    links_read = links_read;
+    defs_read = defs_read;
+    scope_read = scope_read;
+    text_back = λ x. refl;
+    parsed_back = λ x. refl;
+    imports_back = λ x. refl;
+    links_back = λ x. refl;
+    defs_back = λ x. refl;
+    scope_back = λ x. refl;
+    ring_read = λ r. refl;
+    input_level = λ f. refl;
+    input_is = λ f. refl;
+    parse_embeds = record { level_is = λ x. refl; start_is = λ x. refl; advance_is = λ q a. refl };
+    imports_embeds = record { level_is = λ x. refl; start_is = λ x. refl; advance_is = λ q a. refl };
+    linked_embeds = record { level_is = λ x. refl; start_is = λ x. refl; advance_is = λ q a. refl };
+    defs_embeds = record { level_is = λ x. refl; start_is = λ x. refl; advance_is = λ q a. refl };
+    scope_embeds = record { level_is = λ x. refl; start_is = λ x. refl; advance_is = λ q a. refl };
+    resolved_embeds = record { level_is = λ x. refl; start_is = λ x. refl; advance_is = λ q a. refl };
+    one_link = one_link;
+    order_is = order_is;
+    strict = strict.not_both;
+  }
+
+  abbrev pub checks : ChecksSum m files schema
+  checks = record {
+    checks = λ f. keys.Checks f;
+    checks_part = λ q. Checking q;
+    checks_value = λ x. values.Checks x;
+    diagnostics = λ f. keys.Diagnostics f;
+    diagnostics_part = λ q. Diagnosing;
+    diagnostics_value = λ x. values.Diagnostics x;
+    referred_read = resolved_read;
+    ring_files = ring_read;
+    checked_read = checks_read;
+    referred_back = λ x. refl;
+    ring_back = λ ring. ap (λ xs. Some xs) (names_back ring);
+    no_ring = λ l. refl;
+    checked_back = λ x. refl;
+    checks_embeds = record { level_is = λ x. refl; start_is = λ x. refl; advance_is = λ q a. refl };
+    diagnostics_embeds = record { level_is = λ x. refl; start_is = λ x. refl; advance_is = λ q a. refl };
+  }
+
+  -- ---- runs of right answers
+
+  -- the first read of a run, and the run after it
+  read_one : {Q W : Type 0} (advances : Q → A → Turn ProtoKey Q W) (k : ProtoKey) (q : Q) (es : Trace ProtoKey ProtoValue) (w : W)
+      → Runs advances (Ask k q) es (Done w) → Each (λ e. Means m e.0 e.1) es
+      → (a : A) × (rest : Trace ProtoKey ProtoValue) × Means m k a × Runs advances (advances q a) rest (Done w) × Each (λ e. Means m e.0 e.1) rest
+  unfolding Runs
+  read_one advances k q [] w r t = cc
+  read_one {Q} advances k q (e ∷ es) w r t =
+      let ask = r.1 in
+      let key : k ≡ e.0 = cc in
+      let part : r.0 ≡ q = cc in
+      (e.1, es, subst (λ x. Means m x e.1) (sym key) t.0, subst (λ (x : Q). Runs advances (advances x e.1) es (Done w)) part r.2, t.1)
+
+  -- a run from a value is at its end
+  ended : {Q W : Type 0} (advances : Q → A → Turn ProtoKey Q W) (v : W) (es : Trace ProtoKey ProtoValue) (w : W) → Runs advances (Done v) es (Done w) → w ≡ v
+  unfolding Runs
+  ended advances v [] w r = cc
+  ended advances v (e ∷ es) w r = let ask = r.1 in cc
+
+  -- a query whose turns ask keys of lower levels alone
+  abbrev IsLow : {Q W : Type 0} → Turn ProtoKey Q W → Type 0
+  IsLow {Q} {W} t = (k : ProtoKey) (q : Q) → t ≡ Ask k q → proto_level k < output_level
+
+  runs_low : {Q W : Type 0} (advances : Q → A → Turn ProtoKey Q W) → ((q : Q) (a : A) → IsLow (advances q a))
+      → (t : Turn ProtoKey Q W) → IsLow t → (es : Trace ProtoKey ProtoValue) (k : ProtoKey) (q : Q) → Runs advances t es (Ask k q) → proto_level k < output_level
+  unfolding Runs
+  runs_low advances low t l [] k q r = l k q r
+  runs_low advances low t l (e ∷ es) k q r = runs_low advances low (advances r.0 e.1) (low r.0 e.1) es k q r.2
+
+  ask_low : {Q W : Type 0} (j : ProtoKey) (p : Q) → proto_level j < output_level → IsLow {W = W} (Ask j p)
+  ask_low j p l k q e = let key : j ≡ k = cc in subst (λ x. proto_level x < output_level) key l
+
+  done_low : {Q W : Type 0} (w : W) → IsLow {Q = Q} (Done w)
+  done_low w k q e = cc
+
+  module _ (t : SchemaMeans m files schema) (u : ChecksMeans m files schema checks) where
+    parsed_is : (f : List ℕ) (a : A) → Means m (keys.Parse f) a → parsed_read a ≡ read_in files f
+    parsed_is f a h = ap parsed_read ((t.parse f a).0 h)
+
+    -- ---- symbols
+
+    pub symbols_embed : Embeds m (λ f. keys.Symbols f) (λ (q : Unit {0}). Listing) (λ v. values.Symbols v) output_level symbols_starts (λ q a. symbols_advances a)
+    symbols_embed = record { level_is = λ x. refl; start_is = λ x. refl; advance_is = λ q a. refl }
+
+    symbols_are : (f : List ℕ) (a : A) → Means m (keys.Symbols f) a → a ≡ Value (values.Symbols (symbols_by (read_in files f)))
+    symbols_are f a h =
+        let o = once m (λ x. keys.Symbols x) (λ (q : Unit {0}). Listing) (λ v. values.Symbols v) output_level symbols_starts (λ q b. symbols_advances b) symbols_embed
+        (λ x. keys.Parse x) (λ x. tt) (λ x b. symbols_by (parsed_read b)) (λ x. refl) (λ x b. refl) (λ x. omega arith) f a h in
+        o.2 ∙ ap (λ (p : ParsedFile). Value (values.Symbols (symbols_by p))) (parsed_is f o.0 o.1)
+
+    -- ---- descriptors
+
+    abbrev described : List ℕ → Checked → List ResolvedReference → List ℕ
+    described f d rs = compact_text (descriptor rs f (nodes_of d.file))
+
+    next_low : (f : List ℕ) (d : Checked) (sent : Bool) → IsLow (cond sent (Ask (keys.Resolved f) (descriptors.ReadResolved f d.file)) (Done (codes "null")))
+    next_low f d true = ask_low (keys.Resolved f) (descriptors.ReadResolved f d.file) (omega arith)
+    next_low f d false = done_low (codes "null")
+
+    descriptor_low : (q : DescriptorPart) (a : A) → IsLow (descriptor_advances q a)
+    descriptor_low (descriptors.ReadDiagnostics f) a = next_low f (diagnostics_read a) (is_sent (diagnostics_read a))
+    descriptor_low (descriptors.ReadResolved f file) a = done_low _
+
+    sent_is : (f : List ℕ) (d : Checked) (sent : Bool) → is_sent d ≡ sent → AreDiagnostics files f d → (es : Trace ProtoKey ProtoValue) (w : List ℕ)
+        → Runs descriptor_advances (cond sent (Ask (keys.Resolved f) (descriptors.ReadResolved f d.file)) (Done (codes "null"))) es (Done w)
+        → Each (λ e. Means m e.0 e.1) es → IsDescriptor files f w
+    sent_is f d true is i es w r reads =
+        let o = read_one descriptor_advances (keys.Resolved f) (descriptors.ReadResolved f d.file) es w r reads in
+        let rs = (t.resolved f o.0).0 o.2 in
+        let end = ended descriptor_advances (described f d (resolved_read o.0)) o.1 w o.3 in
+        let by : w ≡ described f d rs.0 = end ∙ ap (λ (a : A). described f d (resolved_read a)) rs.1 in
+        (d, rs.0, i, rs.2, by ∙ sym (ap (λ b. cond b (described f d rs.0) (codes "null")) is))
+    sent_is f d false is i es w r reads =
+        let rs = resolved_exist files f in
+        let end = ended descriptor_advances (codes "null") es w r in
+        (d, rs.0, i, rs.1, end ∙ sym (ap (λ b. cond b (described f d rs.0) (codes "null")) is))
+
+    pub descriptor_embeds : Embeds m (λ f. keys.Descriptor f) (λ q. Describing q) (λ v. values.Descriptor v) output_level descriptor_starts descriptor_advances
+    descriptor_embeds = record { level_is = λ x. refl; start_is = λ x. refl; advance_is = λ q a. refl }
+
+    descriptor_is : (f : List ℕ) (a : A) → Means m (keys.Descriptor f) a → (w : List ℕ) × (a ≡ Value (values.Descriptor w)) × IsDescriptor files f w
+    descriptor_is f a h =
+        let r = lower_runs m (λ x. keys.Descriptor x) (λ q. Describing q) (λ v. values.Descriptor v) output_level descriptor_starts descriptor_advances descriptor_embeds (omega arith)
+        (λ x es k q. runs_low descriptor_advances descriptor_low (descriptor_starts x) (ask_low (keys.Diagnostics x) (descriptors.ReadDiagnostics x) (omega arith)) es k q) f a h in
+        let o = read_one descriptor_advances (keys.Diagnostics f) (descriptors.ReadDiagnostics f) r.0 r.1 r.2 r.4 in
+        let d = u.diagnostics f o.0 o.2 in
+        let on : Runs descriptor_advances (descriptor_next f d.0) o.1 (Done r.1) =
+        subst (λ (b : A). Runs descriptor_advances (descriptor_next f (diagnostics_read b)) o.1 (Done r.1)) d.1 o.3 in
+        (r.1, r.3, sent_is f d.0 (is_sent d.0) refl d.2 o.1 r.1 on o.4)
+
+    -- ---- definitions
+
+    references_low : (f : List ℕ) (file : ParsedFile) (o : Option ℕ) → IsLow (references_turn f file o)
+    references_low f file (Some offset) = ask_low (keys.Resolved f) (definitions.ReadResolved offset file) (omega arith)
+    references_low f file None = done_low None
+
+    target_low : (x : Option TypeItem) → IsLow (target_turn x)
+    target_low (Some x) = ask_low (keys.Parse x.file) (definitions.ReadTarget x) (omega arith)
+    target_low None = done_low None
+
+    definition_low : (q : DefinitionPart) (a : A) → IsLow (definition_advances q a)
+    definition_low (definitions.ReadFile f place) a = references_low f (parsed_read a) (offset_at (parsed_read a) place)
+    definition_low (definitions.ReadResolved offset file) a = target_low (definition_at (nodes_of file) offset (resolved_read a))
+    definition_low (definitions.ReadTarget x) a = done_low _
+
+    abbrev located : Option TypeItem → Option Location
+    located x = option_and_then (λ (y : TypeItem). location_of y (read_in files y.file)) x
+
+    target_is : (x : Option TypeItem) (es : Trace ProtoKey ProtoValue) (w : Option Location) → Runs definition_advances (target_turn x) es (Done w)
+        → Each (λ e. Means m e.0 e.1) es → w ≡ located x
+    target_is (Some x) es w r reads =
+        let o = read_one definition_advances (keys.Parse x.file) (definitions.ReadTarget x) es w r reads in
+        ended definition_advances (location_of x (parsed_read o.0)) o.1 w o.3 ∙ ap (location_of x) (parsed_is x.file o.0 o.2)
+    target_is None es w r reads = ended definition_advances None es w r
+
+    references_are : (f : List ℕ) (place : Place) (o : Option ℕ) → offset_at (read_in files f) place ≡ o → (es : Trace ProtoKey ProtoValue) (w : Option Location)
+        → Runs definition_advances (references_turn f (read_in files f) o) es (Done w) → Each (λ e. Means m e.0 e.1) es → IsDefinition files f place w
+    references_are f place (Some offset) is es w r reads =
+        let file = read_in files f in
+        let o = read_one definition_advances (keys.Resolved f) (definitions.ReadResolved offset file) es w r reads in
+        let rs = (t.resolved f o.0).0 o.2 in
+        let found = λ (xs : List ResolvedReference). definition_at (nodes_of file) offset xs in
+        let on : Runs definition_advances (target_turn (found rs.0)) o.1 (Done w) =
+        subst (λ (a : A). Runs definition_advances (target_turn (found (resolved_read a))) o.1 (Done w)) rs.1 o.3 in
+        let by : w ≡ located (found rs.0) = target_is (found rs.0) o.1 w on o.4 in
+        (rs.0, rs.2, by ∙ sym (ap (λ (p : Option ℕ). located (option_and_then (λ (n : ℕ). definition_at (nodes_of file) n rs.0) p)) is))
+    references_are f place None is es w r reads =
+        let file = read_in files f in
+        let rs = resolved_exist files f in
+        let by : w ≡ None = ended definition_advances None es w r in
+        (rs.0, rs.1, by ∙ sym (ap (λ (p : Option ℕ). located (option_and_then (λ (n : ℕ). definition_at (nodes_of file) n rs.0) p)) is))
+
+    abbrev pub Spot : Type 0
+    Spot = List ℕ × Place
+
+    abbrev pub spot_starts : Spot → Turn ProtoKey DefinitionPart (Option Location)
+    spot_starts x = definition_starts x.0 x.1
+
+    pub definition_embeds : Embeds m (λ (x : Spot). keys.Definition x.0 x.1) (λ q. Locating q) (λ v. values.Definition v) output_level spot_starts definition_advances
+    definition_embeds = record { level_is = λ x. refl; start_is = λ x. refl; advance_is = λ q a. refl }
+
+    definition_is : (f : List ℕ) (place : Place) (a : A) → Means m (keys.Definition f place) a
+        → (w : Option Location) × (a ≡ Value (values.Definition w)) × IsDefinition files f place w
+    definition_is f place a h =
+        let r = lower_runs m (λ (x : Spot). keys.Definition x.0 x.1) (λ q. Locating q) (λ v. values.Definition v) output_level spot_starts definition_advances definition_embeds (omega arith)
+        (λ x es k q. runs_low definition_advances definition_low (spot_starts x) (ask_low (keys.Parse x.0) (definitions.ReadFile x.0 x.1) (omega arith)) es k q) (f, place) a h in
+        let o = read_one definition_advances (keys.Parse f) (definitions.ReadFile f place) r.0 r.1 r.2 r.4 in
+        let on : Runs definition_advances (references_turn f (read_in files f) (offset_at (read_in files f) place)) o.1 (Done r.1) =
+        subst (λ (p : ParsedFile). Runs definition_advances (references_turn f p (offset_at p place)) o.1 (Done r.1)) (parsed_is f o.0 o.2) o.3 in
+        (r.1, r.3, references_are f place (offset_at (read_in files f) place) refl o.1 r.1 on o.4)
+
+    -- ---- all keys
+
+    pub means_compiles : (k : ProtoKey) (a : A) → Means m k a → Compiles files k a
+    means_compiles (keys.Input f) a h = (t.input f a).0 h
+    means_compiles (keys.Parse f) a h = (t.parse f a).0 h
+    means_compiles (keys.Imports f) a h = (t.imports f a).0 h
+    means_compiles (keys.Linked f) a h = (t.linked f a).0 h
+    means_compiles (keys.Defs f) a h = (t.defs f a).0 h
+    means_compiles (keys.Scope f) a h = (t.scope f a).0 h
+    means_compiles (keys.Resolved f) a h = (t.resolved f a).0 h
+    means_compiles (keys.Checks f) a h = u.checks f a h
+    means_compiles (keys.Diagnostics f) a h = u.diagnostics f a h
+    means_compiles (keys.Descriptor f) a h = descriptor_is f a h
+    means_compiles (keys.Symbols f) a h = symbols_are f a h
+    means_compiles (keys.Definition f place) a h = definition_is f place a h
+
+-- at all sources, an answer of a key of the rule set is what the key compiles to
+pub proto_means : (files : Sources) (k : ProtoKey) (a : A) → Means (over key_order.ghosts.cmp proto_rules files) k a → Compiles files k a
+proto_means files k a h =
+    let order = key_order.ghosts.cmp in
+    let same : (f h : List ℕ) → key_order.ghosts.cmp (keys.Linked f) (keys.Linked h) ≡ slice_cmp nat_cmp f h = λ f h. refl in
+    let one = strict order total-law in
+    let i = m order files same one in
+    let s = schema order files same one in
+    let c = checks order files same one in
+    let t = schema_means i files s in
+    means_compiles order files same one t (checks_mean i files s c t) k a h

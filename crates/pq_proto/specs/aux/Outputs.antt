@@ -1,0 +1,151 @@
+-- Auxiliary: the turns of the queries of descriptors, symbols and definitions, as functions of what
+-- is read of an answer, and that each further question lowers what is left. A law of a trait's impl
+-- may cite specs/ alone. The laws of the rule set tie the turns to `specs/Compile`.
+use Rattle.std.proofs.Common.{◌≡◌, ℕ, Bool, true, false, List, [], refl, sym, subst, inl, arith}
+use Rattle.std.specs.Prelude.{cond, codes, Option, Some, None}
+use Rattle.serde_json.specs.Written.{compact_text}
+use Rattle.pq_rules.specs.declared.turn.Turn.{Turn}
+use Rattle.pq_rules.specs.declared.turn.Turn.TheVariants.{Ask, Done}
+use Rattle.pq_rules.specs.declared.turn.Answer.{Answer}
+use Rattle.pq_rules.specs.declared.turn.Answer.TheVariants.{Value}
+use Rattle.pq_rules.specs.Turns.{IsLower}
+use Rattle.pq_links.specs.declared.files.ParsedFile.{ParsedFile}
+use Rattle.pq_links.specs.declared.files.ParsedFile.TheVariants.{Absent}
+use Rattle.pq_schema.specs.Missing.{nodes_of}
+use Rattle.pq_schema.specs.declared.resolved.ResolvedReference.{ResolvedReference}
+use Rattle.pq_checks.specs.Surroundings.{no_checked}
+use Rattle.pq_checks.specs.declared.surroundings.Checked.{Checked}
+use Rattle.pq_proto.specs.Compile.{is_sent, symbols_by, offset_at, location_of}
+use Rattle.pq_proto.specs.Definition.{definition_at}
+use Rattle.pq_proto.specs.Descriptor.{descriptor}
+use Rattle.pq_proto.specs.declared.key.Place.{Place}
+use Rattle.pq_proto.specs.declared.key.ProtoKey.{ProtoKey}
+use Rattle.pq_proto.specs.declared.key.ProtoKey.TheVariants as keys
+use Rattle.pq_proto.specs.declared.queries.definition.DefinitionPart.{DefinitionPart}
+use Rattle.pq_proto.specs.declared.queries.definition.DefinitionPart.TheVariants as definitions
+use Rattle.pq_proto.specs.declared.queries.descriptor.DescriptorPart.{DescriptorPart}
+use Rattle.pq_proto.specs.declared.queries.descriptor.DescriptorPart.TheVariants as descriptors
+use Rattle.pq_proto.specs.declared.type_item.TypeItem.{TypeItem}
+use Rattle.pq_proto.specs.declared.value.Location.{Location}
+use Rattle.pq_proto.specs.declared.value.ProtoValue.{ProtoValue}
+use Rattle.pq_proto.specs.declared.value.ProtoValue.TheVariants as values
+
+-- `output_level` is the level of the keys of the three queries
+abbrev pub output_level : ℕ
+output_level = 9
+
+-- ---- what is read of an answer
+
+-- `parsed_read a` is what the answer `a` says that a file is read as
+abbrev pub parsed_read : Answer ProtoKey ProtoValue → ParsedFile
+parsed_read (Value (values.Parse file)) = file
+parsed_read _ = Absent
+
+-- `resolved_read a` is the resolved references that the answer `a` holds
+abbrev pub resolved_read : Answer ProtoKey ProtoValue → List ResolvedReference
+resolved_read (Value (values.Resolved references)) = references
+resolved_read _ = []
+
+-- `diagnostics_read a` is the diagnostics that the answer `a` holds
+abbrev pub diagnostics_read : Answer ProtoKey ProtoValue → Checked
+diagnostics_read (Value (values.Diagnostics d)) = d
+diagnostics_read _ = no_checked
+
+-- ---- descriptors
+
+-- `descriptor_starts f` is the first turn of the descriptor of the file `f`: it asks for the
+-- diagnostics
+abbrev pub descriptor_starts : List ℕ → Turn ProtoKey DescriptorPart (List ℕ)
+descriptor_starts f = Ask (keys.Diagnostics f) (descriptors.ReadDiagnostics f)
+
+-- `descriptor_next f d` is the turn after the diagnostics `d` of the file `f`: it asks for the
+-- resolved references of a file that has a descriptor
+abbrev pub descriptor_next : List ℕ → Checked → Turn ProtoKey DescriptorPart (List ℕ)
+descriptor_next f d = cond (is_sent d) (Ask (keys.Resolved f) (descriptors.ReadResolved f d.file)) (Done (codes "null"))
+
+-- `descriptor_advances part a` is the turn after the answer `a` at `part`
+abbrev pub descriptor_advances : DescriptorPart → Answer ProtoKey ProtoValue → Turn ProtoKey DescriptorPart (List ℕ)
+descriptor_advances (descriptors.ReadDiagnostics f) a = descriptor_next f (diagnostics_read a)
+descriptor_advances (descriptors.ReadResolved f file) a = Done (compact_text (descriptor (resolved_read a) f (nodes_of file)))
+
+-- `descriptor_left part` is what is left to ask at `part`
+abbrev pub descriptor_left : DescriptorPart → ℕ × ℕ
+descriptor_left (descriptors.ReadDiagnostics f) = (1, 0)
+descriptor_left (descriptors.ReadResolved f file) = (0, 0)
+
+-- ---- symbols
+
+-- `symbols_starts f` is the first turn of the symbols of the file `f`: it asks what that is read as
+abbrev pub symbols_starts : List ℕ → Turn ProtoKey (Unit {0}) (List ℕ)
+symbols_starts f = Ask (keys.Parse f) tt
+
+-- `symbols_advances a` is the turn after the answer `a`: it is done with the symbols
+abbrev pub symbols_advances : Answer ProtoKey ProtoValue → Turn ProtoKey (Unit {0}) (List ℕ)
+symbols_advances a = Done (symbols_by (parsed_read a))
+
+-- ---- definitions
+
+-- `definition_starts f place` is the first turn of the definition of what is at `place` in the file
+-- `f`: it asks what that is read as
+abbrev pub definition_starts : List ℕ → Place → Turn ProtoKey DefinitionPart (Option Location)
+definition_starts f place = Ask (keys.Parse f) (definitions.ReadFile f place)
+
+-- `references_turn f file offset` is the turn after the file `f` was read as `file`, where `offset`
+-- is that of the place: it asks for the resolved references
+abbrev pub references_turn : List ℕ → ParsedFile → Option ℕ → Turn ProtoKey DefinitionPart (Option Location)
+references_turn f file (Some offset) = Ask (keys.Resolved f) (definitions.ReadResolved offset file)
+references_turn f file None = Done None
+
+-- `target_turn target` is the turn after the type `target` was found: it asks what its file is read
+-- as
+abbrev pub target_turn : Option TypeItem → Turn ProtoKey DefinitionPart (Option Location)
+target_turn (Some t) = Ask (keys.Parse t.file) (definitions.ReadTarget t)
+target_turn None = Done None
+
+-- `definition_advances part a` is the turn after the answer `a` at `part`
+abbrev pub definition_advances : DefinitionPart → Answer ProtoKey ProtoValue → Turn ProtoKey DefinitionPart (Option Location)
+definition_advances (definitions.ReadFile f place) a = references_turn f (parsed_read a) (offset_at (parsed_read a) place)
+definition_advances (definitions.ReadResolved offset file) a = target_turn (definition_at (nodes_of file) offset (resolved_read a))
+definition_advances (definitions.ReadTarget t) a = Done (location_of t (parsed_read a))
+
+-- `definition_left part` is what is left to ask at `part`
+abbrev pub definition_left : DefinitionPart → ℕ × ℕ
+definition_left (definitions.ReadFile f place) = (2, 0)
+definition_left (definitions.ReadResolved offset file) = (1, 0)
+definition_left (definitions.ReadTarget t) = (0, 0)
+
+-- ---- each further question lowers what is left
+
+next_falls : (f : List ℕ) (d : Checked) (sent : Bool) (q : ProtoKey) (r : DescriptorPart)
+    → cond sent (Ask (keys.Resolved f) (descriptors.ReadResolved f d.file)) (Done (codes "null")) ≡ Ask q r → IsLower (descriptor_left r) (1, 0)
+next_falls f d true q r e =
+    let part : r ≡ descriptors.ReadResolved f d.file = cc in
+    subst (λ (x : DescriptorPart). IsLower (descriptor_left x) (1, 0)) (sym part) (inl (omega arith))
+next_falls f d false q r e = cc
+
+pub descriptor_falls : (p : DescriptorPart) (a : Answer ProtoKey ProtoValue) (q : ProtoKey) (r : DescriptorPart)
+    → descriptor_advances p a ≡ Ask q r → IsLower (descriptor_left r) (descriptor_left p)
+descriptor_falls (descriptors.ReadDiagnostics f) a q r e = next_falls f (diagnostics_read a) (is_sent (diagnostics_read a)) q r e
+descriptor_falls (descriptors.ReadResolved f file) a q r e = cc
+
+pub symbols_falls : (a : Answer ProtoKey ProtoValue) (q : ProtoKey) (r : Unit {0}) → symbols_advances a ≡ Ask q r → IsLower (0, 0) (0, 0)
+symbols_falls a q r e = cc
+
+references_falls : (f : List ℕ) (file : ParsedFile) (offset : Option ℕ) (q : ProtoKey) (r : DefinitionPart)
+    → references_turn f file offset ≡ Ask q r → IsLower (definition_left r) (2, 0)
+references_falls f file (Some offset) q r e =
+    let part : r ≡ definitions.ReadResolved offset file = cc in
+    subst (λ (x : DefinitionPart). IsLower (definition_left x) (2, 0)) (sym part) (inl (omega arith))
+references_falls f file None q r e = cc
+
+target_falls : (target : Option TypeItem) (q : ProtoKey) (r : DefinitionPart) → target_turn target ≡ Ask q r → IsLower (definition_left r) (1, 0)
+target_falls (Some t) q r e =
+    let part : r ≡ definitions.ReadTarget t = cc in
+    subst (λ (x : DefinitionPart). IsLower (definition_left x) (1, 0)) (sym part) (inl (omega arith))
+target_falls None q r e = cc
+
+pub definition_falls : (p : DefinitionPart) (a : Answer ProtoKey ProtoValue) (q : ProtoKey) (r : DefinitionPart)
+    → definition_advances p a ≡ Ask q r → IsLower (definition_left r) (definition_left p)
+definition_falls (definitions.ReadFile f place) a q r e = references_falls f (parsed_read a) (offset_at (parsed_read a) place) q r e
+definition_falls (definitions.ReadResolved offset file) a q r e = target_falls (definition_at (nodes_of file) offset (resolved_read a)) q r e
+definition_falls (definitions.ReadTarget t) a q r e = cc

@@ -1,0 +1,387 @@
+-- Auxiliary: the rule set keeps the laws, by what each query preserves of the names that the
+-- sources mention (used by proofs and invariants only).
+use Rattle.std.proofs.Common.{◌≡◌, ◌⊎◌, ℕ, ◌≤◌, Bool, true, false, List, [], ◌∷◌, map, Option, Some, None, refl, sym, ap, subst, inl, inr, arith}
+use Rattle.std.specs.Prelude.{IsSome, ◌↔◌, codes, cond, unwrap_or}
+use Rattle.std.specs.Str.{bytes_eq}
+use Rattle.std.specs.declared.cmp.Ordering.{Ordering}
+use Rattle.std.specs.declared.cmp.Ordering.TheVariants.{Equal}
+use Rattle.std.proofs.lemmas.Bool.{cases_Bool}
+use Rattle.pq_inputs.specs.Sources.{Sources, file_in}
+use Rattle.pq_rules.specs.Embedding.{embedded}
+use Rattle.pq_rules.specs.Laws.{Laws}
+use Rattle.pq_rules.specs.declared.turn.Turn.{Turn}
+use Rattle.pq_rules.specs.declared.turn.Turn.TheVariants.{Ask, Done}
+use Rattle.pq_rules.specs.declared.turn.Answer.{Answer}
+use Rattle.pq_rules.specs.declared.turn.Answer.TheVariants.{Value, Cycle}
+use Rattle.pq_rules.specs.Turns.{Instance, over, IsLower}
+use Rattle.pq_rules.specs.Relations.{Each, In}
+use Rattle.pq_rules.specs.Value.{ComesTo}
+use Rattle.pq_rules.proofs.Embedded.{embedded_asks}
+use Rattle.pq_rules.proofs.Preserved.{TurnIn, AnswerIn, Preserves, asked_in, embedded_in}
+use Rattle.pq_rules.specs.aux.Lists.{in_append_left, in_append_right}
+use Rattle.pq_links.specs.ImportGraph.{file_of}
+use Rattle.pq_links.specs.Files.{read_file, file_imports}
+use Rattle.pq_links.specs.aux.Queries.{linked_starts, linked_advances, linked_left}
+use Rattle.pq_links.specs.aux.Falls.{linked_falls}
+use Rattle.pq_links.specs.declared.files.ParsedFile.{ParsedFile}
+use Rattle.pq_links.specs.declared.links.Import.{Import}
+use Rattle.pq_links.specs.declared.links.Links.{Links}
+use Rattle.pq_links.proofs.NameKinds.{IfImportsIn, LinksIn, LinkingIn, no_links_in, linked_starts_in, linked_advances_in}
+use Rattle.pq_schema.specs.Missing.{nodes_of}
+use Rattle.pq_schema.specs.ScopeContents.{Scope}
+use Rattle.pq_schema.specs.aux.Queries.{scope_starts, scope_advances, scope_left, resolved_starts, resolved_advances, resolved_left}
+use Rattle.pq_schema.specs.aux.Falls.{scope_falls, resolved_falls}
+use Rattle.pq_schema.specs.aux.NameKinds.{ScopeIn, ScopePartIn, scope_starts_in, scope_advances_in}
+use Rattle.pq_schema.specs.aux.RuleSet.{mentioned, all_mentioned}
+use Rattle.pq_schema.specs.declared.resolved.ResolvedReference.{ResolvedReference}
+use Rattle.pq_schema.specs.declared.resolved.ResolvedPart.{ResolvedPart}
+use Rattle.pq_schema.proofs.ResolvedKinds.{ResolutionIn, ResolvedIn, ResolvedPartIn, resolved_starts_in, resolved_advances_in}
+use Rattle.pq_schema.specs.declared.resolution.Resolution.{Resolution}
+use Rattle.pq_schema.specs.declared.resolution.Resolution.TheVariants as resolutions
+use Rattle.pq_schema.specs.declared.scopes.ScopePart.{ScopePart}
+use Rattle.pq_syntax.specs.declared.tree.Node.{Node}
+use Rattle.pq_checks.specs.aux.Falls.{check_falls}
+use Rattle.pq_checks.specs.aux.Queries.{check_starts, check_advances, check_left}
+use Rattle.pq_checks.specs.declared.checked.CheckPart.{CheckPart}
+use Rattle.pq_checks.specs.declared.surroundings.Checked.{Checked}
+use Rattle.pq_proto.specs.Compile.{is_sent, offset_at}
+use Rattle.pq_proto.specs.Definition.{definition_at, type_item, holds, span_of}
+use Rattle.pq_proto.specs.aux.CheckKinds.{AsksIn, CheckPartIn, check_starts_in, check_advances_in}
+use Rattle.pq_proto.specs.aux.Outputs.{parsed_read, resolved_read, diagnostics_read, descriptor_next, descriptor_advances, descriptor_left, descriptor_falls, references_turn, target_turn, definition_advances, definition_left, definition_falls}
+use Rattle.pq_proto.specs.aux.RuleSet.{text_read, imports_read, links_read, defs_read, scope_read, check_words, proto_level, proto_file, proto_start, proto_advance, proto_left, proto_rules, descriptor_turn, definition_turn, own_name, keys_of, proto_reach}
+use Rattle.pq_proto.specs.declared.key.ProtoKey.{ProtoKey}
+use Rattle.pq_proto.specs.declared.key.ProtoKey.TheVariants as keys
+use Rattle.pq_proto.specs.declared.queries.definition.DefinitionPart.{DefinitionPart}
+use Rattle.pq_proto.specs.declared.queries.definition.DefinitionPart.TheVariants as definitions
+use Rattle.pq_proto.specs.declared.queries.descriptor.DescriptorPart.{DescriptorPart}
+use Rattle.pq_proto.specs.declared.queries.descriptor.DescriptorPart.TheVariants as descriptors
+use Rattle.pq_proto.specs.declared.rules.ProtoPart.{ProtoPart}
+use Rattle.pq_proto.specs.declared.rules.ProtoPart.TheVariants.{Parsing, Importing, LinkingFiles, Defining, Scoping, Resolving, Checking, Diagnosing, Describing, Listing, Locating}
+use Rattle.pq_proto.specs.declared.type_item.TypeItem.{TypeItem}
+use Rattle.pq_proto.specs.declared.value.ProtoValue.{ProtoValue}
+use Rattle.pq_proto.specs.declared.value.ProtoValue.TheVariants as values
+
+pub proto_inputs : (k : ProtoKey) → (proto_level k ≡ 0) ↔ IsSome (proto_file k)
+proto_inputs (keys.Input f) = (λ e. refl, λ e. refl)
+proto_inputs k = (λ e. cc, λ e. cc)
+
+-- ---- each further question lowers what is left
+
+-- a turn of the rule set lowers what is left where the query's turn does
+part_falls : {Q W : Type 0} (part : Q → ProtoPart) (value : W → ProtoValue) (lefts : Q → ℕ × ℕ) (t : Turn ProtoKey Q W) (n : ℕ × ℕ)
+    → ((q : Q) → proto_left (part q) ≡ lefts q) → ((k : ProtoKey) (q : Q) → t ≡ Ask k q → IsLower (lefts q) n)
+    → (k : ProtoKey) (r : ProtoPart) → embedded part value t ≡ Ask k r → IsLower (proto_left r) n
+part_falls part value lefts t n same falls k r e =
+    let s = embedded_asks part value t k r e in
+    subst (λ (x : ProtoPart). IsLower (proto_left x) n) (sym s.2) (subst (λ (x : ℕ × ℕ). IsLower x n) (sym (same s.0)) (falls k s.0 s.1))
+
+proto_falls : (p : ProtoPart) (a : Answer ProtoKey ProtoValue) (q : ProtoKey) (r : ProtoPart) → proto_advance p a ≡ Ask q r → IsLower (proto_left r) (proto_left p)
+proto_falls (LinkingFiles p) a q r e =
+    part_falls (λ x. LinkingFiles x) (λ v. values.Linked v) linked_left (linked_advances (λ n. keys.Linked n) (imports_read a) (links_read a) p) (linked_left p)
+    (λ x. refl) (linked_falls (λ n. keys.Linked n) (imports_read a) (links_read a) p) q r e
+proto_falls (Scoping p) a q r e =
+    part_falls (λ x. Scoping x) (λ v. values.Scope v) scope_left (scope_advances (λ n. keys.Defs n) (links_read a) (defs_read a) p) (scope_left p)
+    (λ x. refl) (scope_falls (λ n. keys.Defs n) (links_read a) (defs_read a) p) q r e
+proto_falls (Resolving p) a q r e =
+    part_falls (λ x. Resolving x) (λ v. values.Resolved v) resolved_left (resolved_advances (λ n. keys.Parse n) (scope_read a) (nodes_of (parsed_read a)) p) (resolved_left p)
+    (λ x. refl) (resolved_falls (λ n. keys.Parse n) (scope_read a) (nodes_of (parsed_read a)) p) q r e
+proto_falls (Checking p) a q r e =
+    part_falls (λ x. Checking x) (λ v. values.Checks v) check_left (check_advances check_words p a) (check_left p)
+    (λ x. refl) (check_falls check_words a p) q r e
+proto_falls (Describing p) a q r e =
+    part_falls (λ x. Describing x) (λ v. values.Descriptor v) descriptor_left (descriptor_advances p a) (descriptor_left p)
+    (λ x. refl) (descriptor_falls p a) q r e
+proto_falls (Locating p) a q r e =
+    part_falls (λ x. Locating x) (λ v. values.Definition v) definition_left (definition_advances p a) (definition_left p)
+    (λ x. refl) (definition_falls p a) q r e
+proto_falls Parsing a q r e = cc
+proto_falls Importing a q r e = cc
+proto_falls Defining a q r e = cc
+proto_falls Diagnosing a q r e = cc
+proto_falls Listing a q r e = cc
+
+-- ---- the keys of names
+in_keys : (k : ProtoKey) (ns : List (List ℕ)) → proto_level k ≤ 8 → In (own_name k) ns → In k (keys_of ns)
+in_keys k [] low i = i
+in_keys (keys.Input f) (n ∷ ns) low (inl e) = inl (ap (λ x. keys.Input x) e)
+in_keys (keys.Parse f) (n ∷ ns) low (inl e) = inr (inl (ap (λ x. keys.Parse x) e))
+in_keys (keys.Imports f) (n ∷ ns) low (inl e) = inr (inr (inl (ap (λ x. keys.Imports x) e)))
+in_keys (keys.Linked f) (n ∷ ns) low (inl e) = inr (inr (inr (inl (ap (λ x. keys.Linked x) e))))
+in_keys (keys.Defs f) (n ∷ ns) low (inl e) = inr (inr (inr (inr (inl (ap (λ x. keys.Defs x) e)))))
+in_keys (keys.Scope f) (n ∷ ns) low (inl e) = inr (inr (inr (inr (inr (inl (ap (λ x. keys.Scope x) e))))))
+in_keys (keys.Resolved f) (n ∷ ns) low (inl e) = inr (inr (inr (inr (inr (inr (inl (ap (λ x. keys.Resolved x) e)))))))
+in_keys (keys.Checks f) (n ∷ ns) low (inl e) = inr (inr (inr (inr (inr (inr (inr (inl (ap (λ x. keys.Checks x) e))))))))
+in_keys (keys.Diagnostics f) (n ∷ ns) low (inl e) = inr (inr (inr (inr (inr (inr (inr (inr (inl (ap (λ x. keys.Diagnostics x) e)))))))))
+in_keys (keys.Descriptor f) (n ∷ ns) low (inl e) = let h : 9 ≤ 8 = low in absurd (omega arith)
+in_keys (keys.Symbols f) (n ∷ ns) low (inl e) = let h : 9 ≤ 8 = low in absurd (omega arith)
+in_keys (keys.Definition f place) (n ∷ ns) low (inl e) = let h : 9 ≤ 8 = low in absurd (omega arith)
+in_keys k (n ∷ ns) low (inr i) = inr (inr (inr (inr (inr (inr (inr (inr (inr (in_keys k ns low i)))))))))
+
+keys_in : (k : ProtoKey) (ns : List (List ℕ)) → In k (keys_of ns) → In (own_name k) ns
+keys_in k [] i = i
+keys_in k (n ∷ ns) (inl e) = inl (ap own_name e)
+keys_in k (n ∷ ns) (inr (inl e)) = inl (ap own_name e)
+keys_in k (n ∷ ns) (inr (inr (inl e))) = inl (ap own_name e)
+keys_in k (n ∷ ns) (inr (inr (inr (inl e)))) = inl (ap own_name e)
+keys_in k (n ∷ ns) (inr (inr (inr (inr (inl e))))) = inl (ap own_name e)
+keys_in k (n ∷ ns) (inr (inr (inr (inr (inr (inl e)))))) = inl (ap own_name e)
+keys_in k (n ∷ ns) (inr (inr (inr (inr (inr (inr (inl e))))))) = inl (ap own_name e)
+keys_in k (n ∷ ns) (inr (inr (inr (inr (inr (inr (inr (inl e)))))))) = inl (ap own_name e)
+keys_in k (n ∷ ns) (inr (inr (inr (inr (inr (inr (inr (inr (inl e))))))))) = inl (ap own_name e)
+keys_in k (n ∷ ns) (inr (inr (inr (inr (inr (inr (inr (inr (inr i))))))))) = inr (keys_in k ns i)
+
+-- ---- kinds of keys, parts and values: of the names `ns`, up to the level `l`, and of the key `root`
+-- or of a level that is asked
+
+abbrev Named : List (List ℕ) → List ℕ → Type 0
+Named ns n = In n ns
+
+abbrev KeyIn : List (List ℕ) → ℕ → ProtoKey → ProtoKey → Type 0
+KeyIn ns l root k = In (own_name k) ns × (proto_level k ≤ l) × ((k ≡ root) ⊎ (proto_level k ≤ 8))
+
+abbrev DescriptorPartIn : List (List ℕ) → DescriptorPart → Type 0
+DescriptorPartIn ns (descriptors.ReadDiagnostics f) = In f ns
+DescriptorPartIn ns (descriptors.ReadResolved f file) = Unit {0}
+
+abbrev DefinitionPartIn : List (List ℕ) → DefinitionPart → Type 0
+DefinitionPartIn ns (definitions.ReadFile f place) = In f ns
+DefinitionPartIn ns (definitions.ReadResolved offset file) = Unit {0}
+DefinitionPartIn ns (definitions.ReadTarget t) = Unit {0}
+
+abbrev PartIn : List (List ℕ) → ℕ → ProtoPart → Type 0
+PartIn ns l (LinkingFiles q) = (3 ≤ l) × LinkingIn (Named ns) q
+PartIn ns l (Scoping q) = (5 ≤ l) × ScopePartIn (Named ns) q
+PartIn ns l (Resolving q) = (6 ≤ l) × ResolvedPartIn (Named ns) q
+PartIn ns l (Checking q) = (7 ≤ l) × CheckPartIn (Named ns) q
+PartIn ns l (Describing q) = (9 ≤ l) × DescriptorPartIn ns q
+PartIn ns l (Locating q) = (9 ≤ l) × DefinitionPartIn ns q
+PartIn ns l _ = Unit {0}
+
+abbrev ValueIn : List (List ℕ) → ProtoValue → Type 0
+ValueIn ns (values.Source text) = IfImportsIn (Named ns) (file_imports (read_file text))
+ValueIn ns (values.Parse file) = IfImportsIn (Named ns) (file_imports file)
+ValueIn ns (values.Imports is) = IfImportsIn (Named ns) is
+ValueIn ns (values.Linked links) = LinksIn (Named ns) links
+ValueIn ns (values.Scope scope) = ScopeIn (Named ns) scope
+ValueIn ns (values.Resolved rs) = ResolvedIn (Named ns) rs
+ValueIn ns _ = Unit {0}
+
+-- ---- what is read of an answer of the kind
+
+text_in : (ns : List (List ℕ)) (a : Answer ProtoKey ProtoValue) → AnswerIn (ValueIn ns) a → IfImportsIn (Named ns) (file_imports (read_file (text_read a)))
+text_in ns (Value (values.Source text)) i = i
+text_in ns (Value v) i = tt
+text_in ns (Cycle ring) i = tt
+
+parsed_in : (ns : List (List ℕ)) (a : Answer ProtoKey ProtoValue) → AnswerIn (ValueIn ns) a → IfImportsIn (Named ns) (file_imports (parsed_read a))
+parsed_in ns (Value (values.Parse file)) i = i
+parsed_in ns (Value v) i = tt
+parsed_in ns (Cycle ring) i = tt
+
+imports_in : (ns : List (List ℕ)) (a : Answer ProtoKey ProtoValue) → AnswerIn (ValueIn ns) a → IfImportsIn (Named ns) (imports_read a)
+imports_in ns (Value (values.Imports is)) i = i
+imports_in ns (Value v) i = tt
+imports_in ns (Cycle ring) i = tt
+
+links_in : (ns : List (List ℕ)) (a : Answer ProtoKey ProtoValue) → AnswerIn (ValueIn ns) a → LinksIn (Named ns) (links_read a)
+links_in ns (Value (values.Linked links)) i = i
+links_in ns (Value v) i = no_links_in (Named ns)
+links_in ns (Cycle ring) i = no_links_in (Named ns)
+
+scope_in : (ns : List (List ℕ)) (a : Answer ProtoKey ProtoValue) → AnswerIn (ValueIn ns) a → ScopeIn (Named ns) (scope_read a)
+scope_in ns (Value (values.Scope scope)) i = i
+scope_in ns (Value v) i = record { visible = tt; reach = tt }
+scope_in ns (Cycle ring) i = record { visible = tt; reach = tt }
+
+resolved_in : (ns : List (List ℕ)) (a : Answer ProtoKey ProtoValue) → AnswerIn (ValueIn ns) a → ResolvedIn (Named ns) (resolved_read a)
+resolved_in ns (Value (values.Resolved rs)) i = i
+resolved_in ns (Value v) i = tt
+resolved_in ns (Cycle ring) i = tt
+
+-- ---- the files that are mentioned
+
+each_sub : (xs ns : List (List ℕ)) → ((w : List ℕ) → In w xs → In w ns) → Each (Named ns) xs
+each_sub [] ns sub = tt
+each_sub (x ∷ xs) ns sub = (sub x (inl refl), each_sub xs ns (λ w i. sub w (inr i)))
+
+mentioned_in : (ns : List (List ℕ)) (is : Option (List Import)) → ((w : List ℕ) → In w (map file_of (unwrap_or is [])) → In w ns) → IfImportsIn (Named ns) is
+mentioned_in ns None sub = tt
+mentioned_in ns (Some is) sub = each_sub (map file_of is) ns sub
+
+pub file_mentions : (files : Sources) (name w : List ℕ) → In w (mentioned (file_in files name).text) → In w (all_mentioned files)
+unfolding file_in
+file_mentions [] name w i = i
+file_mentions (x ∷ xs) name w i = elim (cases_Bool (bytes_eq x.0 name)) [
+  | inl h ↦ in_append_left w (mentioned x.1.text) (all_mentioned xs) (rw h at i)
+  | inr h ↦ in_append_right w (mentioned x.1.text) (all_mentioned xs) (file_mentions xs name w (rw h at i))
+]
+
+-- ---- the type at a place is of a file that the references name
+
+TargetIn : List (List ℕ) → Option TypeItem → Type 0
+TargetIn ns None = Unit {0}
+TargetIn ns (Some t) = In t.file ns
+
+item_in : (ns : List (List ℕ)) (r : Resolution) → ResolutionIn (Named ns) r → TargetIn ns (type_item r)
+unfolding TargetIn
+item_in ns (resolutions.«Type» file full_name is_enum item) i = i
+item_in ns r i = tt
+
+either_in : (ns : List (List ℕ)) (b : Bool) (x y : Option TypeItem) → TargetIn ns x → TargetIn ns y → TargetIn ns (cond b x y)
+either_in ns true x y i j = i
+either_in ns false x y i j = j
+
+target_in : (ns : List (List ℕ)) (nodes : List Node) (offset : ℕ) (rs : List ResolvedReference) → ResolvedIn (Named ns) rs → TargetIn ns (definition_at nodes offset rs)
+unfolding TargetIn definition_at
+target_in ns nodes offset [] i = tt
+target_in ns nodes offset (r ∷ rs) i =
+    either_in ns (holds (span_of nodes r) offset) (type_item r.resolution) (definition_at nodes offset rs)
+    (item_in ns r.resolution i.0) (target_in ns nodes offset rs i.1)
+
+module _ (order : ProtoKey → ProtoKey → Ordering) (files : Sources) where
+  abbrev m : Instance ProtoKey ProtoPart ProtoValue
+  m = over order proto_rules files
+
+  module _ (ns : List (List ℕ)) (l : ℕ) (root : ProtoKey) (mentions : (w : List ℕ) → In w (all_mentioned files) → In w ns) where
+    abbrev N : List ℕ → Type 0
+    N = Named ns
+
+    abbrev KIn : ProtoKey → Type 0
+    KIn = KeyIn ns l root
+
+    abbrev PIn : ProtoPart → Type 0
+    PIn = PartIn ns l
+
+    -- a key of a level that is asked
+    asks : (k : ProtoKey) → In (own_name k) ns → proto_level k ≤ l → proto_level k ≤ 8 → KIn k
+    asks k i low asked = (i, low, inr asked)
+
+    inputs_in : (k : ProtoKey) → proto_level k ≡ 0 → ValueIn ns (m.input k)
+    inputs_in (keys.Input f) at = mentioned_in ns (file_imports (read_file (file_in files f).text)) (λ w i. mentions w (file_mentions files f w i))
+    inputs_in k at = cc
+
+    checks_ask : 7 ≤ l → AsksIn KIn check_words N
+    checks_ask h = record {
+      parse = λ f i. asks (keys.Parse f) i (omega arith) (omega arith);
+      imports = λ f i. asks (keys.Imports f) i (omega arith) (omega arith);
+      linked = λ f i. asks (keys.Linked f) i (omega arith) (omega arith);
+      defs = λ f i. asks (keys.Defs f) i (omega arith) (omega arith);
+      scope = λ f i. asks (keys.Scope f) i (omega arith) (omega arith);
+      resolved = λ f i. asks (keys.Resolved f) i (omega arith) (omega arith);
+    }
+
+    starts_in : (k : ProtoKey) → KIn k → TurnIn KIn PIn (ValueIn ns) (proto_start k)
+    starts_in (keys.Input f) i = tt
+    starts_in (keys.Parse f) i = let h : 1 ≤ l = i.1 in (asks (keys.Input f) i.0 (omega arith) (omega arith), tt)
+    starts_in (keys.Imports f) i = let h : 2 ≤ l = i.1 in (asks (keys.Parse f) i.0 (omega arith) (omega arith), tt)
+    starts_in (keys.Linked f) i =
+        let h : 3 ≤ l = i.1 in
+        embedded_in KIn (LinkingIn N) (LinksIn N) PIn (ValueIn ns) (λ q. LinkingFiles q) (λ v. values.Linked v)
+        (λ q j. (h, j)) (λ v j. j) (linked_starts (λ n. keys.Imports n) f)
+        (linked_starts_in KIn N (λ n. keys.Imports n) (λ n. keys.Linked n) (λ x j. asks (keys.Imports x) j (omega arith) (omega arith))
+        (λ x j. asks (keys.Linked x) j h (omega arith)) f i.0)
+    starts_in (keys.Defs f) i = let h : 4 ≤ l = i.1 in (asks (keys.Parse f) i.0 (omega arith) (omega arith), tt)
+    starts_in (keys.Scope f) i =
+        let h : 5 ≤ l = i.1 in
+        embedded_in KIn (ScopePartIn N) (ScopeIn N) PIn (ValueIn ns) (λ q. Scoping q) (λ v. values.Scope v)
+        (λ q j. (h, j)) (λ v j. j) (scope_starts (λ n. keys.Linked n) f)
+        (scope_starts_in KIn N (λ n. keys.Linked n) (λ n. keys.Defs n) (λ x j. asks (keys.Linked x) j (omega arith) (omega arith))
+        (λ x j. asks (keys.Defs x) j (omega arith) (omega arith)) f i.0)
+    starts_in (keys.Resolved f) i =
+        let h : 6 ≤ l = i.1 in
+        embedded_in KIn (ResolvedPartIn N) (ResolvedIn N) PIn (ValueIn ns) (λ q. Resolving q) (λ v. values.Resolved v)
+        (λ q j. (h, j)) (λ v j. j) (resolved_starts (λ n. keys.Scope n) f)
+        (resolved_starts_in N KIn (λ n. keys.Scope n) (λ x j. asks (keys.Scope x) j (omega arith) (omega arith)) f i.0)
+    starts_in (keys.Checks f) i =
+        let h : 7 ≤ l = i.1 in
+        embedded_in KIn (CheckPartIn N) (λ (c : Checked). Unit {0}) PIn (ValueIn ns) (λ q. Checking q) (λ v. values.Checks v)
+        (λ q j. (h, j)) (λ v j. j) (check_starts (λ n. keys.Parse n) f)
+        (check_starts_in KIn check_words N (checks_ask h) f i.0)
+    starts_in (keys.Diagnostics f) i = let h : 8 ≤ l = i.1 in (asks (keys.Checks f) i.0 (omega arith) (omega arith), tt)
+    starts_in (keys.Descriptor f) i = let h : 9 ≤ l = i.1 in (asks (keys.Diagnostics f) i.0 (omega arith) (omega arith), (h, i.0))
+    starts_in (keys.Symbols f) i = let h : 9 ≤ l = i.1 in (asks (keys.Parse f) i.0 (omega arith) (omega arith), tt)
+    starts_in (keys.Definition f place) i = let h : 9 ≤ l = i.1 in (asks (keys.Parse f) i.0 (omega arith) (omega arith), (h, i.0))
+
+    describes : (f : List ℕ) (d : Checked) (sent : Bool) → 9 ≤ l → In f ns
+        → TurnIn KIn PIn (ValueIn ns) (descriptor_turn (cond sent (Ask (keys.Resolved f) (descriptors.ReadResolved f d.file)) (Done (codes "null"))))
+    describes f d true h i = (asks (keys.Resolved f) i (omega arith) (omega arith), (h, tt))
+    describes f d false h i = tt
+
+    locates : (f : List ℕ) (file : ParsedFile) (offset : Option ℕ) → 9 ≤ l → In f ns → TurnIn KIn PIn (ValueIn ns) (definition_turn (references_turn f file offset))
+    locates f file (Some offset) h i = (asks (keys.Resolved f) i (omega arith) (omega arith), (h, tt))
+    locates f file None h i = tt
+
+    targets : (t : Option TypeItem) → 9 ≤ l → TargetIn ns t → TurnIn KIn PIn (ValueIn ns) (definition_turn (target_turn t))
+    unfolding TargetIn
+    targets (Some t) h i = (asks (keys.Parse t.file) i (omega arith) (omega arith), (h, tt))
+    targets None h i = tt
+
+    advances_in : (p : ProtoPart) (a : Answer ProtoKey ProtoValue) → PIn p → AnswerIn (ValueIn ns) a
+        → TurnIn KIn PIn (ValueIn ns) (proto_advance p a)
+    advances_in Parsing a i j = text_in ns a j
+    advances_in Importing a i j = parsed_in ns a j
+    advances_in (LinkingFiles p) a i j =
+        let h : 3 ≤ l = i.0 in
+        embedded_in KIn (LinkingIn N) (LinksIn N) PIn (ValueIn ns) (λ q. LinkingFiles q) (λ v. values.Linked v)
+        (λ q x. (h, x)) (λ v x. x) (linked_advances (λ n. keys.Linked n) (imports_read a) (links_read a) p)
+        (linked_advances_in KIn N (λ n. keys.Imports n) (λ n. keys.Linked n) (λ x y. asks (keys.Imports x) y (omega arith) (omega arith))
+        (λ x y. asks (keys.Linked x) y h (omega arith)) (imports_read a) (links_read a) p (imports_in ns a j) (links_in ns a j) i.1)
+    advances_in Defining a i j = tt
+    advances_in (Scoping p) a i j =
+        let h : 5 ≤ l = i.0 in
+        embedded_in KIn (ScopePartIn N) (ScopeIn N) PIn (ValueIn ns) (λ q. Scoping q) (λ v. values.Scope v)
+        (λ q x. (h, x)) (λ v x. x) (scope_advances (λ n. keys.Defs n) (links_read a) (defs_read a) p)
+        (scope_advances_in KIn N (λ n. keys.Linked n) (λ n. keys.Defs n) (λ x y. asks (keys.Linked x) y (omega arith) (omega arith))
+        (λ x y. asks (keys.Defs x) y (omega arith) (omega arith)) (links_read a) (defs_read a) p (links_in ns a j) i.1)
+    advances_in (Resolving p) a i j =
+        let h : 6 ≤ l = i.0 in
+        embedded_in KIn (ResolvedPartIn N) (ResolvedIn N) PIn (ValueIn ns) (λ q. Resolving q) (λ v. values.Resolved v)
+        (λ q x. (h, x)) (λ v x. x) (resolved_advances (λ n. keys.Parse n) (scope_read a) (nodes_of (parsed_read a)) p)
+        (resolved_advances_in N KIn (λ n. keys.Parse n) (λ x y. asks (keys.Parse x) y (omega arith) (omega arith))
+        (scope_read a) (nodes_of (parsed_read a)) p (scope_in ns a j) i.1)
+    advances_in (Checking p) a i j =
+        let h : 7 ≤ l = i.0 in
+        embedded_in KIn (CheckPartIn N) (λ (c : Checked). Unit {0}) PIn (ValueIn ns) (λ q. Checking q) (λ v. values.Checks v)
+        (λ q x. (h, x)) (λ v x. x) (check_advances check_words p a)
+        (check_advances_in KIn check_words N (checks_ask h) p a (imports_in ns a j) i.1)
+    advances_in Diagnosing a i j = tt
+    advances_in (Describing (descriptors.ReadDiagnostics f)) a i j = describes f (diagnostics_read a) (is_sent (diagnostics_read a)) i.0 i.1
+    advances_in (Describing (descriptors.ReadResolved f file)) a i j = tt
+    advances_in Listing a i j = tt
+    advances_in (Locating (definitions.ReadFile f place)) a i j = locates f (parsed_read a) (offset_at (parsed_read a) place) i.0 i.1
+    advances_in (Locating (definitions.ReadResolved offset file)) a i j =
+        targets (definition_at (nodes_of file) offset (resolved_read a)) i.0 (target_in ns (nodes_of file) offset (resolved_read a) (resolved_in ns a j))
+    advances_in (Locating (definitions.ReadTarget t)) a i j = tt
+
+    preserves : Preserves m KIn PIn (ValueIn ns)
+    preserves = record { inputs = λ k at i. inputs_in k at; starts = starts_in; advances = advances_in }
+
+  no_higher : (k q : ProtoKey) (p : ProtoPart) → ComesTo m k (Ask q p) → proto_level q ≤ proto_level k
+  no_higher k q p c =
+      let ns : List (List ℕ) = own_name k ∷ all_mentioned files in
+      let l = proto_level k in
+      (asked_in m (KeyIn ns l k) (PartIn ns l) (ValueIn ns) (preserves ns l k (λ w i. inr i)) k q p (inl refl, omega arith, inl refl) c).1
+
+  -- the name of a key that is reached
+  reach_name : (k x : ProtoKey) → In x (proto_reach files k) → In (own_name x) (own_name k ∷ all_mentioned files)
+  reach_name k x (inl e) = inl (ap own_name e)
+  reach_name k x (inr i) = keys_in x (own_name k ∷ all_mentioned files) i
+
+  stays : (k x q : ProtoKey) (p : ProtoPart) → In x (proto_reach files k) → ComesTo m x (Ask q p) → In q (proto_reach files k)
+  stays k x q p i c =
+      let ns : List (List ℕ) = own_name k ∷ all_mentioned files in
+      let l = proto_level x in
+      let a = asked_in m (KeyIn ns l x) (PartIn ns l) (ValueIn ns) (preserves ns l x (λ w j. inr j)) x q p (reach_name k x i, omega arith, inl refl) c in
+      elim a.2 [
+        | inl e ↦ subst (λ (y : ProtoKey). In y (proto_reach files k)) (sym e) i
+        | inr low ↦ inr (in_keys q ns low a.0)
+      ]
+
+  pub proto_lawful : ((a b : ProtoKey) → order a b ≡ Equal → a ≡ b) → Laws m (proto_reach files)
+  proto_lawful exact = record {
+    no_higher = no_higher;
+    falls = proto_falls;
+    reaches = λ k. inl refl;
+    stays = stays;
+    exact = exact;
+  }

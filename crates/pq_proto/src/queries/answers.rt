@@ -1,0 +1,75 @@
+//! What is read of an answer of the rule set. An answer of another kind reads as that of an absent
+//! file.
+ghost use Rattle.std.specs.Prelude.{◌≡◌, [], option_copied, unwrap_or};
+ghost use Rattle.pq_links.specs.declared.files.ParsedFile.TheVariants.{Absent};
+ghost use Rattle.pq_schema.specs.Missing.{nodes_of};
+ghost use Rattle.pq_checks.specs.Surroundings.{no_checked};
+ghost use Rattle.pq_proto.specs.aux.Outputs.{diagnostics_read, parsed_read, resolved_read};
+
+use crate::key::ProtoKey;
+use crate::value::ProtoValue;
+use pq_checks::Checked;
+use pq_links::ParsedFile;
+use pq_rules::{Answer, Shared};
+use pq_schema::ResolvedReference;
+use pq_syntax::{Items, Node, Parsed};
+
+/// What `answer` says that a file is read as.
+pub(crate) fn parsed_in<'a>(
+    answer: &'a Answer<ProtoKey, ProtoValue>,
+) -> Option<&'a Shared<ParsedFile>>
+    ensures parsed { unwrap_or (option_copied result) Absent ≡ parsed_read answer.now }
+{
+    match answer {
+        Answer::Value(ProtoValue::Parse(file)) => Some(file),
+        _ => None,
+    }
+}
+
+/// The resolved references that `answer` holds.
+pub(crate) fn resolved_in<'a>(
+    answer: &'a Answer<ProtoKey, ProtoValue>,
+) -> Option<&'a Shared<Items<ResolvedReference>>>
+    ensures references { unwrap_or (option_copied result) [] ≡ resolved_read answer.now }
+{
+    match answer {
+        Answer::Value(ProtoValue::Resolved(references)) => Some(references),
+        _ => None,
+    }
+}
+
+/// The diagnostics that `answer` holds.
+pub(crate) fn diagnostics_in<'a>(
+    answer: &'a Answer<ProtoKey, ProtoValue>,
+) -> Option<&'a Shared<Checked>>
+    ensures diagnostics { unwrap_or (option_copied result) no_checked ≡ diagnostics_read answer.now }
+{
+    match answer {
+        Answer::Value(ProtoValue::Diagnostics(diagnostics)) => Some(diagnostics),
+        _ => None,
+    }
+}
+
+/// The resolved references that `answer` holds, as a slice.
+pub(crate) fn references_in<'a>(answer: &'a Answer<ProtoKey, ProtoValue>) -> &'a [ResolvedReference]
+    ensures references { result.now ≡ resolved_read answer.now }
+{
+    match resolved_in(answer) {
+        Some(references) => references.get().as_slice(),
+        None => &[],
+    }
+}
+
+/// The statements of a file that is read as `file`: an absent file has none, and neither has one
+/// with a syntax error.
+pub(crate) fn statements(file: &ParsedFile) -> &[Node]
+    ensures nodes { result.now ≡ nodes_of file.now }
+{
+    match file {
+        ParsedFile::Present {
+            parsed: Parsed::Tree(nodes),
+            ..
+        } => nodes.as_slice(),
+        _ => &[],
+    }
+}

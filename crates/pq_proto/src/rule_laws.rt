@@ -1,0 +1,17 @@
+//! The law of the rule set, as the contract of a function that does nothing.
+ghost use Rattle.std.specs.Prelude.{◌≡◌, ◌↔◌};
+ghost use Rattle.pq_inputs.specs.Sources.{Sources};
+ghost use Rattle.pq_rules.specs.declared.turn.Answer.{Answer};
+ghost use Rattle.pq_rules.specs.Turns.{over};
+ghost use Rattle.pq_rules.specs.Value.{Means};
+ghost use Rattle.pq_proto.specs.Compile.{Compiles};
+ghost use Rattle.pq_proto.specs.aux.RuleSet.{proto_rules};
+ghost use Rattle.pq_proto.specs.declared.key.ProtoKey.{ProtoKey as KeyContents};
+ghost use Rattle.pq_proto.specs.declared.value.ProtoValue.{ProtoValue as ValueContents};
+
+use crate::key::ProtoKey;
+
+/// At all sources, what a key of the rule set means is what it compiles to.
+pub fn proto_values()
+    ensures means { (files : Sources) (key : KeyContents) (a : Answer KeyContents ValueContents) → Means (over ⟦<ProtoKey as Ord>⟧.cmp proto_rules files) key a → Compiles files key a }
+{}
