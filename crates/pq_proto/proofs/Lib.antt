@@ -10,3 +10,4 @@ pub mod Existence
 pub mod ProtoMeaning
 pub mod Answered
 pub mod OneCompilation
+pub mod RuleMeaning

@@ -13,7 +13,6 @@ use Rattle.pq_rules.specs.Relations.{Each}
 use Rattle.pq_rules.specs.Turns.{Instance, over}
 use Rattle.pq_rules.specs.Value.{Means}
 use Rattle.pq_rules.proofs.OneRead.{makes_once}
-use Rattle.pq_rules.proofs.Order.{strict}
 use Rattle.pq_rules.proofs.Rings.{Strict}
 use Rattle.pq_rules.proofs.Uniqueness.{means_one}
 use Rattle.pq_links.specs.Files.{graph_of}
@@ -30,7 +29,6 @@ use Rattle.pq_schema.specs.declared.definitions.Definition.{Definition}
 use Rattle.pq_schema.specs.declared.resolved.ResolvedReference.{ResolvedReference}
 use Rattle.pq_schema.specs.declared.scope.FileDefs.{FileDefs}
 use Rattle.pq_schema.proofs.BadFiles.{ring_bad}
-use Rattle.pq_schema.proofs.SchemaMeaning.{schema_means}
 use Rattle.pq_checks.specs.ChecksSum.{ChecksMeans}
 use Rattle.pq_checks.specs.Compile.{AreSurroundings, IsRingAt, IsChecked, file_faults}
 use Rattle.pq_checks.specs.Diagnostics.{AreDiagnostics, ordered}
@@ -41,14 +39,11 @@ use Rattle.pq_checks.specs.aux.Queries.{check_level, check_left, check_starts, c
 use Rattle.pq_checks.specs.declared.fault.Fault.{Fault}
 use Rattle.pq_checks.specs.declared.surroundings.Checked.{Checked}
 use Rattle.pq_checks.specs.declared.surroundings.Imported.{Imported}
-use Rattle.pq_checks.proofs.ChecksMeaning.{checks_mean}
 use Rattle.pq_proto.specs.Compile.{Compiles, IsDefinition, IsDescriptor, definition_by, descriptor_by, is_sent, offset_at, read_in, symbols_by}
 use Rattle.pq_proto.specs.Definition.{definition_at}
 use Rattle.pq_proto.specs.aux.CheckKinds.{AsksIn, CheckPartIn, check_starts_in, check_advances_in}
 use Rattle.pq_proto.specs.aux.Outputs.{output_level, diagnostics_read, parsed_read, resolved_read, descriptor_starts, descriptor_advances, descriptor_left, descriptor_falls, symbols_starts, symbols_advances, references_turn, target_turn, definition_advances, definition_left, definition_falls}
 use Rattle.pq_proto.specs.aux.RuleSet.{check_words, checks_read, imports_read, ring_read, scope_read, proto_rules}
-use Rattle.pq_proto.specs.contracts.key.ProtoKeyOrd.TheImpl as key_order
-use Rattle.pq_proto.specs.contracts.key.ProtoKeyOrd.TheImpl.Laws.{total-law}
 use Rattle.pq_proto.specs.declared.key.Place.{Place}
 use Rattle.pq_proto.specs.declared.key.ProtoKey.{ProtoKey}
 use Rattle.pq_proto.specs.declared.key.ProtoKey.TheVariants as keys
@@ -139,7 +134,7 @@ module _ (order : ProtoKey → ProtoKey → Ordering) (files : Sources)
 
     ring_one : (f : List ℕ) (r r' : List (List ℕ)) → IsRingOf g f r → IsRingOf g f r' → r ≡ r'
     ring_one f r r' p q =
-        let cycle = λ (x : List (List ℕ)). Cycle (map (λ n. keys.Linked n) x) in
+        let cycle : List (List ℕ) → A = λ x. Cycle (map (λ n. keys.Linked n) x) in
         sym (names_back r)
         ∙ ap (λ (a : A). unwrap_or (ring_read a) []) (one (keys.Linked f) (cycle r) (cycle r') ((t.linked f (cycle r)).1 (r, refl, p)) ((t.linked f (cycle r')).1 (r', refl, q)))
         ∙ names_back r'
@@ -298,7 +293,7 @@ module _ (order : ProtoKey → ProtoKey → Ordering) (files : Sources)
         (definition_embeds order files order_is one_way t u) (omega arith) definition_left definition_falls (λ q. Unit {0})
         (λ x. ((omega arith, parse_answer x.0), tt)) (λ q a p. definition_asks q a) (f, place)
 
-    answered : (k : ProtoKey) → Answered k
+    pub answered : (k : ProtoKey) → Answered k
     answered (keys.Input f) = input_answer f
     answered (keys.Parse f) = parse_answer f
     answered (keys.Imports f) = imports_answer f

@@ -20,15 +20,12 @@ use Rattle.pq_rules.specs.Value.{Trace, Means}
 use Rattle.pq_rules.specs.Embedding.{Runs, Embeds}
 use Rattle.pq_rules.proofs.LowerReads.{lower_runs}
 use Rattle.pq_rules.proofs.OneRead.{once}
-use Rattle.pq_rules.proofs.Order.{strict}
 use Rattle.pq_rules.proofs.Rings.{Strict}
 use Rattle.pq_links.specs.declared.files.ParsedFile.{ParsedFile}
 use Rattle.pq_schema.specs.Compile.{AreResolved}
 use Rattle.pq_schema.specs.Missing.{nodes_of}
 use Rattle.pq_schema.specs.SchemaSum.{SchemaSum, SchemaMeans}
 use Rattle.pq_schema.specs.declared.resolved.ResolvedReference.{ResolvedReference}
-use Rattle.pq_schema.proofs.SchemaMeaning.{schema_means}
-use Rattle.pq_checks.proofs.ChecksMeaning.{checks_mean}
 use Rattle.pq_checks.specs.ChecksSum.{ChecksSum, ChecksMeans}
 use Rattle.pq_checks.specs.Diagnostics.{AreDiagnostics}
 use Rattle.pq_checks.specs.declared.surroundings.Checked.{Checked}
@@ -37,8 +34,6 @@ use Rattle.pq_proto.specs.Definition.{definition_at}
 use Rattle.pq_proto.specs.Descriptor.{descriptor}
 use Rattle.pq_proto.specs.aux.Outputs.{output_level, parsed_read, resolved_read, diagnostics_read, descriptor_starts, descriptor_next, descriptor_advances, symbols_starts, symbols_advances, definition_starts, references_turn, target_turn, definition_advances}
 use Rattle.pq_proto.specs.aux.RuleSet.{text_read, imports_read, links_read, defs_read, scope_read, checks_read, ring_read, own_name, proto_level, proto_rules}
-use Rattle.pq_proto.specs.contracts.key.ProtoKeyOrd.TheImpl as key_order
-use Rattle.pq_proto.specs.contracts.key.ProtoKeyOrd.TheImpl.Laws.{total-law}
 use Rattle.pq_proto.specs.declared.key.Place.{Place}
 use Rattle.pq_proto.specs.declared.key.ProtoKey.{ProtoKey}
 use Rattle.pq_proto.specs.declared.key.ProtoKey.TheVariants as keys
@@ -214,6 +209,10 @@ module _ (order : ProtoKey → ProtoKey → Ordering) (files : Sources)
         let end = ended descriptor_advances (codes "null") es w r in
         (d, rs.0, i, rs.1, end ∙ sym (ap (λ b. cond b (described f d rs.0) (codes "null")) is))
 
+    by_diagnostics : (f : List ℕ) (d : Checked) → AreDiagnostics files f d → (es : Trace ProtoKey ProtoValue) (w : List ℕ)
+        → Runs descriptor_advances (descriptor_next f d) es (Done w) → Each (λ e. Means m e.0 e.1) es → IsDescriptor files f w
+    by_diagnostics f d i es w r reads = sent_is f d (is_sent d) refl i es w r reads
+
     pub descriptor_embeds : Embeds m (λ f. keys.Descriptor f) (λ q. Describing q) (λ v. values.Descriptor v) output_level descriptor_starts descriptor_advances
     descriptor_embeds = record { level_is = λ x. refl; start_is = λ x. refl; advance_is = λ q a. refl }
 
@@ -224,8 +223,8 @@ module _ (order : ProtoKey → ProtoKey → Ordering) (files : Sources)
         let o = read_one descriptor_advances (keys.Diagnostics f) (descriptors.ReadDiagnostics f) r.0 r.1 r.2 r.4 in
         let d = u.diagnostics f o.0 o.2 in
         let on : Runs descriptor_advances (descriptor_next f d.0) o.1 (Done r.1) =
-        subst (λ (b : A). Runs descriptor_advances (descriptor_next f (diagnostics_read b)) o.1 (Done r.1)) d.1 o.3 in
-        (r.1, r.3, sent_is f d.0 (is_sent d.0) refl d.2 o.1 r.1 on o.4)
+        subst (λ (b : A). Runs descriptor_advances (descriptor_next f (diagnostics_read b)) o.1 (Done r.1)) {y = Value (values.Diagnostics d.0)} d.1 o.3 in
+        (r.1, r.3, by_diagnostics f d.0 d.2 o.1 r.1 on o.4)
 
     -- ---- definitions
 
@@ -269,6 +268,10 @@ module _ (order : ProtoKey → ProtoKey → Ordering) (files : Sources)
         let by : w ≡ None = ended definition_advances None es w r in
         (rs.0, rs.1, by ∙ sym (ap (λ (p : Option ℕ). located (option_and_then (λ (n : ℕ). definition_at (nodes_of file) n rs.0) p)) is))
 
+    by_file : (f : List ℕ) (place : Place) (es : Trace ProtoKey ProtoValue) (w : Option Location)
+        → Runs definition_advances (references_turn f (read_in files f) (offset_at (read_in files f) place)) es (Done w) → Each (λ e. Means m e.0 e.1) es → IsDefinition files f place w
+    by_file f place es w r reads = references_are f place (offset_at (read_in files f) place) refl es w r reads
+
     abbrev pub Spot : Type 0
     Spot = List ℕ × Place
 
@@ -286,7 +289,7 @@ module _ (order : ProtoKey → ProtoKey → Ordering) (files : Sources)
         let o = read_one definition_advances (keys.Parse f) (definitions.ReadFile f place) r.0 r.1 r.2 r.4 in
         let on : Runs definition_advances (references_turn f (read_in files f) (offset_at (read_in files f) place)) o.1 (Done r.1) =
         subst (λ (p : ParsedFile). Runs definition_advances (references_turn f p (offset_at p place)) o.1 (Done r.1)) (parsed_is f o.0 o.2) o.3 in
-        (r.1, r.3, references_are f place (offset_at (read_in files f) place) refl o.1 r.1 on o.4)
+        (r.1, r.3, by_file f place o.1 r.1 on o.4)
 
     -- ---- all keys
 
@@ -303,15 +306,3 @@ module _ (order : ProtoKey → ProtoKey → Ordering) (files : Sources)
     means_compiles (keys.Descriptor f) a h = descriptor_is f a h
     means_compiles (keys.Symbols f) a h = symbols_are f a h
     means_compiles (keys.Definition f place) a h = definition_is f place a h
-
--- at all sources, an answer of a key of the rule set is what the key compiles to
-pub proto_means : (files : Sources) (k : ProtoKey) (a : A) → Means (over key_order.ghosts.cmp proto_rules files) k a → Compiles files k a
-proto_means files k a h =
-    let order = key_order.ghosts.cmp in
-    let same : (f h : List ℕ) → key_order.ghosts.cmp (keys.Linked f) (keys.Linked h) ≡ slice_cmp nat_cmp f h = λ f h. refl in
-    let one = strict order total-law in
-    let i = m order files same one in
-    let s = schema order files same one in
-    let c = checks order files same one in
-    let t = schema_means i files s in
-    means_compiles order files same one t (checks_mean i files s c t) k a h

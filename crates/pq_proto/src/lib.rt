@@ -48,7 +48,7 @@ pub use key::{Place, ProtoKey};
 pub use laws::equal_keys;
 pub use printer::Printer;
 pub use queries::{DefinitionPart, DefinitionQuery, DescriptorPart, DescriptorQuery, SymbolsQuery};
-pub use rule_laws::proto_values;
+pub use rule_laws::{one_compilation, proto_values};
 pub use rules::{ProtoPart, ProtoRules};
 pub use std::alloc::AllocError as Memory;
 pub use symbols::{Positions, symbols_text};

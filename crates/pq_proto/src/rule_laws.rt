@@ -1,4 +1,5 @@
-//! The law of the rule set, as the contract of a function that does nothing.
+//! Laws of the rule set and of what files compile to, each as the contract of a function that does
+//! nothing.
 ghost use Rattle.std.specs.Prelude.{◌≡◌, ◌↔◌};
 ghost use Rattle.pq_inputs.specs.Sources.{Sources};
 ghost use Rattle.pq_rules.specs.declared.turn.Answer.{Answer};
@@ -11,7 +12,13 @@ ghost use Rattle.pq_proto.specs.declared.value.ProtoValue.{ProtoValue as ValueCo
 
 use crate::key::ProtoKey;
 
-/// At all sources, what a key of the rule set means is what it compiles to.
+/// At all sources, what a key of the rule set means is exactly what it compiles to.
 pub fn proto_values()
-    ensures means { (files : Sources) (key : KeyContents) (a : Answer KeyContents ValueContents) → Means (over ⟦<ProtoKey as Ord>⟧.cmp proto_rules files) key a → Compiles files key a }
+    ensures means { (files : Sources) (key : KeyContents) (a : Answer KeyContents ValueContents) → Means (over ⟦<ProtoKey as Ord>⟧.cmp proto_rules files) key a ↔ Compiles files key a }
+{}
+
+/// Each key compiles to one answer: it has an answer, and two answers of it are the same.
+pub fn one_compilation()
+    ensures some { (files : Sources) (key : KeyContents) → (a : Answer KeyContents ValueContents) × Compiles files key a }
+    ensures one { (files : Sources) (key : KeyContents) (a b : Answer KeyContents ValueContents) → Compiles files key a → Compiles files key b → a ≡ b }
 {}

@@ -1,4 +1,4 @@
-use Rattle.pq_proto.proofs.ProtoMeaning.{proto_means}
+use Rattle.pq_proto.proofs.RuleMeaning.{proto_means}
 use Rattle.pq_proto.proofs.rule_laws.proto_values.Goals as goal
 
 pub returns : goal.returns
