@@ -3,6 +3,7 @@ pub mod ChangeLemmas
 pub mod EscapeLemmas
 pub mod RootLemmas
 pub mod ReplyLemmas
+pub mod PrintLemmas
 pub mod Known
 pub mod Total
 pub mod EditLemmas
@@ -12,6 +13,3 @@ pub mod MemoryLemmas
 pub mod PrefixLemmas
 pub mod ScriptLemmas
 pub mod GatherLemmas
-pub mod PlaceLemmas
-pub mod InOrder
-pub mod FindingSpans

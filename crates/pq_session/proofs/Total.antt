@@ -1,5 +1,5 @@
 -- A script has a response to each body, in each state.
-use Rattle.std.proofs.Common.{◌≡◌, ℕ, List, Option, Some, None, Bool, true, false, refl, sym, ◌∙◌, inl}
+use Rattle.std.proofs.Common.{◌≡◌, ℕ, List, Option, Some, None, Bool, true, false, refl, sym, ◌∙◌, inr}
 use Rattle.std.specs.Str.{is_utf8}
 use Rattle.std.proofs.lemmas.Str.{IsUtf8-from_is_utf8, is_utf8-from_IsUtf8}
 use Rattle.serde_json.specs.Data.{Data}
@@ -7,7 +7,8 @@ use Rattle.serde_json.specs.Read.{read}
 use Rattle.pq_frame.specs.Json.{IsJson}
 use Rattle.pq_frame.specs.Messages.{message_of}
 use Rattle.pq_session.specs.Session.{Meaning, asks, says, edits, ignores, ends, meaning_of, next_phase}
-use Rattle.pq_session.specs.Responses.{Response, replies, silent, finishes, edit_response, edit_refusal, edited, answer_text, in_phase, ScriptState, RespondsTo, Responds}
+use Rattle.pq_session.specs.Reply.{out_of_memory_text}
+use Rattle.pq_session.specs.Responses.{Response, replies, silent, finishes, edit_response, edit_refusal, edited, in_phase, ScriptState, RespondsTo, Responds}
 
 none_some : (d : Data) → ◌≡◌ {A = Option Data} None (Some d) → ⊥
 none_some d e = absurd (cc e)
@@ -22,7 +23,7 @@ json_some : (bytes : List ℕ) → (json : Option Data) × IsJson bytes json
 json_some bytes = json_by bytes (is_utf8 bytes) (read bytes) refl refl
 
 meant_some : (state : ScriptState) (message : Meaning) → (told : Response) × (after : ScriptState) × RespondsTo state message told after
-meant_some state (asks label query) = (replies (answer_text state label query), state, (answer_text state label query, inl refl, refl, refl))
+meant_some state (asks label key) = (replies (out_of_memory_text label), state, (out_of_memory_text label, inr refl, refl, refl))
 meant_some state (says text) = (replies text, state, (refl, refl))
 meant_some state (edits name file) = (edit_response (edit_refusal state name file), edited state name file (edit_refusal state name file), (refl, refl))
 meant_some state ignores = (silent, state, (refl, refl))

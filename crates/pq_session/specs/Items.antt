@@ -2,7 +2,7 @@
 use Rattle.std.specs.Prelude.{◌≡◌, Bool, true, false, Option, Some, None, option_map, string_bytes}
 use Rattle.pq_frame.specs.Labels.{LabelModel, no_label, label_model}
 use Rattle.pq_frame.specs.Messages.{MessageModel, bad_json, invalid, ask, notice, response}
-use Rattle.pq_session.specs.declared.state.items.Query.{Query}
+use Rattle.pq_proto.specs.declared.key.ProtoKey.{ProtoKey}
 use Rattle.pq_session.specs.declared.state.items.Want.{Want}
 use Rattle.pq_session.specs.declared.state.items.Want.TheVariants.{Demand, Fixed}
 use Rattle.pq_session.specs.declared.state.items.Request.{Request}
@@ -20,16 +20,16 @@ reply_label response = None
 
 -- `want_meaning label want` is the meaning of a request with this label that is answered with
 -- `want`.
-abbrev pub want_meaning : LabelModel → Want Query → Meaning
-want_meaning label (Demand query) = asks label query
+abbrev pub want_meaning : LabelModel → Want ProtoKey → Meaning
+want_meaning label (Demand key) = asks label key
 want_meaning label (Fixed text) = says (string_bytes text)
 
 -- `answer_meaning request` is the meaning of `request`.
-abbrev pub answer_meaning : Request Query → Meaning
+abbrev pub answer_meaning : Request ProtoKey → Meaning
 answer_meaning request = want_meaning (label_model request.label) request.want
 
 -- `item_meaning item` is the meaning of a message that asks for `item`.
-abbrev pub item_meaning : Item Query → Meaning
+abbrev pub item_meaning : Item ProtoKey → Meaning
 item_meaning (Ask request) = answer_meaning request
 item_meaning (Say request) = answer_meaning request
 item_meaning (Edit change) = edits change.file (record { text = option_map string_bytes change.text; durability = change.durability })
@@ -37,7 +37,7 @@ item_meaning Ignore = ignores
 item_meaning (End status) = ends status
 
 -- `item_label item` is the label of the request in `item`, if there is one.
-abbrev pub item_label : Item Query → Option LabelModel
+abbrev pub item_label : Item ProtoKey → Option LabelModel
 item_label (Ask request) = Some (label_model request.label)
 item_label (Say request) = Some (label_model request.label)
 item_label (Edit change) = None
@@ -45,12 +45,12 @@ item_label Ignore = None
 item_label (End status) = None
 
 -- `is_demand want` is whether `want` is a demand.
-abbrev pub is_demand : Want Query → Bool
-is_demand (Demand query) = true
+abbrev pub is_demand : Want ProtoKey → Bool
+is_demand (Demand key) = true
 is_demand (Fixed text) = false
 
 -- `HasFittingWant item` is that an `Ask` has a demand, and a `Say` a fixed response.
-abbrev pub HasFittingWant : Item Query → Type 0
+abbrev pub HasFittingWant : Item ProtoKey → Type 0
 HasFittingWant (Ask request) = is_demand request.want ≡ true
 HasFittingWant (Say request) = is_demand request.want ≡ false
 HasFittingWant (Edit change) = Unit {0}

@@ -3,8 +3,7 @@ pub mod Uri
 pub mod Session
 pub mod Items
 pub mod Reply
-pub mod Findings
-pub mod Compile
+pub mod Replies
 pub mod Responses
 pub mod Output
 pub mod Script

@@ -1,13 +1,25 @@
 -- The texts of responses (JSON-RPC 2.0, "Response object", "Error object"; LSP 3.17, "Response
 -- Message"). The members of an object are in the order of their names, without white space.
-use Rattle.std.specs.Prelude.{ℕ, ℤ, pos, neg_ℤ, List, [], ◌∷◌, codes, true, false, decimal}
-use Rattle.serde_json.specs.Data.{Data, null, boolean, number, string, array, object, unsigned, Items, no_items, item, member, no_members}
+use Rattle.std.specs.Prelude.{ℕ, ℤ, pos, neg_ℤ, List, ◌++◌, map, codes, true, false, decimal, Option, Some, None}
+use Rattle.serde_json.specs.Data.{Data, null, boolean, number, string, object, unsigned, member, no_members}
 use Rattle.serde_json.specs.Find.{of_integer}
 use Rattle.serde_json.specs.Written.{compact_text}
 use Rattle.pq_frame.specs.Labels.{LabelModel, label_data}
 use Rattle.pq_lex.specs.declared.position.Position.{Position}
+use Rattle.pq_links.specs.declared.files.ParsedFile.{ParsedFile}
+use Rattle.pq_checks.specs.Codes.{code_text, severity, severity_number}
+use Rattle.pq_checks.specs.declared.fault.Fault.{Fault}
+use Rattle.pq_checks.specs.declared.surroundings.Checked.{Checked}
+use Rattle.pq_proto.specs.Compile.{position_in}
+use Rattle.pq_proto.specs.Lists.{list_data}
+use Rattle.pq_proto.specs.Symbols.{position_data}
+use Rattle.pq_proto.specs.declared.key.Place.{Place}
+use Rattle.pq_proto.specs.declared.value.Location.{Location}
 use Rattle.pq_session.specs.declared.protocol.refusals.Refusal.{Refusal}
-use Rattle.pq_session.specs.declared.protocol.refusals.Refusal.TheVariants.{ParseError, InvalidRequest, MethodNotFound, InvalidParams, OutOfMemory, NotInitialized}
+use Rattle.pq_session.specs.declared.protocol.refusals.Refusal.TheVariants.{ParseError, InvalidRequest, MethodNotFound, InvalidParams, OutOfMemory, NotInitialized, ContentModified}
+use Rattle.pq_session.specs.Uri.{uri_of}
+
+-- ---- errors
 
 -- `error_code refusal` is the code of an error (JSON-RPC 2.0, "Error object"; LSP 3.17,
 -- "ErrorCodes").
@@ -18,6 +30,7 @@ error_code MethodNotFound = neg_ℤ (pos 32601)
 error_code InvalidParams = neg_ℤ (pos 32602)
 error_code OutOfMemory = neg_ℤ (pos 32603)
 error_code NotInitialized = neg_ℤ (pos 32002)
+error_code ContentModified = neg_ℤ (pos 32801)
 
 -- `error_message refusal` is the message of an error.
 abbrev pub error_message : Refusal → List ℕ
@@ -27,12 +40,41 @@ error_message MethodNotFound = codes "method not found"
 error_message InvalidParams = codes "invalid params"
 error_message OutOfMemory = codes "out of memory"
 error_message NotInitialized = codes "not initialized"
+error_message ContentModified = codes "content modified"
 
 -- `error_data id code message` is the response of an error to the request `id`.
 abbrev pub error_data : Data → ℤ → List ℕ → Data
 error_data id code message =
     object (member (codes "error") (object (member (codes "code") (number (of_integer code)) (member (codes "message") (string message) no_members)))
     (member (codes "id") id (member (codes "jsonrpc") (string (codes "2.0")) no_members)))
+
+-- `cancelled_data id started seen` is the response to the request `id` that was started at the
+-- revision `started` and stopped at the revision `seen`, since an edit was made between.
+abbrev pub cancelled_data : Data → ℕ → ℕ → Data
+cancelled_data id started seen =
+    object (member (codes "error") (object (member (codes "code") (number (of_integer (error_code ContentModified)))
+    (member (codes "data") (object (member (codes "seen") (number (unsigned seen)) (member (codes "started") (number (unsigned started)) no_members)))
+    (member (codes "message") (string (error_message ContentModified)) no_members))))
+    (member (codes "id") id (member (codes "jsonrpc") (string (codes "2.0")) no_members)))
+
+-- `error_text label code message` is the text of an error.
+unfoldable pub error_text : LabelModel → ℤ → List ℕ → List ℕ
+error_text label code message = compact_text (error_data (label_data label) code message)
+
+-- `refusal_text label refusal` is the text of the response that refuses a request.
+unfoldable pub refusal_text : LabelModel → Refusal → List ℕ
+refusal_text label refusal = error_text label (error_code refusal) (error_message refusal)
+
+-- `out_of_memory_text label` is the text of the response to a query after an allocation failure.
+abbrev pub out_of_memory_text : LabelModel → List ℕ
+out_of_memory_text label = refusal_text label OutOfMemory
+
+-- `cancelled_text label started seen` is the text of the response to a request that was started at
+-- one revision and stopped at another.
+unfoldable pub cancelled_text : LabelModel → ℕ → ℕ → List ℕ
+cancelled_text label started seen = compact_text (cancelled_data (label_data label) started seen)
+
+-- ---- results
 
 -- `reply_data id answer` is the response of the result `answer` to the request `id`.
 abbrev pub reply_data : Data → Data → Data
@@ -52,47 +94,6 @@ initialized_data =
     no_members))))))
     (member (codes "serverInfo") (object (member (codes "name") (string (codes "pq_server")) no_members)) no_members))
 
--- A diagnostic as contracts see it: without its address in memory (LSP 3.17, "Diagnostic").
-pub record DiagnosticModel : Type 0 where
-  pub code : List ℕ
-  pub message : List ℕ
-  pub severity : ℕ
-  pub start : Position
-  pub end : Position
-
--- `position_data p` is the position `p` (LSP 3.17, "Position").
-abbrev pub position_data : Position → Data
-position_data p = object (member (codes "character") (number (unsigned p.character)) (member (codes "line") (number (unsigned p.line)) no_members))
-
--- `range_data start end` is the range from `start` to `end` (LSP 3.17, "Range").
-abbrev pub range_data : Position → Position → Data
-range_data start end = object (member (codes "end") (position_data end) (member (codes "start") (position_data start) no_members))
-
--- `diagnostic_data d` is the diagnostic `d` (LSP 3.17, "Diagnostic").
-abbrev pub diagnostic_data : DiagnosticModel → Data
-diagnostic_data d =
-    object (member (codes "code") (string d.code) (member (codes "message") (string d.message) (member (codes "range") (range_data d.start d.end)
-    (member (codes "severity") (number (unsigned d.severity)) (member (codes "source") (string (codes "proto")) no_members)))))
-
--- `diagnostics_data ds` is the diagnostics `ds`, in order.
-abbrev pub diagnostics_data : List DiagnosticModel → Items
-diagnostics_data [] = no_items
-diagnostics_data (d ∷ ds) = item (diagnostic_data d) (diagnostics_data ds)
-
--- `report_data ds revision` is the report of the diagnostics `ds` at a revision of the sources, its
--- `resultId` (LSP 3.17, "RelatedFullDocumentDiagnosticReport").
-abbrev pub report_data : List DiagnosticModel → ℕ → Data
-report_data ds revision =
-    object (member (codes "items") (array (diagnostics_data ds)) (member (codes "kind") (string (codes "full")) (member (codes "resultId") (string (decimal revision)) no_members)))
-
--- `error_text label code message` is the text of an error.
-unfoldable pub error_text : LabelModel → ℤ → List ℕ → List ℕ
-error_text label code message = compact_text (error_data (label_data label) code message)
-
--- `refusal_text label refusal` is the text of the response that refuses a request.
-unfoldable pub refusal_text : LabelModel → Refusal → List ℕ
-refusal_text label refusal = error_text label (error_code refusal) (error_message refusal)
-
 -- `initialized_text label` is the text of the response to `initialize`.
 unfoldable pub initialized_text : LabelModel → List ℕ
 initialized_text label = compact_text (reply_data (label_data label) initialized_data)
@@ -101,11 +102,76 @@ initialized_text label = compact_text (reply_data (label_data label) initialized
 unfoldable pub null_text : LabelModel → List ℕ
 null_text label = compact_text (reply_data (label_data label) null)
 
--- `diagnostics_text label ds revision` is the text of the response that reports the diagnostics
--- `ds` at `revision`.
-unfoldable pub diagnostics_text : LabelModel → List DiagnosticModel → ℕ → List ℕ
-diagnostics_text label ds revision = compact_text (reply_data (label_data label) (report_data ds revision))
+-- ---- diagnostics
 
--- `out_of_memory_text label` is the text of the response to a query after an allocation failure.
-abbrev pub out_of_memory_text : LabelModel → List ℕ
-out_of_memory_text label = refusal_text label OutOfMemory
+-- `range_data start end` is the range from `start` to `end` (LSP 3.17, "Range").
+abbrev pub range_data : Position → Position → Data
+range_data start end = object (member (codes "end") (position_data end) (member (codes "start") (position_data start) no_members))
+
+-- `diagnostic_data file f` is the error `f` of a file that is read as `file` (LSP 3.17,
+-- "Diagnostic").
+abbrev pub diagnostic_data : ParsedFile → Fault → Data
+diagnostic_data file f =
+    object (member (codes "code") (string (code_text f.code)) (member (codes "message") (string f.text)
+    (member (codes "range") (range_data (position_in file f.start) (position_in file f.end))
+    (member (codes "severity") (number (unsigned (severity_number (severity f.code)))) (member (codes "source") (string (codes "proto")) no_members)))))
+
+-- `report_data d revision` is the report of the diagnostics `d` at a revision of the sources, its
+-- `resultId` (LSP 3.17, "RelatedFullDocumentDiagnosticReport").
+abbrev pub report_data : Checked → ℕ → Data
+report_data d revision =
+    object (member (codes "items") (list_data (map (diagnostic_data d.file) d.faults)) (member (codes "kind") (string (codes "full")) (member (codes "resultId") (string (decimal revision)) no_members)))
+
+-- `diagnostics_text label d revision` is the text of the response that reports the diagnostics `d`
+-- at `revision`.
+unfoldable pub diagnostics_text : LabelModel → Checked → ℕ → List ℕ
+diagnostics_text label d revision = compact_text (reply_data (label_data label) (report_data d revision))
+
+-- ---- definitions
+
+-- `as_position place` is `place` as a position.
+abbrev pub as_position : Place → Position
+as_position place = record { line = place.line; character = place.character }
+
+-- `location_data root l` is the location `l` with the URI that its file has below `root` (LSP 3.17,
+-- "Location").
+abbrev pub location_data : List ℕ → Location → Data
+location_data root l =
+    object (member (codes "range") (range_data (as_position l.start) (as_position l.end)) (member (codes "uri") (string (uri_of root l.file)) no_members))
+
+-- `location_text label root l` is the text of the response of the location `l`.
+unfoldable pub location_text : LabelModel → List ℕ → Location → List ℕ
+location_text label root l = compact_text (reply_data (label_data label) (location_data root l))
+
+-- `definition_text label root d` is the text of the response of the definition `d`, and of the
+-- result `null` if there is none (LSP 3.17, "Goto Definition Request").
+abbrev pub definition_text : LabelModel → List ℕ → Option Location → List ℕ
+definition_text label root None = null_text label
+definition_text label root (Some l) = location_text label root l
+
+-- ---- results that are printed before the response
+
+-- `result_start label` is the text of a response up to its result.
+abbrev pub result_start : LabelModel → List ℕ
+result_start label = codes "{\"id\":" ++ (compact_text (label_data label) ++ codes ",\"jsonrpc\":\"2.0\",\"result\":")
+
+-- `result_text label text` is the text of the response whose result is the JSON text `text`. The
+-- law `symbols_spliced` says of which data it is the compact text.
+unfoldable pub result_text : LabelModel → List ℕ → List ℕ
+result_text label text = result_start label ++ (text ++ codes "}")
+
+-- `symbols_text label symbols` is the text of the response of the symbols that are printed as
+-- `symbols` (LSP 3.17, "Document Symbols Request").
+abbrev pub symbols_text : LabelModel → List ℕ → List ℕ
+symbols_text label symbols = result_text label symbols
+
+-- `descriptor_data d revision` is the result of the descriptor `d` at a revision of the sources.
+abbrev pub descriptor_data : Data → ℕ → Data
+descriptor_data d revision = object (member (codes "file") d (member (codes "revision") (string (decimal revision)) no_members))
+
+-- `descriptor_text label descriptor revision` is the text of the response of the descriptor that is
+-- printed as `descriptor`, at `revision`. The law `descriptor_spliced` says of which data it is the
+-- compact text.
+unfoldable pub descriptor_text : LabelModel → List ℕ → ℕ → List ℕ
+descriptor_text label descriptor revision =
+    result_start label ++ (codes "{\"file\":" ++ (descriptor ++ (codes ",\"revision\":\"" ++ (decimal revision ++ codes "\"}}"))))

@@ -1,5 +1,5 @@
 -- What a script may respond to the body of a message, and its state after it.
-use Rattle.std.specs.Prelude.{◌≡◌, ◌⊎◌, ℕ, ◌+◌, List, [], Option, Some, None}
+use Rattle.std.specs.Prelude.{◌≡◌, ◌⊎◌, ℕ, ◌+◌, List, [], Option, Some, None, unwrap_or}
 use Rattle.serde_json.specs.Data.{Data}
 use Rattle.pq_frame.specs.Json.{IsJson}
 use Rattle.pq_frame.specs.Labels.{LabelModel}
@@ -7,13 +7,15 @@ use Rattle.pq_frame.specs.Messages.{message_of}
 use Rattle.pq_inputs.specs.declared.fault.InputFault.{InputFault}
 use Rattle.pq_inputs.specs.Sources.{File, Sources, file_in, with_file}
 use Rattle.pq_inputs.specs.Refusal.{refusal}
+use Rattle.pq_rules.specs.declared.turn.Answer.{Answer}
+use Rattle.pq_proto.specs.Compile.{Compiles}
+use Rattle.pq_proto.specs.declared.key.ProtoKey.{ProtoKey}
+use Rattle.pq_proto.specs.declared.value.ProtoValue.{ProtoValue}
 use Rattle.pq_session.specs.declared.state.phase.Phase.{Phase}
 use Rattle.pq_session.specs.declared.state.phase.Phase.TheVariants.{Fresh}
-use Rattle.pq_session.specs.declared.state.items.Query.{Query}
-use Rattle.pq_session.specs.declared.state.items.Query.TheVariants.{Diagnostics}
-use Rattle.pq_session.specs.Session.{Meaning, asks, says, edits, ignores, ends, meaning_of, next_phase}
-use Rattle.pq_session.specs.Reply.{diagnostics_text, out_of_memory_text}
-use Rattle.pq_session.specs.Compile.{diagnostics_of}
+use Rattle.pq_session.specs.Session.{Meaning, asks, says, edits, ignores, ends, meaning_of, next_phase, root_in}
+use Rattle.pq_session.specs.Reply.{out_of_memory_text}
+use Rattle.pq_session.specs.Replies.{answer_text}
 
 -- The state of a script: the phase of the session, the sources that its edits made, and the number
 -- of those edits.
@@ -34,14 +36,16 @@ pub data Response : Type 0 where
   finishes : ℕ → Response
   refuses : InputFault → Response
 
--- `answer_text state label query` is the response that answers `query` by the sources of `state`.
-abbrev pub answer_text : ScriptState → LabelModel → Query → List ℕ
-answer_text state label (Diagnostics name) = diagnostics_text label (diagnostics_of (file_in state.files name).text) state.revision
+-- `root_of state` is the root of the files, and empty outside of `initialize` and `shutdown`.
+abbrev pub root_of : ScriptState → List ℕ
+root_of state = unwrap_or (root_in state.phase) []
 
--- `IsAnswer state label query text` is that `text` answers `query`, or says that an allocation
--- failed.
-abbrev pub IsAnswer : ScriptState → LabelModel → Query → List ℕ → Type 0
-IsAnswer state label query text = (text ≡ answer_text state label query) ⊎ (text ≡ out_of_memory_text label)
+-- `IsAnswer state label key text` is that `text` gives an answer of `key` at the sources of
+-- `state`, or says that an allocation failed.
+abbrev pub IsAnswer : ScriptState → LabelModel → ProtoKey → List ℕ → Type 0
+IsAnswer state label key text =
+    ((answer : Answer ProtoKey ProtoValue) × Compiles state.files key answer × (text ≡ answer_text (root_of state) label state.revision answer))
+    ⊎ (text ≡ out_of_memory_text label)
 
 -- `edit_refusal state name file` is the error of the edit that makes the file `name` this `file`,
 -- if it is refused.
@@ -62,7 +66,7 @@ edited state name file (Some fault) = state
 -- `RespondsTo state meaning response after` is that a script in `state` may give `response` to a
 -- message of this meaning, and is then in the state `after`.
 abbrev pub RespondsTo : ScriptState → Meaning → Response → ScriptState → Type 0
-RespondsTo state (asks label query) response after = (text : List ℕ) × IsAnswer state label query text × (response ≡ replies text) × (after ≡ state)
+RespondsTo state (asks label key) response after = (text : List ℕ) × IsAnswer state label key text × (response ≡ replies text) × (after ≡ state)
 RespondsTo state (says text) response after = (response ≡ replies text) × (after ≡ state)
 RespondsTo state (edits name file) response after = (response ≡ edit_response (edit_refusal state name file)) × (after ≡ edited state name file (edit_refusal state name file))
 RespondsTo state ignores response after = (response ≡ silent) × (after ≡ state)

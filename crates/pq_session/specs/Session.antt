@@ -1,21 +1,24 @@
 -- What the messages of a client mean, by the phase of the session (LSP 3.17, "Server lifecycle",
--- "Text Document Synchronization", "Document Diagnostics"; JSON-RPC 2.0, "Request object",
--- "Notification").
-use Rattle.std.specs.Prelude.{ℕ, Bool, true, List, [], ◌∷◌, codes, if◌then◌else◌, Option, Some, None, option_and_then, option_map, is_some}
+-- "Text Document Synchronization", "Document Diagnostics", "Document Symbols Request", "Goto
+-- Definition Request"; JSON-RPC 2.0, "Request object", "Notification").
+use Rattle.std.specs.Prelude.{ℕ, nat_le, Bool, true, List, [], ◌∷◌, codes, if◌then◌else◌, Option, Some, None, option_and_then, option_map, is_some}
 use Rattle.std.specs.List.{last_or}
 use Rattle.std.specs.Str.{bytes_eq}
 use Rattle.serde_json.specs.Data.{Data, Items, no_items, item}
-use Rattle.serde_json.specs.Find.{get, as_array, as_null, as_str}
+use Rattle.serde_json.specs.Find.{get, as_array, as_null, as_str, as_number, as_u64}
 use Rattle.pq_frame.specs.Labels.{LabelModel, no_label}
 use Rattle.pq_frame.specs.Messages.{MessageModel, bad_json, invalid, ask, notice, response}
 use Rattle.pq_inputs.specs.declared.durability.Durability.TheVariants.{Low}
 use Rattle.pq_inputs.specs.Sources.{File}
+use Rattle.pq_proto.specs.declared.key.Place.{Place}
+use Rattle.pq_proto.specs.declared.key.ProtoKey.{ProtoKey}
+use Rattle.pq_proto.specs.declared.key.ProtoKey.TheVariants as keys
+use Rattle.pq_session.specs.declared.protocol.methods.QueryMethod.{QueryMethod}
+use Rattle.pq_session.specs.declared.protocol.methods.QueryMethod.TheVariants.{DocumentDiagnostic, DocumentSymbol, Definition, Descriptor}
 use Rattle.pq_session.specs.declared.protocol.methods.RequestMethod.{RequestMethod}
-use Rattle.pq_session.specs.declared.protocol.methods.RequestMethod.TheVariants.{Initialize, Shutdown, DocumentDiagnostic}
+use Rattle.pq_session.specs.declared.protocol.methods.RequestMethod.TheVariants.{Initialize, Shutdown, Query}
 use Rattle.pq_session.specs.declared.protocol.methods.NotificationMethod.{NotificationMethod}
 use Rattle.pq_session.specs.declared.protocol.methods.NotificationMethod.TheVariants.{Exit, DidOpen, DidChange, RemoveFile}
-use Rattle.pq_session.specs.declared.state.items.Query.{Query}
-use Rattle.pq_session.specs.declared.state.items.Query.TheVariants.{Diagnostics}
 use Rattle.pq_session.specs.declared.state.phase.Phase.{Phase}
 use Rattle.pq_session.specs.declared.state.phase.Phase.TheVariants.{Fresh, Serving, Closing}
 use Rattle.pq_session.specs.declared.protocol.refusals.Refusal.TheVariants.{ParseError, InvalidRequest, MethodNotFound, InvalidParams, NotInitialized}
@@ -24,8 +27,8 @@ use Rattle.pq_session.specs.Reply.{refusal_text, initialized_text, null_text}
 
 -- The meaning of a message.
 pub data Meaning : Type 0 where
-  -- The response to the request of this label is the answer to this query by the sources.
-  asks : LabelModel → Query → Meaning
+  -- The response to the request of this label is the answer of this key at the sources.
+  asks : LabelModel → ProtoKey → Meaning
   -- The response has this text, whatever the sources are.
   says : List ℕ → Meaning
   -- The file of this name becomes this file.
@@ -36,13 +39,21 @@ pub data Meaning : Type 0 where
 
 -- ---- the methods
 
+-- `query_method name` is the method of a query of this name.
+abbrev pub query_method : List ℕ → Option QueryMethod
+query_method name =
+    if bytes_eq name (codes "textDocument/diagnostic") then Some DocumentDiagnostic else
+    (if bytes_eq name (codes "textDocument/documentSymbol") then Some DocumentSymbol else
+    (if bytes_eq name (codes "textDocument/definition") then Some Definition else
+    (if bytes_eq name (codes "proto/descriptor") then Some Descriptor else None)))
+
 -- `request_method name` is the method of a request of this name. Any other name is unknown in a
 -- request.
 abbrev pub request_method : List ℕ → Option RequestMethod
 request_method name =
     if bytes_eq name (codes "initialize") then Some Initialize else
     (if bytes_eq name (codes "shutdown") then Some Shutdown else
-    (if bytes_eq name (codes "textDocument/diagnostic") then Some DocumentDiagnostic else None))
+    option_map (λ query. Query query) (query_method name))
 
 -- `notification_method name` is the method of a notification of this name. Any other name is
 -- unknown in a notification, also `textDocument/didClose`: a file that is closed keeps its text.
@@ -85,28 +96,64 @@ change_texts (item change changes) = option_and_then (λ text. option_map (λ te
 abbrev pub changed_texts : Option Data → Option (List (List ℕ))
 changed_texts params = option_and_then change_texts (option_and_then as_array (option_and_then (get (codes "contentChanges")) params))
 
+-- `max_coordinate` is the largest line and the largest column of a position (LSP 3.17, "Position",
+-- "uinteger").
+abbrev pub max_coordinate : ℕ
+max_coordinate = 2147483647
+
+-- `small n` is `n`, if it is at most `max_coordinate`.
+abbrev pub small : ℕ → Option ℕ
+small n = if nat_le n max_coordinate then Some n else None
+
+-- `coordinate name position` is the member `name` of `position`, if it is an integer from 0 to
+-- `max_coordinate`.
+abbrev pub coordinate : List ℕ → Data → Option ℕ
+coordinate name position = option_and_then small (option_and_then as_u64 (option_and_then as_number (get name position)))
+
+-- `place_by line character` is the place of a line and a column, if there are both.
+abbrev pub place_by : Option ℕ → Option ℕ → Option Place
+place_by line character = option_and_then (λ l. option_map (λ c. record { line = l; character = c }) character) line
+
+-- `place_named params` is the place in the member `position` of `params`, if its members `line` and
+-- `character` are coordinates (LSP 3.17, "TextDocumentPositionParams").
+abbrev pub place_named : Option Data → Option Place
+place_named params = option_and_then (λ p. place_by (coordinate (codes "line") p) (coordinate (codes "character") p)) (option_and_then (get (codes "position")) params)
+
 -- ---- requests, by phase and method
 
 -- `file_named root uri` is the name of the file of `uri`, if there is a `uri` that names a file.
 abbrev pub file_named : List ℕ → Option (List ℕ) → Option (List ℕ)
 file_named root uri = option_and_then (file_of root) uri
 
--- `file_meaning label file` is the meaning of a request for the diagnostics of `file`, or of one
--- that names no file.
-abbrev pub file_meaning : LabelModel → Option (List ℕ) → Meaning
-file_meaning label None = says (refusal_text label InvalidParams)
-file_meaning label (Some file) = asks label (Diagnostics file)
+-- `query_key query file place` is the key that answers a query about `file`, where `place` is the
+-- place in its parameters, if it is readable. A definition alone needs one.
+abbrev pub query_key : QueryMethod → List ℕ → Option Place → Option ProtoKey
+query_key DocumentDiagnostic file place = Some (keys.Diagnostics file)
+query_key DocumentSymbol file place = Some (keys.Symbols file)
+query_key Definition file place = option_map (λ p. keys.Definition file p) place
+query_key Descriptor file place = Some (keys.Descriptor file)
+
+-- `key_named root query params` is the key that answers a query with these parameters, if they are
+-- readable and their URI names a file.
+abbrev pub key_named : List ℕ → QueryMethod → Option Data → Option ProtoKey
+key_named root query params = option_and_then (λ file. query_key query file (place_named params)) (file_named root (document_text (codes "uri") params))
+
+-- `query_meaning label key` is the meaning of a query that `key` answers, or of one with unreadable
+-- parameters.
+abbrev pub query_meaning : LabelModel → Option ProtoKey → Meaning
+query_meaning label None = says (refusal_text label InvalidParams)
+query_meaning label (Some key) = asks label key
 
 -- `request_meaning phase label method params` is the meaning of a request. All but `initialize` is
 -- refused before it, all after `shutdown`, and a second `initialize`.
 abbrev pub request_meaning : Phase → LabelModel → Option RequestMethod → Option Data → Meaning
 request_meaning Fresh label (Some Initialize) params = says (initialized_text label)
 request_meaning Fresh label (Some Shutdown) params = says (refusal_text label NotInitialized)
-request_meaning Fresh label (Some DocumentDiagnostic) params = says (refusal_text label NotInitialized)
+request_meaning Fresh label (Some (Query query)) params = says (refusal_text label NotInitialized)
 request_meaning Fresh label None params = says (refusal_text label NotInitialized)
 request_meaning (Serving root) label (Some Initialize) params = says (refusal_text label InvalidRequest)
 request_meaning (Serving root) label (Some Shutdown) params = says (null_text label)
-request_meaning (Serving root) label (Some DocumentDiagnostic) params = file_meaning label (file_named root (document_text (codes "uri") params))
+request_meaning (Serving root) label (Some (Query query)) params = query_meaning label (key_named root query params)
 request_meaning (Serving root) label None params = says (refusal_text label MethodNotFound)
 request_meaning Closing label method params = says (refusal_text label InvalidRequest)
 
@@ -187,10 +234,10 @@ meaning_of phase response = ignores
 abbrev pub phase_after : Phase → Option RequestMethod → Option Data → Phase
 phase_after Fresh (Some Initialize) params = Serving (root_of (text_member (codes "rootUri") params))
 phase_after Fresh (Some Shutdown) params = Fresh
-phase_after Fresh (Some DocumentDiagnostic) params = Fresh
+phase_after Fresh (Some (Query query)) params = Fresh
 phase_after (Serving root) (Some Initialize) params = Serving root
 phase_after (Serving root) (Some Shutdown) params = Closing
-phase_after (Serving root) (Some DocumentDiagnostic) params = Serving root
+phase_after (Serving root) (Some (Query query)) params = Serving root
 phase_after Closing (Some method) params = Closing
 phase_after phase None params = phase
 

@@ -1,8 +1,6 @@
 -- Auxiliary: definitions that proofs, invariants and private clauses use. No public contract rests
 -- on them.
-pub mod Models
 pub mod ItemOf
-pub mod Placed
 pub mod ServerState
 pub mod Answered
 pub mod Steps

@@ -1,18 +1,20 @@
-//! The theorems about all scripts and all findings, each the contract of a function with an empty
+//! The theorems about all scripts and all replies, each the contract of a function with an empty
 //! body.
 //!
 //! The definition of an output leaves no input without one (`each_output`). A script that stops
-//! early has written a prefix of one (`stops_at_a_front`). `in_order` sorts and drops duplicates
-//! (`findings_in_order`). Reading the URI that was printed of a file gives its name back
-//! (`uris_come_back`).
-ghost use Rattle.std.specs.Prelude.{◌≡◌, ◌↔◌, true, List, ℕ, Option, Some, AllPairs, Contains, IsUtf8};
+//! early has written a prefix of one (`stops_at_a_front`). A result that was printed before gives
+//! the response that would be printed with its data (`symbols_spliced`, `descriptor_spliced`).
+//! Reading the URI that was printed of a file gives its name back (`uris_come_back`).
+ghost use Rattle.std.specs.Prelude.{◌≡◌, ◌↔◌, true, List, ℕ, Option, Some, IsUtf8};
+ghost use Rattle.serde_json.specs.Data.{Data};
+ghost use Rattle.serde_json.specs.Written.{compact_text};
+ghost use Rattle.pq_frame.specs.Labels.{LabelModel, label_data};
+ghost use Rattle.pq_session.specs.Reply.{reply_data, symbols_text, descriptor_data, descriptor_text};
 ghost use Rattle.pq_frame.specs.Frames.{Frames, State};
 ghost use Rattle.pq_session.specs.Responses.{fresh};
 ghost use Rattle.std.specs.Io.{StartsWith};
 ghost use Rattle.pq_session.specs.Output.{Output, Outputs};
 ghost use Rattle.pq_session.specs.Script.{StopsWithin};
-ghost use Rattle.pq_session.specs.declared.diagnose.findings.Finding.{Finding};
-ghost use Rattle.pq_session.specs.Findings.{in_order, is_before};
 ghost use Rattle.pq_session.specs.Uri.{root_of, file_of, uri_of, is_file_name};
 
 /// Every list of bodies has an output.
@@ -27,10 +29,19 @@ pub fn stops_at_a_front()
         (o : Output) × Outputs fresh bodies o × StartsWith o.bytes out }
 {}
 
-/// `in_order fs` has the findings of `fs`, and each is before all after it.
-pub fn findings_in_order()
-    ensures ordered { (fs : List Finding) → AllPairs (λ f g. is_before f g ≡ true) (in_order fs) }
-    ensures members { (fs : List Finding) (f : Finding) → Contains (in_order fs) f ↔ Contains fs f }
+/// Where a text is the compact text of data, the response that has the text as its result is the
+/// compact text of the response with that data.
+pub fn symbols_spliced()
+    ensures { (label : LabelModel) (d : Data) →
+        symbols_text label (compact_text d) ≡ compact_text (reply_data (label_data label) d) }
+{}
+
+/// Where a text is the compact text of a descriptor, the response that has the text and a revision
+/// is the compact text of the response with that descriptor and that revision.
+pub fn descriptor_spliced()
+    ensures { (label : LabelModel) (d : Data) (revision : ℕ) →
+        descriptor_text label (compact_text d) revision
+        ≡ compact_text (reply_data (label_data label) (descriptor_data d revision)) }
 {}
 
 /// Reading the URI that was printed of a text gives the text back exactly if the text is the name

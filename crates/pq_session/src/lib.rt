@@ -3,19 +3,18 @@
 //!
 //! `script` reads frames (`run`), handles the bodies of each piece in order (`bodies`), and writes
 //! the response to a request before it reads on (`send`). `state` has the server's state and what
-//! each message asks of it, `protocol` the methods, parameters and responses on the wire, and
-//! `diagnose` the diagnostics of a file. `counted` has the readers and writers whose calls are
+//! each message asks of it, and `protocol` the methods, parameters and responses on the wire. One
+//! incremental engine answers all queries. `counted` has the readers and writers whose calls are
 //! counted.
 //!
 //! `specs/Script` and `specs/Output` say which bytes are written for which input, `specs/Session`
 //! with `specs/Items` what a message means, `specs/Uri` which file a URI names, `specs/Responses`
-//! what the response to a message may be, and `specs/Compile` with `specs/Findings` the diagnostics
-//! of a file. `laws` has the theorems about all of them.
+//! what the response to a message may be, and `specs/Replies` with `specs/Reply` its text. What the
+//! files say is `Compiles` of `pq_proto`. `laws` has the theorems about all of them.
 #![tactic(auto)]
 
 mod bodies;
 mod counted;
-mod diagnose;
 mod fault;
 mod laws;
 mod protocol;
@@ -25,10 +24,14 @@ mod state;
 
 pub use counted::Counted;
 pub use fault::ScriptFault;
-pub use laws::{each_output, findings_in_order, stops_at_a_front, uris_come_back};
+pub use laws::{
+    descriptor_spliced, each_output, stops_at_a_front, symbols_spliced, uris_come_back,
+};
+pub use protocol::answers::reply_text;
 pub use protocol::root::Root;
 pub use run::{MAX_READS, script};
-pub use state::items::{Change, Item, Query, Request, Want};
+pub use state::items::{Change, Item, Request, Want};
 pub use state::notifications::UNREADABLE_PARAMETERS;
+pub use state::outcomes::{ClientId, Number, Outcome, Reply};
 pub use state::sessions::Session;
 pub use std::alloc::AllocError as Memory;

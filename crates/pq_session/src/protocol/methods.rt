@@ -1,16 +1,44 @@
 //! The methods of requests and of notifications, by their names.
 ghost use Rattle.std.specs.Prelude.{◌≡◌};
-ghost use Rattle.pq_session.specs.Session.{request_method, notification_method};
+ghost use Rattle.pq_session.specs.Session.{query_method, request_method, notification_method};
+
+/// The method of a request that the sources answer.
+#[derive(Clone, Copy)]
+pub(crate) enum QueryMethod {
+    /// `textDocument/diagnostic`
+    DocumentDiagnostic,
+    /// `textDocument/documentSymbol`
+    DocumentSymbol,
+    /// `textDocument/definition`
+    Definition,
+    /// `proto/descriptor`
+    Descriptor,
+}
+
+impl QueryMethod {
+    /// The query method of this name.
+    fn named(name: &str) -> Option<QueryMethod>
+        ensures { result ≡ query_method name.now }
+    {
+        match name {
+            "textDocument/diagnostic" => Some(QueryMethod::DocumentDiagnostic),
+            "textDocument/documentSymbol" => Some(QueryMethod::DocumentSymbol),
+            "textDocument/definition" => Some(QueryMethod::Definition),
+            "proto/descriptor" => Some(QueryMethod::Descriptor),
+            _ => None,
+        }
+    }
+}
 
 /// The method of a request.
-#[derive(Clone, Copy, Debug, PartialEq, Eq)]
+#[derive(Clone, Copy)]
 pub(crate) enum RequestMethod {
     /// `initialize`
     Initialize,
     /// `shutdown`
     Shutdown,
-    /// `textDocument/diagnostic`
-    DocumentDiagnostic,
+    /// A method that the sources answer.
+    Query(QueryMethod),
 }
 
 impl RequestMethod {
@@ -21,14 +49,13 @@ impl RequestMethod {
         match name {
             "initialize" => Some(RequestMethod::Initialize),
             "shutdown" => Some(RequestMethod::Shutdown),
-            "textDocument/diagnostic" => Some(RequestMethod::DocumentDiagnostic),
-            _ => None,
+            _ => QueryMethod::named(name).map(RequestMethod::Query),
         }
     }
 }
 
 /// The method of a notification.
-#[derive(Clone, Copy, Debug, PartialEq, Eq)]
+#[derive(Clone, Copy)]
 pub(crate) enum NotificationMethod {
     /// `exit`
     Exit,

@@ -3,7 +3,7 @@ ghost use Rattle.std.specs.Prelude.{◌≡◌};
 ghost use Rattle.pq_session.specs.Reply.{error_code, error_message};
 
 /// The error of a refused request (JSON-RPC 2.0, "Error object"; LSP 3.17, "ErrorCodes").
-#[derive(Clone, Copy, Debug, PartialEq, Eq)]
+#[derive(Clone, Copy)]
 pub(crate) enum Refusal {
     /// The body is not JSON.
     ParseError,
@@ -17,6 +17,8 @@ pub(crate) enum Refusal {
     OutOfMemory,
     /// The request came before `initialize`.
     NotInitialized,
+    /// An edit was made before the answer was found.
+    ContentModified,
 }
 
 impl Refusal {
@@ -31,6 +33,7 @@ impl Refusal {
             Refusal::InvalidParams => -32602,
             Refusal::OutOfMemory => -32603,
             Refusal::NotInitialized => -32002,
+            Refusal::ContentModified => -32801,
         }
     }
 
@@ -45,6 +48,7 @@ impl Refusal {
             Refusal::InvalidParams => "invalid params",
             Refusal::OutOfMemory => "out of memory",
             Refusal::NotInitialized => "not initialized",
+            Refusal::ContentModified => "content modified",
         }
     }
 }

@@ -5,22 +5,15 @@
 //! writes the response gets the request alone, and reads it from the want. `HasFittingWant` keeps
 //! both in step.
 //!
-//! The types are generic over the key `K` of a query. `Session::on` makes them of `Query`.
+//! The types are generic over the key `K` of a query. `Session::on` makes them of `ProtoKey`.
 use pq_frame::Label;
 use pq_inputs::Durability;
 use pq_names::Text;
 
-/// A query by the sources: the key of the answer.
-#[derive(Debug, Drop)]
-pub enum Query {
-    /// The diagnostics of the file of this name.
-    Diagnostics(Text),
-}
-
 /// What answers a request.
 #[derive(Debug, Drop)]
 pub enum Want<K> {
-    /// The answer to this query by the sources.
+    /// The answer of this key at the sources.
     Demand(K),
     /// This text, the whole body of the response, whatever the sources are.
     Fixed(String),

@@ -9,10 +9,11 @@ use crate::protocol::changes::take_last_change;
 use crate::protocol::methods::NotificationMethod;
 use crate::protocol::params::{document_text, take_document_text};
 use crate::protocol::root::Root;
-use crate::state::items::{Change, Item, Query};
+use crate::state::items::{Change, Item};
 use crate::state::phase::Phase;
 use pq_inputs::Durability;
 use pq_names::Text;
+use pq_proto::ProtoKey;
 use serde_json::Value;
 use std::alloc::{AllocError, Global};
 
@@ -20,7 +21,7 @@ use std::alloc::{AllocError, Global};
 pub const UNREADABLE_PARAMETERS: u8 = 3;
 
 /// The item of an edit: `file` gets `text`, or is removed. A URI that names no file is ignored.
-fn edit(file: Option<Text>, text: Option<String>) -> Item<Query>
+fn edit(file: Option<Text>, text: Option<String>) -> Item<ProtoKey>
     ensures { IsItemOf (edit_meaning file (option_map string_bytes text)) None result }
 {
     match file {
@@ -34,7 +35,7 @@ fn edit(file: Option<Text>, text: Option<String>) -> Item<Query>
 }
 
 /// The item of `textDocument/didOpen`.
-fn open(alloc: Global, root: &Root, params: Option<Value>) -> Result<Item<Query>, AllocError>
+fn open(alloc: Global, root: &Root, params: Option<Value>) -> Result<Item<ProtoKey>, AllocError>
     ensures { IfOk result (IsItemOf (open_meaning root.now (document_text_of (codes "uri") (option_map view params)) (document_text_of (codes "text") (option_map view params))) None) }
 {
     let Some(uri) = document_text(params.as_ref(), "uri") else {
@@ -48,7 +49,7 @@ fn open(alloc: Global, root: &Root, params: Option<Value>) -> Result<Item<Query>
 }
 
 /// The item of `textDocument/didChange`. An edit without changes is ignored.
-fn change(alloc: Global, root: &Root, params: Option<Value>) -> Result<Item<Query>, AllocError>
+fn change(alloc: Global, root: &Root, params: Option<Value>) -> Result<Item<ProtoKey>, AllocError>
     ensures { IfOk result (IsItemOf (change_meaning root.now (document_text_of (codes "uri") (option_map view params)) (changed_texts (option_map view params))) None) }
 {
     let Some(uri) = document_text(params.as_ref(), "uri") else {
@@ -65,7 +66,7 @@ fn change(alloc: Global, root: &Root, params: Option<Value>) -> Result<Item<Quer
 }
 
 /// The item of `proto/removeFile`.
-fn remove(alloc: Global, root: &Root, params: Option<&Value>) -> Result<Item<Query>, AllocError>
+fn remove(alloc: Global, root: &Root, params: Option<&Value>) -> Result<Item<ProtoKey>, AllocError>
     ensures { IfOk result (IsItemOf (remove_meaning root.now (document_text_of (codes "uri") (option_map (λ d. view d.now) params.entry))) None) }
 {
     match document_text(params, "uri") {
@@ -80,7 +81,7 @@ pub(crate) fn on_notification(
     phase: &Phase,
     method: Option<NotificationMethod>,
     params: Option<Value>,
-) -> Result<Item<Query>, AllocError>
+) -> Result<Item<ProtoKey>, AllocError>
     ensures { IfOk result (IsItemOf (notification_meaning phase.now method (option_map view params)) None) }
 {
     match (phase, method) {

@@ -1,31 +1,37 @@
 //! The state of the server, and what it does for each message.
 //!
 //! `handle` reads a body as a message, asks the session what the message means, and carries that
-//! out: it answers a query by the sources, makes an edit, or ends the session.
+//! out: it answers a query by the engine, makes an edit, or ends the session.
 ghost use Rattle.std.specs.Prelude.{◌≡◌, IfOk, OnOk, IfErr, option_map, string_bytes, Some, None};
 ghost use Rattle.pq_frame.specs.Labels.{label_model};
 ghost use Rattle.pq_inputs.specs.Sources.{File};
+ghost use Rattle.pq_proto.specs.Compile.{Compiles};
 ghost use Rattle.pq_session.specs.Session.{edits};
 ghost use Rattle.pq_session.specs.Items.{item_meaning, answer_meaning};
-ghost use Rattle.pq_session.specs.Responses.{Responds, RespondsTo, answer_text, fresh, replies, silent};
+ghost use Rattle.pq_session.specs.Replies.{answer_text};
+ghost use Rattle.pq_session.specs.Responses.{Responds, RespondsTo, IsAnswer, fresh, replies, root_of, silent};
 ghost use Rattle.pq_session.specs.aux.ServerState.{state_of, response_of};
 ghost use Rattle.pq_session.specs.aux.Steps.{Refuses, RefusesMeaning};
 
-use crate::diagnose::file_diagnostics;
 use crate::fault::ScriptFault;
+use crate::protocol::answers::answer_text;
 use crate::protocol::refusals::Refusal;
-use crate::protocol::replies::{diagnostics_text, refusal_text};
-use crate::state::items::{Change, Item, Query, Request, Want};
+use crate::protocol::replies::refusal_text;
+use crate::protocol::root::Root;
+use crate::state::items::{Change, Item, Request, Want};
 use crate::state::sessions::Session;
 use pq_frame::{Label, Message};
 use pq_inputs::{InputFault, Inputs};
+use pq_memo::{Demanded, Engine};
+use pq_proto::{ProtoKey, ProtoRules, ProtoValue, proto_values};
+use pq_rules::{Answer, Shared};
 use std::alloc::{AllocError, Global};
 
-/// A session, and the sources that its edits made.
+/// A session, and the engine over the sources that its edits made.
 #[derive(Drop)]
 pub(crate) struct ServerState {
     session: Session,
-    inputs: Inputs,
+    engine: Engine<ProtoRules>,
 }
 
 /// What is to be done for one message.
@@ -44,34 +50,73 @@ impl ServerState {
     pub(crate) fn new(alloc: Global) -> Result<ServerState, AllocError>
         ensures { IfOk result (λ server. state_of server ≡ fresh) }
     {
+        let inputs = Inputs::new(alloc)?;
         Ok(ServerState {
             session: Session::new(),
-            inputs: Inputs::new(alloc)?,
+            engine: Engine::new(alloc, ProtoRules, inputs),
         })
     }
 
-    /// The response that answers `query` by the sources.
-    fn answer(&self, alloc: Global, label: &Label, query: &Query) -> Result<String, AllocError>
-        ensures { IfOk result (λ text. string_bytes text
-            ≡ answer_text (state_of self.now) (label_model label.now) query.now) }
+    /// The answer of `key` at the sources. What the engine has found stays for later demands.
+    fn answer(
+        &mut self,
+        alloc: Global,
+        key: &ProtoKey,
+    ) -> Result<Shared<Answer<ProtoKey, ProtoValue>>, AllocError>
+        ensures answer { IfOk result (λ answer.
+            Compiles (state_of self.old).files key.now answer) }
+        ensures kept { state_of self.new ≡ state_of self.old }
     {
-        match query {
-            Query::Diagnostics(name) => {
-                let items = file_diagnostics(alloc, self.inputs.get(name.as_str()))?;
-                diagnostics_text(alloc, label, &items, self.inputs.now().number())
+        proto_values();
+        let Demanded { answer, .. } = self.engine.demand(alloc, key)?;
+        Ok(answer)
+    }
+
+    /// The response that gives `answer`, which a key has at the sources.
+    fn answer_text(
+        &self,
+        alloc: Global,
+        label: &Label,
+        answer: &Answer<ProtoKey, ProtoValue>,
+    ) -> Result<String, AllocError>
+        ensures { IfOk result (λ text. string_bytes text ≡ answer_text (root_of (state_of self.now))
+            (label_model label.now) (state_of self.now).revision answer.now) }
+    {
+        let revision = self.engine.inputs().now().number();
+        match self.session.root() {
+            Some(root) => answer_text(alloc, root, label, revision, answer),
+            None => {
+                let root = Root::of(alloc, None)?;
+                answer_text(alloc, &root, label, revision, answer)
             }
         }
     }
 
+    /// The response to the request of this label for the answer of `key`.
+    fn response(
+        &mut self,
+        alloc: Global,
+        label: &Label,
+        key: &ProtoKey,
+    ) -> Result<String, AllocError>
+        ensures answer { IfOk result (λ text. IsAnswer (state_of self.old) (label_model label.now)
+            key.now (string_bytes text)) }
+        ensures kept { state_of self.new ≡ state_of self.old }
+    {
+        let answer = self.answer(alloc, key)?;
+        self.answer_text(alloc, label, answer.get())
+    }
+
     /// The response to `request`. After an allocation failure a query is refused.
-    fn reply(&self, alloc: Global, request: Request<Query>) -> Result<String, AllocError>
-        ensures { IfOk result (λ text. RespondsTo (state_of self.now) (answer_meaning request)
-            (replies (string_bytes text)) (state_of self.now)) }
+    fn reply(&mut self, alloc: Global, request: Request<ProtoKey>) -> Result<String, AllocError>
+        ensures reply { IfOk result (λ text. RespondsTo (state_of self.old) (answer_meaning request)
+            (replies (string_bytes text)) (state_of self.old)) }
+        ensures kept { state_of self.new ≡ state_of self.old }
     {
         let Request { label, want } = request;
         match want {
             Want::Fixed(text) => Ok(text),
-            Want::Demand(query) => match self.answer(alloc, &label, &query) {
+            Want::Demand(key) => match self.response(alloc, &label, &key) {
                 Ok(text) => Ok(text),
                 Err(_) => refusal_text(alloc, &label, Refusal::OutOfMemory),
             },
@@ -92,7 +137,7 @@ impl ServerState {
             text,
             durability,
         } = change;
-        match self.inputs.set(file.as_str(), text, durability) {
+        match self.engine.set(file.as_str(), text, durability) {
             Ok(_) => Ok(()),
             Err(refused) => match refused.fault {
                 InputFault::Memory => Err(ScriptFault::Memory),
@@ -102,7 +147,7 @@ impl ServerState {
     }
 
     /// Does what a message asks for.
-    fn carry_out(&mut self, alloc: Global, item: Item<Query>) -> Result<Step, ScriptFault>
+    fn carry_out(&mut self, alloc: Global, item: Item<ProtoKey>) -> Result<Step, ScriptFault>
         ensures ok { IfOk result (λ step.
             RespondsTo (state_of self.old) (item_meaning item) (response_of step) (state_of self.new)) }
         ensures err { IfErr result (λ fault.

@@ -10,11 +10,12 @@ ghost use Rattle.pq_session.specs.declared.state.phase.Phase.TheVariants.{Fresh}
 use crate::protocol::methods::{NotificationMethod, RequestMethod};
 use crate::protocol::refusals::Refusal;
 use crate::protocol::root::Root;
-use crate::state::items::{Item, Query};
+use crate::state::items::Item;
 use crate::state::notifications::on_notification;
 use crate::state::phase::Phase;
 use crate::state::requests::{on_request, refused};
 use pq_frame::{Label, Message};
+use pq_proto::ProtoKey;
 use std::alloc::{AllocError, Global};
 use std::marker::Model;
 
@@ -55,7 +56,7 @@ impl Session {
     /// `UNREADABLE_PARAMETERS`. The text of an edit is moved out of the message, not copied.
     ///
     /// An allocation failure leaves the session as it was, and the message is lost.
-    pub fn on(&mut self, alloc: Global, message: Message) -> Result<Item<Query>, AllocError>
+    pub fn on(&mut self, alloc: Global, message: Message) -> Result<Item<ProtoKey>, AllocError>
         ensures meaning { IfOk result (λ item.
             item_meaning item ≡ meaning_of self.old (message_model message)) }
         ensures label { IfOk result (λ item.
@@ -78,7 +79,7 @@ fn item_and_phase(
     alloc: Global,
     phase: &Phase,
     message: Message,
-) -> Result<(Item<Query>, Option<Phase>), AllocError>
+) -> Result<(Item<ProtoKey>, Option<Phase>), AllocError>
     ensures item { IfOk result (λ both. IsItemOf (meaning_of phase.now (message_model message))
         (reply_label (message_model message)) both.0) }
     ensures phase { IfOk result (λ both.

@@ -1,0 +1,125 @@
+//! The texts of replies, by the outcome of the request and by the kind of its answer.
+ghost use Rattle.std.specs.Prelude.{◌≡◌, IfOk, string_bytes};
+ghost use Rattle.pq_frame.specs.Labels.{label_model};
+ghost use Rattle.pq_session.specs.Reply.{diagnostics_text as text_of_diagnostics, location_text as text_of_location};
+ghost use Rattle.pq_session.specs.Replies.{value_text as text_of_value, answer_text as text_of_answer, reply_text as text_of_reply};
+
+use crate::protocol::ranges::print_location;
+use crate::protocol::refusals::Refusal;
+use crate::protocol::replies::{cancelled_text, null_text, refusal_text};
+use crate::protocol::reports::print_report;
+use crate::protocol::results::{descriptor_text, result_text};
+use crate::protocol::root::Root;
+use crate::state::items::Want;
+use crate::state::outcomes::{Outcome, Reply};
+use pq_checks::Checked;
+use pq_frame::Label;
+use pq_proto::{Location, Printer, ProtoKey, ProtoValue};
+use pq_rules::Answer;
+use std::alloc::{AllocError, Global};
+
+/// The response that reports the diagnostics `checked` of a file at a revision of the sources.
+fn diagnostics_text(
+    alloc: Global,
+    label: &Label,
+    checked: &Checked,
+    revision: u64,
+) -> Result<String, AllocError>
+    ensures { IfOk result (λ s. string_bytes s
+        ≡ text_of_diagnostics (label_model label.now) checked.now revision) }
+{
+    let mut out = Printer::new(alloc);
+    print_report(alloc, &mut out, checked, revision)?;
+    let report = out.into_text(alloc)?;
+    result_text(alloc, label, report.as_str())
+}
+
+/// The response of a definition at `location`.
+fn location_text(
+    alloc: Global,
+    root: &Root,
+    label: &Label,
+    location: &Location,
+) -> Result<String, AllocError>
+    ensures { IfOk result (λ s. string_bytes s
+        ≡ text_of_location (label_model label.now) root.now location.now) }
+{
+    let mut out = Printer::new(alloc);
+    print_location(alloc, &mut out, root, location)?;
+    let text = out.into_text(alloc)?;
+    result_text(alloc, label, text.as_str())
+}
+
+/// The response of `value`, which a key has at `revision`. A value that no request asks for gives
+/// null.
+fn value_text(
+    alloc: Global,
+    root: &Root,
+    label: &Label,
+    revision: u64,
+    value: &ProtoValue,
+) -> Result<String, AllocError>
+    ensures { IfOk result (λ s. string_bytes s
+        ≡ text_of_value root.now (label_model label.now) revision value.now) }
+{
+    match value {
+        ProtoValue::Diagnostics(checked) => {
+            diagnostics_text(alloc, label, checked.get(), revision)
+        }
+        ProtoValue::Symbols(symbols) => result_text(alloc, label, symbols.as_str()),
+        ProtoValue::Definition(Some(location)) => location_text(alloc, root, label, location),
+        ProtoValue::Definition(None) => null_text(alloc, label),
+        ProtoValue::Descriptor(descriptor) => {
+            descriptor_text(alloc, label, descriptor.as_str(), revision)
+        }
+        _ => null_text(alloc, label),
+    }
+}
+
+/// The response of `answer`, which a key has at `revision`.
+pub(crate) fn answer_text(
+    alloc: Global,
+    root: &Root,
+    label: &Label,
+    revision: u64,
+    answer: &Answer<ProtoKey, ProtoValue>,
+) -> Result<String, AllocError>
+    ensures { IfOk result (λ s. string_bytes s
+        ≡ text_of_answer root.now (label_model label.now) revision answer.now) }
+{
+    match answer {
+        Answer::Value(value) => value_text(alloc, root, label, revision, value),
+        Answer::Cycle(_) => null_text(alloc, label),
+    }
+}
+
+/// The text of the reply to a request: the whole body of its response (JSON-RPC 2.0, "Response
+/// object"). The URI of a definition is below `root`, the root of the client's session.
+///
+/// An answer is printed by the kind of its value: the report of the diagnostics, with the revision
+/// as its `resultId`; the list of the symbols; the location of the definition, or null; the
+/// descriptor, with the revision. A plain reply has the text of its request. A cancelled one is the
+/// error -32801 with the two revisions, and a starved one the error -32603.
+///
+/// A text of an answer is copied into the reply and not read again. Only `Memory` is an error, after
+/// an allocation failure.
+pub fn reply_text(
+    alloc: Global,
+    root: &Root,
+    reply: &Reply<ProtoKey, ProtoValue>,
+) -> Result<String, AllocError>
+    ensures { IfOk result (λ s. string_bytes s ≡ text_of_reply root.now reply.now) }
+{
+    let label = &reply.request.label;
+    match (&reply.outcome, &reply.request.want) {
+        (Outcome::Answered(answer), _) => {
+            answer_text(alloc, root, label, reply.revision.number(), answer.get())
+        }
+        (Outcome::Plain, Want::Fixed(text)) => String::from_str(alloc, text.as_str()),
+        (Outcome::Plain, Want::Demand(_)) => null_text(alloc, label),
+        (Outcome::Cancelled { started, seen }, _) => {
+            cancelled_text(alloc, label, started.number(), seen.number())
+        }
+        (Outcome::Starved, _) => refusal_text(alloc, label, Refusal::OutOfMemory),
+    }
+}

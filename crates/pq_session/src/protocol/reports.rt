@@ -1,0 +1,65 @@
+//! The report of the diagnostics of a file (LSP 3.17, "Diagnostic",
+//! "RelatedFullDocumentDiagnosticReport"), printed token by token.
+ghost use Rattle.std.specs.Prelude.{◌≡◌, ◌++◌, map, IfOk, OnOk};
+ghost use Rattle.pq_proto.specs.aux.Printed.{tokens_of, values_of};
+ghost use Rattle.pq_session.specs.Reply.{diagnostic_data, report_data};
+
+use crate::protocol::ranges::{position_in, print_range};
+use pq_checks::{Checked, Fault};
+use pq_links::ParsedFile;
+use pq_proto::Printer;
+use std::alloc::{AllocError, Global};
+
+/// Prints the error `fault` of a file that is read as `file`.
+fn print_diagnostic(out: &mut Printer, file: &ParsedFile, fault: &Fault) -> Result<(), AllocError>
+    ensures { OnOk result (out.new ≡ out.old ++ tokens_of (diagnostic_data file.now fault.now)) }
+{
+    let start = position_in(file, fault.start);
+    let end = position_in(file, fault.end);
+    let severity = fault.code.severity();
+    out.begin_object()?;
+    out.text_member("code", fault.code.as_str())?;
+    out.text_member("message", fault.text.as_str())?;
+    out.key("range")?;
+    print_range(out, start, end)?;
+    out.unsigned_member("severity", u64::from(severity.number()))?;
+    out.text_member("source", "proto")?;
+    out.end_object()?;
+    Ok(())
+}
+
+/// Prints the errors `faults` of a file that is read as `file`, one after the other.
+fn print_diagnostics(
+    out: &mut Printer,
+    file: &ParsedFile,
+    faults: &[Fault],
+) -> Result<(), AllocError>
+    ensures { OnOk result (out.new
+        ≡ out.old ++ values_of (map (diagnostic_data file.now) faults.now)) }
+{
+    'faults: for fault in faults {
+        print_diagnostic(out, file, fault)?;
+    }
+    Ok(())
+}
+
+/// Prints the report of the diagnostics `checked` at a revision of the sources, its `resultId`.
+pub(crate) fn print_report(
+    alloc: Global,
+    out: &mut Printer,
+    checked: &Checked,
+    revision: u64,
+) -> Result<(), AllocError>
+    ensures { OnOk result (out.new ≡ out.old ++ tokens_of (report_data checked.now revision)) }
+{
+    let number = format!(in alloc; "{revision}")?;
+    out.begin_object()?;
+    out.key("items")?;
+    out.begin_array()?;
+    print_diagnostics(out, checked.file.get(), checked.faults.as_slice())?;
+    out.end_array()?;
+    out.text_member("kind", "full")?;
+    out.text_member("resultId", number.as_str())?;
+    out.end_object()?;
+    Ok(())
+}
