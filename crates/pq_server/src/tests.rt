@@ -3,6 +3,7 @@
 //! They cover what no contract says: rows worked out by hand, printed text, devices that fail, and
 //! that calls succeed with ample memory. The crates below have no tests: a crate with tests is proved
 //! twice.
+mod compile;
 mod engine;
 mod frame;
 mod inputs;
@@ -15,3 +16,4 @@ mod schema;
 mod session;
 mod support;
 mod syntax;
+mod wire;

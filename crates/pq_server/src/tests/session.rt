@@ -4,6 +4,7 @@ mod edits;
 mod findings;
 mod items;
 mod phases;
+mod replies;
 mod scripts;
 mod uris;
 

@@ -1,7 +1,9 @@
-//! Random sets of files, on which the queries and a direct reading of the definitions agree.
+//! Random sets of files, on which the queries and a direct reading of the definitions agree, and
+//! the diagnostics of rings and of types with both.
 //!
 //! A random file is made twice at once: as text for the queries, and as lists of numbers. The direct
 //! reading sees the numbers alone. It is slow: lists grow until they stay, and are scanned.
+mod diagnosed;
 mod model;
 mod search;
 mod walks;
@@ -9,10 +11,11 @@ mod written;
 
 use super::{inputs_of, shown_query};
 use crate::tests::support::check_text;
+use diagnosed::found_errors;
 use model::{File, file_name, shown_list};
 use pq_inputs::Inputs;
 use pq_rules::Memory;
-use search::{names_of, resolved};
+use search::{errors, names_of, resolved};
 use std::alloc::Global;
 use std::process::Abort;
 use std::test::Fail;
@@ -65,6 +68,39 @@ fn shown_references(
     }
 }
 
+/// What is said of a ring of imports, as `CODE MESSAGE;`.
+fn shown_ring(alloc: Global, ring: &[usize]) -> Result<String, Memory> {
+    let files = shown_list(alloc, "", ring, " -> ")?;
+    let first = ring.first().copied().unwrap_or(0);
+    format!(in alloc; "P105 import cycle: {files}{};", file_name(first))
+}
+
+/// What is said of the imports that lead into a ring, or else of the references of a file.
+fn shown_errors(alloc: Global, set: &[File], links: &Links, file: usize) -> Result<String, Memory> {
+    if !links.ring.is_empty() {
+        return shown_ring(alloc, &links.ring);
+    }
+    let visible = names_of(alloc, set, &links.visible)?;
+    let reach = names_of(alloc, set, &links.reach)?;
+    match set.get(file) {
+        Some(file) => errors(alloc, file, &visible, &reach),
+        None => Ok(String::new(alloc)),
+    }
+}
+
+/// Checks P105 and P150 to P153 of a file.
+fn check_errors(
+    rt: &(impl Abort + AllocGlobal),
+    inputs: &Inputs,
+    file: usize,
+    want: &str,
+    texts: &str,
+) -> Result<(), Memory> {
+    let found = found_errors(rt.alloc(), inputs, file_name(file))?;
+    check_text(rt, found.as_str(), want, texts);
+    Ok(())
+}
+
 /// Checks that the answer of `query` of a file is `want`.
 fn check_query(
     rt: &(impl Abort + AllocGlobal),
@@ -93,7 +129,9 @@ fn check_file(
     let want = shown_scope(rt.alloc(), &links)?;
     check_query(rt, inputs, "Scope", file, want.as_str(), texts)?;
     let want = shown_references(rt.alloc(), set, &links, file)?;
-    check_query(rt, inputs, "Resolved", file, want.as_str(), texts)
+    check_query(rt, inputs, "Resolved", file, want.as_str(), texts)?;
+    let want = shown_errors(rt.alloc(), set, &links, file)?;
+    check_errors(rt, inputs, file, want.as_str(), texts)
 }
 
 /// Checks each file of a set, and an absent one.

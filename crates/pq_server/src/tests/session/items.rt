@@ -5,7 +5,8 @@
 use crate::tests::support::{check_row_count, check_text, split_row};
 use pq_frame::Message;
 use pq_inputs::Durability;
-use pq_session::{Change, Item, Memory, Query, Session, Want};
+use pq_proto::ProtoKey;
+use pq_session::{Change, Item, Memory, Session, Want};
 use std::alloc::Global;
 use std::test::Fail;
 
@@ -25,19 +26,30 @@ fn shown_change(alloc: Global, change: &Change) -> Result<String, Memory> {
     format!(in alloc; "edit {} {text} {durability}", change.file.as_str())
 }
 
+/// A query, as text.
+fn shown_key(alloc: Global, key: &ProtoKey) -> Result<String, Memory> {
+    match key {
+        ProtoKey::Diagnostics(file) => format!(in alloc; "diagnostics {}", file.as_str()),
+        ProtoKey::Descriptor(file) => format!(in alloc; "descriptor {}", file.as_str()),
+        ProtoKey::Symbols(file) => format!(in alloc; "symbols {}", file.as_str()),
+        ProtoKey::Definition(file, place) => {
+            let (line, character) = (place.line, place.character);
+            format!(in alloc; "definition {} {line}:{character}", file.as_str())
+        }
+        _ => String::from_str(alloc, "another query"),
+    }
+}
+
 /// What answers a request, as text.
-fn shown_want(alloc: Global, want: &Want<Query>) -> Result<String, Memory> {
+fn shown_want(alloc: Global, want: &Want<ProtoKey>) -> Result<String, Memory> {
     match want {
-        Want::Demand(Query::Diagnostics(file)) => format!(in alloc;
-            "diagnostics {}",
-            file.as_str()
-        ),
+        Want::Demand(key) => shown_key(alloc, key),
         Want::Fixed(text) => text.clone(),
     }
 }
 
 /// An item, as text.
-fn shown_item(alloc: Global, item: &Item<Query>) -> Result<String, Memory> {
+fn shown_item(alloc: Global, item: &Item<ProtoKey>) -> Result<String, Memory> {
     match item {
         Item::Ask(request) => shown_want(alloc, &request.want),
         Item::Say(request) => shown_want(alloc, &request.want),
@@ -64,6 +76,9 @@ const ITEMS: &str =
 {"id":0,"jsonrpc":"2.0","method":"initialize","params":{"rootUri":"file:///p/"}} => {"id":0,"jsonrpc":"2.0","result":{"capabilities":{"definitionProvider":true,"diagnosticProvider":{"interFileDependencies":true,"workspaceDiagnostics":false},"documentSymbolProvider":true,"positionEncoding":"utf-16","textDocumentSync":{"change":1,"openClose":true}},"serverInfo":{"name":"pq_server"}}} | /p
 {"jsonrpc":"2.0","method":"textDocument/didOpen","params":{"textDocument":{"uri":"file:///a.proto","text":"hi"}}} => edit /a.proto hi Low | /p
 {"id":1,"jsonrpc":"2.0","method":"textDocument/diagnostic","params":{"textDocument":{"uri":"file:///p/b"}}} => diagnostics b | /p
+{"id":1,"jsonrpc":"2.0","method":"textDocument/documentSymbol","params":{"textDocument":{"uri":"file:///p/b"}}} => symbols b | /p
+{"id":1,"jsonrpc":"2.0","method":"proto/descriptor","params":{"textDocument":{"uri":"file:///p/b"}}} => descriptor b | /p
+{"id":1,"jsonrpc":"2.0","method":"textDocument/definition","params":{"position":{"character":3,"line":2147483647},"textDocument":{"uri":"file:///p/b"}}} => definition b 2147483647:3 | /p
 {"jsonrpc":"2.0","method":"proto/removeFile","params":{"textDocument":{"uri":"file:///p/b"}}} => edit b - Low | /p
 {"jsonrpc":"2.0","method":"proto/removeFile"} => end 3 | /p
 {"id":2,"jsonrpc":"2.0","method":"shutdown"} => {"id":2,"jsonrpc":"2.0","result":null} | -
@@ -71,7 +86,7 @@ const ITEMS: &str =
 
 #[test]
 fn items_of_a_session(rt: HostRuntime) -> Result<(), Fail> {
-    check_row_count(&rt, 8, ITEMS);
+    check_row_count(&rt, 11, ITEMS);
     let mut session = Session::new();
     for row in ITEMS.lines() {
         let (body, want) = split_row(&rt, row, " => ");

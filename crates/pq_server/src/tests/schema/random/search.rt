@@ -188,3 +188,55 @@ pub(crate) fn resolved(
     }
     Ok(all)
 }
+
+/// What is said of a name that has no target, as `CODE MESSAGE;`.
+fn shown_miss(
+    alloc: Global,
+    reach: &Names,
+    reference: &Reference,
+    name: &str,
+) -> Result<String, Memory> {
+    match reach.search(reference) {
+        Found::Type(definition) => {
+            let file = file_name(definition.file);
+            format!(in alloc; "P151 type \"{name}\" is in {file}, which is not imported;")
+        }
+        _ => format!(in alloc; "P150 type \"{name}\" is not found;"),
+    }
+}
+
+/// What is said of a reference, as `CODE MESSAGE;`, or an empty text.
+fn shown_error(
+    alloc: Global,
+    visible: &Names,
+    reach: &Names,
+    reference: &Reference,
+) -> Result<String, Memory> {
+    let dot = if reference.has_dot { "." } else { "" };
+    let name = shown_name(alloc, reference.name)?;
+    let name = format!(in alloc; "{dot}{name}")?;
+    match visible.search(reference) {
+        Found::Type(definition) => match (&definition.kind, reference.part) {
+            (Kind::Enum, "input" | "output") => {
+                format!(in alloc; "P153 \"{name}\" is not a message;")
+            }
+            _ => Ok(String::new(alloc)),
+        },
+        Found::Other => format!(in alloc; "P152 \"{name}\" is not a type;"),
+        Found::Nothing => shown_miss(alloc, reach, reference, name.as_str()),
+    }
+}
+
+/// What is said of the references of a file that sees `visible` and reaches `reach`.
+pub(crate) fn errors(
+    alloc: Global,
+    file: &File,
+    visible: &Names,
+    reach: &Names,
+) -> Result<String, Memory> {
+    let mut all = String::new(alloc);
+    for reference in &file.references {
+        all.push_str(shown_error(alloc, visible, reach, reference)?.as_str())?;
+    }
+    Ok(all)
+}
