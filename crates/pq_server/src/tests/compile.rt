@@ -1,7 +1,7 @@
 //! pq_proto: what small sets of files compile to, from scratch.
 //!
 //! A set of files has a line for each file: `NAME: TEXT`, which follows a line of the syntax
-//! statement, or `NAME= TEXT`, which is whole. `|` stands for a line feed.
+//! statement, or `NAME= TEXT`, which is whole. `|` means a line feed.
 mod descriptors;
 mod diagnostics;
 mod keys;
@@ -18,7 +18,7 @@ use std::test::Fail;
 /// The first line of each file whose line in a set is not the whole text.
 const SYNTAX_LINE: &str = "syntax = \"proto3\";\n";
 
-/// Sets the file `name` to `before` and then `text`, in which `|` stands for a line feed.
+/// Sets the file `name` to `before` and then `text`, in which `|` means a line feed.
 fn set_file(
     alloc: Global,
     inputs: &mut Inputs,

@@ -1,4 +1,6 @@
-//! The descriptors of small files: a row is `TEXT => DESCRIPTOR`, or `FILE => DESCRIPTOR` over a set.
+//! The descriptors of small files.
+//!
+//! A row is `TEXT => DESCRIPTOR`, or `FILE => DESCRIPTOR` over a set of files.
 use super::{SYNTAX_LINE, answer_of, inputs_of, set_file};
 use crate::tests::support::{check_row_count, check_text, split_row};
 use pq_inputs::Inputs;

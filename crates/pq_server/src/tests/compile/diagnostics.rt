@@ -114,7 +114,7 @@ fn check_files(
     Ok(())
 }
 
-/// Checks the diagnostics of the text `before` and then `text`, `|` standing for a line feed.
+/// Checks the diagnostics of the text `before` and then `text`, `|` meaning a line feed.
 fn check_after(
     rt: &(impl Abort + AllocGlobal),
     before: &str,

@@ -92,12 +92,14 @@ fn shown_errors(alloc: Global, set: &[File], links: &Links, file: usize) -> Resu
 fn check_errors(
     rt: &(impl Abort + AllocGlobal),
     inputs: &Inputs,
+    set: &[File],
     file: usize,
-    want: &str,
     texts: &str,
 ) -> Result<(), Memory> {
+    let links = links_of(rt.alloc(), set, file)?;
+    let want = shown_errors(rt.alloc(), set, &links, file)?;
     let found = found_errors(rt.alloc(), inputs, file_name(file))?;
-    check_text(rt, found.as_str(), want, texts);
+    check_text(rt, found.as_str(), want.as_str(), texts);
     Ok(())
 }
 
@@ -129,9 +131,7 @@ fn check_file(
     let want = shown_scope(rt.alloc(), &links)?;
     check_query(rt, inputs, "Scope", file, want.as_str(), texts)?;
     let want = shown_references(rt.alloc(), set, &links, file)?;
-    check_query(rt, inputs, "Resolved", file, want.as_str(), texts)?;
-    let want = shown_errors(rt.alloc(), set, &links, file)?;
-    check_errors(rt, inputs, file, want.as_str(), texts)
+    check_query(rt, inputs, "Resolved", file, want.as_str(), texts)
 }
 
 /// Checks each file of a set, and an absent one.
@@ -172,4 +172,24 @@ fn third_random_sets(rt: HostRuntime) -> Result<(), Fail> {
 #[test]
 fn fourth_random_sets(rt: HostRuntime) -> Result<(), Fail> {
     check_sets(&rt, 4)
+}
+
+/// Checks P105 and P150 to P153 of each file of a set, and of an absent one.
+fn check_errors_of_set(rt: &(impl Abort + AllocGlobal), set: &[File]) -> Result<(), Fail> {
+    let texts = shown_set(rt.alloc(), set)?;
+    let inputs = inputs_of(rt.alloc(), texts.as_str())?;
+    for file in 0..=set.len() {
+        check_errors(rt, &inputs, set, file, texts.as_str())?;
+    }
+    Ok(())
+}
+
+#[test]
+fn diagnosed_random_sets(rt: HostRuntime) -> Result<(), Fail> {
+    let mut writer = Writer::new(5);
+    for _ in 0..100u32 {
+        let set = writer.set(rt.alloc())?;
+        check_errors_of_set(&rt, &set)?;
+    }
+    Ok(())
 }

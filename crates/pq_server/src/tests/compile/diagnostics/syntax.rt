@@ -148,7 +148,7 @@ fn nesting(rt: HostRuntime) -> Result<(), Fail> {
     check_text_alone(&rt, braces(alloc, 65)?.as_str(), deep)
 }
 
-// A NUL ends a string, and is no blank.
+// A NUL ends a string, and begins no token.
 #[test]
 fn nul_characters(rt: HostRuntime) -> Result<(), Fail> {
     check_text_alone(
