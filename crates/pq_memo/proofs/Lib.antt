@@ -4,6 +4,7 @@ pub mod Still
 pub mod Quieten
 pub mod Written
 pub mod Marks
+pub mod Mates
 pub mod Leasts
 pub mod Makes
 pub mod RingMade

@@ -22,6 +22,7 @@
 //! a key up to date), `stack` (its frames), `laws`.
 #![tactic(auto)]
 
+mod compared;
 mod demand;
 mod demanded;
 mod engine;

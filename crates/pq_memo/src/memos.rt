@@ -7,7 +7,7 @@ ghost use Rattle.std.specs.Prelude.{◌≡◌, ◌≤◌, ◌<◌, ◌↔◌, Li
 ghost use Rattle.std.specs.Option.{option_map};
 ghost use Rattle.pq_rules.specs.Relations.{Each, In};
 ghost use Rattle.pq_memo.specs.Sound.{Memo};
-ghost use Rattle.pq_memo.specs.Look.{IsUpToDate, HasChanged, IsStill};
+ghost use Rattle.pq_memo.specs.Look.{IsUpToDate, HasChanged, IsStill, IsOnItsRing};
 ghost use Rattle.pq_memo.specs.Table.{memo_at, HasIn};
 
 use crate::entry::Entry;
@@ -127,20 +127,34 @@ impl<R: Rules> Memos<R> {
         Passed::All
     }
 
-    /// Whether `key` is on the ring that is the answer of its `entry`. It takes one comparison
-    /// where the key is at the entry's place, and else one for each key of the ring.
-    fn is_on_its_ring(&self, key: &R::Key, entry: &Entry<R::Key, R::Value>) -> bool
-        ensures { OnRing result key.now entry.now }
+    /// Whether the answer of `entry` is a ring with `key` at `place`.
+    pub(crate) fn is_at(&self, key: &R::Key, place: usize, entry: &Entry<R::Key, R::Value>) -> bool
+        ensures { IsTrue result → IsOnItsRing key.now entry.now }
     {
         match entry.answer() {
             Answer::Value(_) => false,
             Answer::Cycle(ring) => {
                 let keys = ring.keys();
-                let place = entry.place();
                 if place < keys.len() && is_same_key(&self.rules, &keys[place], key) {
                     return true;
                 }
-                if has_key(&self.rules, keys, key) {
+                false
+            }
+        }
+    }
+
+    /// Whether `key` is on the ring that is the answer of its `entry`. It takes one comparison
+    /// where the key is at the entry's place, and else one for each key of the ring.
+    fn is_on_its_ring(&self, key: &R::Key, entry: &Entry<R::Key, R::Value>) -> bool
+        ensures { OnRing result key.now entry.now }
+    {
+        if self.is_at(key, entry.place(), entry) {
+            return true;
+        }
+        match entry.answer() {
+            Answer::Value(_) => false,
+            Answer::Cycle(ring) => {
+                if has_key(&self.rules, ring.keys(), key) {
                     return true;
                 }
                 false

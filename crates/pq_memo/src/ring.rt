@@ -2,10 +2,11 @@
 //!
 //! All that can fail comes first: the ring's answer, and for each key a place in the table and a
 //! copy of the pointer to that answer. The members are then moved into their places, which takes no
-//! memory. For n keys it takes n log N time beside the comparisons with the old answers, N the keys
-//! of the table.
+//! memory. For n keys it takes n log N time, N the keys of the table, and one comparison of the ring
+//! with each old answer; neighbours whose old answer is one ring share a comparison.
 ghost use Rattle.std.specs.Prelude.{◌≡◌, ◌<◌, ◌++◌, ◌∷◌, [], List, length, IfOk, IfErr, OnOk, OnErr};
 ghost use Rattle.pq_inputs.specs.declared.durability.Durability.{Durability};
+ghost use Rattle.pq_inputs.specs.Sources.{Table};
 ghost use Rattle.pq_rules.specs.declared.turn.Answer.TheVariants.{Cycle};
 ghost use Rattle.pq_rules.specs.Turns.{over};
 ghost use Rattle.pq_rules.specs.Relations.{Each, In};
@@ -14,7 +15,7 @@ ghost use Rattle.pq_memo.specs.Look.{IsUpToDate};
 ghost use Rattle.pq_memo.specs.Table.{memo_at, HasIn, IsSameTable, KeptOver};
 ghost use Rattle.pq_memo.specs.Writes.{RingWritten, fronts, ring_keys};
 ghost use Rattle.pq_memo.specs.aux.Durabilities.{IsKnown, IsLeastRead, IsFrontRead};
-ghost use Rattle.pq_memo.specs.aux.Written.{IsPrepared, ArePrepared, HasRoom, AllHaveRoom, memos_of, put_back};
+ghost use Rattle.pq_memo.specs.aux.Written.{ArePrepared, HasRoom, AllHaveRoom, memos_of, put_back};
 
 use crate::entry::Entry;
 use crate::member::Member;
@@ -75,28 +76,8 @@ impl<R: Rules> Memos<R> {
         least
     }
 
-    /// Makes a place for `key`, and prepares its memo: a copy of `answer`, and the changed
-    /// revision.
-    fn prepare(
-        &mut self,
-        alloc: Global,
-        key: &R::Key,
-        answer: &Shared<Answer<R::Key, R::Value>>,
-        now: u64,
-    ) -> Result<(Shared<Answer<R::Key, R::Value>>, u64), Memory>
-        ensures rules { self.new.rules ≡ self.old.rules }
-        ensures same { IsSameTable (memo_at R.Key.cmp self.old.places) (memo_at R.Key.cmp self.new.places) }
-        ensures room { OnOk result (HasRoom R.Key.cmp self.new.places key.now) }
-        ensures kept { (q : R.Key) → HasRoom R.Key.cmp self.old.places q → HasRoom R.Key.cmp self.new.places q }
-        ensures prepared { IfOk result (λ p. IsPrepared now (HasIn (memo_at R.Key.cmp self.old.places)) answer.now key.now (p.0, p.1)) }
-    {
-        let changed = self.changed_by(key, answer.get(), now);
-        self.make_room(alloc, key)?;
-        let share = answer.copy()?;
-        Ok((share, changed))
-    }
-
-    /// Makes places for the keys of `members`, and prepares their memos, which have `answer`.
+    /// Makes places for the keys of `members`, and prepares their memos, which have `answer`: a copy
+    /// of it for each, and the changed revision.
     fn prepare_all(
         &mut self,
         alloc: Global,
@@ -104,15 +85,24 @@ impl<R: Rules> Memos<R> {
         answer: &Shared<Answer<R::Key, R::Value>>,
         now: u64,
     ) -> Result<Vec<(Shared<Answer<R::Key, R::Value>>, u64)>, Memory>
+        requires kept { (inputs : Table) × KeptOver R.Key.cmp (R.machine self.old.rules) inputs self.old.places }
+        requires some { 0 < length members.now }
         ensures rules { self.new.rules ≡ self.old.rules }
         ensures same { IsSameTable (memo_at R.Key.cmp self.old.places) (memo_at R.Key.cmp self.new.places) }
         ensures room { OnOk result (AllHaveRoom R.Key.cmp self.new.places members.now) }
         ensures prepared { IfOk result (λ v. ArePrepared now (HasIn (memo_at R.Key.cmp self.old.places)) answer.now members.now v.items) }
     {
         let mut prepared = Vec::new(alloc);
+        let mut previous = members[0].key();
+        let mut same = self.compared_first(previous, answer.get());
         'members: for i in 0..members.len() {
-            let next = self.prepare(alloc, members[i].key(), answer, now)?;
-            push(&mut prepared, next)?;
+            let key = members[i].key();
+            let (again, changed) = self.compared(previous, same, key, answer.get(), now);
+            self.make_room(alloc, key)?;
+            let share = answer.copy()?;
+            push(&mut prepared, (share, changed))?;
+            previous = key;
+            same = again;
         }
         Ok(prepared)
     }
@@ -124,6 +114,8 @@ impl<R: Rules> Memos<R> {
         members: &[Member<R::Key>],
         now: u64,
     ) -> Result<Vec<(Shared<Answer<R::Key, R::Value>>, u64)>, Memory>
+        requires kept { (inputs : Table) × KeptOver R.Key.cmp (R.machine self.old.rules) inputs self.old.places }
+        requires some { 0 < length members.now }
         ensures rules { self.new.rules ≡ self.old.rules }
         ensures same { IsSameTable (memo_at R.Key.cmp self.old.places) (memo_at R.Key.cmp self.new.places) }
         ensures room { OnOk result (AllHaveRoom R.Key.cmp self.new.places members.now) }

@@ -1,5 +1,5 @@
 -- Auxiliary: memos that are written into a table, and those of a ring before they are.
-use Rattle.std.specs.Prelude.{ℕ, ◌≡◌, ◌⊎◌, ◌<◌, ◌≤◌, List, [], ◌∷◌, Option, Some, IsSome, cond}
+use Rattle.std.specs.Prelude.{ℕ, ◌≡◌, ◌⊎◌, ◌<◌, ◌≤◌, List, [], ◌∷◌, Option, Some, IsSome, cond, Bool, IsTrue, ◌↔◌}
 use Rattle.std.specs.Map.{lookup}
 use Rattle.std.specs.BTreeMap.{is_at}
 use Rattle.std.specs.Ordering.{is_eq}
@@ -71,6 +71,11 @@ abbrev pub memos_of : {K V : Type 0} → ℕ → Durability → List (K × List 
 memos_of now durability [] ps = []
 memos_of now durability (e ∷ es) [] = []
 memos_of now durability (e ∷ es) (p ∷ ps) = memo_of now durability e p ∷ memos_of now durability es ps
+
+-- `IsCompared Has k answer test` is that `test` is whether the memo that the table has of `k`, if it
+-- has one, has the answer `answer`
+abbrev pub IsCompared : {K V : Type 0} → (K → Memo K V → Type 0) → K → Answer K V → Bool → Type 0
+IsCompared {K} {V} Has k answer test = (old : Memo K V) → Has k old → IsTrue test ↔ (old.answer ≡ answer)
 
 -- `IsPrepared now Has answer k p` is that `p` is `answer` and the changed revision of it for `k`
 pub record IsPrepared {K V : Type 0} (now : ℕ) (Has : K → Memo K V → Type 0) (answer : Answer K V) (k : K) (p : Answer K V × ℕ) : Type 0 where
