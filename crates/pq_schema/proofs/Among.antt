@@ -1,11 +1,13 @@
--- A name is a package or the part of it before a dot exactly where it is among the package and its
--- prefixes.
+-- A name is the part of a package before a dot exactly where it is among its prefixes; and that it
+-- is a package or such a part is a test of both names with a dot after them.
 use Rattle.std.proofs.Common.{◌≡◌, ℕ, Bool, true, false, cond, ◌||◌, ◌&&◌, nat_eq, List, [], ◌∷◌, ◌++◌, map, refl, sym, ap, ◌∙◌}
 use Rattle.std.specs.Prelude.{bytes_eq, codes}
 use Rattle.std.specs.List.{starts_with}
 use Rattle.std.proofs.lemmas.Bool.Decides.{same_from_decides, Decides-eqb, Decides-like}
 use Rattle.pq_schema.specs.Resolution.{prefixes}
+use Rattle.pq_schema.specs.aux.InPackage.{dotted}
 use Rattle.pq_schema.specs.aux.Scopes.{is_among}
+use Rattle.pq_schema.proofs.Meanings.{covers}
 
 same_turned : (m n : ℕ) → nat_eq m n ≡ nat_eq n m
 same_turned m n = same_from_decides (nat_eq m n) (nat_eq n m) (Decides-eqb m n) (Decides-like (nat_eq n m) (λ e. sym e) (λ e. sym e) (Decides-eqb n m))
@@ -72,6 +74,21 @@ starts_among (c ∷ cs) (n ∷ ns) =
     ∙ or_false (is_among (n ∷ ns) (map (λ s. c ∷ s) (prefixes cs)))
     ∙ among_longer c n ns (prefixes cs))
 
--- the test of a package, as its prefixes
-pub among_prefixes : (p name : List ℕ) → (bytes_eq p name || starts_with nat_eq p (name ++ codes ".")) ≡ is_among name (p ∷ prefixes p)
-among_prefixes p name = ap (λ (b : Bool). bytes_eq p name || b) (starts_among p name)
+-- ---- the test of a package, with a dot after each name
+
+and_false : (b : Bool) → (b && false) ≡ false
+and_false true = refl
+and_false false = refl
+
+none_inside : (ns : List ℕ) → starts_with nat_eq [] (ns ++ codes ".") ≡ false
+none_inside [] = refl
+none_inside (n ∷ ns) = refl
+
+pub covers_dotted : (p name : List ℕ) → starts_with nat_eq (dotted p) (dotted name) ≡ covers p name
+covers_dotted [] [] = refl
+covers_dotted [] (n ∷ ns) = ap (λ (b : Bool). nat_eq n 46 && b) (none_inside ns) ∙ and_false (nat_eq n 46)
+covers_dotted (c ∷ cs) [] = refl
+covers_dotted (c ∷ cs) (n ∷ ns) =
+    ap (λ (b : Bool). nat_eq n c && b) (covers_dotted cs ns)
+    ∙ sym (and_over_or (nat_eq n c) (bytes_eq cs ns) (starts_with nat_eq cs (ns ++ codes ".")))
+    ∙ ap (λ (b : Bool). (b && bytes_eq cs ns) || (nat_eq n c && starts_with nat_eq cs (ns ++ codes "."))) (same_turned n c)

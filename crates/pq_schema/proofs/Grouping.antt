@@ -1,93 +1,81 @@
--- The index of packages: it has each name of a package, and where it is asked, each file that can
--- have a full name.
-use Rattle.std.proofs.Common.{◌≡◌, ◌⊎◌, inl, inr, ℕ, suc, ◌+◌, ◌<◌, ◌≤◌, ◌==◌, Bool, true, false, cond, ◌||◌, nat_eq, true≢false, List, [], ◌∷◌, ◌++◌, length, get_or, take, drop, zero, Option, Some, None, IsSome, refl, sym, ap, subst, ◌∙◌, arith}
+-- The index of packages: it has each name of a package, and the files near a name are all that can
+-- have it.
+use Rattle.std.proofs.Common.{◌≡◌, ◌⊎◌, inl, inr, ℕ, suc, ◌+◌, ◌<◌, ◌≤◌, ◌==◌, Bool, true, false, cond, ◌||◌, nat_eq, true≢false, List, [], ◌∷◌, ◌++◌, length, get_or, take, drop, zero, Option, Some, None, IsSome, refl, sym, ap, subst, ◌∙◌, arith, add-one, append-nil, append_assoc}
 use Rattle.std.specs.Prelude.{bytes_eq, codes, find, is_some, slice_get}
-use Rattle.std.specs.List.{starts_with}
-use Rattle.std.proofs.lemmas.Bool.{cases_lt}
-use Rattle.std.proofs.lemmas.List.{at_drop_more, at_drop_all, drop_more, drop_all, take_more}
+use Rattle.std.specs.List.{starts_with, list_any, Contains}
+use Rattle.std.proofs.lemmas.List.{at_drop_all, drop_more, drop_all, take_more}
+use Rattle.std.proofs.lemmas.List.Sorted.{list_any-IsPermutation, Contains-permutation}
 use Rattle.std.proofs.lemmas.Option.{slice_get_within, get_or_from_slice_get, same_Some}
 use Rattle.std.proofs.lemmas.Slice.Eq.{bytes_eq-Decides}
 use Rattle.pq_rules.specs.Relations.{Each, In}
-use Rattle.pq_rules.specs.aux.Lists.{in_append_left, in_append_right, in_append}
+use Rattle.pq_rules.specs.aux.Lists.{in_append}
 use Rattle.pq_schema.specs.declared.scope.FileDefs.{FileDefs}
 use Rattle.pq_schema.specs.declared.definitions.Definition.{Definition}
 use Rattle.pq_schema.specs.Resolution.{meaning, is_package, prefixes}
 use Rattle.pq_schema.specs.Resolution.Meaning.{Undefined}
-use Rattle.pq_schema.specs.aux.InPackage.{AllBelow, Below}
-use Rattle.pq_schema.specs.aux.Scopes.{before, chain, first_of, after_first, is_among}
-use Rattle.pq_schema.specs.aux.Grouping.{IsBelow, IsIndex, find_in, find_at, defined_at, is_known}
-use Rattle.pq_schema.proofs.Among.{among_append, among_prefixes, starts_among}
-use Rattle.pq_schema.proofs.Meanings.{or_else, defined_find, meaning_more, meaning_end, package_cons}
+use Rattle.pq_schema.specs.aux.InPackage.{AllBelow, Below, dotted}
+use Rattle.pq_schema.specs.aux.Scopes.{is_among}
+use Rattle.pq_schema.specs.aux.Grouping.{AreNear, IsBelow, IsIndex, around, find_in, find_at, defined_at, roots}
+use Rattle.pq_schema.proofs.Among.{among_append, covers_dotted, starts_among}
+use Rattle.pq_schema.proofs.Meanings.{covers, or_else, defined_find, meaning_more, meaning_end, package_cons}
 
--- ---- the names of packages
+-- ---- the packages
 
-pub known_package : (files : List FileDefs) (name : List ℕ) → (length name == 0) ≡ false → is_package files name ≡ is_known files name
-unfolding is_package is_known
-known_package [] name some = refl
-known_package (f ∷ fs) name some =
-    package_cons f fs name some
-    ∙ ap (λ (b : Bool). b || is_package fs name) (among_prefixes f.defs.package_name name)
-    ∙ ap (λ (b : Bool). is_among name (f.defs.package_name ∷ prefixes f.defs.package_name) || b) (known_package fs name some)
+pub roots_more : (files : List FileDefs) (n : ℕ) (es more : List (List ℕ × ℕ)) (f : FileDefs) (root : List ℕ) → n < length files
+    → f ≡ get_or files n f → root ≡ dotted f.defs.package_name
+    → more ≡ es ++ (root, n) ∷ [] → es ++ roots n (drop n files) ≡ roots 0 files
+    → more ++ roots (n + 1) (drop (n + 1) files) ≡ roots 0 files
+unfolding roots
+roots_more files n es more f root within is is_root is_more so_far =
+    ap (λ (xs : List (List ℕ × ℕ)). xs ++ roots (n + 1) (drop (n + 1) files)) is_more
+    ∙ append_assoc es ((root, n) ∷ []) (roots (n + 1) (drop (n + 1) files))
+    ∙ ap (λ (r : List ℕ). es ++ (r, n) ∷ roots (n + 1) (drop (n + 1) files)) is_root
+    ∙ ap (λ (m : ℕ). es ++ (dotted f.defs.package_name, n) ∷ roots m (drop (n + 1) files)) (add-one n)
+    ∙ ap (λ (x : FileDefs). es ++ roots n (x ∷ drop (n + 1) files)) is
+    ∙ ap (λ (xs : List FileDefs). es ++ roots n xs) (sym (drop_more files n f within))
+    ∙ so_far
 
--- a name that is there already
-pub name_there : (has : List ℕ → Bool) (name q : List ℕ) → has name ≡ true → has q ≡ (bytes_eq q name || has q)
-name_there has name q there = split (bytes_eq q name) refl
-  where
-    split : (b : Bool) → bytes_eq q name ≡ b → has q ≡ (b || has q)
-    split true e = ap has ((bytes_eq-Decides q name).0 e) ∙ there
-    split false e = refl
+pub roots_all : (files : List FileDefs) (n : ℕ) (es : List (List ℕ × ℕ)) → length files ≤ n → es ++ roots n (drop n files) ≡ roots 0 files → es ≡ roots 0 files
+unfolding roots
+roots_all files n es past so_far = sym (append-nil es) ∙ ap (λ xs. es ++ xs) (sym (at_drop_all (roots n) files n past)) ∙ so_far
 
-or_moved : (a b c : Bool) → ((a || b) || c) ≡ (b || (a || c))
-or_moved true true c = refl
-or_moved true false c = refl
-or_moved false b c = refl
+-- the package of each file is there
+roots_have : (n k : ℕ) (files : List FileDefs) (f : FileDefs) → slice_get files k ≡ Some f → Contains (roots n files) (dotted f.defs.package_name, n + k)
+unfolding roots
+roots_have n k [] f at = cc
+roots_have n zero (x ∷ xs) f at =
+    let is : x ≡ f = cc in
+    (zero, (omega arith), ap (λ (y : FileDefs). (dotted y.defs.package_name, n)) is ∙ ap (λ (m : ℕ). (dotted f.defs.package_name, m)) (omega arith))
+roots_have n (suc k) (x ∷ xs) f at =
+    let rest = roots_have (suc n) k xs f at in
+    let plus : suc n + k ≡ n + suc k = omega arith in
+    let there : Contains (roots (suc n) xs) (dotted f.defs.package_name, n + suc k) =
+    subst (λ (m : ℕ). Contains (roots (suc n) xs) (dotted f.defs.package_name, m)) plus rest in
+    let within = there.1 in
+    (suc there.0, (omega arith), there.2)
 
-pub names_more : (files : List FileDefs) (i : ℕ) (f : FileDefs) (root q : List ℕ) (old new : Bool)
-    → i < length files
-    → f ≡ get_or files i f
-    → root ≡ f.defs.package_name
-    → is_known files q ≡ (is_known (drop i files) q || old)
-    → new ≡ (is_among q (root ∷ prefixes root) || old)
-    → is_known files q ≡ (is_known (drop (i + 1) files) q || new)
-unfolding is_known
-names_more files i f root q old new within is is_root so_far is_new =
-    so_far
-    ∙ ap (λ (b : Bool). b || old)
-    (at_drop_more (λ (fs : List FileDefs). is_known fs q) files i f within
-    ∙ ap (λ (x : FileDefs). is_known (x ∷ drop (i + 1) files) q) (sym is)
-    ∙ ap (λ (r : List ℕ). is_among q (r ∷ prefixes r) || is_known (drop (i + 1) files) q) (sym is_root))
-    ∙ or_moved (is_among q (root ∷ prefixes root)) (is_known (drop (i + 1) files) q) old
-    ∙ ap (λ (b : Bool). is_known (drop (i + 1) files) q || b) (sym is_new)
+pub listed : {index : List (List ℕ × ℕ)} (files : List FileDefs) → IsIndex index files → (k : ℕ) (f : FileDefs) → slice_get files k ≡ Some f
+    → Contains index (dotted f.defs.package_name, k)
+listed {index} files x k f at =
+    let plus : 0 + k ≡ k = omega arith in
+    Contains-permutation (roots 0 files) index (dotted f.defs.package_name, k) x.same
+    (subst (λ (m : ℕ). Contains (roots 0 files) (dotted f.defs.package_name, m)) plus (roots_have 0 k files f at))
 
-pub names_end : (files : List FileDefs) (i : ℕ) (q : List ℕ) (has : Bool)
-    → length files ≤ i
-    → is_known files q ≡ (is_known (drop i files) q || has)
-    → has ≡ is_known files q
-unfolding is_known
-names_end files i q has beyond so_far =
-    sym (so_far ∙ ap (λ (b : Bool). b || has) (at_drop_all (λ (fs : List FileDefs). is_known fs q) files i beyond))
+-- the names of packages
+any_root : (n : ℕ) (files : List FileDefs) (name : List ℕ) → (length name == 0) ≡ false
+    → list_any (λ (e : List ℕ × ℕ). starts_with nat_eq e.0 (dotted name)) (roots n files) ≡ is_package files name
+unfolding roots is_package
+any_root n [] name some = refl
+any_root n (f ∷ fs) name some =
+    ap (λ (b : Bool). b || list_any (λ (e : List ℕ × ℕ). starts_with nat_eq e.0 (dotted name)) (roots (suc n) fs)) (covers_dotted f.defs.package_name name)
+    ∙ ap (λ (b : Bool). covers f.defs.package_name name || b) (any_root (suc n) fs name some)
+    ∙ sym (package_cons f fs name some)
 
--- ---- the files of a package
-
-pub listed_more : (old new : List ℕ → List ℕ) (files : List FileDefs) (i : ℕ) (item : FileDefs) (root : List ℕ)
-    → item ≡ get_or files i item
-    → root ≡ item.defs.package_name
-    → ((q : List ℕ) → new q ≡ old q ++ cond (bytes_eq q root) (i ∷ []) [])
-    → ((k : ℕ) (f : FileDefs) → k < i → slice_get files k ≡ Some f → In k (old f.defs.package_name))
-    → (k : ℕ) (f : FileDefs) → k < i + 1 → slice_get files k ≡ Some f → In k (new f.defs.package_name)
-listed_more old new files i item root is is_root adds so_far k f within at =
-    subst (λ (ks : List ℕ). In k ks) (sym (adds f.defs.package_name))
-    (elim (cases_lt k i) [
-      | inl below ↦ in_append_left k (old f.defs.package_name) (cond (bytes_eq f.defs.package_name root) (i ∷ []) []) (so_far k f below at)
-      | inr above ↦
-          let here : k ≡ i = omega arith in
-          let same : f ≡ item =
-          sym (get_or_from_slice_get files k f item at) ∙ ap (λ (j : ℕ). get_or files j item) here ∙ sym is in
-          let named : bytes_eq f.defs.package_name root ≡ true =
-          (bytes_eq-Decides f.defs.package_name root).1 (ap (λ (x : FileDefs). x.defs.package_name) same ∙ sym is_root) in
-          in_append_right k (old f.defs.package_name) (cond (bytes_eq f.defs.package_name root) (i ∷ []) [])
-          (subst (λ (b : Bool). In k (cond b (i ∷ []) [])) (sym named) (inl here))
-    ])
+pub known_package : {index : List (List ℕ × ℕ)} (files : List FileDefs) → IsIndex index files → (name : List ℕ) → (length name == 0) ≡ false
+    → list_any (λ (e : List ℕ × ℕ). starts_with nat_eq e.0 (dotted name)) index ≡ is_package files name
+known_package {index} files x name some =
+    sym (list_any-IsPermutation (λ (e : List ℕ × ℕ). starts_with nat_eq e.0 (dotted name)) (roots 0 files) index x.same)
+    ∙ any_root 0 files name some
 
 pub below_more : (files : List FileDefs) (i : ℕ) (item : FileDefs)
     → i < length files
@@ -147,61 +135,21 @@ below_find root name [] all = inr refl
 below_find root name (d ∷ ds) all =
     below_test root name d (find (λ (x : Definition). bytes_eq x.full_name name) ds) (bytes_eq d.full_name name) refl all.0 (below_find root name ds all.1)
 
-pub can_have : (files : List FileDefs) (name : List ℕ) (inner : Option (List ℕ))
-    → Each IsBelow files
-    → prefixes name ≡ before inner
-    → (k : ℕ) (f : FileDefs) → slice_get files k ≡ Some f
-    → (is_among f.defs.package_name (chain inner) ≡ true) ⊎ (find_in f name ≡ None)
-can_have files name inner all is k f at =
-    subst (λ (ps : List (List ℕ)). (is_among f.defs.package_name (ps ++ [] ∷ []) ≡ true) ⊎ (find_in f name ≡ None)) is
-    (below_find f.defs.package_name name f.defs.definitions (each_at IsBelow files k f all at))
-
-chain_first : (inner : Option (List ℕ)) → chain inner ≡ first_of inner ∷ after_first inner
-chain_first None = refl
-chain_first (Some s) = refl
-
-among_cases : (s name : List ℕ) (ss : List (List ℕ)) → is_among name (s ∷ ss) ≡ true → (s ≡ name) ⊎ (is_among name ss ≡ true)
-among_cases s name ss h = split (bytes_eq s name) refl h
-  where
-    split : (b : Bool) → bytes_eq s name ≡ b → (b || is_among name ss) ≡ true → (s ≡ name) ⊎ (is_among name ss ≡ true)
-    split true e t = inl ((bytes_eq-Decides s name).0 e)
-    split false e t = inr t
-
--- once the files of one package are asked
-pub asked : {has : List ℕ → Bool} {places : List ℕ → List ℕ} (files : List FileDefs) (name : List ℕ) (inner : Option (List ℕ)) (root : List ℕ) (best next : ℕ)
-    → IsIndex has places files
-    → root ≡ first_of inner
-    → next ≤ best
-    → ((k : ℕ) (f : FileDefs) → k < best → slice_get files k ≡ Some f → (is_among f.defs.package_name (chain inner) ≡ true) ⊎ (find_in f name ≡ None))
-    → ((k : ℕ) → In k (places root) → k < next → defined_at files name k ≡ None)
-    → (k : ℕ) (f : FileDefs) → k < next → slice_get files k ≡ Some f
-    → (is_among f.defs.package_name (after_first inner) ≡ true) ⊎ (find_in f name ≡ None)
-asked {has} {places} files name inner root best next index is_root less so_far here k f below at =
-    elim (so_far k f (omega arith) at) [
-      | inr none ↦ inr none
-      | inl among ↦ elim (among_cases (first_of inner) f.defs.package_name (after_first inner) (subst (λ (ss : List (List ℕ)). is_among f.defs.package_name ss ≡ true) (chain_first inner) among)) [
-        | inr further ↦ inl further
-        | inl same ↦
-            let listed : In k (places root) =
-            subst (λ (r : List ℕ). In k (places r)) (sym (is_root ∙ same)) (index.listed k f at) in
-            inr (sym (ap (λ (o : Option FileDefs). find_at o name) at) ∙ here k listed below)
-      ]
-    ]
-
 none_by : (name : List ℕ) (o : Option FileDefs) → ((f : FileDefs) → o ≡ Some f → find_in f name ≡ None) → find_at o name ≡ None
 none_by name None h = refl
 none_by name (Some f) h = h f refl
 
--- once every package is asked
-pub all_asked : (files : List FileDefs) (name : List ℕ) (inner : Option (List ℕ)) (next : ℕ)
-    → after_first inner ≡ []
-    → ((k : ℕ) (f : FileDefs) → k < next → slice_get files k ≡ Some f → (is_among f.defs.package_name (after_first inner) ≡ true) ⊎ (find_in f name ≡ None))
+-- once the files that can have the name are asked
+pub asked : (files : List FileDefs) (near : List ℕ) (name : List ℕ) (next : ℕ)
+    → AreNear near files (around name)
+    → Each IsBelow files
+    → ((k : ℕ) → In k near → k < next → defined_at files name k ≡ None)
     → (k : ℕ) → k < next → defined_at files name k ≡ None
-all_asked files name inner next none so_far k below =
+asked files near name next are all here k below =
     none_by name (slice_get files k)
-    (λ f at. elim (so_far k f below at) [
-      | inr is ↦ is
-      | inl among ↦ absurd (true≢false (sym (subst (λ (ss : List (List ℕ)). is_among f.defs.package_name ss ≡ true) none among)))
+    (λ f at. elim (below_find f.defs.package_name name f.defs.definitions (each_at IsBelow files k f all at)) [
+      | inr none ↦ none
+      | inl among ↦ sym (ap (λ (o : Option FileDefs). find_at o name) at) ∙ here k (are k f at among) below
     ])
 
 -- ---- the least place

@@ -14,6 +14,7 @@ use Rattle.std.proofs.lemmas.Cmp.{tied_itself, on_total, then_total, nat_cmp_tot
 use Rattle.std.proofs.lemmas.List.{at_drop_all, drop_more, get_or_default}
 use Rattle.std.proofs.lemmas.List.Sorted.{sorted_far, ranks_by, Contains-permutation, IsPermutation-sym}
 use Rattle.pq_schema.proofs.Cases.{either}
+use Rattle.pq_schema.proofs.Rising.{by_order, by_name_total, not_below_itself, rises}
 use Rattle.pq_schema.specs.declared.definitions.Definition.{Definition}
 use Rattle.pq_schema.specs.aux.NameParts.{name_order}
 use Rattle.pq_schema.specs.aux.NameOrder.{names_total, names_tie}
@@ -23,9 +24,6 @@ use Rattle.pq_schema.specs.aux.Index.{entry_order, entries, IsIndexOf}
 
 abbrev pub no_entry : List ℕ × ℕ
 no_entry = ([], 0)
-
-pub entry_total : IsTotalOrder entry_order
-entry_total = then_total (on_total (λ (e : List ℕ × ℕ). e.0) names_total) (on_total (λ (e : List ℕ × ℕ). e.1) nat_cmp_total)
 
 -- the places of entries from `n` on are not below `n`
 place_from : (n m : ℕ) (name : List ℕ) (ds : List Definition) → Contains (entries n ds) (name, m) → n ≤ m
@@ -86,37 +84,6 @@ first_found n (suc i) name (d ∷ ds) e (suc k, within, is) first =
 tied_same : (a b : List ℕ) → name_order a b ≡ Equal → a ≡ b
 tied_same a b tie = (bytes_decides a b).0 (names_tie a b ∙ ap is_eq tie)
 
-not_below_itself : (a : List ℕ) → is_lt (name_order a a) ≡ true → ⊥
-not_below_itself a h = true≢false (sym h ∙ ap is_lt (tied_itself names_total a))
-
-by_order : (o : Ordering) (P : Type 0) → (o ≡ Less → P) → (o ≡ Equal → P) → (o ≡ Greater → P) → P
-by_order Less P f g h = f refl
-by_order Equal P f g h = g refl
-by_order Greater P f g h = h refl
-
--- entries that do not come before others have names that do not
-names_up : (a b : List ℕ × ℕ) → is_lt (entry_order a b) ≡ false → is_lt (name_order a.0 b.0) ≡ false
-names_up a b h = by_order (name_order a.0 b.0) (is_lt (name_order a.0 b.0) ≡ false)
-    (λ e. absurd (true≢false (sym (ap (λ (o : Ordering). is_lt (ordering_then o (nat_cmp a.1 b.1))) e) ∙ h)))
-    (λ e. ap is_lt e) (λ e. ap is_lt e)
-
--- what is not greater than a name below `t` is below `t`
-pub below_before : (a b t : List ℕ) → is_lt (name_order b a) ≡ false → is_lt (name_order b t) ≡ true → is_lt (name_order a t) ≡ true
-below_before a b t up less =
-    let b_less : name_order b t ≡ Less = by_order (name_order b t) (name_order b t ≡ Less) (λ e. e)
-    (λ e. absurd (true≢false (sym less ∙ ap is_lt e))) (λ e. absurd (true≢false (sym less ∙ ap is_lt e))) in
-    by_order (name_order a b) (is_lt (name_order a t) ≡ true)
-    (λ e. ap is_lt (names_total.trans a b t e b_less))
-    (λ e. ap is_lt (names_total.congr a b t e ∙ b_less))
-    (λ e. absurd (true≢false (sym (ap is_lt (names_total.antisymm b a ∙ ap ordering_reverse e)) ∙ up)))
-
--- the entries rise
-pub rises : (index : List (List ℕ × ℕ)) → IsSorted entry_order index → (i j : ℕ) → i ≤ j → j < length index
-    → is_lt (name_order (get_or index j no_entry).0 (get_or index i no_entry).0) ≡ false
-rises index sorted i j up within =
-    names_up (get_or index j no_entry) (get_or index i no_entry)
-    (sorted_far (λ (x y : List ℕ × ℕ). is_lt (entry_order x y)) (ranks_by entry_total (λ (e : List ℕ × ℕ). e)) index sorted i j no_entry up within)
-
 -- ---- what is at the first entry whose name is not below a name
 
 module _ (index : List (List ℕ × ℕ)) (ds : List Definition) (x : IsIndexOf index ds) (name : List ℕ) (p : ℕ)
@@ -131,7 +98,7 @@ module _ (index : List (List ℕ × ℕ)) (ds : List Definition) (x : IsIndexOf 
         there.1,
         is,
         elim (cases_lt there.0 p) [
-          | inl below ↦ absurd (not_below_itself name (subst (λ (e : List ℕ × ℕ). is_lt (name_order e.0 name) ≡ true) is (less there.0 below)))
+          | inl below ↦ absurd (not_below_itself name_order names_total name (subst (λ (e : List ℕ × ℕ). is_lt (name_order e.0 name) ≡ true) is (less there.0 below)))
           | inr up ↦ up
         ],
       )
@@ -144,7 +111,7 @@ module _ (index : List (List ℕ × ℕ)) (ds : List Definition) (x : IsIndexOf 
       let within : p < length index = omega arith in
       let e = get_or index p no_entry in
       let not_above : is_lt (name_order name e.0) ≡ false =
-      subst (λ (f : List ℕ × ℕ). is_lt (name_order f.0 e.0) ≡ false) k.2 (rises index x.sorted p k.0 k.3 k.1) in
+      subst (λ (f : List ℕ × ℕ). is_lt (name_order f.0 e.0) ≡ false) k.2 (rises name_order names_total index x.sorted p k.0 no_entry k.3 k.1) in
       by_order (name_order e.0 name) ⊥
       (λ o. true≢false (sym (ap is_lt o) ∙ others p (omega arith) within))
       (λ o. free within (tied_same e.0 name o))
@@ -170,7 +137,7 @@ module _ (index : List (List ℕ × ℕ)) (ds : List Definition) (x : IsIndexOf 
       (λ j below c.
       let k = at_or_later j c in
       let up : is_lt (entry_order (get_or index k.0 no_entry) e) ≡ false =
-      sorted_far (λ (x y : List ℕ × ℕ). is_lt (entry_order x y)) (ranks_by entry_total (λ (f : List ℕ × ℕ). f)) index x.sorted p k.0 no_entry k.3 k.1 in
+      sorted_far (λ (x y : List ℕ × ℕ). is_lt (entry_order x y)) (ranks_by (by_name_total name_order names_total) (λ (f : List ℕ × ℕ). f)) index x.sorted p k.0 no_entry k.3 k.1 in
       let up_names : is_lt (ordering_then (name_order name name) (nat_cmp j e.1)) ≡ false =
       subst (λ (n : List ℕ). is_lt (ordering_then (name_order name n) (nat_cmp j e.1)) ≡ false) is
       (subst (λ (f : List ℕ × ℕ). is_lt (entry_order f e) ≡ false) k.2 up) in

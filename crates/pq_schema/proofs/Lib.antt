@@ -2,6 +2,7 @@ pub mod Cases
 pub mod EntryNames
 pub mod InPackage
 pub mod FullNames
+pub mod Rising
 pub mod IndexLemmas
 pub mod Packages
 pub mod Rows
@@ -9,6 +10,8 @@ pub mod Prefixes
 pub mod Walks
 pub mod Meanings
 pub mod Among
+pub mod Dotted
+pub mod Near
 pub mod Searches
 pub mod Grouping
 pub mod ResolutionRows

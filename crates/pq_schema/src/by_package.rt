@@ -1,96 +1,142 @@
 //! The packages of a list of files: which names are packages, and which files can have a full name.
 //!
 //! A full name is below the package of its file. So a look-up asks only the files without a package
-//! and those whose package is a prefix of the name before one of its dots: one look-up of a package
-//! for each dot. The names of packages are compared in order, and nothing is hashed.
-ghost use Rattle.std.specs.Prelude.{◌≡◌, ◌⊎◌, ℕ, ◌<◌, ◌≤◌, ◌||◌, ◌++◌, ◌∷◌, [], List, None, IfOk, OnOk, bytes_eq, cond, is_some, slice_get};
-ghost use Rattle.std.specs.BTreeMap.{get_by_text};
-ghost use Rattle.std.specs.Option.{option_copied, option_map_or};
-ghost use Rattle.pq_rules.specs.Relations.{In};
-ghost use Rattle.pq_schema.specs.Resolution.{prefixes};
-ghost use Rattle.pq_schema.specs.aux.Grouping.{IsIndex, defined_at};
+//! and those whose package is a scope around the name. The packages are in the order of their
+//! bytes, each with a dot after it, so those that begin with a name and a dot are neighbours. A
+//! binary search finds the first. An entry shares the bytes of its name with the file, so the
+//! memory does not depend on the lengths of the names.
+ghost use Rattle.std.specs.Prelude.{◌≡◌, ◌⊎◌, ℕ, ◌<◌, ◌≤◌, ◌∷◌, ◌++◌, [], List, Some, None, IfOk, OnOk, bytes_eq, get_or, length, nat_eq, true, false, slice_get};
+ghost use Rattle.std.specs.Option.{option_copied};
+ghost use Rattle.std.specs.Ordering.{is_lt, nat_cmp};
+ghost use Rattle.std.specs.Cmp.Lexicographic.{slice_cmp};
+ghost use Rattle.std.specs.List.{Contains, list_any, starts_with};
+ghost use Rattle.std.specs.List.Sorted.{IsSorted};
+ghost use Rattle.pq_rules.specs.Relations.{Each, In};
+ghost use Rattle.pq_schema.specs.aux.Grouping.{AreNear, IsBelow, IsIndex, around, defined_at, root_order};
+ghost use Rattle.pq_schema.specs.aux.InPackage.{dotted};
 ghost use Rattle.pq_schema.specs.aux.Firsts.{IsFoundAt, IsNowhere};
-ghost use Rattle.pq_schema.specs.aux.Scopes.{is_among};
+ghost use Rattle.pq_schema.specs.aux.Scopes.{chain, is_among};
 
 use crate::definitions::Definition;
 use crate::nesting::{outer, scope_or_empty};
 use crate::scope::FileDefs;
-use pq_names::Memory;
+use pq_names::{Memory, Text};
 use std::alloc::Global;
-use std::collections::BTreeMap;
 
-/// The packages of files and their prefixes before dots, each with the places of the files of just
-/// that package.
-pub(crate) type Packages = BTreeMap<String, Vec<usize>>;
-
-/// Puts `name` among the names of `packages`.
-fn add_name(alloc: Global, packages: &mut Packages, name: &str) -> Result<(), Memory>
-    ensures names { OnOk result ((q : List ℕ) → is_some (get_by_text packages.new q)
-        ≡ (bytes_eq q name.now || is_some (get_by_text packages.old q))) }
-    ensures places { OnOk result ((q : List ℕ) →
-        option_map_or (λ g. g.items) (get_by_text packages.new q) []
-        ≡ option_map_or (λ g. g.items) (get_by_text packages.old q) []) }
-{
-    if packages.contains_key(name) {
-        return Ok(());
-    }
-    packages.entry(String::from_str(alloc, name)?)?.or_default();
-    Ok(())
-}
-
-/// Adds the file at `place` to those of the package `name`.
-fn add_place(alloc: Global, packages: &mut Packages, name: &str, place: usize) -> Result<(), Memory>
-    ensures names { OnOk result ((q : List ℕ) → is_some (get_by_text packages.new q)
-        ≡ (bytes_eq q name.now || is_some (get_by_text packages.old q))) }
-    ensures places { OnOk result ((q : List ℕ) →
-        option_map_or (λ g. g.items) (get_by_text packages.new q) []
-        ≡ option_map_or (λ g. g.items) (get_by_text packages.old q) []
-        ++ cond (bytes_eq q name.now) (place ∷ []) []) }
-{
-    packages
-        .entry(String::from_str(alloc, name)?)?
-        .or_default()
-        .push(place)?;
-    Ok(())
-}
-
-/// Adds the file at `place`, which has the package `full`, and the prefixes of the package.
-fn add_package(
-    alloc: Global,
-    packages: &mut Packages,
-    full: &str,
-    place: usize,
-) -> Result<(), Memory>
-    ensures names { OnOk result ((q : List ℕ) → is_some (get_by_text packages.new q)
-        ≡ (is_among q (full.now ∷ prefixes full.now) || is_some (get_by_text packages.old q))) }
-    ensures places { OnOk result ((q : List ℕ) →
-        option_map_or (λ g. g.items) (get_by_text packages.new q) []
-        ≡ option_map_or (λ g. g.items) (get_by_text packages.old q) []
-        ++ cond (bytes_eq q full.now) (place ∷ []) []) }
-{
-    add_place(alloc, packages, full, place)?;
-    let mut inner = outer(full);
-    'prefixes: loop {
-        match inner {
-            Some(scope) => {
-                add_name(alloc, packages, scope)?;
-                inner = outer(scope);
-            }
-            None => return Ok(()),
-        }
-    }
-}
+/// The package of a file with a dot after it, and the place of the file.
+pub(crate) type Entry = (Text, usize);
 
 /// The packages of `files`.
-pub(crate) fn packages_of(alloc: Global, files: &[FileDefs]) -> Result<Packages, Memory>
-    ensures index { IfOk result (λ m. IsIndex (λ q. is_some (get_by_text m q))
-        (λ q. option_map_or (λ g. g.items) (get_by_text m q) []) files.now) }
+pub(crate) fn packages_of(alloc: Global, files: &[FileDefs]) -> Result<Vec<Entry>, Memory>
+    ensures index { IfOk result (λ v. IsIndex v.items files.now) }
 {
-    let mut packages: Packages = BTreeMap::new(alloc);
-    'files: for (place, f) in files.iter().enumerate() {
-        add_package(alloc, &mut packages, f.defs.get().root(), place)?;
+    let mut packages = Vec::with_capacity(alloc, files.len())?;
+    'files: for place in 0..files.len() {
+        let root = files[place].defs.get().root().copy()?;
+        packages.push((root, place))?;
     }
+    packages.sort()?;
     Ok(packages)
+}
+
+/// Whether `entry` comes before `name` with a dot after it.
+fn is_before(entry: &[u8], name: &[u8]) -> bool
+    ensures is { result ≡ is_lt (slice_cmp nat_cmp entry.now (dotted name.now)) }
+{
+    if entry.starts_with(name) {
+        match entry.get(name.len()) {
+            Some(byte) => *byte < b'.',
+            None => true,
+        }
+    } else {
+        entry.cmp(name).is_lt()
+    }
+}
+
+/// Whether `entry` begins with `name` and a dot.
+fn is_inside(entry: &[u8], name: &[u8]) -> bool
+    ensures is { result ≡ starts_with nat_eq entry.now (dotted name.now) }
+{
+    match entry.get(name.len()) {
+        Some(byte) => *byte == b'.' && entry.starts_with(name),
+        None => false,
+    }
+}
+
+/// Whether `entry` is `name` with a dot after it.
+fn is_dotted(entry: &[u8], name: &[u8]) -> bool
+    ensures is { result ≡ bytes_eq entry.now (dotted name.now) }
+{
+    match entry.split_last() {
+        Some((last, before)) => *last == b'.' && before == name,
+        None => false,
+    }
+}
+
+/// The number of entries before `name` with a dot after it.
+fn first_from(packages: &[Entry], name: &str) -> usize
+    requires { IsSorted root_order packages.now }
+    ensures within { result ≤ length packages.now }
+    ensures less { (k : ℕ) → k < result →
+        is_lt (slice_cmp nat_cmp (get_or packages.now k ([], 0)).0 (dotted name.now)) ≡ true }
+    ensures others { (k : ℕ) → result ≤ k → k < length packages.now →
+        is_lt (slice_cmp nat_cmp (get_or packages.now k ([], 0)).0 (dotted name.now)) ≡ false }
+{
+    packages.partition_point(
+        |entry: &Entry| -> bool
+            ensures { result ≡ is_lt (slice_cmp nat_cmp entry.now.0 (dotted name.entry.now)) }
+        { is_before(entry.0.as_str().as_bytes(), name.as_bytes()) },
+    )
+}
+
+/// Whether one of the packages is `name`, or begins with `name` and a dot.
+pub(crate) fn has_package(packages: &[Entry], name: &str) -> bool
+    requires { IsSorted root_order packages.now }
+    ensures is { result ≡ list_any (λ e. starts_with nat_eq e.0 (dotted name.now)) packages.now }
+{
+    match packages.get(first_from(packages, name)) {
+        Some(entry) => is_inside(entry.0.as_str().as_bytes(), name.as_bytes()),
+        None => false,
+    }
+}
+
+/// Adds the places of the files of the package `root` to `near`.
+fn add_places(packages: &[Entry], root: &str, near: &mut Vec<usize>) -> Result<(), Memory>
+    requires { IsSorted root_order packages.now }
+    ensures kept { OnOk result ((k : ℕ) → In k near.old.items → In k near.new.items) }
+    ensures places { OnOk result ((k : ℕ)
+        → Contains packages.now (dotted root.now, k) → In k near.new.items) }
+{
+    let first = first_from(packages, root);
+    'entries: for entry in &packages[first..] {
+        if !is_dotted(entry.0.as_str().as_bytes(), root.as_bytes()) {
+            return Ok(());
+        }
+        near.push(entry.1)?;
+    }
+    Ok(())
+}
+
+/// The places of the files whose package is `within`, a prefix of it before a dot, or empty.
+pub(crate) fn places_near(
+    alloc: Global,
+    packages: &[Entry],
+    within: Option<&str>,
+) -> Result<Vec<usize>, Memory>
+    requires { IsSorted root_order packages.now }
+    ensures places { IfOk result (λ v. (root : List ℕ) (k : ℕ)
+        → is_among root (chain (option_copied within.entry)) ≡ true
+        → Contains packages.now (dotted root, k) → In k v.items) }
+{
+    let mut near = Vec::new(alloc);
+    let mut inner = within;
+    'scopes: loop {
+        add_places(packages, scope_or_empty(inner), &mut near)?;
+        match inner {
+            Some(scope) => inner = outer(scope),
+            None => return Ok(near),
+        }
+    }
 }
 
 /// The file at `place`.
@@ -150,43 +196,17 @@ fn first_in<'a>(files: &'a [FileDefs], places: &[usize], name: &str, best: First
     least
 }
 
-/// The first of `best` and of the files of the package `root` that have the full name `name`.
-fn first_of_package<'a>(
-    files: &'a [FileDefs],
-    packages: &Packages,
-    root: &str,
-    name: &str,
-    best: First<'a>,
-) -> First<'a>
-    ensures least { result.place ≤ best.entry.place }
-    ensures others { (k : ℕ)
-        → In k (option_map_or (λ g. g.items) (get_by_text packages.now root.now) [])
-        → k < result.place → defined_at files.now name.now k ≡ None }
-    ensures found { (result ≡ best.entry) ⊎ IsFoundAt files.now name.now result }
-{
-    match packages.get(root) {
-        Some(places) => first_in(files, places, name, best),
-        None => best,
-    }
-}
-
-/// The first of `files` that has the full name `name`, or their number.
-pub(crate) fn first_place<'a>(files: &'a [FileDefs], packages: &Packages, name: &str) -> First<'a>
-    requires { IsIndex (λ q. is_some (get_by_text packages.now q))
-        (λ q. option_map_or (λ g. g.items) (get_by_text packages.now q) []) files.now }
+/// The first of `files` that has the full name `name`, or their number. `near` has the places of
+/// the files that can have the name.
+pub(crate) fn first_place<'a>(files: &'a [FileDefs], near: &[usize], name: &str) -> First<'a>
+    requires near { AreNear near.now files.now (around name.now) }
+    requires below { Each IsBelow files.now }
     ensures before { (k : ℕ) → k < result.place → defined_at files.now name.now k ≡ None }
     ensures found { IsNowhere files.now result ⊎ IsFoundAt files.now name.now result }
 {
-    let mut best = First {
+    let nowhere = First {
         place: files.len(),
         definition: None,
     };
-    let mut inner = outer(name);
-    'packages: loop {
-        best = first_of_package(files, packages, scope_or_empty(inner), name, best);
-        match inner {
-            Some(scope) => inner = outer(scope),
-            None => return best,
-        }
-    }
+    first_in(files, near, name, nowhere)
 }

@@ -5,11 +5,11 @@
 ghost use Rattle.std.specs.Prelude.{◌≡◌, bytes_eq, find, IfOk};
 ghost use Rattle.std.specs.Option.{option_copied};
 ghost use Rattle.pq_schema.specs.Definitions.{defs_of};
-ghost use Rattle.pq_schema.specs.aux.InPackage.{AllBelow};
+ghost use Rattle.pq_schema.specs.aux.InPackage.{AllBelow, dotted};
 
 use crate::define::definitions_in;
 use crate::enclosing::Enclosing;
-use crate::full_name::FullName;
+use crate::full_name::{FullName, with_dot};
 use crate::index::{first_named, index_of};
 use crate::outline::package_of;
 use crate::{Memory, Text};
@@ -58,6 +58,8 @@ pub struct Definition {
 #[derive(Drop)]
 pub struct Defs {
     package_name: Text,
+    /// The package with a dot after it.
+    root: Text,
     definitions: Vec<Definition>,
     /// The full names in the order of the index, each with its place in `definitions`.
     index: Vec<(FullName, usize)>,
@@ -68,12 +70,14 @@ impl Model for Defs {
 
     ghost Value = { Contents };
 
-    ghost use Rattle.pq_schema.specs.aux.InPackage.{AllBelow};
+    ghost use Rattle.std.specs.Prelude.{◌≡◌};
+    ghost use Rattle.pq_schema.specs.aux.InPackage.{AllBelow, dotted};
     ghost use Rattle.pq_schema.specs.aux.Index.{IsIndexOf};
 
     ghost view = { λ d. record { package_name = d.package_name; definitions = d.definitions.items } };
 
-    ghost invariant = { λ d. AllBelow d.package_name d.definitions.items
+    ghost invariant = { λ d. (d.root ≡ dotted d.package_name)
+        × AllBelow d.package_name d.definitions.items
         × IsIndexOf d.index.items d.definitions.items };
 }
 
@@ -83,11 +87,13 @@ impl Defs {
         ensures defs { IfOk result (λ d. d ≡ defs_of nodes.now) }
     {
         let package_name = package_of(alloc, nodes)?;
+        let root = with_dot(alloc, package_name.as_str())?;
         let package = Enclosing::package(alloc, &package_name)?;
         let definitions = definitions_in(alloc, &package, nodes)?;
         let index = index_of(alloc, &definitions)?;
         Ok(Defs {
             package_name,
+            root,
             definitions,
             index,
         })
@@ -100,12 +106,12 @@ impl Defs {
         self.package_name.as_str()
     }
 
-    /// The package, which the definitions are in.
-    pub(crate) fn root(&self) -> &str
-        ensures name { result.now ≡ self.now.package_name }
+    /// The package with a dot after it. The definitions are in the package.
+    pub(crate) fn root(&self) -> &Text
+        ensures name { result.now ≡ dotted self.now.package_name }
         ensures below { AllBelow self.now.package_name self.now.definitions }
     {
-        self.package_name.as_str()
+        &self.root
     }
 
     /// The definitions, in text order.

@@ -1,11 +1,15 @@
 //! The files of a scope in order, and the look-up of full names in them.
 //!
-//! A look-up asks only the files whose package the name can be in (`by_package`).
+//! A look-up asks only the files whose package the name can be in (`by_package`). These are found
+//! once for all the names that a reference is looked up by.
 ghost use Rattle.std.specs.Prelude.{◌≡◌, IfOk};
+ghost use Rattle.std.specs.Option.{option_copied};
 ghost use Rattle.pq_schema.specs.Resolution.{meaning, is_package};
+ghost use Rattle.pq_schema.specs.aux.Grouping.{AreNear, around};
 ghost use Rattle.pq_schema.specs.aux.Hits.{meaning_at};
+ghost use Rattle.pq_schema.specs.aux.Scopes.{chain};
 
-use crate::by_package::{Packages, file_at, first_place, packages_of};
+use crate::by_package::{Entry, file_at, first_place, has_package, packages_of, places_near};
 use crate::definitions::Definition;
 use crate::scope::FileDefs;
 use pq_names::{Memory, Text};
@@ -23,13 +27,12 @@ pub(crate) struct Place<'a> {
 #[derive(Drop)]
 pub(crate) struct Files {
     files: Vec<FileDefs>,
-    packages: Packages,
+    /// The packages of the files, sorted.
+    packages: Vec<Entry>,
 }
 
 impl Model for Files {
-    ghost use Rattle.std.specs.Prelude.{List, [], is_some};
-    ghost use Rattle.std.specs.BTreeMap.{get_by_text};
-    ghost use Rattle.std.specs.Option.{option_map_or};
+    ghost use Rattle.std.specs.Prelude.{List};
     ghost use Rattle.pq_schema.specs.declared.scope.FileDefs.{FileDefs};
     ghost use Rattle.pq_schema.specs.aux.Grouping.{IsIndex};
 
@@ -37,8 +40,7 @@ impl Model for Files {
 
     ghost view = { λ f. f.files.items };
 
-    ghost invariant = { λ f. IsIndex (λ q. is_some (get_by_text f.packages q))
-        (λ q. option_map_or (λ g. g.items) (get_by_text f.packages q) []) f.files.items };
+    ghost invariant = { λ f. IsIndex f.packages.items f.files.items };
 }
 
 impl Files {
@@ -57,12 +59,22 @@ impl Files {
         &self.files
     }
 
+    /// The places of the files whose package is `within`, a prefix of it before a dot, or empty.
+    pub(crate) fn near(&self, alloc: Global, within: Option<&str>) -> Result<Vec<usize>, Memory>
+        ensures near { IfOk result
+            (λ v. AreNear v.items self.now (chain (option_copied within.entry))) }
+    {
+        places_near(alloc, &self.packages, within)
+    }
+
     /// The first definition with the full name `name`: the files in order, then each in text order.
-    pub(crate) fn definition(&self, name: &str) -> Option<Place<'_>>
+    /// `near` has the places of the files that can have the name.
+    pub(crate) fn definition(&self, near: &[usize], name: &str) -> Option<Place<'_>>
+        requires near { AreNear near.now self.now (around name.now) }
         ensures first { meaning_at result ≡ meaning self.now name.now }
     {
         let files = self.files.as_slice();
-        let first = first_place(files, &self.packages, name);
+        let first = first_place(files, near, name);
         match first.definition {
             Some(definition) => match file_at(files, first.place) {
                 Some(f) => Some(Place {
@@ -82,6 +94,6 @@ impl Files {
         if name.is_empty() {
             return false;
         }
-        self.packages.contains_key(name)
+        has_package(&self.packages, name)
     }
 }

@@ -230,7 +230,7 @@ fn compare(a: Rest<'_>, b: Rest<'_>) -> Ordering
 }
 
 /// `name` with a dot after it.
-fn with_dot(alloc: Global, name: &str) -> Result<Text, Memory>
+pub(crate) fn with_dot(alloc: Global, name: &str) -> Result<Text, Memory>
     ensures dotted { IfOk result (λ t. t ≡ name.now ++ codes ".") }
 {
     let mut text = String::with_capacity(alloc, name.len().saturating_add(1))?;

@@ -64,15 +64,9 @@ fn lower_bound(index: &[(FullName, usize)], name: &str) -> usize
     ensures others { (k : ℕ) → result ≤ k → k < length index.now →
         is_lt (name_order (get_or index.now k ([], 0)).0 name.now) ≡ false }
 {
-    let mut low = 0;
-    let mut high = index.len();
-    'halves: while low < high {
-        let middle = low + (high - low) / 2;
-        if index[middle].0.compare_to(name).is_lt() {
-            low = middle + 1;
-        } else {
-            high = middle;
-        }
-    }
-    low
+    index.partition_point(
+        |entry: &(FullName, usize)| -> bool
+            ensures { result ≡ is_lt (name_order entry.now.0 name.entry.now) }
+        { entry.0.compare_to(name).is_lt() },
+    )
 }

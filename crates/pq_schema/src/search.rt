@@ -2,9 +2,11 @@
 //! (proto3 language specification, "Packages and Name Resolution".)
 //!
 //! Each scope costs one look-up of a full name, which is built in a buffer that the scopes share.
-ghost use Rattle.std.specs.Prelude.{◌≡◌, IfOk, string_bytes};
+//! The files that can have one of these names are found once.
+ghost use Rattle.std.specs.Prelude.{◌≡◌, ◌≢◌, ℕ, ◌<◌, IfOk, get_or, length, string_bytes};
 ghost use Rattle.pq_schema.specs.Definitions.{qualified};
 ghost use Rattle.pq_schema.specs.Resolution.{found, found_as, has_names, decides, unless_type, single, dotted, scopes, search, lookup};
+ghost use Rattle.pq_schema.specs.aux.Grouping.{AreNear, around};
 ghost use Rattle.pq_schema.specs.aux.Hits.{found_at, lookup_at};
 
 use crate::definitions::DefinitionKind;
@@ -51,11 +53,13 @@ fn has_names(kind: DefinitionKind) -> bool
     )
 }
 
-/// What the full name `name` is found as in `files`.
-fn find_full<'a>(files: &'a Files, name: &str) -> Hit<'a>
+/// What the full name `name` is found as in `files`. `near` has the places of the files that can
+/// have the name.
+fn find_full<'a>(files: &'a Files, near: &[usize], name: &str) -> Hit<'a>
+    requires near { AreNear near.now files.now (around name.now) }
     ensures is { found_at result ≡ found files.now name.now }
 {
-    match files.definition(name) {
+    match files.definition(near, name) {
         Some(place) => hit_at(place),
         None => {
             if files.is_package(name) {
@@ -67,11 +71,21 @@ fn find_full<'a>(files: &'a Files, name: &str) -> Hit<'a>
     }
 }
 
-/// Whether the full name `name` decides for a dotted name whose first part it is.
-fn decides(files: &Files, name: &str) -> bool
+/// What the full name `name` is found as in `files`.
+fn find_any<'a>(alloc: Global, files: &'a Files, name: &str) -> Result<Hit<'a>, Memory>
+    ensures is { IfOk result (λ hit. found_at hit ≡ found files.now name.now) }
+{
+    let near = files.near(alloc, outer(name))?;
+    Ok(find_full(files, &near, name))
+}
+
+/// Whether the full name `name` decides for a dotted name whose first part it is. `near` has the
+/// places of the files that can have the name.
+fn decides(files: &Files, near: &[usize], name: &str) -> bool
+    requires near { AreNear near.now files.now (around name.now) }
     ensures is { result ≡ decides files.now name.now }
 {
-    match files.definition(name) {
+    match files.definition(near, name) {
         Some(place) => has_names(place.definition.kind) || files.is_package(name),
         None => files.is_package(name),
     }
@@ -103,20 +117,24 @@ fn qualify(buffer: &mut String, scope: &str, name: &str) -> Result<(), Memory>
     Ok(())
 }
 
-/// What the name `name`, which has no dot, is found as from the scopes of `within`.
+/// What the name `name`, which has no dot, is found as from the scopes of `within`. `near` has the
+/// places of the files whose package is one of these scopes.
 fn find_single<'a>(
     buffer: &mut String,
     files: &'a Files,
+    near: &[usize],
     within: &str,
     name: &str,
 ) -> Result<Hit<'a>, Memory>
+    requires near { AreNear near.now files.now (scopes within.now) }
+    requires plain { (i : ℕ) → i < length name.now → get_or name.now i 0 ≢ 46 }
     ensures is { IfOk result (λ hit. found_at hit ≡ single files.now (scopes within.now) name.now) }
 {
     let mut best = Hit::Nothing;
     let mut inner = innermost(within);
     'scopes: loop {
         qualify(buffer, scope_or_empty(inner), name)?;
-        best = unless_type(best, find_full(files, buffer.as_str()));
+        best = unless_type(best, find_full(files, near, buffer.as_str()));
         if let Hit::Type(_) = best {
             return Ok(best);
         }
@@ -128,14 +146,18 @@ fn find_single<'a>(
 }
 
 /// What the name `name`, whose part before its first dot is `first`, is found as from the scopes of
-/// `within`.
+/// `within`. `near` has the places of the files whose package is one of these scopes.
 fn find_dotted<'a>(
+    alloc: Global,
     buffer: &mut String,
     files: &'a Files,
+    near: &[usize],
     within: &str,
     first: &str,
     name: &str,
 ) -> Result<Hit<'a>, Memory>
+    requires near { AreNear near.now files.now (scopes within.now) }
+    requires plain { (i : ℕ) → i < length first.now → get_or first.now i 0 ≢ 46 }
     ensures is { IfOk result
         (λ hit. found_at hit ≡ dotted files.now (scopes within.now) first.now name.now) }
 {
@@ -143,9 +165,9 @@ fn find_dotted<'a>(
     'scopes: loop {
         let scope = scope_or_empty(inner);
         qualify(buffer, scope, first)?;
-        if decides(files, buffer.as_str()) {
+        if decides(files, near, buffer.as_str()) {
             qualify(buffer, scope, name)?;
-            return Ok(find_full(files, buffer.as_str()));
+            return find_any(alloc, files, buffer.as_str());
         }
         match inner {
             Some(scope) => inner = outer(scope),
@@ -156,6 +178,7 @@ fn find_dotted<'a>(
 
 /// What the name `name` is found as from the scopes of `within`.
 fn find<'a>(
+    alloc: Global,
     buffer: &mut String,
     files: &'a Files,
     within: &str,
@@ -167,11 +190,14 @@ fn find<'a>(
         return Ok(Hit::Nothing);
     }
     match name.strip_prefix('.') {
-        Some(full) => Ok(find_full(files, full)),
-        None => match name.split_once('.') {
-            Some((first, _)) => find_dotted(buffer, files, within, first, name),
-            None => find_single(buffer, files, within, name),
-        },
+        Some(full) => find_any(alloc, files, full),
+        None => {
+            let near = files.near(alloc, innermost(within))?;
+            match name.split_once('.') {
+                Some((first, _)) => find_dotted(alloc, buffer, files, &near, within, first, name),
+                None => find_single(buffer, files, &near, within, name),
+            }
+        }
     }
 }
 
@@ -186,10 +212,10 @@ pub(crate) fn look_up<'a>(
     ensures is { IfOk result (λ o. lookup_at o ≡ lookup scope.now within.now name.now) }
 {
     let mut buffer = String::new(alloc);
-    match find(&mut buffer, scope.visible_files(), within, name)? {
+    match find(alloc, &mut buffer, scope.visible_files(), within, name)? {
         Hit::Type(place) => Ok(Outcome::Type(place)),
         Hit::Other => Ok(Outcome::NotAType),
-        Hit::Nothing => match find(&mut buffer, scope.reached_files(), within, name)? {
+        Hit::Nothing => match find(alloc, &mut buffer, scope.reached_files(), within, name)? {
             Hit::Type(place) => Ok(Outcome::NotVisible(place.file)),
             _ => Ok(Outcome::NotFound),
         },

@@ -1,4 +1,5 @@
-use Rattle.std.proofs.Common.{◌≡◌, ℕ, List, sym, subst}
+use Rattle.std.proofs.Common.{◌≡◌, ◌++◌, ◌∙◌, ℕ, List, sym, ap, subst}
+use Rattle.std.specs.Prelude.{codes}
 use Rattle.pq_syntax.specs.Places.{places}
 use Rattle.pq_schema.specs.aux.InPackage.{AllBelow}
 use Rattle.pq_schema.specs.aux.Index.{IsIndexOf}
@@ -11,6 +12,7 @@ invariant_of-result c =
     let ds = c.in_ok-definitions.definitions.items in
     let below = subst (λ (r : List ℕ). AllBelow r ds) root (subst (AllBelow c.in_ok-package.package) (sym c.in_ok-definitions.ensures) (all_below c.in_ok-package.package (places c.args.nodes.now))) in
     let index = c.in_ok-index.ensures in (
+      c.in_ok-root.ensures.dotted ∙ ap (λ (n : List ℕ). n ++ codes ".") c.as_str.ensures.same,
       below,
       subst (IsIndexOf c.in_ok-index.index.items) c.deref.ensures.value index,
     )

@@ -1,5 +1,7 @@
-use Rattle.std.proofs.Common.{◌≡◌, ◌==◌, List, false, length, sym, ap, ◌∙◌}
+use Rattle.std.proofs.Common.{◌≡◌, ◌==◌, nat_eq, ℕ, List, false, length, sym, ap, ◌∙◌}
 use Rattle.pq_schema.specs.declared.scope.FileDefs.{FileDefs}
+use Rattle.std.specs.List.{list_any, starts_with}
+use Rattle.pq_schema.specs.aux.InPackage.{dotted}
 use Rattle.pq_schema.specs.Resolution.{is_package}
 use Rattle.pq_schema.proofs.Meanings.{package_empty}
 use Rattle.pq_schema.proofs.Grouping.{known_package}
@@ -13,8 +15,8 @@ returns c =
     let name = c.args.name.now in
     let some : (length name == 0) ≡ false = cc in
     record {
-      is = c.contains_key.ensures
-          ∙ c.self.invariant.names name
-          ∙ sym (known_package c.self.inside.files.items name some)
+      is = c.has_package.ensures.is
+          ∙ ap (λ (es : List (List ℕ × ℕ)). list_any (λ e. starts_with nat_eq e.0 (dotted name)) es) c.deref.ensures.value
+          ∙ known_package c.self.inside.files.items c.self.invariant name some
           ∙ ap (λ (fs : List FileDefs). is_package fs name) c.self.view_is;
     }
