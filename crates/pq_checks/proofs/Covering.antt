@@ -1,6 +1,7 @@
 -- Sorted ranges cover the same values once each last value is raised to the greatest so far, and
 -- then neither end falls. The search finds the last range that begins at or before a value.
-use Rattle.std.proofs.Common.{◌≡◌, ℕ, zero, suc, ◌-◌, ◌<◌, ◌≤◌, Bool, true, false, not, List, [], ◌∷◌, length, get_or, refl, sym, ◌∙◌, ap, arith}
+use Rattle.std.proofs.Common.{◌≡◌, ℕ, zero, suc, ◌+◌, ◌-◌, ◌<◌, ◌≤◌, Bool, true, false, not, List, [], ◌∷◌, ◌++◌, drop, length, get_or, refl, sym, ◌∙◌, ap, arith, append_assoc, append-nil, add-one, drop-cons}
+use Rattle.std.proofs.lemmas.List.{drop_all}
 use Rattle.std.specs.Prelude.{◌&&◌, ◌||◌, if◌then◌else◌}
 use Rattle.std.specs.List.{list_any}
 use Rattle.std.specs.Cmp.{IsTotalOrder}
@@ -167,6 +168,23 @@ module _ {X : Type 0} {R : X → X → Ordering} (o : IsTotalOrder R) where
   unfolding raised
   raised_climbs [] a = λ i j d le lt. absurd (omega arith)
   raised_climbs (r ∷ rs) a = climbs_front r r.1 rs refl (λ j d lt. a zero (suc j) d (omega arith) (omega arith)) (raise_climbs r.1 rs (ascends_tail r rs a))
+
+  -- one more raised range
+  pub raise_more : (done after whole rs : List (X × X)) (i : ℕ) (r : X × X) (t u : X) → i < length rs → r ≡ get_or rs i r → u ≡ higher R t r.1
+      → after ≡ done ++ (r.0, u) ∷ [] → done ++ raise R t (drop i rs) ≡ whole → after ++ raise R u (drop (i + 1) rs) ≡ whole
+  unfolding raise
+  raise_more done after whole rs i r t u lt is top said so_far =
+      let cut : drop i rs ≡ r ∷ drop (i + 1) rs = drop-cons rs i r lt ∙ ap (λ n. get_or rs i r ∷ drop n rs) (sym (add-one i)) ∙ ap (λ x. x ∷ drop (i + 1) rs) (sym is) in
+      ap (λ ys. ys ++ raise R u (drop (i + 1) rs)) said
+      ∙ append_assoc done ((r.0, u) ∷ []) (raise R u (drop (i + 1) rs))
+      ∙ ap (λ x. done ++ (r.0, x) ∷ raise R x (drop (i + 1) rs)) top
+      ∙ ap (λ ys. done ++ raise R t ys) (sym cut)
+      ∙ so_far
+
+  -- no range is left
+  pub raise_all : (done whole rs : List (X × X)) (i : ℕ) (t : X) → length rs ≤ i → done ++ raise R t (drop i rs) ≡ whole → done ≡ whole
+  unfolding raise
+  raise_all done whole rs i t past so_far = sym (append-nil done) ∙ ap (λ ys. done ++ raise R t ys) (sym (drop_all i rs past)) ∙ so_far
 
   -- ---- the search
 

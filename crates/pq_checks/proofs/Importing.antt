@@ -1,9 +1,7 @@
 -- The errors of imports, by what the code looks up: states by name, and names listed before.
 use Rattle.std.proofs.Common.{◌≡◌, ℕ, zero, suc, arith, ◌+◌, ◌<◌, Bool, true, false, cond, List, [], ◌∷◌, ◌++◌, take, drop, length, get_or, map, refl, sym, ◌∙◌, ap, append_assoc, add-one, drop-cons}
-use Rattle.std.specs.Prelude.{◌||◌, bytes_eq, codes, Option, Some, None, unwrap_or}
-use Rattle.std.specs.List.{list_any}
+use Rattle.std.specs.Prelude.{bytes_eq, codes, Option, Some, None, unwrap_or}
 use Rattle.std.specs.Borrow.{Bor}
-use Rattle.std.proofs.lemmas.List.{take-map}
 use Rattle.pq_syntax.specs.declared.parts.Strings.{Strings}
 use Rattle.std.specs.Str.{is_utf8}
 use Rattle.pq_checks.specs.declared.code.Code.TheVariants as code
@@ -56,10 +54,6 @@ ring_said (f ∷ fs) = refl
 
 -- ---- lists of what references lend
 
-pub any_map : {A B : Type 0} (p : B → Bool) (f : A → B) (xs : List A) → list_any p (map f xs) ≡ list_any (λ (x : A). p (f x)) xs
-any_map p f [] = refl
-any_map p f (x ∷ xs) = ap (λ b. p (f x) || b) (any_map p f xs)
-
 pub length_now : {A : Type 0} (xs : List (Bor A)) → length (all_now xs) ≡ length xs
 length_now [] = refl
 length_now (x ∷ xs) = ap (λ n. suc n) (length_now xs)
@@ -71,12 +65,6 @@ at_map (x ∷ xs) (suc i) d lt = at_map xs i d (omega arith)
 
 pub now_at : {A : Type 0} (xs : List (Bor A)) (i : ℕ) (d : Bor A) → i < length xs → d ≡ get_or xs i d → d.now ≡ get_or (all_now xs) i d.now
 now_at {A = A} xs i d lt is = ap (λ (x : Bor A). x.now) is ∙ sym (at_map xs i d lt)
-
--- the names listed before, as references to them
-pub listed_now : (name : List ℕ) (i : ℕ) (xs : List (Bor Strings)) → is_listed name (take i (all_now xs)) ≡ list_any (λ (x : Bor Strings). bytes_eq name x.now.value) (take i xs)
-listed_now name i xs =
-    ap (list_any (λ (e : Strings). bytes_eq name e.value)) (take-map (λ (x : Bor Strings). x.now) i xs)
-    ∙ any_map (λ (e : Strings). bytes_eq name e.value) (λ (x : Bor Strings). x.now) (take i xs)
 
 -- ---- one import
 

@@ -11,8 +11,7 @@ pub mod FaultsInOrder
 pub mod EachLine
 pub mod Joined
 pub mod Spotted
-pub mod Seen
-pub mod SeenNames
+pub mod Sets
 pub mod References
 pub mod Elsewhere
 pub mod Importing

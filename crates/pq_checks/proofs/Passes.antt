@@ -1,5 +1,5 @@
 -- The steps of a loop over a list that appends what is said of each element, and its end.
-use Rattle.std.proofs.Common.{◌≡◌, ℕ, ◌+◌, ◌<◌, ◌≤◌, List, ◌∷◌, ◌++◌, take, drop, length, get_or, sym, ◌∙◌, ap, append_assoc, append-nil, add-one, drop-cons}
+use Rattle.std.proofs.Common.{◌≡◌, ℕ, ◌+◌, ◌<◌, ◌≤◌, List, [], ◌∷◌, ◌++◌, map, take, drop, length, get_or, sym, ◌∙◌, ap, append_assoc, append-nil, add-one, drop-cons}
 use Rattle.std.specs.Prelude.{flat_map}
 use Rattle.std.proofs.lemmas.List.{drop_all}
 use Rattle.pq_checks.specs.Earlier.{of_each_after}
@@ -20,6 +20,38 @@ module _ {A B : Type 0} (f : A → List B) where
   pub each_all : (done whole : List B) (xs : List A) (i : ℕ) → length xs ≤ i → done ++ flat_map f (drop i xs) ≡ whole → done ≡ whole
   each_all done whole xs i past so_far =
       sym (append-nil done) ∙ ap (λ ys. done ++ flat_map f ys) (sym (drop_all i xs past)) ∙ so_far
+
+module _ {A B : Type 0} (f : A → B) where
+  -- one more element
+  pub put_more : (done after whole : List B) (xs : List A) (i : ℕ) (d : A) → i < length xs → d ≡ get_or xs i d → after ≡ done ++ f d ∷ []
+      → done ++ map f (drop i xs) ≡ whole → after ++ map f (drop (i + 1) xs) ≡ whole
+  put_more done after whole xs i d lt is said so_far =
+      let cut : drop i xs ≡ get_or xs i d ∷ drop (i + 1) xs = drop-cons xs i d lt ∙ ap (λ n. get_or xs i d ∷ drop n xs) (sym (add-one i)) in
+      ap (λ ys. ys ++ map f (drop (i + 1) xs)) (said ∙ ap (λ x. done ++ f x ∷ []) is)
+      ∙ append_assoc done (f (get_or xs i d) ∷ []) (map f (drop (i + 1) xs))
+      ∙ ap (λ ys. done ++ map f ys) (sym cut)
+      ∙ so_far
+
+  -- no element is left
+  pub put_all : (done whole : List B) (xs : List A) (i : ℕ) → length xs ≤ i → done ++ map f (drop i xs) ≡ whole → done ≡ whole
+  put_all done whole xs i past so_far =
+      sym (append-nil done) ∙ ap (λ ys. done ++ map f ys) (sym (drop_all i xs past)) ∙ so_far
+
+module _ {X A B : Type 0} (f : A → List B) (h : X → A) where
+  -- one more lent element
+  pub seen_more : (done after whole : List B) (xs : List X) (i : ℕ) (d : X) → i < length xs → d ≡ get_or xs i d → after ≡ done ++ f (h d)
+      → done ++ flat_map f (map h (drop i xs)) ≡ whole → after ++ flat_map f (map h (drop (i + 1) xs)) ≡ whole
+  seen_more done after whole xs i d lt is said so_far =
+      let cut : drop i xs ≡ get_or xs i d ∷ drop (i + 1) xs = drop-cons xs i d lt ∙ ap (λ n. get_or xs i d ∷ drop n xs) (sym (add-one i)) in
+      ap (λ ys. ys ++ flat_map f (map h (drop (i + 1) xs))) (said ∙ ap (λ x. done ++ f (h x)) is)
+      ∙ append_assoc done (f (h (get_or xs i d))) (flat_map f (map h (drop (i + 1) xs)))
+      ∙ ap (λ ys. done ++ flat_map f (map h ys)) (sym cut)
+      ∙ so_far
+
+  -- no element is left
+  pub seen_all : (done whole : List B) (xs : List X) (i : ℕ) → length xs ≤ i → done ++ flat_map f (map h (drop i xs)) ≡ whole → done ≡ whole
+  seen_all done whole xs i past so_far =
+      sym (append-nil done) ∙ ap (λ ys. done ++ flat_map f (map h ys)) (sym (drop_all i xs past)) ∙ so_far
 
 module _ {A B : Type 0} (f : List A → A → List B) where
   -- one more element, said by those before it

@@ -4,23 +4,6 @@ use Rattle.std.specs.Prelude.{◌⊎◌, Contains}
 use Rattle.std.proofs.lemmas.List.{take_more}
 use Rattle.std.proofs.lemmas.List.Elements.{Contains-append_cases, Contains-append_left, Contains-append_right}
 use Rattle.pq_checks.specs.Earlier.{of_each_after}
-use Rattle.pq_checks.specs.aux.Repeats.{each_after}
-
-module _ {A B : Type 0} (f : List A → A → B) where
-  -- what is said of the elements from `i` on
-  pub each_after_more : (xs : List A) (i : ℕ) (d : A) → i < length xs
-      → each_after f (take i xs) (drop i xs) ≡ f (take i xs) (get_or xs i d) ∷ each_after f (take (i + 1) xs) (drop (i + 1) xs)
-  unfolding each_after
-  each_after_more xs i d h =
-      let cut : drop i xs ≡ get_or xs i d ∷ drop (i + 1) xs = drop-cons xs i d h ∙ ap (λ n. get_or xs i d ∷ drop n xs) (sym (add-one i)) in
-      ap (each_after f (take i xs)) cut ∙ ap (λ ys. f (take i xs) (get_or xs i d) ∷ each_after f ys (drop (i + 1) xs)) (sym (take_more xs i d h))
-
-  -- the step of a loop that pushes what is said of the element at `i`
-  pub said_more : (done whole : List B) (xs : List A) (i : ℕ) (d : A) → i < length xs
-      → done ++ each_after f (take i xs) (drop i xs) ≡ whole
-      → (done ++ f (take i xs) (get_or xs i d) ∷ []) ++ each_after f (take (i + 1) xs) (drop (i + 1) xs) ≡ whole
-  said_more done whole xs i d h e =
-      append_assoc done (f (take i xs) (get_or xs i d) ∷ []) (each_after f (take (i + 1) xs) (drop (i + 1) xs)) ∙ ap (λ ys. done ++ ys) (sym (each_after_more xs i d h)) ∙ e
 
 module _ {A B : Type 0} (f : List A → A → List B) where
   -- what is said of the elements from `i` on

@@ -1,36 +1,30 @@
--- Keys that tie are equal: numbers, owners and names; and what sets and ranges of keys have.
+-- Keys that tie are equal: numbers, owners and names; and what ranges of keys have.
 use Rattle.std.proofs.Common.{◌≡◌, ℕ, ℤ, pos, negsuc, Bool, true, false, cond, List, [], ◌∷◌, map, refl, sym, ap, ◌∙◌, arith, nat_lt, nat_le}
 use Rattle.std.specs.Prelude.{◌&&◌, ◌||◌, Option, Some, None, is_some, int_le, nat_eq, bytes_eq, flat_map}
 use Rattle.std.specs.List.{list_any}
 use Rattle.std.specs.Option.{option_eq, option_cmp}
 use Rattle.std.specs.Ordering.{is_eq, is_le, ordering_then, ordering_reverse, nat_cmp, int_cmp, int_eq}
-use Rattle.std.specs.Cmp.{IsTotalOrder, unsigned_tied, nat_cmp_total}
+use Rattle.std.specs.Cmp.{unsigned_tied, nat_cmp_total, int_cmp_total}
 use Rattle.std.specs.Cmp.Lexicographic.{options_total, slice_cmp}
 use Rattle.std.specs.declared.cmp.Ordering.{Ordering}
 use Rattle.std.specs.declared.cmp.Ordering.TheVariants.{Less, Equal, Greater}
-use Rattle.std.proofs.lemmas.Bool.Decides.{nat_tests}
+use Rattle.std.proofs.lemmas.Bool.Decides.{nat_tests, same_from_decides, Decides-like}
+use Rattle.std.proofs.lemmas.Cmp.{eq_by_cmp_equiv}
+use Rattle.std.proofs.lemmas.Slice.Eq.{bytes_eq-Decides}
 use Rattle.std.proofs.lemmas.List.Folds.{list_any-append}
 use Rattle.std.proofs.lemmas.Map.Text.{is_eq-slice_cmp}
-use Rattle.pq_checks.specs.Faults.{same_item, has_number, is_reserved, is_reserved_name, covers}
+use Rattle.pq_schema.specs.aux.NameOrder.{names_tie}
+use Rattle.pq_schema.specs.contracts.full_name.FullNameOrd.TheImpl as order
+use Rattle.pq_schema.specs.declared.definitions.Definition.{Definition}
+use Rattle.pq_checks.specs.Faults.{same_item, has_number, is_reserved, covers}
 use Rattle.pq_checks.specs.Members.{Member, ReservedName}
 use Rattle.pq_checks.specs.Numbers.{Limits, number_in, bounds_of, is_between}
 use Rattle.pq_checks.specs.Owners.{limits_by}
 use Rattle.pq_checks.specs.aux.Cover.{is_within, is_covered}
-use Rattle.pq_checks.specs.aux.Lines.{Key, key_cmp, key_of, stair, stair_of, point, NameKey, name_cmp, name_key}
-use Rattle.pq_checks.specs.aux.Repeats.{repeats}
+use Rattle.pq_checks.specs.aux.Lines.{Key, key_cmp, stair, stair_of, NameKey, name_cmp}
+use Rattle.pq_checks.specs.aux.Sets.{is_number, is_name, is_full_name}
 use Rattle.pq_checks.specs.declared.members.Reserved.{Reserved}
 use Rattle.pq_checks.specs.declared.numbers.Bounds.{Bounds}
-use Rattle.pq_checks.proofs.Taken.{any_map}
-
--- ---- sets of keys
-
-tie : (c back : Ordering) → back ≡ ordering_reverse c → (is_le back && is_le c) ≡ is_eq c
-tie Less back e = rw (e) refl
-tie Equal back e = rw (e) refl
-tie Greater back e = rw (e) refl
-
-pub covers_points : {X : Type 0} {R : X → X → Ordering} (o : IsTotalOrder R) (xs : List X) (x : X) → is_covered R (map point xs) x ≡ repeats R xs x
-covers_points {R = R} o xs x = any_map (is_within R x) (λ e. is_eq (R x e)) point (λ e. tie (R x e) (R e x) (o.antisymm e x)) xs
 
 -- ---- numbers and owners
 
@@ -59,14 +53,23 @@ option_tied R E same None (Some y) = refl
 option_tied R E same (Some x) None = refl
 option_tied R E same (Some x) (Some y) = same x y
 
-pub item_tied : (a b : Option ℕ) → is_eq (option_cmp nat_cmp a b) ≡ same_item a b
+item_tied : (a b : Option ℕ) → is_eq (option_cmp nat_cmp a b) ≡ same_item a b
 item_tied a b = option_tied nat_cmp nat_eq unsigned_tied a b
 
-key_tied : (a b : Key) → is_eq (key_cmp a b) ≡ (same_item a.0 b.0 && option_eq int_eq a.1 b.1)
-key_tied a b =
-    eq_then (option_cmp nat_cmp a.0 b.0) (option_cmp int_cmp a.1 b.1)
-    ∙ ap (λ c. c && is_eq (option_cmp int_cmp a.1 b.1)) (item_tied a.0 b.0)
-    ∙ ap (λ c. same_item a.0 b.0 && c) (option_tied int_cmp int_eq int_tied a.1 b.1)
+-- a tie, the other way round
+pub item_back : (k q : Option ℕ) → is_eq (option_cmp nat_cmp k q) ≡ same_item q k
+item_back k q = (eq_by_cmp_equiv (options_total nat_cmp_total)).symm k q ∙ item_tied q k
+
+number_back : (k q : Option ℤ) → is_eq (option_cmp int_cmp k q) ≡ option_eq int_eq q k
+number_back k q = (eq_by_cmp_equiv (options_total int_cmp_total)).symm k q ∙ option_tied int_cmp int_eq int_tied q k
+
+-- which keys tie with the key of a member
+pub number_tied : (limits : Limits) (m : Member) (z : Option ℤ) (q : Key) → z ≡ number_in limits m.number
+    → is_eq (key_cmp (m.owner, z) q) ≡ is_number limits q m
+number_tied limits m z q is =
+    eq_then (option_cmp nat_cmp m.owner q.0) (option_cmp int_cmp z q.1)
+    ∙ ap (λ c. c && is_eq (option_cmp int_cmp z q.1)) (item_back m.owner q.0)
+    ∙ ap (λ c. same_item q.0 m.owner && c) (number_back z q.1 ∙ ap (λ (y : Option ℤ). option_eq int_eq q.1 y) is)
 
 none_false : (b : Bool) → (b && false) ≡ false
 none_false true = refl
@@ -78,24 +81,9 @@ and_true_right false = refl
 
 -- whether an earlier member of the owner has the number
 pub twice_is : (limits : Limits) (earlier : List Member) (owner : Option ℕ) (z : Option ℤ)
-    → (repeats key_cmp (map (key_of limits) earlier) (owner, z) && is_some z) ≡ has_number limits owner z earlier
-twice_is limits earlier owner None = none_false (repeats key_cmp (map (key_of limits) earlier) (owner, None))
-twice_is limits earlier owner (Some z) =
-    and_true_right (repeats key_cmp (map (key_of limits) earlier) (owner, Some z))
-    ∙ any_map (λ e. is_eq (key_cmp (owner, Some z) e)) (λ (e : Member). same_item owner e.owner && option_eq int_eq (Some z) (number_in limits e.number)) (key_of limits)
-    (λ e. key_tied (owner, Some z) (key_of limits e)) earlier
-
--- whether an earlier member is one of the owner
-pub owner_is : (earlier : List Member) (owner : Option ℕ)
-    → repeats (option_cmp nat_cmp) (map (λ (m : Member). m.owner) earlier) owner ≡ list_any (λ (e : Member). same_item owner e.owner) earlier
-owner_is earlier owner =
-    any_map (λ (e : Option ℕ). is_eq (option_cmp nat_cmp owner e)) (λ (e : Member). same_item owner e.owner) (λ (m : Member). m.owner) (λ e. item_tied owner e.owner) earlier
-
--- whether a member is in the body of the holder
-pub holder_is : (members : List Member) (body : ℕ)
-    → repeats (option_cmp nat_cmp) (map (λ (m : Member). m.holder) members) (Some body) ≡ list_any (λ (m : Member). same_item (Some body) m.holder) members
-holder_is members body =
-    any_map (λ (e : Option ℕ). is_eq (option_cmp nat_cmp (Some body) e)) (λ (m : Member). same_item (Some body) m.holder) (λ (m : Member). m.holder) (λ e. item_tied (Some body) e.holder) members
+    → (list_any (is_number limits (owner, z)) earlier && is_some z) ≡ has_number limits owner z earlier
+twice_is limits earlier owner None = none_false (list_any (is_number limits (owner, None)) earlier)
+twice_is limits earlier owner (Some z) = and_true_right (list_any (is_number limits (owner, Some z)) earlier)
 
 -- ---- reserved ranges
 
@@ -136,15 +124,22 @@ covered_is rs w (Some z) = and_true_right (is_covered key_cmp (flat_map stair_of
 
 -- ---- names
 
-name_tied : (a b : NameKey) → is_eq (name_cmp a b) ≡ (same_item a.0 b.0 && bytes_eq a.1.now b.1.now)
-name_tied a b =
-    eq_then (option_cmp nat_cmp a.0 b.0) (slice_cmp nat_cmp a.1.now b.1.now)
-    ∙ ap (λ c. c && is_eq (slice_cmp nat_cmp a.1.now b.1.now)) (item_tied a.0 b.0)
-    ∙ ap (λ c. same_item a.0 b.0 && c) (is_eq-slice_cmp a.1.now b.1.now)
+turned : (xs ys : List ℕ) → bytes_eq xs ys ≡ bytes_eq ys xs
+turned xs ys =
+    same_from_decides (bytes_eq xs ys) (bytes_eq ys xs) (bytes_eq-Decides xs ys)
+    (Decides-like (bytes_eq ys xs) (λ e. sym e) (λ e. sym e) (bytes_eq-Decides ys xs))
 
--- whether a name of the owner is reserved
-pub name_is : (names : List ReservedName) (keys : List NameKey) (k : NameKey) → map name_key keys ≡ names
-    → repeats name_cmp keys k ≡ is_reserved_name k.0 k.1.now names
-name_is names keys k is =
-    sym (any_map (λ (r : ReservedName). same_item k.0 r.owner && bytes_eq k.1.now r.value) (λ (e : NameKey). is_eq (name_cmp k e)) name_key (λ e. sym (name_tied k e)) keys)
-    ∙ ap (λ (ns : List ReservedName). is_reserved_name k.0 k.1.now ns) is
+-- which texts tie with the text `text`
+pub text_back : (k q text : List ℕ) → k ≡ text → is_eq (slice_cmp nat_cmp k q) ≡ bytes_eq q text
+text_back k q text is = is_eq-slice_cmp k q ∙ turned k q ∙ ap (λ n. bytes_eq q n) is
+
+-- which keys tie with the key of a reserved name
+pub name_back : (k q : NameKey) (n : ReservedName) → k.0 ≡ n.owner → k.1.now ≡ n.value → is_eq (name_cmp k q) ≡ is_name q n
+name_back k q n owner value =
+    eq_then (option_cmp nat_cmp k.0 q.0) (slice_cmp nat_cmp k.1.now q.1.now)
+    ∙ ap (λ c. c && is_eq (slice_cmp nat_cmp k.1.now q.1.now)) (item_back k.0 q.0 ∙ ap (λ (o : Option ℕ). same_item q.0 o) owner)
+    ∙ ap (λ c. same_item q.0 n.owner && c) (text_back k.1.now q.1.now n.value value)
+
+-- which full names tie with that of a definition
+pub full_name_back : (k q : List ℕ) (d : Definition) → k ≡ d.full_name → is_eq (order.ghosts.cmp k q) ≡ is_full_name q d
+full_name_back k q d is = sym (names_tie k q) ∙ turned k q ∙ ap (λ n. bytes_eq q n) is

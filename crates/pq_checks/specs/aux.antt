@@ -1,7 +1,7 @@
 -- Auxiliary: nothing below this module has to be believed (used by proofs and invariants only).
 pub mod Spots
 pub mod Seen
-pub mod Repeats
+pub mod Sets
 pub mod Cover
 pub mod Lines
 pub mod Views

@@ -1,24 +1,26 @@
 //! Errors P126 and P130: oneofs without a field, and enums without a value.
 ghost use Rattle.std.specs.Prelude.{◌≡◌, ◌++◌, flat_map, map, IfOk};
+ghost use Rattle.std.specs.Option.{option_cmp};
+ghost use Rattle.std.specs.Ordering.{nat_cmp};
 ghost use Rattle.pq_checks.specs.aux.Lines.{body_line};
-ghost use Rattle.pq_checks.specs.aux.Seen.{body_seen, holder_seen, member_seen};
+ghost use Rattle.pq_checks.specs.aux.Seen.{body_seen, member_seen};
+ghost use Rattle.pq_checks.specs.aux.Sets.{Has, is_holder};
 
 use crate::Memory;
 use crate::code::Code;
-use crate::cover::is_covered;
 use crate::fault::Fault;
-use crate::key_set::key_set;
 use crate::members::{Body, Member};
 use crate::tell::tell_if;
 use std::alloc::Global;
+use std::collections::BTreeSet;
 
 /// The numbers of the statements in whose bodies `members` are.
-fn holders(alloc: Global, members: &[Member<'_>]) -> Result<Vec<Option<usize>>, Memory>
-    ensures holders { IfOk result (λ hs. hs.items ≡ map holder_seen (map member_seen members.now)) }
+fn holders(alloc: Global, members: &[Member<'_>]) -> Result<BTreeSet<Option<usize>>, Memory>
+    ensures holders { IfOk result (λ s. Has (option_cmp nat_cmp) is_holder s (map member_seen members.now)) }
 {
-    let mut holders = Vec::with_capacity(alloc, members.len())?;
+    let mut holders = BTreeSet::new(alloc);
     'each: for member in members {
-        holders.push(member.holder)?;
+        holders.insert(member.holder)?;
     }
     Ok(holders)
 }
@@ -37,10 +39,9 @@ pub(crate) fn push_body_faults(
         ++ flat_map (body_line code text.now (map member_seen members.now)) (map body_seen bodies.now)) }
 {
     let holders = holders(alloc, members)?;
-    let held = key_set(alloc, holders.as_slice())?;
-    let held = held.as_slice();
     'each: for body in bodies {
-        let has_member = is_covered(held, Some(body.number));
+        let holder = Some(body.number);
+        let has_member = holders.contains(&holder);
         tell_if(alloc, faults, !has_member, body.name.span, code, text)?;
     }
     Ok(())

@@ -145,52 +145,57 @@ fn state_in<S: CheckKeys>(answer: &S::Answer) -> FileState
 /// The turn after what the file `file` is read as: the rule asks its imports.
 fn after_file<S: CheckKeys>(
     alloc: Global,
-    file: &Text,
+    file: Text,
     answer: &S::Answer,
-) -> Result<Turn<S::Key, CheckPart, Shared<Checked>>, Memory>
-    ensures turn { IfOk result (λ t. t ≡ Ask (S.imports file.now) (ReadImportsPart file.now (S.parsed answer.now))) }
+) -> Result<Turn<S::Key, CheckPart, Shared<Checked>>, CheckPart>
+    ensures turn { IfOk result (λ t. t ≡ Ask (S.imports file) (ReadImportsPart file (S.parsed answer.now))) }
+    ensures back { IfErr result (λ p. p ≡ ReadFile file) }
 {
-    let parsed = file_in::<S>(alloc, answer)?;
-    Ok(Turn::Ask(
-        S::imports_key(file)?,
-        CheckPart::ReadImports(file.copy()?, parsed),
-    ))
+    match (S::imports_key(&file), file_in::<S>(alloc, answer)) {
+        (Ok(key), Ok(parsed)) => Ok(Turn::Ask(key, CheckPart::ReadImports(file, parsed))),
+        _ => Err(CheckPart::ReadFile(file)),
+    }
 }
 
 /// The turn after the imports of the file `file`: the rule asks its links.
 fn after_imports<S: CheckKeys>(
     alloc: Global,
-    file: &Text,
-    parsed: &Shared<ParsedFile>,
+    file: Text,
+    parsed: Shared<ParsedFile>,
     answer: &S::Answer,
-) -> Result<Turn<S::Key, CheckPart, Shared<Checked>>, Memory>
-    ensures turn { IfOk result (λ t. t ≡ Ask (S.linked file.now) (ReadLinks file.now parsed.now (unwrap_or (S.imported answer.now) []))) }
+) -> Result<Turn<S::Key, CheckPart, Shared<Checked>>, CheckPart>
+    ensures turn { IfOk result (λ t. t ≡ Ask (S.linked file) (ReadLinks file parsed (unwrap_or (S.imported answer.now) []))) }
+    ensures back { IfErr result (λ p. p ≡ ReadImportsPart file parsed) }
 {
-    let imports = imports_in::<S>(alloc, answer)?;
-    Ok(Turn::Ask(
-        S::linked_key(file)?,
-        CheckPart::ReadLinks(file.copy()?, parsed.copy()?, imports),
-    ))
+    match (S::linked_key(&file), imports_in::<S>(alloc, answer)) {
+        (Ok(key), Ok(imports)) => Ok(Turn::Ask(key, CheckPart::ReadLinks(file, parsed, imports))),
+        _ => Err(CheckPart::ReadImports(file, parsed)),
+    }
 }
 
 /// The turn after the links of the file `file`: the rule asks its definitions.
 fn after_links<S: CheckKeys>(
     alloc: Global,
-    file: &Text,
-    parsed: &Shared<ParsedFile>,
-    imports: &Shared<Items<Import>>,
+    file: Text,
+    parsed: Shared<ParsedFile>,
+    imports: Shared<Items<Import>>,
     answer: &S::Answer,
-) -> Result<Turn<S::Key, CheckPart, Shared<Checked>>, Memory>
-    ensures turn { IfOk result (λ t. t ≡ Ask (S.defs file.now) (ReadDefs (record { file = file.now; parsed = parsed.now; imports = imports.now; ring = S.ring answer.now }))) }
+) -> Result<Turn<S::Key, CheckPart, Shared<Checked>>, CheckPart>
+    ensures turn { IfOk result (λ t. t ≡ Ask (S.defs file) (ReadDefs (record { file = file; parsed = parsed; imports = imports; ring = S.ring answer.now }))) }
+    ensures back { IfErr result (λ p. p ≡ ReadLinks file parsed imports) }
 {
-    let ring = S::read_ring(alloc, answer)?;
-    let linked = LinkedFile {
-        file: file.copy()?,
-        parsed: parsed.copy()?,
-        imports: imports.copy()?,
-        ring,
-    };
-    Ok(Turn::Ask(S::defs_key(file)?, CheckPart::ReadDefs(linked)))
+    match (S::defs_key(&file), S::read_ring(alloc, answer)) {
+        (Ok(key), Ok(ring)) => {
+            let linked = LinkedFile {
+                file,
+                parsed,
+                imports,
+                ring,
+            };
+            Ok(Turn::Ask(key, CheckPart::ReadDefs(linked)))
+        }
+        _ => Err(CheckPart::ReadLinks(file, parsed, imports)),
+    }
 }
 
 /// The turn after the definitions of a file: the rule asks its scope.
@@ -393,6 +398,21 @@ fn follow_link<S: CheckKeys>(
     }
 }
 
+/// Puts its part into a turn after the links of an imported file.
+fn link_placed<K: Drop>(
+    turn: Turn<K, (), Shared<Checked>>,
+    known: Known,
+    waiting: Waiting,
+    imported: States,
+) -> Turn<K, CheckPart, Shared<Checked>>
+    ensures turn { result ≡ link_placed known waiting imported turn }
+{
+    match turn {
+        Turn::Ask(key, ()) => Turn::Ask(key, CheckPart::ReadNext(known, waiting, imported)),
+        Turn::Done(checked) => Turn::Done(checked),
+    }
+}
+
 /// The turn after the links of the file of the first import that is left.
 fn after_link<S: CheckKeys>(
     alloc: Global,
@@ -407,11 +427,10 @@ fn after_link<S: CheckKeys>(
 {
     let mut waiting = waiting;
     match follow_link::<S>(alloc, &known, &waiting, imported.as_slice(), answer) {
-        Ok(Turn::Ask(key, ())) => {
+        Ok(turn) => {
             waiting.step();
-            Ok(Turn::Ask(key, CheckPart::ReadNext(known, waiting, imported)))
+            Ok(link_placed(turn, known, waiting, imported))
         }
-        Ok(Turn::Done(checked)) => Ok(Turn::Done(checked)),
         Err(_) => Err(CheckPart::ReadNext(known, waiting, imported)),
     }
 }
@@ -454,21 +473,12 @@ impl<S: CheckKeys> Query for ChecksQuery<S> {
         answer: &S::Answer,
     ) -> Result<Turn<S::Key, CheckPart, Shared<Checked>>, CheckPart> {
         match part {
-            CheckPart::ReadFile(file) => match after_file::<S>(alloc, &file, answer) {
-                Ok(turn) => Ok(turn),
-                Err(_) => Err(CheckPart::ReadFile(file)),
-            },
+            CheckPart::ReadFile(file) => after_file::<S>(alloc, file, answer),
             CheckPart::ReadImports(file, parsed) => {
-                match after_imports::<S>(alloc, &file, &parsed, answer) {
-                    Ok(turn) => Ok(turn),
-                    Err(_) => Err(CheckPart::ReadImports(file, parsed)),
-                }
+                after_imports::<S>(alloc, file, parsed, answer)
             }
             CheckPart::ReadLinks(file, parsed, imports) => {
-                match after_links::<S>(alloc, &file, &parsed, &imports, answer) {
-                    Ok(turn) => Ok(turn),
-                    Err(_) => Err(CheckPart::ReadLinks(file, parsed, imports)),
-                }
+                after_links::<S>(alloc, file, parsed, imports, answer)
             }
             CheckPart::ReadDefs(linked) => after_defs::<S>(alloc, linked, answer),
             CheckPart::ReadScope(linked, defs) => after_scope::<S>(alloc, linked, defs, answer),

@@ -13,7 +13,7 @@ ghost use Rattle.pq_checks.specs.aux.Views.{all_now, twice_line};
 use crate::Memory;
 use crate::code::Code;
 use crate::fault::Fault;
-use crate::said::{around_name, around_name_and_file, push};
+use crate::said::{around_name, push};
 use pq_names::Text;
 use pq_schema::{Definition, DefinitionKind, FileDefs, Scope};
 use pq_syntax::Node;
@@ -30,7 +30,7 @@ fn push_twice(
     ensures said { IfOk result (λ _. faults.new.items ≡ faults.old.items ++ twice_line repeated definition.now) }
 {
     if repeated {
-        let text = around_name(alloc, &definition.full_name, " is already defined")?;
+        let text = around_name(alloc, &definition.full_name, " is already defined", "")?;
         return push(faults, definition.span, Code::DefinedTwice, text);
     }
     Ok(())
@@ -127,7 +127,7 @@ fn push_other(
     ensures said { IfOk result (λ _. faults.new.items
         ≡ faults.old.items ++ other_faults (Some other.now) definition.now) }
 {
-    let text = around_name_and_file(
+    let text = around_name(
         alloc,
         &definition.full_name,
         " is already defined in ",

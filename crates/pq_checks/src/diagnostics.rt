@@ -65,9 +65,10 @@ fn ordered(alloc: Global, checked: &Checked) -> Result<Checked, Memory>
     })
 }
 
-/// The checks of an absent file: it has no errors.
+/// The diagnostics of an absent file: it has no errors.
+#[tactic(auto, unfolding(crate::specs::InOrder::in_order))]
 fn nothing(alloc: Global) -> Result<Checked, Memory>
-    ensures nothing { IfOk result (λ c. c ≡ no_checked) }
+    ensures nothing { IfOk result (λ c. c ≡ ordered no_checked) }
 {
     Ok(Checked {
         faults: Items::new(Vec::new(alloc)),
@@ -84,10 +85,7 @@ fn diagnostics_by(
 {
     match checked {
         Some(checked) => Shared::new(alloc, ordered(alloc, checked.get())?),
-        None => {
-            let nothing = nothing(alloc)?;
-            Shared::new(alloc, ordered(alloc, &nothing)?)
-        }
+        None => Shared::new(alloc, nothing(alloc)?),
     }
 }
 

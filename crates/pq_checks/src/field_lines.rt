@@ -2,8 +2,7 @@
 ghost use Rattle.std.specs.Prelude.{◌≡◌, ◌++◌, ◌&&◌, [], is_some, map, IfOk};
 ghost use Rattle.pq_checks.specs.Earlier.{of_each_after};
 ghost use Rattle.pq_checks.specs.Faults.{field_number_faults, is_for_protobuf};
-ghost use Rattle.pq_checks.specs.Owners.{limits_by};
-ghost use Rattle.pq_checks.specs.aux.Lines.{field_lines, key_of};
+ghost use Rattle.pq_checks.specs.aux.Lines.{field_lines};
 ghost use Rattle.pq_checks.specs.aux.Seen.{member_seen};
 
 use crate::Memory;
@@ -11,32 +10,17 @@ use crate::code::Code;
 use crate::cover::is_covered;
 use crate::fault::Fault;
 use crate::members::{Member, Reserved};
-use crate::numbers::number_of;
-use crate::range_lines::{Key, reserved_keys};
-use crate::repeats::repeats;
+use crate::numbers::field_number;
+use crate::range_lines::reserved_keys;
 use crate::tell::{both, tell_if, tell_number};
 use std::alloc::Global;
+use std::collections::BTreeSet;
 
 /// The first field number that is kept for protobuf itself.
 const FIRST_OF_PROTOBUF: i64 = 19_000;
 
 /// The last field number that is kept for protobuf itself.
 const LAST_OF_PROTOBUF: i64 = 19_999;
-
-/// The keys of `members`, whose numbers are those of enum values or of fields.
-pub(crate) fn number_keys(
-    alloc: Global,
-    members: &[Member<'_>],
-    in_enum: bool,
-) -> Result<Vec<Key>, Memory>
-    ensures keys { IfOk result (λ ks. ks.items ≡ map (key_of (limits_by in_enum)) (map member_seen members.now)) }
-{
-    let mut keys = Vec::with_capacity(alloc, members.len())?;
-    'each: for member in members {
-        keys.push((member.owner, number_of(in_enum, member.number)))?;
-    }
-    Ok(keys)
-}
 
 /// Whether `number` is kept for protobuf itself.
 fn is_for_protobuf(number: Option<i64>) -> bool
@@ -105,17 +89,14 @@ pub(crate) fn push_field_number_faults(
 ) -> Result<(), Memory>
     ensures { IfOk result (λ _. faults.new.items ≡ faults.old.items ++ of_each_after (field_number_faults reserved.now) [] (map member_seen fields.now)) }
 {
-    let keys = number_keys(alloc, fields, false)?;
-    let listed = keys.as_slice();
-    let flags = repeats(alloc, listed)?;
-    let flags = flags.as_slice();
     let taken = reserved_keys(alloc, reserved)?;
-    let taken = taken.as_slice();
-    'each: for i in 0..fields.len() {
-        let field = &fields[i];
-        let key = keys[i];
-        let covered = is_covered(taken, key);
-        push_lines(alloc, faults, field, key.1, flags[i], covered)?;
+    let mut seen = BTreeSet::new(alloc);
+    'each: for field in fields {
+        let number = field_number(field.number);
+        let key = (field.owner, number);
+        let is_new = seen.insert(key)?;
+        let covered = is_covered(taken.as_slice(), key);
+        push_lines(alloc, faults, field, number, !is_new, covered)?;
     }
     Ok(())
 }

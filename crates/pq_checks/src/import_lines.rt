@@ -12,14 +12,15 @@ ghost use Rattle.pq_checks.specs.Faults.{ring_text, state_faults, import_faults}
 ghost use Rattle.pq_checks.specs.Members.{import_by, imports};
 ghost use Rattle.pq_checks.specs.Surroundings.{state_in};
 ghost use Rattle.pq_checks.specs.aux.Imports.{IsStateMap, by_imports, first_name, import_line, text_line, ring_line, listed_line};
-ghost use Rattle.pq_checks.specs.aux.Views.{all_now, listed};
+ghost use Rattle.pq_checks.specs.aux.Views.{all_now};
 ghost use Rattle.pq_checks.specs.declared.surroundings.Imported.{Imported};
 
 use crate::Memory;
 use crate::code::Code;
 use crate::fault::Fault;
-use crate::said::{around, push, tell};
+use crate::said::{push, say_name, tell};
 use crate::surroundings::{FileState, Imported};
+use crate::tell::tell_name;
 use pq_names::Text;
 use pq_syntax::{Node, Statement, Strings};
 use std::alloc::Global;
@@ -52,25 +53,26 @@ fn state_named<'a>(states: &States<'a>, name: &'a [u8]) -> FileState
     }
 }
 
-/// The name of the import that `statement` is, if any.
-fn import_in(statement: &Statement) -> Option<&Strings>
-    ensures name { listed (option_copied result) ≡ import_by statement.now }
+/// Adds the name of the import that `statement` is, if any.
+fn push_import_name<'a>(
+    names: &mut Vec<&'a Strings>,
+    statement: &'a Statement,
+) -> Result<(), Memory>
+    ensures { IfOk result (λ _. all_now names.new.items ≡ all_now names.old.items ++ import_by statement.entry.now) }
 {
-    match statement {
-        Statement::Import { file, .. } => Some(file),
-        _ => None,
+    if let Statement::Import { file, .. } = statement {
+        names.push(file)?;
     }
+    Ok(())
 }
 
 /// The names of the imports among the statements `nodes`.
-fn import_names<'a>(alloc: Global, nodes: &'a [Node]) -> Result<Vec<&'a Strings>, Memory>
-    ensures names { IfOk result (λ v. all_now v.items ≡ imports nodes.now) }
+fn import_names(alloc: Global, nodes: &[Node]) -> Result<Vec<&Strings>, Memory>
+    ensures { IfOk result (λ v. all_now v.items ≡ imports nodes.entry.now) }
 {
     let mut names = Vec::new(alloc);
     'nodes: for node in nodes {
-        if let Some(name) = import_in(&node.statement) {
-            names.push(name)?;
-        }
+        push_import_name(&mut names, &node.statement)?;
     }
     Ok(names)
 }
@@ -122,12 +124,28 @@ fn push_state(
 {
     match state {
         FileState::Missing => {
-            let text = around(alloc, "import ", name, " is not found")?;
-            push(faults, import.span, Code::ImportNotFound, text)
+            let code = Code::ImportNotFound;
+            say_name(
+                alloc,
+                faults,
+                import.span,
+                code,
+                "import ",
+                name,
+                " is not found",
+            )
         }
         FileState::Unreadable => {
-            let text = around(alloc, "import ", name, " has a syntax fault")?;
-            push(faults, import.span, Code::ImportWithError, text)
+            let code = Code::ImportWithError;
+            say_name(
+                alloc,
+                faults,
+                import.span,
+                code,
+                "import ",
+                name,
+                " has a syntax fault",
+            )
         }
         FileState::Readable => Ok(()),
     }
@@ -145,11 +163,17 @@ fn push_listed(
     ensures said { IfOk result
         (λ _. faults.new.items ≡ faults.old.items ++ listed_line repeated import.now) }
 {
-    if repeated {
-        let text = around(alloc, "import ", name, " is listed twice")?;
-        return push(faults, import.span, Code::ImportTwice, text);
-    }
-    Ok(())
+    let code = Code::ImportTwice;
+    tell_name(
+        alloc,
+        faults,
+        repeated,
+        import.span,
+        code,
+        "import ",
+        name,
+        " is listed twice",
+    )
 }
 
 /// Adds the error of the import `import` with the name `name`, which is `repeated` or not, if it is

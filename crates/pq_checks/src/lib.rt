@@ -9,8 +9,8 @@
 //! them their answers are what the sources say.
 //!
 //! Modules: `code`, `fault`; `spots` (each statement with what contains it), `members` (what the
-//! checks look at), `numbers`; `repeats`, `cover`, `key_set`, `order` (the look-ups); `said`,
-//! `tell` (how an error is added); the errors of a tree: `unread_lines`, and `member_lines` over
+//! checks look at), `numbers`; `cover`, `order` (the look-ups); `said`, `tell`
+//! (how an error is added); the errors of a tree: `unread_lines`, and `member_lines` over
 //! `field_lines`, `range_lines`, `body_lines`, `value_lines`, `aliases`, `name_lines`; the errors
 //! of its surroundings (`surroundings`): `import_lines`, `definition_lines`, `reference_lines`;
 //! `keys` (what a sum offers), `gathered` and `checked` (the query of the errors), `diagnostics`;
@@ -28,7 +28,6 @@ mod fault;
 mod field_lines;
 mod gathered;
 mod import_lines;
-mod key_set;
 mod keys;
 mod laws;
 mod member_lines;
@@ -38,7 +37,6 @@ mod numbers;
 mod order;
 mod range_lines;
 mod reference_lines;
-mod repeats;
 mod rule_laws;
 mod said;
 mod spots;

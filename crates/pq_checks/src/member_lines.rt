@@ -24,12 +24,12 @@ use std::alloc::Global;
 
 /// Adds errors P120 to P126 of a file with the statements `spots`, the reserved ranges `ranges` and
 /// the reserved names `names`.
-fn push_message_faults(
+fn push_message_faults<'a>(
     alloc: Global,
     faults: &mut Vec<Fault>,
-    spots: &[Spot<'_>],
+    spots: &[Spot<'a>],
     ranges: &[Reserved],
-    names: &[ReservedName<'_>],
+    names: &[ReservedName<'a>],
 ) -> Result<(), Memory>
     ensures { IfOk result (λ _. faults.new.items ≡ faults.old.items
         ++ message_lines (flat_map field_in spots.now) ranges.now (map name_seen names.now) (flat_map oneof_in spots.now)) }
@@ -55,12 +55,12 @@ fn push_message_faults(
 
 /// Adds errors P130 to P135 of a file with the statements `spots`, the reserved ranges `ranges` and
 /// the reserved names `names`.
-fn push_enumeration_faults(
+fn push_enumeration_faults<'a>(
     alloc: Global,
     faults: &mut Vec<Fault>,
-    spots: &[Spot<'_>],
+    spots: &[Spot<'a>],
     ranges: &[Reserved],
-    names: &[ReservedName<'_>],
+    names: &[ReservedName<'a>],
 ) -> Result<(), Memory>
     ensures { IfOk result (λ _. faults.new.items ≡ faults.old.items
         ++ enumeration_lines (flat_map value_in spots.now) (flat_map enum_in spots.now) ranges.now (flat_map option_in spots.now) (map name_seen names.now)) }

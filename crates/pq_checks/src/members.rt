@@ -42,7 +42,7 @@ pub(crate) struct Reserved {
 pub(crate) struct ReservedName<'a> {
     /// The number of the message or enum that reserves it.
     pub(crate) owner: Option<usize>,
-    pub(crate) value: &'a [u8],
+    pub(crate) value: &'a Strings,
 }
 
 /// An option statement.
@@ -83,7 +83,8 @@ pub(crate) fn fields<'a>(alloc: Global, spots: &[Spot<'a>]) -> Result<Vec<Member
     ensures fields { IfOk result (λ ms. map member_seen ms.items ≡ flat_map field_in spots.now) }
 {
     let mut members = Vec::new(alloc);
-    'spots: for spot in spots {
+    'spots: for i in 0..spots.len() {
+        let spot = &spots[i];
         push_field(&mut members, *spot)?;
     }
     Ok(members)
@@ -104,7 +105,8 @@ pub(crate) fn values<'a>(alloc: Global, spots: &[Spot<'a>]) -> Result<Vec<Member
     ensures values { IfOk result (λ ms. map member_seen ms.items ≡ flat_map value_in spots.now) }
 {
     let mut members = Vec::new(alloc);
-    'spots: for spot in spots {
+    'spots: for i in 0..spots.len() {
+        let spot = &spots[i];
         push_value(&mut members, *spot)?;
     }
     Ok(members)
@@ -128,7 +130,8 @@ pub(crate) fn oneofs<'a>(alloc: Global, spots: &[Spot<'a>]) -> Result<Vec<Body<'
     ensures oneofs { IfOk result (λ bs. map body_seen bs.items ≡ flat_map oneof_in spots.now) }
 {
     let mut bodies = Vec::new(alloc);
-    'spots: for spot in spots {
+    'spots: for i in 0..spots.len() {
+        let spot = &spots[i];
         push_oneof(&mut bodies, *spot)?;
     }
     Ok(bodies)
@@ -152,7 +155,8 @@ pub(crate) fn enums<'a>(alloc: Global, spots: &[Spot<'a>]) -> Result<Vec<Body<'a
     ensures enums { IfOk result (λ bs. map body_seen bs.items ≡ flat_map enum_in spots.now) }
 {
     let mut bodies = Vec::new(alloc);
-    'spots: for spot in spots {
+    'spots: for i in 0..spots.len() {
+        let spot = &spots[i];
         push_enum(&mut bodies, *spot)?;
     }
     Ok(bodies)
@@ -189,7 +193,8 @@ pub(crate) fn ranges(alloc: Global, spots: &[Spot<'_>]) -> Result<Vec<Reserved>,
     ensures ranges { IfOk result (λ rs. rs.items ≡ flat_map range_in spots.now) }
 {
     let mut reserved = Vec::new(alloc);
-    'spots: for spot in spots {
+    'spots: for i in 0..spots.len() {
+        let spot = &spots[i];
         push_reserved(&mut reserved, *spot)?;
     }
     Ok(reserved)
@@ -206,7 +211,7 @@ fn push_names<'a>(
     'each: for value in values {
         names.push(ReservedName {
             owner: around.owner,
-            value: value.value.as_slice(),
+            value,
         })?;
     }
     Ok(())
@@ -230,7 +235,8 @@ pub(crate) fn reserved_names<'a>(
     ensures names { IfOk result (λ ns. map name_seen ns.items ≡ flat_map names_in spots.now) }
 {
     let mut names = Vec::new(alloc);
-    'spots: for spot in spots {
+    'spots: for i in 0..spots.len() {
+        let spot = &spots[i];
         push_reserved_names(&mut names, *spot)?;
     }
     Ok(names)
@@ -254,7 +260,8 @@ pub(crate) fn options<'a>(alloc: Global, spots: &[Spot<'a>]) -> Result<Vec<Opted
     ensures options { IfOk result (λ os. map opted_seen os.items ≡ flat_map option_in spots.now) }
 {
     let mut options = Vec::new(alloc);
-    'spots: for spot in spots {
+    'spots: for i in 0..spots.len() {
+        let spot = &spots[i];
         push_option(&mut options, *spot)?;
     }
     Ok(options)

@@ -6,7 +6,8 @@ ghost use Rattle.pq_checks.specs.Faults.{is_method, named_type, resolution_fault
 use crate::Memory;
 use crate::code::Code;
 use crate::fault::Fault;
-use crate::said::{around, around_file, push};
+use crate::said::{around_file, push, say_name};
+use crate::tell::{both, tell_name};
 use pq_schema::{Resolution, ResolvedReference, TypePart};
 use pq_syntax::{Name, Node, Statement};
 use std::alloc::Global;
@@ -49,8 +50,16 @@ fn push_resolution(
     let text = name.text.as_str();
     match resolution {
         Resolution::NotFound => {
-            let text = around(alloc, "type ", text, " is not found")?;
-            push(faults, name.span, Code::TypeNotFound, text)
+            let code = Code::TypeNotFound;
+            say_name(
+                alloc,
+                faults,
+                name.span,
+                code,
+                "type ",
+                text,
+                " is not found",
+            )
         }
         Resolution::NotVisible(file) => {
             let file = file.as_str();
@@ -65,15 +74,22 @@ fn push_resolution(
             push(faults, name.span, Code::TypeNotImported, text)
         }
         Resolution::NotAType => {
-            let text = around(alloc, "", text, " is not a type")?;
-            push(faults, name.span, Code::NotAType, text)
+            let code = Code::NotAType;
+            say_name(alloc, faults, name.span, code, "", text, " is not a type")
         }
         Resolution::Type { is_enum, .. } => {
-            if is_method(part) && *is_enum {
-                let text = around(alloc, "", text, " is not a message")?;
-                return push(faults, name.span, Code::NotAMessage, text);
-            }
-            Ok(())
+            let wrong = both(is_method(part), *is_enum);
+            let code = Code::NotAMessage;
+            tell_name(
+                alloc,
+                faults,
+                wrong,
+                name.span,
+                code,
+                "",
+                text,
+                " is not a message",
+            )
         }
     }
 }

@@ -57,11 +57,28 @@ fn quoting(alloc: Global, before: &str, name: &str, after: &str) -> Result<Strin
 }
 
 /// The text `before`, then `name` between quotation marks, then `after`.
-pub(crate) fn around(alloc: Global, before: &str, name: &str, after: &str) -> Result<Text, Memory>
+fn around(alloc: Global, before: &str, name: &str, after: &str) -> Result<Text, Memory>
     ensures text { IfOk result (λ t. t ≡ before.now ++ quoted name.now ++ after.now) }
 {
     let text = quoting(alloc, before, name, after)?;
     Text::from_string(alloc, text)
+}
+
+/// Adds the error of the code `code` at `span`, whose message is `before`, then `name` between
+/// quotation marks, then `after`.
+pub(crate) fn say_name(
+    alloc: Global,
+    faults: &mut Vec<Fault>,
+    span: Span,
+    code: Code,
+    before: &str,
+    name: &str,
+    after: &str,
+) -> Result<(), Memory>
+    ensures said { IfOk result (λ _. faults.new.items ≡ faults.old.items ++ at span code (before.now ++ quoted name.now ++ after.now) ∷ []) }
+{
+    let text = around(alloc, before, name, after)?;
+    push(faults, span, code, text)
 }
 
 /// The text `before`, then `name` between quotation marks, then `after`, `file` and `last`.
@@ -82,28 +99,8 @@ pub(crate) fn around_file(
     Text::from_string(alloc, text)
 }
 
-/// `full_name` between quotation marks, then `after`.
-fn quoting_name(alloc: Global, full_name: &FullName, after: &str) -> Result<String, Memory>
-    ensures text { IfOk result (λ t. string_bytes t ≡ quoted full_name.now ++ after.now) }
-{
-    let mut text = String::new(alloc);
-    text.push('"')?;
-    full_name.push_to(&mut text)?;
-    text.push('"')?;
-    text.push_str(after)?;
-    Ok(text)
-}
-
-/// `full_name` between quotation marks, then `after`.
-pub(crate) fn around_name(alloc: Global, full_name: &FullName, after: &str) -> Result<Text, Memory>
-    ensures text { IfOk result (λ t. t ≡ quoted full_name.now ++ after.now) }
-{
-    let text = quoting_name(alloc, full_name, after)?;
-    Text::from_string(alloc, text)
-}
-
 /// `full_name` between quotation marks, then `after` and `file`.
-pub(crate) fn around_name_and_file(
+pub(crate) fn around_name(
     alloc: Global,
     full_name: &FullName,
     after: &str,
@@ -111,7 +108,11 @@ pub(crate) fn around_name_and_file(
 ) -> Result<Text, Memory>
     ensures text { IfOk result (λ t. t ≡ quoted full_name.now ++ after.now ++ file.now) }
 {
-    let mut text = quoting_name(alloc, full_name, after)?;
+    let mut text = String::new(alloc);
+    text.push('"')?;
+    full_name.push_to(&mut text)?;
+    text.push('"')?;
+    text.push_str(after)?;
     text.push_str(file)?;
     Text::from_string(alloc, text)
 }

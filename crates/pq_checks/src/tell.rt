@@ -6,7 +6,7 @@ ghost use Rattle.pq_checks.specs.Faults.{at, number_text, quoted, when};
 use crate::Memory;
 use crate::code::Code;
 use crate::fault::Fault;
-use crate::said::{push, tell};
+use crate::said::{push, say_name, tell};
 use pq_lex::Span;
 use pq_names::Text;
 use std::alloc::Global;
@@ -66,18 +66,6 @@ pub(crate) fn tell_number(
     Ok(())
 }
 
-/// The message `before`, `name` between quotation marks, and `after`.
-pub(crate) fn of_name(alloc: Global, before: &str, name: &str, after: &str) -> Result<Text, Memory>
-    ensures { IfOk result (λ t. t ≡ before.now ++ quoted name.now ++ after.now) }
-{
-    let mut text = String::from_str(alloc, before)?;
-    text.push_str("\"")?;
-    text.push_str(name)?;
-    text.push_str("\"")?;
-    text.push_str(after)?;
-    Text::from_string(alloc, text)
-}
-
 /// Adds the error of the code `code` at `span`, if `holds`. Its message has `name` in it.
 pub(crate) fn tell_name(
     alloc: Global,
@@ -92,8 +80,7 @@ pub(crate) fn tell_name(
     ensures { IfOk result (λ _. faults.new.items ≡ faults.old.items ++ when holds (at span code (before.now ++ quoted name.now ++ after.now))) }
 {
     if holds {
-        let text = of_name(alloc, before, name, after)?;
-        return push(faults, span, code, text);
+        return say_name(alloc, faults, span, code, before, name, after);
     }
     Ok(())
 }

@@ -3,30 +3,19 @@ ghost use Rattle.std.specs.Prelude.{◌≡◌, ◌++◌, ◌&&◌, not, is_some,
 ghost use Rattle.pq_checks.specs.Earlier.{of_each_after};
 ghost use Rattle.pq_checks.specs.Faults.{is_zero, value_number_faults};
 ghost use Rattle.pq_checks.specs.aux.Lines.{value_lines};
-ghost use Rattle.pq_checks.specs.aux.Seen.{member_seen, opted_seen, owner_seen};
+ghost use Rattle.pq_checks.specs.aux.Seen.{member_seen, opted_seen};
 
 use crate::Memory;
 use crate::aliases::{aliases, allows};
 use crate::code::Code;
 use crate::cover::is_covered;
 use crate::fault::Fault;
-use crate::field_lines::number_keys;
 use crate::members::{Member, Opted, Reserved};
+use crate::numbers::enum_number;
 use crate::range_lines::reserved_keys;
-use crate::repeats::repeats;
 use crate::tell::{both, tell_if, tell_number};
 use std::alloc::Global;
-
-/// The numbers of the enums of `values`.
-fn owners(alloc: Global, values: &[Member<'_>]) -> Result<Vec<Option<usize>>, Memory>
-    ensures owners { IfOk result (λ os. os.items ≡ map owner_seen (map member_seen values.now)) }
-{
-    let mut owners = Vec::with_capacity(alloc, values.len())?;
-    'each: for value in values {
-        owners.push(value.owner)?;
-    }
-    Ok(owners)
-}
+use std::collections::BTreeSet;
 
 /// Whether `number` is 0.
 fn is_zero(number: Option<i64>) -> bool
@@ -41,9 +30,9 @@ fn is_zero(number: Option<i64>) -> bool
 /// What is looked up of an enum value.
 #[derive(Clone, Copy)]
 pub(crate) struct Known {
-    /// Whether a value of its enum comes before it.
-    later: bool,
-    /// Whether such a value has its number, if it has one.
+    /// Whether it is the first of its enum.
+    first: bool,
+    /// Whether an earlier value of its enum has its number, if it has one.
     repeated: bool,
     /// Whether its enum allows that.
     allowed: bool,
@@ -60,12 +49,12 @@ fn push_lines(
     known: Known,
 ) -> Result<(), Memory>
     ensures { IfOk result (λ _. faults.new.items ≡ faults.old.items
-        ++ value_lines number (not known.later) ((known.repeated && is_some number) && not known.allowed) (known.covered && is_some number) (member_seen value.now)) }
+        ++ value_lines number known.first ((known.repeated && is_some number) && not known.allowed) (known.covered && is_some number) (member_seen value.now)) }
 {
     let span = value.number.span;
     let is_number = number.is_some();
     let is_zero = is_zero(number);
-    let wrong_first = both(!known.later, !is_zero);
+    let wrong_first = both(known.first, !is_zero);
     let twice = both(both(known.repeated, is_number), !known.allowed);
     let reserved = both(known.covered, is_number);
     let text = "the first enum value must be 0";
@@ -103,29 +92,24 @@ pub(crate) fn push_value_number_faults(
     ensures { IfOk result (λ _. faults.new.items ≡ faults.old.items
         ++ of_each_after (value_number_faults reserved.now (map opted_seen options.now)) [] (map member_seen values.now)) }
 {
-    let keys = number_keys(alloc, values, true)?;
-    let listed = keys.as_slice();
-    let flags = repeats(alloc, listed)?;
-    let flags = flags.as_slice();
-    let owners = owners(alloc, values)?;
-    let owners = owners.as_slice();
-    let later = repeats(alloc, owners)?;
-    let later = later.as_slice();
     let taken = reserved_keys(alloc, reserved)?;
-    let taken = taken.as_slice();
     let aliases = aliases(alloc, options)?;
-    'each: for i in 0..values.len() {
-        let value = &values[i];
-        let key = keys[i];
-        let allowed = allows(&aliases, key.0);
-        let covered = is_covered(taken, key);
+    let mut seen = BTreeSet::new(alloc);
+    let mut begun = BTreeSet::new(alloc);
+    'each: for value in values {
+        let number = enum_number(value.number);
+        let key = (value.owner, number);
+        let is_first = begun.insert(value.owner)?;
+        let is_new = seen.insert(key)?;
+        let allowed = allows(&aliases, value.owner);
+        let covered = is_covered(taken.as_slice(), key);
         let known = Known {
-            later: later[i],
-            repeated: flags[i],
+            first: is_first,
+            repeated: !is_new,
             allowed,
             covered,
         };
-        push_lines(alloc, faults, value, key.1, known)?;
+        push_lines(alloc, faults, value, number, known)?;
     }
     Ok(())
 }

@@ -10,7 +10,7 @@ use Rattle.pq_syntax.specs.declared.parts.Name.{Name}
 use Rattle.pq_checks.specs.Earlier.{of_each_after}
 use Rattle.pq_checks.specs.Faults.{at, when, number_text, quoted, is_for_protobuf, is_reserved_name, is_zero, is_empty, field_number_faults, field_name_faults, range_faults, oneof_faults, enum_faults, value_number_faults, value_name_faults}
 use Rattle.pq_checks.specs.Members.{Member, Body, ReservedName, Opted}
-use Rattle.pq_checks.specs.Numbers.{Limits, bounds_of, number_in}
+use Rattle.pq_checks.specs.Numbers.{bounds_of}
 use Rattle.pq_checks.specs.Owners.{limits_by}
 use Rattle.pq_checks.specs.declared.code.Code.{Code}
 use Rattle.pq_checks.specs.declared.code.Code.TheVariants as code
@@ -25,10 +25,6 @@ Key = Option ℕ × Option ℤ
 -- `key_cmp a b` compares keys: by their messages or enums, then by their numbers
 abbrev pub key_cmp : Key → Key → Ordering
 key_cmp a b = ordering_then (option_cmp nat_cmp a.0 b.0) (option_cmp int_cmp a.1 b.1)
-
--- `key_of limits m` is the key of the member `m`, whose number is one of `limits`
-abbrev pub key_of : Limits → Member → Key
-key_of limits m = (m.owner, number_in limits m.number)
 
 -- `stair owner bounds` lists the keys from the first to the last that a range reserves
 abbrev pub stair : Option ℕ → Option Bounds → List (Key × Key)
@@ -67,10 +63,6 @@ name_line c before names m =
 abbrev pub package_line : Name → List Fault
 package_line p = at p.span code.PackageTwice (codes "package is given twice") ∷ []
 
--- `point k` is the range from `k` to itself
-abbrev pub point : {X : Type 0} → X → X × X
-point k = (k, k)
-
 -- `NameKey` is a name in a message or an enum, as the code keeps it
 abbrev pub NameKey : Type 0
 NameKey = Option ℕ × Bor (List ℕ)
@@ -78,10 +70,6 @@ NameKey = Option ℕ × Bor (List ℕ)
 -- `name_cmp a b` compares names: by their messages or enums, then by their bytes
 abbrev pub name_cmp : NameKey → NameKey → Ordering
 name_cmp a b = ordering_then (option_cmp nat_cmp a.0 b.0) (slice_cmp nat_cmp a.1.now b.1.now)
-
--- `name_key k` is the reserved name of the key `k`
-abbrev pub name_key : NameKey → ReservedName
-name_key k = record { owner = k.0; value = k.1.now }
 
 -- `body_line c text members b` is the error of the code `c` of the body `b`, if it has none of
 -- `members`

@@ -28,7 +28,7 @@ body_seen b = record { number = b.number; name = b.name.now }
 
 -- `name_seen n` is what contracts see of the reserved name `n`
 abbrev pub name_seen : ReservedName → members.ReservedName
-name_seen n = record { owner = n.owner; value = n.value.now }
+name_seen n = record { owner = n.owner; value = n.value.now.value }
 
 -- `field_in s` lists the field at the spot `s`, if any
 abbrev pub field_in : Spot → List members.Member
@@ -69,14 +69,6 @@ extends_of_node n = flat_map extend_faults (members.extend_by n.span n.statement
 -- `named n` is what contracts see of the lent name `n`
 abbrev pub named : Bor Name → Name
 named n = n.now
-
--- `holder_seen m` is the number of the statement in whose body the member `m` is
-abbrev pub holder_seen : members.Member → Option ℕ
-holder_seen m = m.holder
-
--- `owner_seen m` is the number of the message or enum whose member `m` is
-abbrev pub owner_seen : members.Member → Option ℕ
-owner_seen m = m.owner
 
 -- `opted_seen o` is what contracts see of the option statement `o`
 abbrev pub opted_seen : Opted → members.Opted

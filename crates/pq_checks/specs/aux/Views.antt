@@ -1,6 +1,6 @@
 -- Auxiliary: words between the definitions and the code that keeps its own look-ups (used by proofs
 -- and invariants only).
-use Rattle.std.specs.Prelude.{ℕ, Bool, List, [], ◌∷◌, ◌++◌, codes, map, Option, Some, None}
+use Rattle.std.specs.Prelude.{ℕ, Bool, List, [], ◌∷◌, ◌++◌, codes, map}
 use Rattle.std.specs.Borrow.{Bor}
 use Rattle.std.specs.Cmp.Lexicographic.{slice_cmp}
 use Rattle.std.specs.Ordering.{nat_cmp}
@@ -14,14 +14,10 @@ use Rattle.pq_checks.specs.declared.fault.Fault.{Fault}
 abbrev pub all_now : {A : Type 0} → List (Bor A) → List A
 all_now {A = A} xs = map (λ (x : Bor A). x.now) xs
 
--- `twice_line repeated d` is the error of the definition `d` if its full name is `repeated`
+-- `twice_line repeated d` is the error of the definition `d` if its full name is `repeated`. The
+-- message ends in the name of no file.
 abbrev pub twice_line : Bool → Definition → List Fault
-twice_line repeated d = when repeated (at d.span code.DefinedTwice (quoted d.full_name ++ codes " is already defined"))
-
--- `listed o` is the list of `o`, if it is there
-abbrev pub listed : {A : Type 0} → Option A → List A
-listed None = []
-listed (Some x) = x ∷ []
+twice_line repeated d = when repeated (at d.span code.DefinedTwice (quoted d.full_name ++ codes " is already defined" ++ []))
 
 -- `lent_cmp x y` is the order of the texts that `x` and `y` lend
 abbrev pub lent_cmp : Bor (List ℕ) → Bor (List ℕ) → Ordering

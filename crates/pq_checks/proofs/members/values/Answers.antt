@@ -1,0 +1,9 @@
+use Rattle.pq_checks.specs.aux.Seen.{value_in}
+use Rattle.pq_checks.proofs.Passes.{each_more, each_all}
+use Rattle.pq_checks.proofs.members.values.Goals as goal
+
+pub spots-preserved : goal.spots-preserved
+spots-preserved c = each_more value_in _ _ _ _ _ _ c.spots-test.true c.index-spots-i.is c.in_ok-push_value.ensures c.spots.invariant
+
+pub returns : goal.returns
+returns c = record { values = each_all value_in _ _ _ _ c.spots-test.false c.spots.invariant }
