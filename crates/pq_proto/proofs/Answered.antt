@@ -1,6 +1,6 @@
 -- A query that asks only keys of lower levels that have answers, and that lowers what is left with
 -- each further question, has an answer for each of its keys.
-use Rattle.std.proofs.Common.{◌≡◌, ℕ, zero, suc, ◌<◌, ◌≤◌, List, [], ◌∷◌, refl, subst, sym, inl, inr, arith}
+use Rattle.std.proofs.Common.{◌≡◌, ℕ, zero, suc, ◌<◌, ◌≤◌, [], ◌∷◌, refl, subst, inl, inr, arith}
 use Rattle.pq_rules.specs.declared.turn.Turn.{Turn}
 use Rattle.pq_rules.specs.declared.turn.Turn.TheVariants.{Ask, Done}
 use Rattle.pq_rules.specs.declared.turn.Answer.{Answer}

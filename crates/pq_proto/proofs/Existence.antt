@@ -1,9 +1,9 @@
 -- Each file of the sources has links or leads into a ring of imports, so it has a scope and
 -- resolved references.
-use Rattle.std.proofs.Common.{◌≡◌, ◌⊎◌, ℕ, List, map, refl, inl, inr}
+use Rattle.std.proofs.Common.{◌⊎◌, ℕ, List, map, refl, inl, inr}
 use Rattle.pq_inputs.specs.Sources.{Sources}
 use Rattle.pq_links.specs.Files.{graph_of}
-use Rattle.pq_links.specs.ImportGraph.{IsGood, IsRingOf}
+use Rattle.pq_links.specs.ImportGraph.{IsRingOf}
 use Rattle.pq_links.specs.Visibility.{AreLinks, links_within}
 use Rattle.pq_links.specs.declared.links.Links.{Links}
 use Rattle.pq_schema.specs.Compile.{IsScope, AreResolved, defs_at, nodes_at, resolved_in, scope_of_links}

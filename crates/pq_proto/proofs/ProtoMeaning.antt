@@ -3,7 +3,7 @@
 --
 -- What pq_schema and pq_checks say of every rule set that embeds their queries gives the answers of
 -- their keys. The three queries above ask these keys alone: their runs have at most three reads.
-use Rattle.std.proofs.Common.{◌≡◌, ℕ, ◌<◌, ◌≤◌, Bool, true, false, cond, List, [], ◌∷◌, map, Option, Some, None, refl, sym, ap, subst, ◌∙◌, inl, inr, arith}
+use Rattle.std.proofs.Common.{◌≡◌, ℕ, ◌<◌, Bool, true, false, cond, List, [], ◌∷◌, map, Option, Some, None, refl, sym, ap, subst, ◌∙◌, arith}
 use Rattle.std.specs.Prelude.{codes, option_and_then}
 use Rattle.std.specs.Cmp.Lexicographic.{slice_cmp}
 use Rattle.std.specs.Ordering.{nat_cmp}
@@ -13,7 +13,7 @@ use Rattle.pq_inputs.specs.Sources.{Sources}
 use Rattle.pq_rules.specs.declared.turn.Turn.{Turn}
 use Rattle.pq_rules.specs.declared.turn.Turn.TheVariants.{Ask, Done}
 use Rattle.pq_rules.specs.declared.turn.Answer.{Answer}
-use Rattle.pq_rules.specs.declared.turn.Answer.TheVariants.{Value, Cycle}
+use Rattle.pq_rules.specs.declared.turn.Answer.TheVariants.{Value}
 use Rattle.pq_rules.specs.Turns.{Instance, over}
 use Rattle.pq_rules.specs.Relations.{Each}
 use Rattle.pq_rules.specs.Value.{Trace, Means}
@@ -22,14 +22,13 @@ use Rattle.pq_rules.proofs.LowerReads.{lower_runs}
 use Rattle.pq_rules.proofs.OneRead.{once}
 use Rattle.pq_rules.proofs.Rings.{Strict}
 use Rattle.pq_links.specs.declared.files.ParsedFile.{ParsedFile}
-use Rattle.pq_schema.specs.Compile.{AreResolved}
 use Rattle.pq_schema.specs.Missing.{nodes_of}
 use Rattle.pq_schema.specs.SchemaSum.{SchemaSum, SchemaMeans}
 use Rattle.pq_schema.specs.declared.resolved.ResolvedReference.{ResolvedReference}
 use Rattle.pq_checks.specs.ChecksSum.{ChecksSum, ChecksMeans}
 use Rattle.pq_checks.specs.Diagnostics.{AreDiagnostics}
 use Rattle.pq_checks.specs.declared.surroundings.Checked.{Checked}
-use Rattle.pq_proto.specs.Compile.{Compiles, IsDefinition, IsDescriptor, definition_by, descriptor_by, is_sent, location_of, offset_at, read_in, symbols_by, type_at}
+use Rattle.pq_proto.specs.Compile.{Compiles, IsDefinition, IsDescriptor, is_sent, location_of, offset_at, read_in, symbols_by}
 use Rattle.pq_proto.specs.Definition.{definition_at}
 use Rattle.pq_proto.specs.Descriptor.{descriptor}
 use Rattle.pq_proto.specs.aux.Outputs.{output_level, parsed_read, resolved_read, diagnostics_read, descriptor_starts, descriptor_next, descriptor_advances, symbols_starts, symbols_advances, definition_starts, references_turn, target_turn, definition_advances}

@@ -104,7 +104,7 @@ type_name _ = None
 abbrev pub location_of : TypeItem → ParsedFile → Option Location
 location_of t file =
     option_map (λ (s : Span). record { file = t.file; start = place_at file s.start; end = place_at file s.end })
-        (option_and_then (λ (n : Node). type_name n.statement) (slice_get (nodes_of file) t.item))
+    (option_and_then (λ (n : Node). type_name n.statement) (slice_get (nodes_of file) t.item))
 
 -- `type_at file place references` is the type that is referred to at `place` in a file that is read
 -- as `file` and has the resolved references `references`

@@ -7,56 +7,66 @@ use Rattle.pq_syntax.proofs.Equality.{Told, no_field, one_field, fields, of_stru
 use Rattle.pq_links.proofs.Equality.{parsed_file, file_imports, file_links}
 use Rattle.pq_schema.specs.aux.SameContents.{contents}
 use Rattle.pq_schema.specs.aux.SameScopes.{lists}
-use Rattle.pq_schema.specs.contracts.references as references
-use Rattle.pq_schema.specs.contracts.resolution as resolution
-use Rattle.pq_schema.specs.contracts.resolved as resolved
-use Rattle.pq_checks.specs.contracts.code as code
-use Rattle.pq_checks.specs.contracts.fault as fault
-use Rattle.pq_checks.specs.contracts.surroundings as surroundings
-use Rattle.pq_proto.specs.contracts.key as key
-use Rattle.pq_proto.specs.contracts.value as value
+use Rattle.pq_schema.specs.contracts.references.TypePart as type_part_type
+use Rattle.pq_schema.specs.contracts.references.TypePartPartialEq.TheImpl as type_part_eq
+use Rattle.pq_schema.specs.contracts.resolution.Resolution as resolution_type
+use Rattle.pq_schema.specs.contracts.resolution.ResolutionPartialEq.TheImpl as resolution_eq
+use Rattle.pq_schema.specs.contracts.resolved.ResolvedReference as reference_type
+use Rattle.pq_schema.specs.contracts.resolved.ResolvedReferencePartialEq.TheImpl as reference_eq
+use Rattle.pq_checks.specs.contracts.code.Code as code_type
+use Rattle.pq_checks.specs.contracts.code.CodePartialEq.TheImpl as code_eq
+use Rattle.pq_checks.specs.contracts.fault.Fault as fault_type
+use Rattle.pq_checks.specs.contracts.fault.FaultPartialEq.TheImpl as fault_eq
+use Rattle.pq_checks.specs.contracts.surroundings.Checked as checked_type
+use Rattle.pq_checks.specs.contracts.surroundings.CheckedPartialEq.TheImpl as checked_eq
+use Rattle.pq_proto.specs.contracts.key.Place as place_type
+use Rattle.pq_proto.specs.contracts.key.PlacePartialEq.TheImpl as place_eq
+use Rattle.pq_proto.specs.contracts.value.Location as location_type
+use Rattle.pq_proto.specs.contracts.value.LocationPartialEq.TheImpl as location_eq
+use Rattle.pq_proto.specs.contracts.value.ProtoValue as value_type
+use Rattle.pq_proto.specs.contracts.value.ProtoValuePartialEq.TheImpl as value_eq
 use Rattle.pq_proto.specs.declared.value.ProtoValue.{ProtoValue}
 
-type_part : Told references.TypePartPartialEq.TheImpl.ghosts.eq
-type_part = of_bare references.TypePart.the_type tt
+type_part : Told type_part_eq.ghosts.eq
+type_part = of_bare type_part_type.the_type tt
 
-one_resolution : Told resolution.ResolutionPartialEq.TheImpl.ghosts.eq
+one_resolution : Told resolution_eq.ghosts.eq
 one_resolution =
-    of_enum resolution.Resolution.enum
+    of_enum resolution_type.enum
     (variants (fields bytes_decides (fields bytes_decides (fields booleans_Decides (one_field unsigned_Decides))))
     (variants no_field
     (variants (one_field bytes_decides)
     (variants no_field no_variant))))
 
-resolved_reference : Told resolved.ResolvedReferencePartialEq.TheImpl.ghosts.eq
+resolved_reference : Told reference_eq.ghosts.eq
 resolved_reference =
-    of_struct resolved.ResolvedReference.struct resolved.ResolvedReference.the_propositions
+    of_struct reference_type.struct reference_type.the_propositions
     (fields unsigned_Decides (fields type_part (one_field one_resolution)))
 
-one_code : Told code.CodePartialEq.TheImpl.ghosts.eq
-one_code = of_bare code.Code.the_type tt
+one_code : Told code_eq.ghosts.eq
+one_code = of_bare code_type.the_type tt
 
-one_fault : Told fault.FaultPartialEq.TheImpl.ghosts.eq
+one_fault : Told fault_eq.ghosts.eq
 one_fault =
-    of_struct fault.Fault.struct fault.Fault.the_propositions
+    of_struct fault_type.struct fault_type.the_propositions
     (fields unsigned_Decides (fields unsigned_Decides (fields one_code (one_field bytes_decides))))
 
-checked : Told surroundings.CheckedPartialEq.TheImpl.ghosts.eq
+checked : Told checked_eq.ghosts.eq
 checked =
-    of_struct surroundings.Checked.struct surroundings.Checked.the_propositions
+    of_struct checked_type.struct checked_type.the_propositions
     (fields (pointwise_decides one_fault) (one_field parsed_file))
 
-place : Told key.PlacePartialEq.TheImpl.ghosts.eq
-place = of_struct key.Place.struct key.Place.the_propositions (fields unsigned_Decides (one_field unsigned_Decides))
+place : Told place_eq.ghosts.eq
+place = of_struct place_type.struct place_type.the_propositions (fields unsigned_Decides (one_field unsigned_Decides))
 
-location : Told value.LocationPartialEq.TheImpl.ghosts.eq
+location : Told location_eq.ghosts.eq
 location =
-    of_struct value.Location.struct value.Location.the_propositions
+    of_struct location_type.struct location_type.the_propositions
     (fields bytes_decides (fields place (one_field place)))
 
-values : Told value.ProtoValuePartialEq.TheImpl.ghosts.eq
+values : Told value_eq.ghosts.eq
 values =
-    of_enum value.ProtoValue.enum
+    of_enum value_type.enum
     (variants (one_field (option bytes_decides))
     (variants (one_field parsed_file)
     (variants (one_field file_imports)
@@ -70,5 +80,5 @@ values =
     (variants (one_field bytes_decides)
     (variants (one_field (option location)) no_variant))))))))))))
 
-pub value_exact : (a b : ProtoValue) → IsTrue (value.ProtoValuePartialEq.TheImpl.ghosts.eq a b) → a ≡ b
+pub value_exact : (a b : ProtoValue) → IsTrue (value_eq.ghosts.eq a b) → a ≡ b
 value_exact a b e = (values a b).0 e

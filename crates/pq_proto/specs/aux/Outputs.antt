@@ -1,7 +1,7 @@
 -- Auxiliary: the turns of the queries of descriptors, symbols and definitions, as functions of what
 -- is read of an answer, and that each further question lowers what is left. A law of a trait's impl
 -- may cite specs/ alone. The laws of the rule set tie the turns to `specs/Compile`.
-use Rattle.std.proofs.Common.{◌≡◌, ℕ, Bool, true, false, List, [], refl, sym, subst, inl, arith}
+use Rattle.std.proofs.Common.{◌≡◌, ℕ, Bool, true, false, List, [], sym, subst, inl, arith}
 use Rattle.std.specs.Prelude.{cond, codes, Option, Some, None}
 use Rattle.serde_json.specs.Written.{compact_text}
 use Rattle.pq_rules.specs.declared.turn.Turn.{Turn}

@@ -25,29 +25,24 @@ use Rattle.pq_links.specs.aux.Queries.{linked_starts, linked_advances, linked_le
 use Rattle.pq_links.specs.aux.Falls.{linked_falls}
 use Rattle.pq_links.specs.declared.files.ParsedFile.{ParsedFile}
 use Rattle.pq_links.specs.declared.links.Import.{Import}
-use Rattle.pq_links.specs.declared.links.Links.{Links}
 use Rattle.pq_links.proofs.NameKinds.{IfImportsIn, LinksIn, LinkingIn, no_links_in, linked_starts_in, linked_advances_in}
 use Rattle.pq_schema.specs.Missing.{nodes_of}
-use Rattle.pq_schema.specs.ScopeContents.{Scope}
 use Rattle.pq_schema.specs.aux.Queries.{scope_starts, scope_advances, scope_left, resolved_starts, resolved_advances, resolved_left}
 use Rattle.pq_schema.specs.aux.Falls.{scope_falls, resolved_falls}
 use Rattle.pq_schema.specs.aux.NameKinds.{ScopeIn, ScopePartIn, scope_starts_in, scope_advances_in}
 use Rattle.pq_schema.specs.aux.RuleSet.{mentioned, all_mentioned}
 use Rattle.pq_schema.specs.declared.resolved.ResolvedReference.{ResolvedReference}
-use Rattle.pq_schema.specs.declared.resolved.ResolvedPart.{ResolvedPart}
 use Rattle.pq_schema.proofs.ResolvedKinds.{ResolutionIn, ResolvedIn, ResolvedPartIn, resolved_starts_in, resolved_advances_in}
 use Rattle.pq_schema.specs.declared.resolution.Resolution.{Resolution}
 use Rattle.pq_schema.specs.declared.resolution.Resolution.TheVariants as resolutions
-use Rattle.pq_schema.specs.declared.scopes.ScopePart.{ScopePart}
 use Rattle.pq_syntax.specs.declared.tree.Node.{Node}
 use Rattle.pq_checks.specs.aux.Falls.{check_falls}
 use Rattle.pq_checks.specs.aux.Queries.{check_starts, check_advances, check_left}
-use Rattle.pq_checks.specs.declared.checked.CheckPart.{CheckPart}
 use Rattle.pq_checks.specs.declared.surroundings.Checked.{Checked}
 use Rattle.pq_proto.specs.Compile.{is_sent, offset_at}
 use Rattle.pq_proto.specs.Definition.{definition_at, type_item, holds, span_of}
 use Rattle.pq_proto.specs.aux.CheckKinds.{AsksIn, CheckPartIn, check_starts_in, check_advances_in}
-use Rattle.pq_proto.specs.aux.Outputs.{parsed_read, resolved_read, diagnostics_read, descriptor_next, descriptor_advances, descriptor_left, descriptor_falls, references_turn, target_turn, definition_advances, definition_left, definition_falls}
+use Rattle.pq_proto.specs.aux.Outputs.{parsed_read, resolved_read, diagnostics_read, descriptor_advances, descriptor_left, descriptor_falls, references_turn, target_turn, definition_advances, definition_left, definition_falls}
 use Rattle.pq_proto.specs.aux.RuleSet.{text_read, imports_read, links_read, defs_read, scope_read, check_words, proto_level, proto_file, proto_start, proto_advance, proto_left, proto_rules, descriptor_turn, definition_turn, own_name, keys_of, proto_reach}
 use Rattle.pq_proto.specs.declared.key.ProtoKey.{ProtoKey}
 use Rattle.pq_proto.specs.declared.key.ProtoKey.TheVariants as keys

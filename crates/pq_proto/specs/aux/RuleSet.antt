@@ -1,6 +1,6 @@
 -- Auxiliary: the rule set of proto3 files, put together from its queries. The law `proto_values`
 -- says what its keys mean.
-use Rattle.std.specs.Prelude.{ℕ, List, [], ◌∷◌, ◌++◌, map, Option, Some, None}
+use Rattle.std.specs.Prelude.{ℕ, List, [], ◌∷◌, map, Option, Some, None}
 use Rattle.pq_inputs.specs.Sources.{Sources}
 use Rattle.pq_rules.specs.declared.turn.Turn.{Turn}
 use Rattle.pq_rules.specs.declared.turn.Turn.TheVariants.{Done}
