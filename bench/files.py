@@ -1,5 +1,4 @@
 """Texts of proto3 that the benches parse, each of about so many bytes. `protoc` takes them too."""
-import sessions
 
 HEAD = 'syntax = "proto3";\n\npackage bench.made;\n\noption java_package = "com.example.bench.made";\n'
 
@@ -50,6 +49,20 @@ service Records%(n)d {
 """
 
 
+def proto_text(size):
+    """A file of messages with scalar fields, of `size` bytes or a little fewer."""
+    parts = ['syntax = "proto3";\n']
+    length = len(parts[0])
+    number = 0
+    while True:
+        part = "message Message%d {\n  int32 first = 1;\n  string second_of_them = 2;\n  bool third = 3;\n}\n" % number
+        if length + len(part) > size:
+            return "".join(parts)
+        parts.append(part)
+        length += len(part)
+        number += 1
+
+
 def varied_text(size):
     """A file of enums, messages, services, options and comments, of `size` bytes or a little fewer."""
     parts = [HEAD]
@@ -64,7 +77,7 @@ def varied_text(size):
 
 def texts(size):
     """Texts of about `size` bytes, by title."""
-    plain = sessions.proto_text(size)
+    plain = proto_text(size)
     commented = plain.replace("{\n", "{\n  // What the fields below are for, in a line of words.\n", size // 300)[:size]
     return [("messages of scalar fields", plain),
             ("the same with comments", commented.rsplit("}\n", 1)[0] + "}\n"),

@@ -10,19 +10,17 @@ best times count. Printed is a Markdown table with the time of one answer at n a
 The last two cases have texts of one length: 90,000 imports of one file, and one import among as many options. The ratio
 of their times is printed below the table: an import costs no more where it is repeated.
 
-usage: bench/links.py [--runs N] [--program PATH] [--only WORD]
+usage: bench/links.py [--runs N] [--program PATH] [--only WORD] [--instructions]
 """
 import argparse
 import os
-import shutil
-import subprocess
 import sys
 import tempfile
 
 import parts
 
-HERE = os.path.dirname(os.path.abspath(__file__))
 CRATES = ["pq_lex", "pq_names", "pq_inputs", "pq_rules", "pq_syntax", "pq_links", "pq_schema"]
+USES = "pq_inputs pq_rules pq_schema"
 SYNTAX = "syntax='proto3';"
 
 
@@ -90,60 +88,13 @@ CASES = [("a chain of files", chain, 707, 1000),
          ("an import once", once, 45_000, 90_000)]
 
 
-def built(folder):
-    """The program, built in the folder."""
-    with open(os.path.join(folder, "crates.txt"), "w") as sink:
-        for crate in CRATES:
-            shutil.copytree(os.path.join(HERE, "..", "crates", crate), os.path.join(folder, "crates", crate), symlinks=True)
-            for line in open(os.path.join(HERE, "..", "crates.txt")):
-                if line.startswith(crate + ":"):
-                    sink.write(line)
-        sink.write("schema: pq_inputs pq_rules pq_schema\n")
-    home = os.path.join(folder, "crates", "schema")
-    os.makedirs(os.path.join(home, "src"))
-    shutil.copy(os.path.join(HERE, "schema.rt.txt"), os.path.join(home, "src", "main.rt"))
-    done = subprocess.run(["rt", "run"], cwd=home, input=b"", capture_output=True)
-    program = os.path.join(home, "out", "schema")
-    if not os.path.exists(program):
-        sys.exit(done.stdout.decode() + done.stderr.decode())
-    return program
-
-
-def seconds(program, path, rounds, question):
-    with open(path, "rb") as source:
-        return parts.processor_time([program, str(rounds)] + question, source)
-
-
-class Side:
-    """One size of a case: its file, its question, and how many rounds take about a third of a second."""
-
-    def __init__(self, program, folder, make, n):
-        text, query, file = make(n)
-        self.path = os.path.join(folder, "%s%d" % (make.__name__, n))
-        self.question = [query, file]
-        with open(self.path, "w") as sink:
-            sink.write(text)
-        one = seconds(program, self.path, 1, self.question)
-        self.rounds = max(1, int(0.3 / max(one, 0.001)))
-        self.best = [float("inf"), float("inf")]
-
-    def run(self, program):
-        for i in (0, 1):
-            self.best[i] = min(self.best[i], seconds(program, self.path, self.rounds * (1, 3)[i], self.question))
-
-    def time(self):
-        return (self.best[1] - self.best[0]) / (2 * self.rounds)
-
-
-def measured(program, runs, cases):
-    """The best times of each case at n and at 2n. All runs of all cases take turns."""
-    with tempfile.TemporaryDirectory() as folder:
-        sides = [[Side(program, folder, make, n) for n in sizes] for _, make, *sizes in cases]
-        for _ in range(runs):
-            for pair in sides:
-                for side in pair:
-                    side.run(program)
-        return [[side.time() for side in pair] for pair in sides]
+def side(program, folder, make, n):
+    """One size of a case: its program, with its files and its question."""
+    text, query, file = make(n)
+    path = os.path.join(folder, "%s%d" % (make.__name__, n))
+    with open(path, "w") as sink:
+        sink.write(text)
+    return parts.Rounds(program, [query, file], path)
 
 
 def main():
@@ -151,14 +102,20 @@ def main():
     words.add_argument("--runs", type=int, default=7)
     words.add_argument("--program", help="the program, built before")
     words.add_argument("--only", default="", help="a word of the titles of the cases to run")
+    words.add_argument("--instructions", action="store_true", help="count the instructions too, by valgrind")
     words = words.parse_args()
     cases = [case for case in CASES if words.only in case[0]]
     with tempfile.TemporaryDirectory() as folder:
-        times = measured(words.program or built(folder), words.runs, cases)
-    print("| Case | n | 2n | ms at n | ms at 2n | ratio |\n|---|---|---|---|---|---|")
-    for (title, _, n, more), (small, large) in zip(cases, times):
-        print("| %s | %d | %d | %.2f | %.2f | %.2f |" % (title, n, more, small * 1e3, large * 1e3, large / small))
-    of = {case[1]: time[1] for case, time in zip(cases, times)}
+        program = words.program or parts.built_from(os.path.join(folder, "build"), "schema", CRATES, USES)
+        pairs = [[side(program, folder, make, n) for n in sizes] for _, make, *sizes in cases]
+        parts.in_turns([side for pair in pairs for side in pair], words.runs)
+        counts = [[side.instructions() for side in pair] if words.instructions else None for pair in pairs]
+    print("| Case | n | 2n | ms at n | ms at 2n | ratio | of instructions |\n|---|---|---|---|---|---|---|")
+    for (title, _, n, more), pair, count in zip(cases, pairs, counts):
+        small, large = [side.time() for side in pair]
+        counted = "%.2f" % (count[1] / count[0]) if count else ""
+        print("| %s | %d | %d | %.2f | %.2f | %.2f | %s |" % (title, n, more, small * 1e3, large * 1e3, large / small, counted))
+    of = {case[1]: pair[1].time() for case, pair in zip(cases, pairs)}
     if repeated in of and once in of:
         print("\nThe file with the import 90,000 times took %.2f times as long as its twin." % (of[repeated] / of[once]))
     return 0

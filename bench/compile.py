@@ -1,0 +1,319 @@
+#!/usr/bin/env python3
+"""Measures compilation from scratch: to diagnostics, to descriptors and to symbols.
+
+The program is a few lines of Rattle in compile.rt.txt. It is put into a scratch repository with a copy of the crates that
+it stands on, proved and built there by `rt`.
+
+First it is compared with `protoc`, on the same files in one run. Both are measured as whole processes, by the processor's
+time, best of some runs that take turns. Ours reads each file and compiles it to its diagnostics, or to its descriptor, which
+includes them. Each file is compiled from scratch, so the files that it imports are read anew for it. `protoc` reads each file
+once, checks it and writes its descriptors, here to nowhere. No file has an error. The time of each process on a file of one
+line is taken off both. The factors are protoc's time as a multiple of that to diagnostics, and of that to descriptors.
+Wanted: Debian's protobuf-compiler and libprotobuf-dev; four times protoc's speed and 25 MB/s.
+
+Then each case is a file with n and with 2n of something, a query, and what the answer has to be. Each run is made with
+k and with 3k rounds; the difference is the time of 2k rounds without the process's start and the reading of
+files. Printed is a Markdown table with the time of one answer at n and at 2n and their ratio: 2 is linear, 2.2 the most.
+A ratio of times above 2 can be that of a cache that is outgrown: the ratio of instructions says which it is.
+
+usage: bench/compile.py [--runs N] [--program PATH] [--only WORD] [--instructions] [--no-protoc]
+"""
+import argparse
+import os
+import sys
+import tempfile
+
+import files
+import parts
+import protoc
+from protoc import written
+
+CRATES = ["pq_lex", "pq_names", "pq_inputs", "pq_rules", "pq_syntax", "pq_links", "pq_schema", "pq_checks", "pq_proto"]
+USES = "pq_names pq_inputs pq_rules pq_checks pq_proto"
+INCLUDE = os.path.dirname(os.path.dirname(protoc.INSTALLED))
+SIZE = 1_000_000
+PARTS = 4
+TREE = 200
+FASTER, RATE = 4.0, 25.0
+
+
+# Groups of files for the comparison: the names of those that are compiled, their folder, and the names of those that
+# they import beside, which are installed.
+
+def apart(text, n):
+    """The text of a made file, in a package of its own."""
+    if "package bench.made;" in text:
+        return text.replace("bench.made", "bench.made%d" % n)
+    return text.replace('"proto3";\n', '"proto3";\npackage bench.part%d;\n' % n, 1)
+
+
+def made(folder):
+    """Files of a megabyte, some of each kind."""
+    for title, text in files.texts(SIZE):
+        home = os.path.join(folder, title.replace(" ", "_").replace(",", ""))
+        names = ["part%d.proto" % n for n in range(PARTS)]
+        for n, name in enumerate(names):
+            written(os.path.join(home, name), apart(text, n))
+        yield "%d files of %s" % (PARTS, title), names, home, []
+
+
+def tree_text(n):
+    """File n of a tree: it imports three others, and has records with fields of their types."""
+    lower = [i for i in range(3 * n + 1, 3 * n + 4) if i < TREE]
+    text = 'syntax = "proto3";\npackage bench.tree.node%d;\n' % n
+    text += "".join('import "node%d.proto";\n' % i for i in lower)
+    for k in range(40):
+        text += "message Record%d {\n  string name = 1;\n  repeated int64 counts = 2;\n  map<string, Record0> parts = 3;\n" % k
+        text += "".join("  bench.tree.node%d.Record%d lower_%d = %d;\n" % (i, k, i, i - 3 * n + 9) for i in lower)
+        text += "  oneof holder {\n    string person = 20;\n    uint64 machine = 21;\n  }\n}\n"
+    return text
+
+
+def tree(folder):
+    """Files that import one another."""
+    home = os.path.join(folder, "tree")
+    names = ["node%d.proto" % n for n in range(TREE)]
+    for n, name in enumerate(names):
+        written(os.path.join(home, name), tree_text(n))
+    yield "%d files in a tree of imports" % TREE, names, home, []
+
+
+def installed(folder):
+    """The installed files of proto3, and many copies of them."""
+    texts = protoc.installed()
+    if texts:
+        names = ["google/protobuf/" + name for name in texts]
+        yield "%d installed files" % len(texts), names, INCLUDE, []
+        home = os.path.join(folder, "copies")
+        copies = [os.path.relpath(path, home) for path in protoc.copies(home, texts)]
+        yield "%d copies of each" % protoc.COPIES, copies, home, names
+
+
+def pairs(home, names):
+    return [word for name in names for word in (name, os.path.join(home, name))]
+
+
+def words_of(query, names, home, beside):
+    """The words of our program: the query, the files, and those that they import beside."""
+    return [query] + pairs(home, names) + ["--"] + pairs(INCLUDE, beside)
+
+
+def compared(program, folder, runs, counts):
+    """Prints the table of the comparison, and gives the least factor and the least rate."""
+    line = written(os.path.join(folder, "line.proto"), 'syntax = "proto3";\n')
+    start = [([program, "1"] + words_of("Diagnostics", ["line.proto"], folder, []),), (protoc.protoc([folder], [line]),)]
+    ours, theirs = protoc.best_times(start, runs * 3)
+    print("start, on a file of one line: ours %.1f ms, protoc %.1f ms, taken off below\n" % (ours * 1e3, theirs * 1e3))
+    print("| Files | kB | diagnostics, ms | MB/s | descriptors, ms | MB/s | protoc, ms | MB/s | times | times | of instructions |")
+    print("|---|---|---|---|---|---|---|---|---|---|---|")
+    factors, rates = [], []
+    for make in (made, tree, installed):
+        for title, names, home, beside in make(folder):
+            size = sum(os.path.getsize(os.path.join(home, name)) for name in names)
+            commands = [([program, "1"] + words_of(query, names, home, beside), None, 0, said)
+                        for query, said in (("Diagnostics", b"\n0 errors, 0 nulls\n"), ("Descriptor", b"\n0 errors, 0 nulls\n"))]
+            commands.append((protoc.protoc([home, INCLUDE], [os.path.join(home, name) for name in names]),))
+            times = protoc.best_times(commands, runs)
+            net = [max(time - off, 1e-9) for time, off in zip(times, (ours, ours, theirs))]
+            rate = [size / time / 1e6 for time in net]
+            factor = [net[2] / time for time in net[:2]]
+            factors += factor
+            rates += rate[:2]
+            print("| %s | %.0f | %s | %.1f | %.1f | %s |" % (
+                title, size / 1e3, " | ".join("%.1f | %.1f" % (time * 1e3, at) for time, at in zip(net, rate)), *factor,
+                counted(start, commands) if counts else ""), flush=True)
+    return min(factors), min(rates)
+
+
+def counted(start, commands):
+    """protoc's instructions as multiples of ours, to diagnostics and to descriptors."""
+    ours, theirs = [parts.instructions(*command) for command in start]
+    first, second, other = [parts.instructions(*command) for command in commands]
+    return "%.1f, %.1f" % ((other - theirs) / (first - ours), (other - theirs) / (second - ours))
+
+
+# Texts with n of something. Each maker gives the text and the count of its errors.
+
+def message(body, errors=0):
+    return 'syntax="proto3";message M{' + body + "}", errors
+
+
+def number(i):
+    """Field number i from 1, where those that protobuf keeps for itself are passed over."""
+    return i if i < 19_000 else i + 1_000
+
+
+def fields(n):
+    return message("".join("int32 f%d=%d;" % (i, number(i)) for i in range(1, n + 1)))
+
+
+def ranges(n):
+    """Fields with odd numbers, and ranges between them in another order."""
+    body = "reserved " + ",".join("%d to %d" % (40_000 + 2 * i, 40_000 + 2 * i) for i in reversed(range(n))) + ";"
+    return message(body + "".join("int32 f%d=%d;" % (i, 40_001 + 2 * i) for i in range(n)))
+
+
+def nested_ranges(n):
+    """Fields each of which is in half of the ranges."""
+    body = "reserved " + ",".join("%d to %d" % (40_000 + i, 900_000 - i) for i in range(n)) + ";"
+    return message(body + "".join("int32 f%d=%d;" % (i, 40_000 + i) for i in range(n)), n)
+
+
+def single_ranges(n):
+    """Fields and as many statements with a range, in turns."""
+    return message("".join("reserved %d;int32 f%d=%d;" % (40_000 + 2 * i, i, 40_001 + 2 * i) for i in range(n)))
+
+
+def reserved_names(n):
+    body = "reserved " + ",".join('"f%d"' % i for i in range(n)) + ";"
+    return message(body + "".join("int32 f%d=%d;" % (i, number(i + 1)) for i in range(n)), n)
+
+
+def values(n):
+    return 'syntax="proto3";enum E{' + "".join("V%d=%d;" % (i, i) for i in range(n)) + "}", 0
+
+
+def aliases(n):
+    """Enum values with one number, without allow_alias."""
+    return 'syntax="proto3";enum E{' + "".join("V%d=0;" % i for i in range(n)) + "}", n - 1
+
+
+def one_number(n):
+    return message("".join("int32 f%d=1;" % i for i in range(n)), n - 1)
+
+
+def one_name(n):
+    return message("".join("int32 f=%d;" % number(i) for i in range(1, n + 1)), n - 1)
+
+
+def references(n):
+    """References to as many messages."""
+    return ('syntax="proto3";package a.b;' + "".join("message M%d{M%d x=1;}" % (i, n - 1 - i) for i in range(n))), 0
+
+
+def dotted_references(n):
+    """References whose first part is found in an outer scope."""
+    return ('syntax="proto3";package a.b;message T{message U{}}' + "".join("message M%d{b.T.U x=1;}" % i for i in range(n))), 0
+
+
+def missing_references(n):
+    """References to what is nowhere."""
+    return 'syntax="proto3";package a.b;' + "".join("message M%d{N%d x=1;}" % (i, i) for i in range(n)), n
+
+
+def maps(n):
+    return message("".join("map<string,M> f%d=%d;" % (i, number(i)) for i in range(1, n + 1)))
+
+
+def oneofs(n):
+    return message("".join("oneof o%d{int32 f%d=%d;}" % (i, i, number(i)) for i in range(1, n + 1)))
+
+
+def nested(n):
+    """Towers of 60 messages, each in the next. A full name in them has up to 60 parts."""
+    return 'syntax="proto3";' + "".join("message T%d{" % i + "message M{" * 59 + "}" * 60 for i in range(n)), 0
+
+
+def options(n):
+    return message('int32 f=1[' + ",".join("(a.b%d).c='d'" % i for i in range(n)) + "];")
+
+
+def methods(n):
+    return 'syntax="proto3";message M{}service S{' + "".join("rpc R%d(M)returns(stream M);" % i for i in range(n)) + "}", 0
+
+
+def absent_imports(n):
+    return 'syntax="proto3";' + "".join("import 'f%d';" % i for i in range(n)), n
+
+
+def one_line(n):
+    """Errors on one line that is not ASCII."""
+    return message("int32 f=0;/*\u00e9*/" * n, 2 * n - 1)
+
+
+def ascii_line(n):
+    return message("int32 f=0;/*ee*/" * n, 2 * n - 1)
+
+
+# A case: its title, its text, its query and n.
+CASES = [("fields", fields, "Diagnostics", 15_000),
+         ("fields", fields, "Descriptor", 15_000),
+         ("fields", fields, "Symbols", 15_000),
+         ("reserved ranges against fields", ranges, "Diagnostics", 10_000),
+         ("10,000 fields, 10,000 ranges", single_ranges, "Diagnostics", 5_000),
+         ("10,000 fields, 10,000 ranges", single_ranges, "Descriptor", 5_000),
+         ("fields in half of the ranges", nested_ranges, "Diagnostics", 10_000),
+         ("reserved names against fields", reserved_names, "Diagnostics", 10_000),
+         ("enum values", values, "Diagnostics", 25_000),
+         ("enum values", values, "Descriptor", 25_000),
+         ("enum values of one number", aliases, "Diagnostics", 25_000),
+         ("fields of one number", one_number, "Diagnostics", 15_000),
+         ("fields of one name", one_name, "Diagnostics", 15_000),
+         ("references", references, "Diagnostics", 10_000),
+         ("references", references, "Descriptor", 10_000),
+         ("dotted references", dotted_references, "Diagnostics", 10_000),
+         ("references to nothing", missing_references, "Diagnostics", 10_000),
+         ("map fields", maps, "Diagnostics", 10_000),
+         ("map fields", maps, "Descriptor", 10_000),
+         ("oneofs of one field", oneofs, "Diagnostics", 10_000),
+         ("oneofs of one field", oneofs, "Descriptor", 10_000),
+         ("towers of 60 messages", nested, "Diagnostics", 500),
+         ("towers of 60 messages", nested, "Descriptor", 500),
+         ("options of one field", options, "Descriptor", 15_000),
+         ("methods", methods, "Diagnostics", 10_000),
+         ("methods", methods, "Descriptor", 10_000),
+         ("imports of absent files", absent_imports, "Diagnostics", 15_000),
+         ("errors on one ASCII line", ascii_line, "Diagnostics", 30_000),
+         ("errors on one line, not ASCII", one_line, "Diagnostics", 30_000),
+         ("errors on one ASCII line", ascii_line, "Symbols", 30_000),
+         ("errors on one line, not ASCII", one_line, "Symbols", 30_000)]
+
+
+def side(program, folder, make, query, n):
+    """One size of a case."""
+    text, errors = make(n)
+    name = "%s%d.proto" % (make.__name__, n)
+    path = written(os.path.join(folder, name), text)
+    said = b"\n%d errors, 0 nulls\n" % (errors if query == "Diagnostics" else 0)
+    return parts.Rounds(program, [query, name, path], said=said)
+
+
+def table(program, folder, cases, runs, counts):
+    """Prints the table of the cases, and gives the largest ratio."""
+    sides = [[side(program, folder, make, query, times * n) for times in (1, 2)] for _, make, query, n in cases]
+    parts.in_turns([one for pair in sides for one in pair], runs)
+    print("\n| Case | Query | n | 2n | ms at n | ms at 2n | ratio | of instructions |\n|---|---|---|---|---|---|---|---|")
+    worst = 0.0
+    for (title, _, query, n), pair in zip(cases, sides):
+        small, large = [one.time() for one in pair]
+        counted = ""
+        if counts:
+            few, many = [one.instructions() for one in pair]
+            counted = "%.2f" % (many / few)
+        worst = max(worst, large / small)
+        print("| %s | %s | %d | %d | %.2f | %.2f | %.2f | %s |" % (
+            title, query, n, 2 * n, small * 1e3, large * 1e3, large / small, counted), flush=True)
+    return worst
+
+
+def main():
+    words = argparse.ArgumentParser()
+    words.add_argument("--runs", type=int, default=7)
+    words.add_argument("--program", help="the program, built before")
+    words.add_argument("--only", default="", help="a word of the titles of the cases to run")
+    words.add_argument("--instructions", action="store_true", help="count the instructions too, by valgrind")
+    words.add_argument("--no-protoc", action="store_true", help="the cases alone")
+    words = words.parse_args()
+    cases = [case for case in CASES if words.only in case[0]]
+    with tempfile.TemporaryDirectory() as folder:
+        program = words.program or parts.built_from(os.path.join(folder, "build"), "compile", CRATES, USES)
+        least = None if words.no_protoc else compared(program, folder, words.runs, words.instructions)
+        worst = table(program, folder, cases, words.runs, words.instructions)
+    print("\nlargest ratio %.2f, wanted at most %.1f" % (worst, parts.MOST))
+    if least:
+        print("least factor to protoc %.1f, wanted %.1f; least rate %.1f MB/s, wanted %.1f" % (least[0], FASTER, least[1], RATE))
+    return 0 if worst <= parts.MOST and (not least or least[0] >= FASTER and least[1] >= RATE) else 1
+
+
+if __name__ == "__main__":
+    sys.exit(main())
