@@ -8,7 +8,8 @@ First it is compared with `protoc`, on the same files in one run. Both are measu
 time, best of some runs that take turns. Ours reads each file and compiles it to its diagnostics, or to its descriptor, which
 includes them. Each file is compiled from scratch, so the files that it imports are read anew for it. `protoc` reads each file
 once, checks it and writes its descriptors, here to nowhere. No file has an error. The time of each process on a file of one
-line is taken off both. The factors are protoc's time as a multiple of that to diagnostics, and of that to descriptors.
+line is taken off both. The factors are protoc's time as a multiple of that to diagnostics, and of that to descriptors; with
+--instructions those of the instructions are printed too, after the instructions a byte of all three.
 Wanted: Debian's protobuf-compiler and libprotobuf-dev; four times protoc's speed and 25 MB/s.
 
 Then each case is a file with n and with 2n of something, a query, and what the answer has to be. Each run is made with
@@ -104,8 +105,9 @@ def compared(program, folder, runs, counts):
     start = [([program, "1"] + words_of("Diagnostics", ["line.proto"], folder, []),), (protoc.protoc([folder], [line]),)]
     ours, theirs = protoc.best_times(start, runs * 3)
     print("start, on a file of one line: ours %.1f ms, protoc %.1f ms, taken off below\n" % (ours * 1e3, theirs * 1e3))
-    print("| Files | kB | diagnostics, ms | MB/s | descriptors, ms | MB/s | protoc, ms | MB/s | times | times | of instructions |")
-    print("|---|---|---|---|---|---|---|---|---|---|---|")
+    print("| Files | kB | diagnostics, ms | MB/s | descriptors, ms | MB/s | protoc, ms | MB/s | times | times "
+          "| instructions a byte | of instructions |")
+    print("|---|---|---|---|---|---|---|---|---|---|---|---|")
     factors, rates = [], []
     for make in (made, tree, installed):
         for title, names, home, beside in make(folder):
@@ -121,15 +123,16 @@ def compared(program, folder, runs, counts):
             rates += rate[:2]
             print("| %s | %.0f | %s | %.1f | %.1f | %s |" % (
                 title, size / 1e3, " | ".join("%.1f | %.1f" % (time * 1e3, at) for time, at in zip(net, rate)), *factor,
-                counted(start, commands) if counts else ""), flush=True)
+                counted(start, commands, size) if counts else " | "), flush=True)
     return min(factors), min(rates)
 
 
-def counted(start, commands):
-    """protoc's instructions as multiples of ours, to diagnostics and to descriptors."""
+def counted(start, commands, size):
+    """The instructions a byte to diagnostics, to descriptors and of protoc, and protoc's as multiples of ours."""
     ours, theirs = [parts.instructions(*command) for command in start]
     first, second, other = [parts.instructions(*command) for command in commands]
-    return "%.1f, %.1f" % ((other - theirs) / (first - ours), (other - theirs) / (second - ours))
+    net = first - ours, second - ours, other - theirs
+    return "%s | %.1f, %.1f" % (", ".join("%.0f" % (count / size) for count in net), net[2] / net[0], net[2] / net[1])
 
 
 # Texts with n of something. Each maker gives the text and the count of its errors.

@@ -16,6 +16,8 @@ WIDTH = 3
 RECORDS = 10
 COMMENT = "\n// Of no weight for what the files say.\n"
 COUNTS = (100, 1_000)
+# The server takes 65,536 revisions: three times as many rounds and all opens have to stay below.
+MOST_ROUNDS = 20_000
 
 
 def name(n):
@@ -133,22 +135,25 @@ class Side:
 
 
 def table(program, folder, cases, runs, measure, count_instructions):
-    """Prints the time of a round of each case among few and among many files, and gives both by title."""
-    print("\n| Request | ms at %d files | ms at %d | ratio | wait at %d, ms | of instructions |\n|---|---|---|---|---|---|" % (
-        *COUNTS, COUNTS[1]))
+    """Prints the time of a round of each case among few and among many files, and gives both by title.
+
+    The last columns have the instructions of a round in thousands, where they are counted."""
+    print("\n| Request | ms at %d files | ms at %d | ratio | wait at %d, ms | 1,000 instructions at %d | at %d | ratio |" % (
+        *COUNTS, COUNTS[1], *COUNTS))
+    print("|---|---|---|---|---|---|---|---|")
     found = {}
     for title, case in cases:
         sides = [Side(program, folder, case, count) for count in COUNTS]
         times = []
         for side in sides:
             rough = max(side.difference(measure, 5, 1), 1e-5)
-            times.append(side.difference(measure, max(5, int(0.3 / rough)), runs))
+            times.append(side.difference(measure, min(MOST_ROUNDS, max(5, int(0.3 / rough))), runs))
         found[title] = times
         wait = sides[1].wait(100)
-        counted = ""
+        counted = " | | "
         if count_instructions:
             few, many = [side.difference(count_instructions, 5, 1) for side in sides]
-            counted = "%.2f" % (many / few)
+            counted = "%.0f | %.0f | %.2f" % (few / 1e3, many / 1e3, many / few)
         print("| %s | %.3f | %.3f | %.2f | %.3f | %s |" % (
             title, times[0] * 1e3, times[1] * 1e3, times[1] / times[0], wait * 1e3, counted), flush=True)
     return found
