@@ -4,6 +4,7 @@
 //! statement, or `NAME= TEXT`, which is whole. `|` means a line feed.
 mod descriptors;
 mod diagnostics;
+mod edits;
 mod keys;
 mod places;
 mod random;

@@ -12,12 +12,8 @@ use std::alloc::Global;
 use std::process::Abort;
 use std::test::Fail;
 
-/// The key of the query `query` of the file `name`.
-fn key_of(query: &str, name: Text) -> ProtoKey {
-    let place = Place {
-        line: 0,
-        character: 0,
-    };
+/// The key of the query `query` of the file `name`, at `place` if it is of a definition.
+fn key_of(query: &str, name: Text, place: Place) -> ProtoKey {
     match query {
         "Input" => ProtoKey::Input(name),
         "Parse" => ProtoKey::Parse(name),
@@ -32,6 +28,46 @@ fn key_of(query: &str, name: Text) -> ProtoKey {
         "Symbols" => ProtoKey::Symbols(name),
         _ => ProtoKey::Definition(name, place),
     }
+}
+
+/// The place that `word` writes as `LINE:CHARACTER`.
+fn place_of(word: &str) -> Place {
+    let (line, character) = word.split_once(":").unwrap_or(("0", "0"));
+    Place {
+        line: line.parse().unwrap_or(0),
+        character: character.parse().unwrap_or(0),
+    }
+}
+
+/// The key that the line `QUERY FILE` or `QUERY FILE LINE:CHARACTER` writes.
+pub(super) fn key_in(rt: &(impl Abort + AllocGlobal), line: &str) -> Result<ProtoKey, Memory> {
+    let (query, rest) = split_row(rt, line, " ");
+    let (file, place) = rest.split_once(" ").unwrap_or((rest, "0:0"));
+    Ok(key_of(query, Text::new(rt.alloc(), file)?, place_of(place)))
+}
+
+/// The query of a key, and its file.
+fn query_and_file(key: &ProtoKey) -> (&'static str, &str) {
+    match key {
+        ProtoKey::Input(name) => ("Input", name.as_str()),
+        ProtoKey::Parse(name) => ("Parse", name.as_str()),
+        ProtoKey::Imports(name) => ("Imports", name.as_str()),
+        ProtoKey::Linked(name) => ("Linked", name.as_str()),
+        ProtoKey::Defs(name) => ("Defs", name.as_str()),
+        ProtoKey::Scope(name) => ("Scope", name.as_str()),
+        ProtoKey::Resolved(name) => ("Resolved", name.as_str()),
+        ProtoKey::Checks(name) => ("Checks", name.as_str()),
+        ProtoKey::Diagnostics(name) => ("Diagnostics", name.as_str()),
+        ProtoKey::Descriptor(name) => ("Descriptor", name.as_str()),
+        ProtoKey::Symbols(name) => ("Symbols", name.as_str()),
+        ProtoKey::Definition(name, _place) => ("Definition", name.as_str()),
+    }
+}
+
+/// A key as `QUERY FILE`.
+pub(super) fn query_of(alloc: Global, key: &ProtoKey) -> Result<String, Memory> {
+    let (query, file) = query_and_file(key);
+    format!(in alloc; "{query} {file}")
 }
 
 /// What a file is read as.
@@ -77,8 +113,7 @@ fn shown_key(alloc: Global, inputs: &Inputs, key: &ProtoKey) -> Result<String, M
 /// Checks the row `QUERY FILE => ANSWER`.
 fn check_row(rt: &(impl Abort + AllocGlobal), inputs: &Inputs, row: &str) -> Result<(), Fail> {
     let (asked, want) = split_row(rt, row, " => ");
-    let (query, file) = split_row(rt, asked, " ");
-    let key = key_of(query, Text::new(rt.alloc(), file)?);
+    let key = key_in(rt, asked)?;
     let found = shown_key(rt.alloc(), inputs, &key)?;
     check_text(rt, found.as_str(), want, row);
     Ok(())
@@ -131,12 +166,6 @@ fn each_key(rt: HostRuntime) -> Result<(), Fail> {
         check_row(&rt, &inputs, row)?;
     }
     Ok(())
-}
-
-/// The key that the line `QUERY FILE` writes.
-fn key_in(rt: &(impl Abort + AllocGlobal), line: &str) -> Result<ProtoKey, Memory> {
-    let (query, file) = split_row(rt, line, " ");
-    Ok(key_of(query, Text::new(rt.alloc(), file)?))
 }
 
 /// Checks that the key of the line `line` is less than that of `later`.
