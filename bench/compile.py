@@ -16,6 +16,7 @@ Then each case is a file with n and with 2n of something, a query, and what the 
 k and with 3k rounds; the difference is the time of 2k rounds without the process's start and the reading of
 files. Printed is a Markdown table with the time of one answer at n and at 2n and their ratio: 2 is linear, 2.2 the most.
 A ratio of times above 2 can be that of a cache that is outgrown: the ratio of instructions says which it is.
+Last come texts that take much for their length, with the peak of memory of a process and its time, by Debian's `time`.
 
 usage: bench/compile.py [--runs N] [--program PATH] [--only WORD] [--instructions] [--no-protoc]
 """
@@ -272,6 +273,29 @@ CASES = [("fields", fields, "Diagnostics", 15_000),
          ("errors on one line, not ASCII", one_line, "Symbols", 30_000)]
 
 
+def deep_package(n, references=0):
+    """A package of n parts, and a message with references to what is nowhere."""
+    body = "".join("N x%d=%d;" % (i, i + 1) for i in range(references))
+    return 'syntax="proto3";package ' + ".".join("a" * n) + ";message M{" + body + "}", references
+
+
+# Texts that take much of the compiler for their length: a title, a text, and how many errors it has.
+HOSTILE = [("a package of 20,000 parts", deep_package(20_000)),
+           ("the same with a reference to nothing", deep_package(20_000, 1)),
+           ("a package of 40,000 parts with a reference to nothing", deep_package(40_000, 1)),
+           ("a package of 20,000 parts with 10 of them", deep_package(20_000, 10))]
+
+
+def hostile(program, folder):
+    """Prints the table of the hostile texts: whole processes, each once."""
+    print("\n| Text | bytes | peak of memory, kB | seconds |\n|---|---|---|---|")
+    for title, (text, errors) in HOSTILE:
+        path = written(os.path.join(folder, "hostile.proto"), text)
+        said = b"\n%d errors, 0 nulls\n" % errors
+        print("| %s | %d | %d | %.2f |" % (title, len(text), *parts.peak([program, "1", "Diagnostics", "a.proto", path], said)),
+              flush=True)
+
+
 def side(program, folder, make, query, n):
     """One size of a case."""
     text, errors = make(n)
@@ -312,6 +336,7 @@ def main():
         program = words.program or parts.built_from(os.path.join(folder, "build"), "compile", CRATES, USES)
         least = None if words.no_protoc else compared(program, folder, words.runs, words.instructions)
         worst = table(program, folder, cases, words.runs, words.instructions)
+        hostile(program, folder)
     print("\nlargest ratio %.2f, wanted at most %.1f" % (worst, parts.MOST))
     if least:
         print("least factor to protoc %.1f, wanted %.1f; least rate %.1f MB/s, wanted %.1f" % (least[0], FASTER, least[1], RATE))

@@ -68,6 +68,13 @@ def processor_time(words, source=None, status=0, said=b""):
     return after.ru_utime + after.ru_stime - before.ru_utime - before.ru_stime
 
 
+def peak(words, said=b""):
+    """The most memory that one process had at once, in kilobytes, and its processor seconds, by Debian's `time`."""
+    done = ended(["/usr/bin/time", "-f", "%M %U %S"] + words, said=said)
+    memory, user, system = done.stderr.split()[-3:]
+    return int(memory), float(user) + float(system)
+
+
 def instructions(words, source=None, status=0, said=b""):
     """The instructions of one process, as valgrind counts them: other work on the machine does not change them."""
     done = ended(["valgrind", "--tool=callgrind", "--callgrind-out-file=/dev/null"] + words, source, status, said)
