@@ -27,3 +27,5 @@ pub mod Advancing
 pub mod LeastPlace
 pub mod Demanding
 pub mod Indexed
+pub mod Numbered
+pub mod SlotCalls

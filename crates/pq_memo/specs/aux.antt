@@ -5,3 +5,4 @@ pub mod Written
 pub mod Frames
 pub mod Demand
 pub mod Stack
+pub mod Slots

@@ -37,6 +37,7 @@ impl<R: Rules> Memos<R> {
     fn is_answer(
         &self,
         previous: &R::Key,
+        before: usize,
         same: bool,
         key: &R::Key,
         entry: &Entry<R::Key, R::Value>,
@@ -47,7 +48,7 @@ impl<R: Rules> Memos<R> {
         requires same { IsCompared (HasIn (memo_at R.Key.cmp self.now.places)) previous.now answer.now same }
         ensures { IsTrue result ↔ (entry.now.answer ≡ answer.now) }
     {
-        match self.entry(previous) {
+        match self.entry(previous, before) {
             Some(other) => {
                 if self.are_mates(previous, other, key, entry) {
                     return same;
@@ -63,8 +64,10 @@ impl<R: Rules> Memos<R> {
     pub(crate) fn compared(
         &self,
         previous: &R::Key,
+        before: usize,
         same: bool,
         key: &R::Key,
+        near: usize,
         answer: &Answer<R::Key, R::Value>,
         now: u64,
     ) -> (bool, u64)
@@ -73,9 +76,9 @@ impl<R: Rules> Memos<R> {
         ensures same { IsCompared (HasIn (memo_at R.Key.cmp self.now.places)) key.now answer.now result.0 }
         ensures dated { IsDated now (HasIn (memo_at R.Key.cmp self.now.places)) key.now answer.now result.1 }
     {
-        match self.entry(key) {
+        match self.entry(key, near) {
             Some(entry) => {
-                if self.is_answer(previous, same, key, entry, answer) {
+                if self.is_answer(previous, before, same, key, entry, answer) {
                     return (true, entry.changed());
                 }
                 (false, now)
@@ -85,10 +88,15 @@ impl<R: Rules> Memos<R> {
     }
 
     /// Whether the answer of the memo of `key` is `answer`.
-    pub(crate) fn compared_first(&self, key: &R::Key, answer: &Answer<R::Key, R::Value>) -> bool
+    pub(crate) fn compared_first(
+        &self,
+        key: &R::Key,
+        near: usize,
+        answer: &Answer<R::Key, R::Value>,
+    ) -> bool
         ensures { IsCompared (HasIn (memo_at R.Key.cmp self.now.places)) key.now answer.now result }
     {
-        match self.entry(key) {
+        match self.entry(key, near) {
             Some(entry) => same_answer(self.rules(), entry.answer(), answer),
             None => false,
         }

@@ -18,6 +18,7 @@ use crate::frame::{Frame, Stage, Step};
 use crate::look::Why;
 use crate::memos::Memos;
 use crate::ring::push;
+use crate::slots::Near;
 use crate::stack::Stack;
 use pq_inputs::Inputs;
 use pq_rules::{Answer, Memory, Rules, Shared, Turn};
@@ -38,6 +39,13 @@ fn least_place<R: Rules>(_rules: &R, frames: &[Frame<R::Key, R::Part>]) -> usize
     least
 }
 
+/// Rotates `numbers` by `least` places to the left.
+fn rotate(numbers: &mut Vec<usize>, least: usize) {
+    if least <= numbers.as_slice().len() {
+        numbers.rotate_left(least);
+    }
+}
+
 impl<R: Rules> Memos<R> {
     /// Takes a turn of the rule of `key`, which has made these reads: pushes its frame, or
     /// publishes its value.
@@ -46,6 +54,7 @@ impl<R: Rules> Memos<R> {
         alloc: Global,
         stack: &mut Stack<R>,
         key: R::Key,
+        own: usize,
         turn: Turn<R::Key, R::Part, R::Value>,
         reads: Vec<R::Key>,
         inputs: &Inputs,
@@ -65,12 +74,12 @@ impl<R: Rules> Memos<R> {
                 // bounds the steps.
                 let _left = self.rules().left(&part);
                 let stage = Stage::Waiting(part, asked, reads);
-                stack.push(alloc, self.rules(), Frame { key, stage })?;
+                stack.push(alloc, self.rules(), Frame { key, stage }, own)?;
                 Ok(())
             }
             Turn::Done(value) => {
                 let answer = Shared::new(alloc, Answer::Value(value))?;
-                match self.publish(key, answer, reads, inputs) {
+                match self.publish_near(key, own, answer, reads, inputs) {
                     Ok(()) => return Ok(()),
                     Err(_) => {}
                 }
@@ -86,6 +95,7 @@ impl<R: Rules> Memos<R> {
         stack: &mut Stack<R>,
         carried: &mut Vec<Carried<R::Key>>,
         key: R::Key,
+        own: usize,
         why: Why<R::Key>,
         inputs: &Inputs,
     ) -> Result<(), Memory>
@@ -109,7 +119,7 @@ impl<R: Rules> Memos<R> {
             },
         )?;
         let turn = self.rules().start(alloc, &key)?;
-        self.take_turn(alloc, stack, key, turn, Vec::new(alloc), inputs)?;
+        self.take_turn(alloc, stack, key, own, turn, Vec::new(alloc), inputs)?;
         Ok(())
     }
 
@@ -119,6 +129,7 @@ impl<R: Rules> Memos<R> {
         alloc: Global,
         stack: &mut Stack<R>,
         key: R::Key,
+        own: usize,
         part: R::Part,
         answer: &Answer<R::Key, R::Value>,
         reads: Vec<R::Key>,
@@ -134,7 +145,7 @@ impl<R: Rules> Memos<R> {
     {
         match self.rules().advance(alloc, part, answer) {
             Ok(turn) => {
-                self.take_turn(alloc, stack, key, turn, reads, inputs)?;
+                self.take_turn(alloc, stack, key, own, turn, reads, inputs)?;
                 Ok(())
             }
             Err(_) => Err(Memory),
@@ -162,10 +173,12 @@ impl<R: Rules> Memos<R> {
         ensures popped { IfOk result (λ _. Popped inputs.now.revision (memo_at R.Key.cmp self.old.places) (memo_at R.Key.cmp self.new.places) stack.old stack.new) }
         ensures refused { OnErr result (IsSameTable (memo_at R.Key.cmp self.old.places) (memo_at R.Key.cmp self.new.places)) }
     {
+        let mut numbers = stack.numbers_from(alloc, place)?;
         let mut round = stack.split_off(place)?;
         let least = least_place(self.rules(), &round);
         round.rotate_left(least);
-        self.publish_round(alloc, &round, inputs)?;
+        rotate(&mut numbers, least);
+        self.publish_round_near(alloc, &round, &numbers, inputs)?;
         Ok(())
     }
 
@@ -177,6 +190,7 @@ impl<R: Rules> Memos<R> {
         stack: &mut Stack<R>,
         frame: Frame<R::Key, R::Part>,
         next: R::Key,
+        near: Near,
         inputs: &Inputs,
     ) -> Result<(), Memory>
         requires kept { KeptOver R.Key.cmp (R.machine self.old.rules) inputs.now self.old.places }
@@ -188,15 +202,16 @@ impl<R: Rules> Memos<R> {
         ensures entered { IfOk result (λ _. HasEntered inputs.now.revision (memo_at R.Key.cmp self.old.places) (memo_at R.Key.cmp self.new.places) (stack.old ++ frame ∷ []) next stack.new) }
         ensures refused { OnErr result (IsSameTable (memo_at R.Key.cmp self.old.places) (memo_at R.Key.cmp self.new.places)) }
     {
-        stack.push(alloc, self.rules(), frame)?;
+        stack.push(alloc, self.rules(), frame, near.own)?;
         match stack.place_of(self.rules(), &next) {
             Some(place) => {
                 self.close(alloc, stack, place, &next, inputs)?;
                 Ok(())
             }
             None => {
+                let number = self.make_room(alloc, &next, near.next)?;
                 let stage = Stage::Walking(0);
-                stack.push(alloc, self.rules(), Frame { key: next, stage })?;
+                stack.push(alloc, self.rules(), Frame { key: next, stage }, number)?;
                 Ok(())
             }
         }
@@ -209,6 +224,7 @@ impl<R: Rules> Memos<R> {
         stack: &mut Stack<R>,
         carried: &mut Vec<Carried<R::Key>>,
         frame: Frame<R::Key, R::Part>,
+        own: usize,
         inputs: &Inputs,
     ) -> Result<(), Memory>
         requires kept { KeptOver R.Key.cmp (R.machine self.old.rules) inputs.now self.old.places }
@@ -220,18 +236,19 @@ impl<R: Rules> Memos<R> {
         ensures advanced { IfOk result (λ _. Advances R.Key.cmp (R.machine self.old.rules) inputs.now (memo_at R.Key.cmp self.old.places) (memo_at R.Key.cmp self.new.places) frame stack.old carried.old.items stack.new carried.new.items) }
         ensures refused { OnErr result (IsSameTable (memo_at R.Key.cmp self.old.places) (memo_at R.Key.cmp self.new.places)) }
     {
-        match self.step(alloc, frame, inputs) {
+        let mut near = Near::new(own);
+        match self.step_near(alloc, frame, inputs, &mut near) {
             Ok(Step::Finished) => Ok(()),
             Ok(Step::Needs(frame, next)) => {
-                self.enter(alloc, stack, frame, next, inputs)?;
+                self.enter(alloc, stack, frame, next, near, inputs)?;
                 Ok(())
             }
             Ok(Step::Starts(key, why)) => {
-                self.start(alloc, stack, carried, key, why, inputs)?;
+                self.start(alloc, stack, carried, key, own, why, inputs)?;
                 Ok(())
             }
             Ok(Step::GoesOn(key, part, answer, reads)) => {
-                self.resume(alloc, stack, key, part, answer.get(), reads, inputs)?;
+                self.resume(alloc, stack, key, own, part, answer.get(), reads, inputs)?;
                 Ok(())
             }
             Err(_) => Err(Memory),
@@ -244,6 +261,7 @@ impl<R: Rules> Memos<R> {
         &mut self,
         alloc: Global,
         key: &R::Key,
+        near: usize,
         inputs: &Inputs,
     ) -> Result<Vec<Carried<R::Key>>, Memory>
         requires { KeptOver R.Key.cmp (R.machine self.old.rules) inputs.now self.old.places }
@@ -258,15 +276,17 @@ impl<R: Rules> Memos<R> {
     {
         let _latest = inputs.now();
         let mut carried = Vec::new(alloc);
-        if self.is_up_to_date(key, inputs) {
+        if self.is_up_to_date(key, near, inputs) {
             return Ok(carried);
         }
+        let number = self.make_room(alloc, key, near)?;
         let mut stack = Stack::new(alloc);
         let copy = self.rules().copy_key(alloc, key)?;
         let stage = Stage::Walking(0);
-        stack.push(alloc, self.rules(), Frame { key: copy, stage })?;
+        stack.push(alloc, self.rules(), Frame { key: copy, stage }, number)?;
         'steps: while let Some(frame) = stack.pop() {
-            self.advance(alloc, &mut stack, &mut carried, frame, inputs)?;
+            let own = stack.popped();
+            self.advance(alloc, &mut stack, &mut carried, frame, own, inputs)?;
         }
         Ok(carried)
     }

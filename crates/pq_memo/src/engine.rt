@@ -17,6 +17,7 @@ ghost use Rattle.pq_memo.specs.Demand.{Differ, IsCarried, IsVerified, IsSameOrVe
 use crate::demanded::Demanded;
 use crate::laws::kept_is_sound;
 use crate::memos::Memos;
+use crate::slots::NOWHERE;
 use pq_inputs::{Durability, InputFault, Inputs, Revision, SetRefused};
 use pq_rules::{Memory, Rules};
 use std::alloc::Global;
@@ -116,8 +117,9 @@ impl<R: Rules> Engine<R> {
         ensures verified { (k : R.Key) → IsSameOrVerified self.old.inputs.revision (memo_at R.Key.cmp self.old.places) (memo_at R.Key.cmp self.new.places) k }
     {
         let _latest = self.inputs.now();
-        let carried = self.memos.bring_up_to_date(alloc, key, &self.inputs)?;
-        match self.memos.read_answer(alloc, key, &self.inputs)? {
+        let mut near = self.memos.number(key, NOWHERE);
+        let carried = self.memos.bring_up_to_date(alloc, key, near, &self.inputs)?;
+        match self.memos.read_answer(alloc, key, &self.inputs, &mut near)? {
             Some(answer) => Ok(Demanded { answer, carried }),
             None => unreachable!(),
         }

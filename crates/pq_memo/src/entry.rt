@@ -3,6 +3,7 @@ ghost use Rattle.std.specs.Prelude.{◌≡◌, IfOk};
 ghost use Rattle.std.specs.Option.{option_map};
 ghost use Rattle.pq_memo.specs.Writes.{remarked};
 
+use crate::slots::NOWHERE;
 use crate::unpublished::Unpublished;
 use pq_inputs::Durability;
 use pq_rules::{Answer, Memory, Shared};
@@ -19,6 +20,9 @@ pub(crate) struct Entry<K, V> {
     // Where to look first for the key among the keys of the answer, if that is a cycle. It need not
     // be there: no contract speaks of it.
     place: usize,
+    // Where to look first for each read among the slots of the table. It need not be there, and the
+    // list may be shorter: no contract speaks of it.
+    numbers: Vec<usize>,
 }
 
 impl<K, V> Model for Entry<K, V> {
@@ -30,7 +34,7 @@ impl<K, V> Model for Entry<K, V> {
 }
 
 impl<K, V> Entry<K, V> {
-    /// Makes an entry. Its key is looked for first at `place` of a cycle.
+    /// Makes an entry. Its key is looked for first at `place` of a cycle, and its reads at `numbers`.
     pub(crate) fn new(
         answer: Shared<Answer<K, V>>,
         verified: u64,
@@ -38,6 +42,7 @@ impl<K, V> Entry<K, V> {
         reads: Vec<K>,
         durability: Durability,
         place: usize,
+        numbers: Vec<usize>,
     ) -> Self
         ensures { result ≡ record { answer = answer; verified = verified; changed = changed; reads = reads.items; durability = durability } }
     {
@@ -48,6 +53,7 @@ impl<K, V> Entry<K, V> {
             reads,
             durability,
             place,
+            numbers,
         }
     }
 
@@ -91,6 +97,16 @@ impl<K, V> Entry<K, V> {
         self.place
     }
 
+    /// Where to look first for the read `i`.
+    pub(crate) fn number(&self, i: usize) -> usize {
+        number_at(&self.numbers, i)
+    }
+
+    /// Where to look first for each read.
+    pub(crate) fn numbers(&self) -> &[usize] {
+        &self.numbers
+    }
+
     /// Sets the verified revision and the durability.
     pub(crate) fn mark(&mut self, revision: u64, durability: Durability)
         ensures { self.new ≡ remarked self.old revision durability }
@@ -119,6 +135,14 @@ impl<K: Drop, V: Drop> Entry<K, V> {
     {
         self.answer.copy()
     }
+}
+
+/// The number `i` of `numbers`, or `NOWHERE`.
+pub(crate) fn number_at(numbers: &[usize], i: usize) -> usize {
+    if i < numbers.len() {
+        return numbers[i];
+    }
+    NOWHERE
 }
 
 /// Marks the entry in `place`, if there is one.

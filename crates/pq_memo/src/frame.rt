@@ -13,6 +13,7 @@ use crate::entry::Entry;
 use crate::look::Why;
 use crate::memos::Memos;
 use crate::restored::restored;
+use crate::slots::{NOWHERE, Near};
 use crate::state::State;
 use crate::unpublished::Unpublished;
 use pq_inputs::Inputs;
@@ -73,6 +74,7 @@ impl<R: Rules> Memos<R> {
         entry: &Entry<R::Key, R::Value>,
         from: usize,
         inputs: &Inputs,
+        near: &mut Near,
     ) -> Result<Found<R::Key>, Memory>
         requires has { HasIn (memo_at R.Key.cmp self.now.places) key.now entry.now }
         requires within { from ≤ length entry.now.reads }
@@ -83,7 +85,10 @@ impl<R: Rules> Memos<R> {
         match self.state_of(key, entry, from, inputs) {
             State::Verified => Ok(Found::Verified),
             State::Valid => Ok(Found::Valid),
-            State::Behind(i) => Ok(Found::Behind(i, self.rules().copy_key(alloc, &reads[i])?)),
+            State::Behind(i) => {
+                near.next = entry.number(i);
+                Ok(Found::Behind(i, self.rules().copy_key(alloc, &reads[i])?))
+            }
             State::Outdated(i) => Ok(Found::Outdated(self.rules().copy_key(alloc, &reads[i])?)),
             State::Cyclic => Ok(Found::Cyclic),
         }
@@ -96,6 +101,7 @@ impl<R: Rules> Memos<R> {
         key: R::Key,
         place: usize,
         inputs: &Inputs,
+        near: &mut Near,
     ) -> Result<Step<R::Key, R::Part, R::Value>, Frame<R::Key, R::Part>>
         requires kept { KeptOver R.Key.cmp (R.machine self.old.rules) inputs.now self.old.places }
         requires frame { IsFrame R.Key.cmp (R.machine self.old.rules) inputs.now.history inputs.now.revision (HasIn (memo_at R.Key.cmp self.old.places)) key (Walking place) }
@@ -106,14 +112,14 @@ impl<R: Rules> Memos<R> {
         ensures returned { IfErr result (λ f. (f.key ≡ key) × (f.stage ≡ Walking place)) }
     {
         let _latest = inputs.now();
-        let found = match self.entry(&key) {
-            Some(entry) => self.found(alloc, &key, entry, place, inputs),
+        let found = match self.entry(&key, near.own) {
+            Some(entry) => self.found(alloc, &key, entry, place, inputs, near),
             None => return Ok(Step::Starts(key, Why::Fresh)),
         };
         match found {
             Ok(Found::Verified) => Ok(Step::Finished),
             Ok(Found::Valid) => {
-                self.mark_verified(&key, inputs);
+                self.mark_near(&key, near.own, inputs);
                 Ok(Step::Finished)
             }
             Ok(Found::Behind(i, read)) => {
@@ -135,6 +141,7 @@ impl<R: Rules> Memos<R> {
         alloc: Global,
         key: &R::Key,
         inputs: &Inputs,
+        near: &mut usize,
     ) -> Result<Option<Shared<Answer<R::Key, R::Value>>>, Memory>
         ensures answer { IfOk result (λ o. IfSome o (λ a. IsReadAnswer R.Key.cmp (R.machine self.now.rules) inputs.now.files inputs.now.revision (HasIn (memo_at R.Key.cmp self.now.places)) key.now a)) }
         ensures stale { IfOk result (λ o. IfNone o (IsUpToDate (R.machine self.now.rules) inputs.now.revision (HasIn (memo_at R.Key.cmp self.now.places)) key.now → ⊥)) }
@@ -143,7 +150,7 @@ impl<R: Rules> Memos<R> {
             let answer = input_answer(alloc, self.rules(), inputs, key)?;
             return Ok(Some(Shared::new(alloc, answer)?));
         }
-        match self.entry(key) {
+        match self.entry_noting(key, near) {
             Some(entry) => {
                 if entry.verified() == inputs.now().number() {
                     return Ok(Some(entry.share()?));
@@ -173,6 +180,7 @@ impl<R: Rules> Memos<R> {
     fn pass_on(
         &mut self,
         key: R::Key,
+        own: usize,
         part: R::Part,
         asked: R::Key,
         reads: Vec<R::Key>,
@@ -191,7 +199,7 @@ impl<R: Rules> Memos<R> {
         let _latest = inputs.now();
         let mut reads = reads;
         match reads.push(asked) {
-            Ok(()) => match self.publish(key, answer, reads, inputs) {
+            Ok(()) => match self.publish_near(key, own, answer, reads, inputs) {
                 Ok(()) => Ok(Step::Finished),
                 Err(back) => Err(restored(back, part)),
             },
@@ -206,6 +214,7 @@ impl<R: Rules> Memos<R> {
     fn go_on(
         &mut self,
         key: R::Key,
+        own: usize,
         part: R::Part,
         asked: R::Key,
         reads: Vec<R::Key>,
@@ -223,7 +232,7 @@ impl<R: Rules> Memos<R> {
     {
         let _latest = inputs.now();
         if self.passes(&key, &asked, answer.get()) {
-            return self.pass_on(key, part, asked, reads, answer, inputs);
+            return self.pass_on(key, own, part, asked, reads, answer, inputs);
         }
         let mut reads = reads;
         match reads.push(asked) {
@@ -244,6 +253,7 @@ impl<R: Rules> Memos<R> {
         asked: R::Key,
         reads: Vec<R::Key>,
         inputs: &Inputs,
+        near: &mut Near,
     ) -> Result<Step<R::Key, R::Part, R::Value>, Frame<R::Key, R::Part>>
         requires kept { KeptOver R.Key.cmp (R.machine self.old.rules) inputs.now self.old.places }
         requires sits { Sits R.Key.cmp (R.machine self.old.rules) inputs.now.history inputs.now.revision (HasIn (memo_at R.Key.cmp self.old.places)) key asked part reads.items }
@@ -253,8 +263,9 @@ impl<R: Rules> Memos<R> {
         ensures refused { OnErr result (IsSameTable (memo_at R.Key.cmp self.old.places) (memo_at R.Key.cmp self.new.places)) }
         ensures returned { IfErr result (λ f. (f.key ≡ key) × WaitsAt f.stage part asked reads.items) }
     {
-        match self.read_answer(alloc, &asked, inputs) {
-            Ok(Some(answer)) => self.go_on(key, part, asked, reads, answer, inputs),
+        near.next = self.read_number(&key, near.own, reads.len());
+        match self.read_answer(alloc, &asked, inputs, &mut near.next) {
+            Ok(Some(answer)) => self.go_on(key, near.own, part, asked, reads, answer, inputs),
             Ok(None) => match self.rules().copy_key(alloc, &asked) {
                 Ok(next) => {
                     let stage = Stage::Waiting(part, asked, reads);
@@ -289,10 +300,33 @@ impl<R: Rules> Memos<R> {
         ensures refused { OnErr result (IsSameTable (memo_at R.Key.cmp self.old.places) (memo_at R.Key.cmp self.new.places)) }
         ensures returned { IfErr result (λ f. (f.key ≡ frame.key) × IsSameStage f.stage frame.stage) }
     {
+        let mut near = Near::new(NOWHERE);
+        self.step_near(alloc, frame, inputs, &mut near)
+    }
+
+    /// Takes one step of `frame`: see `step`. Its key is looked for first at `near.own`. Where the
+    /// frame then waits for a key, `near.next` is where that may be.
+    pub(crate) fn step_near(
+        &mut self,
+        alloc: Global,
+        frame: Frame<R::Key, R::Part>,
+        inputs: &Inputs,
+        near: &mut Near,
+    ) -> Result<Step<R::Key, R::Part, R::Value>, Frame<R::Key, R::Part>>
+        requires kept { KeptOver R.Key.cmp (R.machine self.old.rules) inputs.now self.old.places }
+        requires frame { IsFrame R.Key.cmp (R.machine self.old.rules) inputs.now.history inputs.now.revision (HasIn (memo_at R.Key.cmp self.old.places)) frame.key frame.stage }
+        ensures rules { self.new.rules ≡ self.old.rules }
+        ensures kept { KeptOver R.Key.cmp (R.machine self.old.rules) inputs.now self.new.places }
+        ensures step { IfOk result (λ s. IsStep R.Key.cmp (R.machine self.old.rules) inputs.now self.old.places self.new.places frame.key frame.stage s) }
+        ensures refused { OnErr result (IsSameTable (memo_at R.Key.cmp self.old.places) (memo_at R.Key.cmp self.new.places)) }
+        ensures returned { IfErr result (λ f. (f.key ≡ frame.key) × IsSameStage f.stage frame.stage) }
+    {
         let Frame { key, stage } = frame;
         match stage {
-            Stage::Walking(place) => self.walk(alloc, key, place, inputs),
-            Stage::Waiting(part, asked, reads) => self.wait(alloc, key, part, asked, reads, inputs),
+            Stage::Walking(place) => self.walk(alloc, key, place, inputs, near),
+            Stage::Waiting(part, asked, reads) => {
+                self.wait(alloc, key, part, asked, reads, inputs, near)
+            }
         }
     }
 }

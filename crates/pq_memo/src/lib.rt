@@ -35,6 +35,7 @@ mod memos;
 mod restored;
 mod ring;
 mod round;
+mod slots;
 mod stack;
 mod state;
 mod unpublished;

@@ -10,13 +10,13 @@ ghost use Rattle.pq_memo.specs.Sound.{Memo};
 ghost use Rattle.pq_memo.specs.Look.{IsUpToDate, HasChanged, IsStill, IsOnItsRing};
 ghost use Rattle.pq_memo.specs.Table.{memo_at, HasIn};
 
-use crate::entry::Entry;
+use crate::entry::{Entry, number_at};
 use crate::look::{Look, Why};
+use crate::slots::{NOWHERE, Slots};
 use crate::state::{Passed, State};
 use pq_inputs::Inputs;
 use pq_rules::{Answer, Rules, is_same_key};
 use std::alloc::Global;
-use std::collections::BTreeMap;
 use std::marker::Model;
 
 /// The memos of keys, over a rule set. Contracts see the rule set and the memo of each key.
@@ -27,7 +27,7 @@ use std::marker::Model;
 #[derive(Drop)]
 pub struct Memos<R: Rules> {
     pub(crate) rules: R,
-    pub(crate) entries: BTreeMap<R::Key, Option<Entry<R::Key, R::Value>>>,
+    pub(crate) entries: Slots<R>,
 }
 
 impl<R: Rules> Model for Memos<R> {
@@ -35,7 +35,7 @@ impl<R: Rules> Model for Memos<R> {
 
     ghost Value = { View R R.Key R.Value };
 
-    ghost view = { λ m. record { rules = m.rules; places = m.entries.entries } };
+    ghost view = { λ m. record { rules = m.rules; places = m.entries } };
 }
 
 impl<R: Rules> Memos<R> {
@@ -49,7 +49,7 @@ impl<R: Rules> Memos<R> {
     {
         Memos {
             rules,
-            entries: BTreeMap::new(alloc),
+            entries: Slots::new(alloc),
         }
     }
 
@@ -60,13 +60,42 @@ impl<R: Rules> Memos<R> {
         &self.rules
     }
 
-    /// The entry of `key`.
-    pub(crate) fn entry(&self, key: &R::Key) -> Option<&Entry<R::Key, R::Value>>
+    /// The number of `key`, looked for first at `near`, or `NOWHERE`. An input has none.
+    pub(crate) fn number(&self, key: &R::Key, near: usize) -> usize {
+        if self.rules.level(key) == 0 {
+            return NOWHERE;
+        }
+        match self.entries.find(&self.rules, key, near) {
+            Some(number) => number,
+            None => NOWHERE,
+        }
+    }
+
+    /// The entry of `key`, looked for first at `near`.
+    pub(crate) fn entry(&self, key: &R::Key, near: usize) -> Option<&Entry<R::Key, R::Value>>
         ensures { option_copied result ≡ memo_at R.Key.cmp self.now.places key.now }
     {
-        match self.entries.get(key) {
-            Some(place) => place.as_ref(),
-            None => None,
+        let mut near = near;
+        self.entries.entry(&self.rules, key, &mut near)
+    }
+
+    /// The entry of `key`, looked for first at `near`, which becomes its number.
+    pub(crate) fn entry_noting(
+        &self,
+        key: &R::Key,
+        near: &mut usize,
+    ) -> Option<&Entry<R::Key, R::Value>>
+        ensures { option_copied result ≡ memo_at R.Key.cmp self.now.places key.now }
+    {
+        self.entries.entry(&self.rules, key, near)
+    }
+
+    /// Where to look for the read `i` of `key`, whose slot is looked for at `near`: where it was
+    /// when the memo of `key` was made.
+    pub(crate) fn read_number(&self, key: &R::Key, near: usize, i: usize) -> usize {
+        match self.entry(key, near) {
+            Some(entry) => entry.number(i),
+            None => NOWHERE,
         }
     }
 
@@ -74,21 +103,21 @@ impl<R: Rules> Memos<R> {
     pub fn answer(&self, key: &R::Key) -> Option<&Answer<R::Key, R::Value>>
         ensures { option_copied result ≡ option_map (λ (memo : Memo R.Key R.Value). memo.answer) (memo_at R.Key.cmp self.now.places key.now) }
     {
-        match self.entry(key) {
+        match self.entry(key, NOWHERE) {
             Some(entry) => Some(entry.answer()),
             None => None,
         }
     }
 
     /// The revision at which `key` last changed, if it is up to date.
-    fn fresh_change(&self, key: &R::Key, inputs: &Inputs) -> Option<u64>
+    fn fresh_change(&self, key: &R::Key, near: usize, inputs: &Inputs) -> Option<u64>
         ensures fresh { IfSome result (λ c. IsUpToDate (R.machine self.now.rules) inputs.now.revision (HasIn (memo_at R.Key.cmp self.now.places)) key.now) }
         ensures changed { IfSome result (λ c. HasChanged (R.machine self.now.rules) inputs.now.history (HasIn (memo_at R.Key.cmp self.now.places)) key.now c) }
         ensures stale { IfNone result (IsUpToDate (R.machine self.now.rules) inputs.now.revision (HasIn (memo_at R.Key.cmp self.now.places)) key.now → ⊥) }
     {
         match self.rules.file(key) {
             Some(name) => Some(inputs.changed_at(name).number()),
-            None => match self.entry(key) {
+            None => match self.entry(key, near) {
                 Some(entry) => {
                     if entry.verified() == inputs.now().number() {
                         return Some(entry.changed());
@@ -101,21 +130,28 @@ impl<R: Rules> Memos<R> {
     }
 
     /// Whether `key` is an input, or its memo was verified now.
-    pub(crate) fn is_up_to_date(&self, key: &R::Key, inputs: &Inputs) -> bool
+    pub(crate) fn is_up_to_date(&self, key: &R::Key, near: usize, inputs: &Inputs) -> bool
         ensures { IsTrue result ↔ IsUpToDate (R.machine self.now.rules) inputs.now.revision (HasIn (memo_at R.Key.cmp self.now.places)) key.now }
     {
-        self.fresh_change(key, inputs).is_some()
+        self.fresh_change(key, near, inputs).is_some()
     }
 
     /// Goes over `reads` from the place `from` on; those before it are up to date and did not
     /// change after `since`.
-    fn pass(&self, reads: &[R::Key], from: usize, since: u64, inputs: &Inputs) -> Passed
+    fn pass(
+        &self,
+        reads: &[R::Key],
+        numbers: &[usize],
+        from: usize,
+        since: u64,
+        inputs: &Inputs,
+    ) -> Passed
         requires within { from ≤ length reads.now }
         requires still { Each (IsStill (R.machine self.now.rules) inputs.now.history inputs.now.revision (HasIn (memo_at R.Key.cmp self.now.places)) since) (take from reads.now) }
         ensures { IsPass (R.machine self.now.rules) inputs.now.history inputs.now.revision (HasIn (memo_at R.Key.cmp self.now.places)) since reads.now result }
     {
         for i in from..reads.len() {
-            match self.fresh_change(&reads[i], inputs) {
+            match self.fresh_change(&reads[i], number_at(numbers, i), inputs) {
                 Some(changed) => {
                     if changed > since {
                         return Passed::Newer(i);
@@ -195,7 +231,8 @@ impl<R: Rules> Memos<R> {
         if self.is_on_its_ring(key, entry) {
             return State::Cyclic;
         }
-        match self.pass(entry.reads(), from, entry.verified(), inputs) {
+        let numbers = entry.numbers();
+        match self.pass(entry.reads(), numbers, from, entry.verified(), inputs) {
             Passed::All => State::Valid,
             Passed::Stale(i) => State::Behind(i),
             Passed::Newer(i) => State::Outdated(i),
@@ -210,7 +247,7 @@ impl<R: Rules> Memos<R> {
         if self.rules.level(key) == 0 {
             return Look::Usable;
         }
-        match self.entry(key) {
+        match self.entry(key, NOWHERE) {
             None => Look::Run(Why::Fresh),
             Some(entry) => self.look_at(key, entry, inputs),
         }

@@ -17,14 +17,38 @@ ghost use Rattle.pq_memo.specs.Writes.{RingWritten, fronts, ring_keys};
 ghost use Rattle.pq_memo.specs.aux.Durabilities.{IsKnown, IsLeastRead, IsFrontRead};
 ghost use Rattle.pq_memo.specs.aux.Written.{ArePrepared, HasRoom, AllHaveRoom, memos_of, put_back};
 
-use crate::entry::Entry;
+use crate::entry::{Entry, number_at};
 use crate::member::Member;
 use crate::memos::Memos;
+use crate::slots::NOWHERE;
 use crate::unpublished::UnpublishedRing;
 use crate::writes::lower;
 use pq_inputs::{Durability, Inputs};
 use pq_rules::{Answer, Memory, Ring, Rules, Shared};
 use std::alloc::Global;
+
+/// Where to look first for a key of a ring, and for its reads.
+#[derive(Drop)]
+pub(crate) struct Hint {
+    own: usize,
+    reads: Vec<usize>,
+}
+
+/// Where to look first for the key `i`.
+fn own_at(hints: &[Hint], i: usize) -> usize {
+    if i < hints.len() {
+        return hints[i].own;
+    }
+    NOWHERE
+}
+
+/// Where to look first for the reads of the key `i`.
+fn reads_at(hints: &[Hint], i: usize) -> &[usize] {
+    if i < hints.len() {
+        return &hints[i].reads;
+    }
+    &[]
+}
 
 /// Adds `item` to the end of `items`.
 pub(crate) fn push<T: Drop>(items: &mut Vec<T>, item: T) -> Result<(), Memory>
@@ -54,26 +78,52 @@ fn copy_keys<R: Rules>(
 
 impl<R: Rules> Memos<R> {
     /// The least durability of `reads`, without the last, which leads to the next key of a ring.
-    fn front_durability(&self, reads: &[R::Key], inputs: &Inputs) -> Durability
+    fn front_durability(&self, reads: &[R::Key], numbers: &[usize], inputs: &Inputs) -> Durability
         requires { Each (IsKnown (R.machine self.now.rules) (HasIn (memo_at R.Key.cmp self.now.places))) (fronts reads.now) }
         ensures { IsLeastRead (R.machine self.now.rules) inputs.now.files (HasIn (memo_at R.Key.cmp self.now.places)) (λ q. In q (fronts reads.now)) result }
     {
         if reads.is_empty() {
             return Durability::High;
         }
-        self.least_of(&reads[..reads.len() - 1], inputs)
+        self.least_of(&reads[..reads.len() - 1], numbers, inputs)
     }
 
     /// The least durability of the reads of `members`, without the last of each.
-    fn ring_durability(&self, members: &[Member<R::Key>], inputs: &Inputs) -> Durability
+    fn ring_durability(
+        &self,
+        members: &[Member<R::Key>],
+        hints: &[Hint],
+        inputs: &Inputs,
+    ) -> Durability
         requires { Each (λ (e : R.Key × List R.Key). Each (IsKnown (R.machine self.now.rules) (HasIn (memo_at R.Key.cmp self.now.places))) (fronts e.1)) members.now }
         ensures { IsLeastRead (R.machine self.now.rules) inputs.now.files (HasIn (memo_at R.Key.cmp self.now.places)) (IsFrontRead members.now) result }
     {
         let mut least = Durability::High;
         for i in 0..members.len() {
-            least = lower(least, self.front_durability(members[i].reads(), inputs));
+            let numbers = reads_at(hints, i);
+            least = lower(
+                least,
+                self.front_durability(members[i].reads(), numbers, inputs),
+            );
         }
         least
+    }
+
+    /// Where the keys of `members` and their reads are. The keys are looked for first at `numbers`.
+    fn hints_of(
+        &self,
+        alloc: Global,
+        members: &[Member<R::Key>],
+        numbers: &[usize],
+    ) -> Result<Vec<Hint>, Memory> {
+        let mut hints = Vec::new(alloc);
+        for i in 0..members.len() {
+            let key = members[i].key();
+            let own = self.number(key, number_at(numbers, i));
+            let reads = self.numbers_of(key, own, members[i].reads())?;
+            push(&mut hints, Hint { own, reads })?;
+        }
+        Ok(hints)
     }
 
     /// Makes places for the keys of `members`, and prepares their memos, which have `answer`: a copy
@@ -82,6 +132,7 @@ impl<R: Rules> Memos<R> {
         &mut self,
         alloc: Global,
         members: &[Member<R::Key>],
+        hints: &[Hint],
         answer: &Shared<Answer<R::Key, R::Value>>,
         now: u64,
     ) -> Result<Vec<(Shared<Answer<R::Key, R::Value>>, u64)>, Memory>
@@ -94,14 +145,25 @@ impl<R: Rules> Memos<R> {
     {
         let mut prepared = Vec::new(alloc);
         let mut previous = members[0].key();
-        let mut same = self.compared_first(previous, answer.get());
+        let mut before = own_at(hints, 0);
+        let mut same = self.compared_first(previous, before, answer.get());
         'members: for i in 0..members.len() {
             let key = members[i].key();
-            let (again, changed) = self.compared(previous, same, key, answer.get(), now);
-            self.make_room(alloc, key)?;
+            let near = own_at(hints, i);
+            let (again, changed) = self.compared(
+                previous,
+                before,
+                same,
+                key,
+                near,
+                answer.get(),
+                now,
+            );
+            self.make_room(alloc, key, near)?;
             let share = answer.copy()?;
             push(&mut prepared, (share, changed))?;
             previous = key;
+            before = near;
             same = again;
         }
         Ok(prepared)
@@ -112,6 +174,7 @@ impl<R: Rules> Memos<R> {
         &mut self,
         alloc: Global,
         members: &[Member<R::Key>],
+        hints: &[Hint],
         now: u64,
     ) -> Result<Vec<(Shared<Answer<R::Key, R::Value>>, u64)>, Memory>
         requires kept { (inputs : Table) × KeptOver R.Key.cmp (R.machine self.old.rules) inputs self.old.places }
@@ -124,8 +187,16 @@ impl<R: Rules> Memos<R> {
         let keys = copy_keys(alloc, self.rules(), members)?;
         let ring = Ring::new(alloc, keys)?;
         let answer = Shared::new(alloc, Answer::Cycle(ring))?;
-        let prepared = self.prepare_all(alloc, members, &answer, now)?;
+        let prepared = self.prepare_all(alloc, members, hints, &answer, now)?;
         Ok(prepared)
+    }
+
+    /// Takes the last of `hints`.
+    fn last_hint(&self, hints: &mut Vec<Hint>) -> (usize, Vec<usize>) {
+        match hints.pop() {
+            Some(Hint { own, reads }) => (own, reads),
+            None => (NOWHERE, Vec::new(self.entries.alloc())),
+        }
     }
 
     /// Gives the keys of `members`, which have places, the memos that were prepared. It takes no
@@ -134,6 +205,7 @@ impl<R: Rules> Memos<R> {
         &mut self,
         members: Vec<Member<R::Key>>,
         prepared: Vec<(Shared<Answer<R::Key, R::Value>>, u64)>,
+        hints: Vec<Hint>,
         durability: Durability,
         now: u64,
     )
@@ -144,14 +216,17 @@ impl<R: Rules> Memos<R> {
     {
         let mut members = members;
         let mut prepared = prepared;
+        let mut hints = hints;
         'members: while let Some(member) = members.pop() {
             let (answer, changed) = match prepared.pop() {
                 Some(next) => next,
                 None => unreachable!(),
             };
             let (key, reads) = member.parts();
-            let entry = Entry::new(answer, now, changed, reads, durability, members.len());
-            self.put(key, entry);
+            let (near, numbers) = self.last_hint(&mut hints);
+            let place = members.len();
+            let entry = Entry::new(answer, now, changed, reads, durability, place, numbers);
+            self.put(key, near, entry);
         }
     }
 
@@ -176,11 +251,38 @@ impl<R: Rules> Memos<R> {
         ensures refused { OnErr result (IsSameTable (memo_at R.Key.cmp self.old.places) (memo_at R.Key.cmp self.new.places)) }
         ensures returned { IfErr result (λ u. u.members.items ≡ members.items) }
     {
+        self.publish_ring_near(alloc, members, &[], inputs)
+    }
+
+    /// Publishes the ring `members`, whose keys are looked for first at `numbers`: see
+    /// `publish_ring`.
+    pub(crate) fn publish_ring_near(
+        &mut self,
+        alloc: Global,
+        members: Vec<Member<R::Key>>,
+        numbers: &[usize],
+        inputs: &Inputs,
+    ) -> Result<(), UnpublishedRing<R::Key>>
+        requires kept { KeptOver R.Key.cmp (R.machine self.old.rules) inputs.now self.old.places }
+        requires some { 0 < length members.items }
+        requires ruled { Each (λ (e : R.Key × List R.Key). 0 < (R.machine self.old.rules).level e.0) members.items }
+        requires reads { Each (λ (e : R.Key × List R.Key). HasReads (over R.Key.cmp (R.machine self.old.rules) inputs.now.files) e.0 (Cycle (ring_keys members.items)) e.1) members.items }
+        requires up_to_date { Each (λ (e : R.Key × List R.Key). Each (IsUpToDate (R.machine self.old.rules) inputs.now.revision (HasIn (memo_at R.Key.cmp self.old.places))) (fronts e.1)) members.items }
+        ensures rules { self.new.rules ≡ self.old.rules }
+        ensures kept { KeptOver R.Key.cmp (R.machine self.old.rules) inputs.now self.new.places }
+        ensures published { OnOk result ((durability : Durability) × RingWritten inputs.now.revision (HasIn (memo_at R.Key.cmp self.old.places)) (HasIn (memo_at R.Key.cmp self.new.places)) members.items durability) }
+        ensures refused { OnErr result (IsSameTable (memo_at R.Key.cmp self.old.places) (memo_at R.Key.cmp self.new.places)) }
+        ensures returned { IfErr result (λ u. u.members.items ≡ members.items) }
+    {
         let now = inputs.now().number();
-        let durability = self.ring_durability(&members, inputs);
-        match self.prepare_ring(alloc, &members, now) {
+        let hints = match self.hints_of(alloc, &members, numbers) {
+            Ok(hints) => hints,
+            Err(_) => return Err(UnpublishedRing { members }),
+        };
+        let durability = self.ring_durability(&members, &hints, inputs);
+        match self.prepare_ring(alloc, &members, &hints, now) {
             Ok(prepared) => {
-                self.put_all(members, prepared, durability, now);
+                self.put_all(members, prepared, hints, durability, now);
                 Ok(())
             }
             Err(_) => Err(UnpublishedRing { members }),

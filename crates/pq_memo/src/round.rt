@@ -13,6 +13,7 @@ ghost use Rattle.pq_memo.specs.Writes.{RingWritten, ring_keys};
 ghost use Rattle.pq_memo.specs.Frames.{IsRound, Awaits, front_of, frame_keys};
 ghost use Rattle.pq_memo.specs.aux.Frames.{AreMembers, IsMember};
 
+use crate::entry::number_at;
 use crate::frame::{Frame, Stage};
 use crate::member::Member;
 use crate::memos::Memos;
@@ -35,11 +36,17 @@ fn copy_all<R: Rules>(alloc: Global, rules: &R, keys: &[R::Key]) -> Result<Vec<R
 
 impl<R: Rules> Memos<R> {
     /// Copies the reads of the memo of `key` up to `place`, that one included.
-    fn walked_reads(&self, alloc: Global, key: &R::Key, place: usize) -> Result<Vec<R::Key>, Memory>
+    fn walked_reads(
+        &self,
+        alloc: Global,
+        key: &R::Key,
+        near: usize,
+        place: usize,
+    ) -> Result<Vec<R::Key>, Memory>
         requires { (memo : Memo R.Key R.Value) × HasIn (memo_at R.Key.cmp self.now.places) key.now memo × (place < length memo.reads) }
         ensures { IfOk result (λ v. (memo : Memo R.Key R.Value) (q : R.Key) → HasIn (memo_at R.Key.cmp self.now.places) key.now memo → slice_get memo.reads place ≡ Some q → v.items ≡ take place memo.reads ++ q ∷ []) }
     {
-        match self.entry(key) {
+        match self.entry(key, near) {
             Some(entry) => {
                 let reads = entry.reads();
                 self.waited_reads(alloc, &reads[place], &reads[..place])
@@ -68,13 +75,14 @@ impl<R: Rules> Memos<R> {
         &self,
         alloc: Global,
         frame: &Frame<R::Key, R::Part>,
+        near: usize,
         _inputs: &Inputs,
     ) -> Result<Vec<R::Key>, Memory>
         requires { (q : R.Key) × Awaits R.Key.cmp (R.machine self.now.rules) _inputs.now.history _inputs.now.revision (HasIn (memo_at R.Key.cmp self.now.places)) frame.now.key frame.now.stage q }
         ensures { IfOk result (λ v. (q : R.Key) → Awaits R.Key.cmp (R.machine self.now.rules) _inputs.now.history _inputs.now.revision (HasIn (memo_at R.Key.cmp self.now.places)) frame.now.key frame.now.stage q → v.items ≡ front_of (memo_at R.Key.cmp self.now.places) frame.now.key frame.now.stage ++ q ∷ []) }
     {
         match &frame.stage {
-            Stage::Walking(place) => self.walked_reads(alloc, &frame.key, *place),
+            Stage::Walking(place) => self.walked_reads(alloc, &frame.key, near, *place),
             Stage::Waiting(_, asked, reads) => self.waited_reads(alloc, asked, reads),
         }
     }
@@ -84,6 +92,7 @@ impl<R: Rules> Memos<R> {
         &self,
         alloc: Global,
         frames: &[Frame<R::Key, R::Part>],
+        numbers: &[usize],
         inputs: &Inputs,
     ) -> Result<Vec<Member<R::Key>>, Memory>
         requires { Each (λ (f : Frame R.Key R.Part). (q : R.Key) × Awaits R.Key.cmp (R.machine self.now.rules) inputs.now.history inputs.now.revision (HasIn (memo_at R.Key.cmp self.now.places)) f.key f.stage q) frames.now }
@@ -93,7 +102,7 @@ impl<R: Rules> Memos<R> {
         for i in 0..frames.len() {
             let frame = &frames[i];
             let key = self.rules().copy_key(alloc, &frame.key)?;
-            let reads = self.frame_reads(alloc, frame, inputs)?;
+            let reads = self.frame_reads(alloc, frame, number_at(numbers, i), inputs)?;
             push(&mut members, Member::new(key, reads))?;
         }
         Ok(members)
@@ -115,9 +124,29 @@ impl<R: Rules> Memos<R> {
             × RingWritten inputs.now.revision (HasIn (memo_at R.Key.cmp self.old.places)) (HasIn (memo_at R.Key.cmp self.new.places)) members durability) }
         ensures refused { OnErr result (IsSameTable (memo_at R.Key.cmp self.old.places) (memo_at R.Key.cmp self.new.places)) }
     {
+        self.publish_round_near(alloc, frames, &[], inputs)
+    }
+
+    /// Publishes the ring of the keys of `frames`, which are looked for first at `numbers`: see
+    /// `publish_round`.
+    pub(crate) fn publish_round_near(
+        &mut self,
+        alloc: Global,
+        frames: &[Frame<R::Key, R::Part>],
+        numbers: &[usize],
+        inputs: &Inputs,
+    ) -> Result<(), Memory>
+        requires kept { KeptOver R.Key.cmp (R.machine self.old.rules) inputs.now self.old.places }
+        requires round { IsRound R.Key.cmp (R.machine self.old.rules) inputs.now.history inputs.now.revision (memo_at R.Key.cmp self.old.places) frames.now }
+        ensures rules { self.new.rules ≡ self.old.rules }
+        ensures kept { KeptOver R.Key.cmp (R.machine self.old.rules) inputs.now self.new.places }
+        ensures published { OnOk result ((members : List (R.Key × List R.Key)) × (durability : Durability) × (ring_keys members ≡ frame_keys frames.now)
+            × RingWritten inputs.now.revision (HasIn (memo_at R.Key.cmp self.old.places)) (HasIn (memo_at R.Key.cmp self.new.places)) members durability) }
+        ensures refused { OnErr result (IsSameTable (memo_at R.Key.cmp self.old.places) (memo_at R.Key.cmp self.new.places)) }
+    {
         let _latest = inputs.now();
-        let members = self.members_of(alloc, frames, inputs)?;
-        match self.publish_ring(alloc, members, inputs) {
+        let members = self.members_of(alloc, frames, numbers, inputs)?;
+        match self.publish_ring_near(alloc, members, numbers, inputs) {
             Ok(()) => return Ok(()),
             Err(_) => {}
         }

@@ -1,40 +1,57 @@
 //! The stack of frames of a demand. Each frame but the last waits for the key of the one above it.
 //!
-//! A map has the place of each key on the stack, so a key is found in logarithmic time. A key that
-//! left the stack may stay in the map: its place then has another key, or none.
-ghost use Rattle.std.specs.Prelude.{◌≡◌, ◌<◌, ◌++◌, ◌∷◌, [], length, take, drop, Some, option_to_list, IfOk, IfSome, IfNone, OnOk, OnErr, HoldsAt, if◌then◌else◌};
+//! A key is compared with those of the last `NEAR` frames at most. For the frames before them a map
+//! has the place of each key, so a key is found in logarithmic time, and a low stack has no map. A
+//! key that left the stack may stay in the map: its place then has another key, or none.
+ghost use Rattle.std.specs.Prelude.{◌≡◌, ◌<◌, ◌≤◌, ◌++◌, ◌∷◌, [], ℕ, length, take, drop, Some, option_to_list, IfOk, IfErr, OnOk, OnErr, IfSome, IfNone, HoldsAt, if◌then◌else◌};
 ghost use Rattle.std.specs.Ordering.{is_eq};
 ghost use Rattle.pq_rules.specs.Relations.{In};
 ghost use Rattle.pq_memo.specs.Frames.{frame_keys};
-ghost use Rattle.pq_memo.specs.aux.Stack.{place_in, IndexedFrom, IsNoted};
+ghost use Rattle.pq_memo.specs.aux.Stack.{place_in, nth, IsMapped, IsNoted};
 
 use crate::frame::Frame;
+use crate::ring::push;
+use crate::slots::NOWHERE;
 use pq_rules::{Memory, Rules, is_same_key};
 use std::alloc::Global;
 use std::collections::BTreeMap;
 use std::marker::Model;
 
+/// How many frames at the end of the stack the map may lack.
+const NEAR: usize = 8;
+
 /// Frames with distinct keys, the first to be brought up to date last. Contracts see their list.
 #[derive(Drop)]
 pub(crate) struct Stack<R: Rules> {
     frames: Vec<Frame<R::Key, R::Part>>,
+    // The places of the frames before `mapped`.
     places: BTreeMap<R::Key, usize>,
+    mapped: usize,
+    // Where to look first for the key of each frame among the slots of the table, and for that of
+    // the frame that was popped last. No contract speaks of them.
+    numbers: Vec<usize>,
+    popped: usize,
 }
 
 impl<R: Rules> Model for Stack<R> {
     ghost use Rattle.std.specs.Prelude.{List};
     ghost use Rattle.pq_memo.specs.declared.frame.Frame.{Frame};
-    ghost use Rattle.pq_memo.specs.aux.Stack.{IndexedFrom};
+    ghost use Rattle.pq_memo.specs.Frames.{frame_keys};
+    ghost use Rattle.pq_memo.specs.aux.Stack.{IsMapped};
 
     ghost Value = { List (Frame R.Key R.Part) };
 
     ghost view = { λ s. s.frames.items };
 
-    ghost invariant = { λ s. IndexedFrom R.Key.cmp s.places.entries 0 s.frames.items };
+    ghost invariant = { λ s. IsMapped R.Key.cmp s.places.entries s.mapped (frame_keys s.frames.items) };
 }
 
 /// The place that `places` has of `key`.
-fn noted<R: Rules>(_rules: &R, places: &BTreeMap<R::Key, usize>, key: &R::Key) -> Option<usize>
+pub(crate) fn noted<R: Rules>(
+    _rules: &R,
+    places: &BTreeMap<R::Key, usize>,
+    key: &R::Key,
+) -> Option<usize>
     ensures { result ≡ place_in R.Key.cmp places.now.entries key.now }
 {
     match places.get(key) {
@@ -44,7 +61,7 @@ fn noted<R: Rules>(_rules: &R, places: &BTreeMap<R::Key, usize>, key: &R::Key) -
 }
 
 /// Gives `key` the place `place`.
-fn put_place<R: Rules>(
+pub(crate) fn put_place<R: Rules>(
     _rules: &R,
     places: &mut BTreeMap<R::Key, usize>,
     key: R::Key,
@@ -76,24 +93,67 @@ fn note<R: Rules>(
     Ok(())
 }
 
-/// Pushes `frame`, whose key is not one of those of `frames`, and notes its place.
-fn push_frame<R: Rules>(
+/// Notes the place of the key of one frame more, if the map lacks `NEAR` frames or more. Returns
+/// how many it has then.
+fn map_next<R: Rules>(
     alloc: Global,
     rules: &R,
-    frames: &mut Vec<Frame<R::Key, R::Part>>,
     places: &mut BTreeMap<R::Key, usize>,
-    frame: Frame<R::Key, R::Part>,
-) -> Result<(), Memory>
-    requires { In frame.key (frame_keys frames.old.items) → ⊥ }
-    ensures pushed { IfOk result (λ _. frames.new.items ≡ frames.old.items ++ frame ∷ []) }
-    ensures indexed { IndexedFrom R.Key.cmp places.old.entries 0 frames.old.items → IndexedFrom R.Key.cmp places.new.entries 0 frames.new.items }
+    mapped: usize,
+    frames: &[Frame<R::Key, R::Part>],
+) -> Result<usize, Memory>
+    requires { IsMapped R.Key.cmp places.old.entries mapped (frame_keys frames.now) }
+    ensures mapped { IfOk result (λ n. IsMapped R.Key.cmp places.new.entries n (frame_keys frames.now)) }
+    ensures refused { OnErr result (IsMapped R.Key.cmp places.new.entries mapped (frame_keys frames.now)) }
 {
-    let place = frames.as_slice().len();
-    note(alloc, rules, places, &frame.key, place)?;
+    if mapped < frames.len() {
+        if frames.len() - mapped >= NEAR {
+            note(alloc, rules, places, &frames[mapped].key, mapped)?;
+            return Ok(mapped + 1);
+        }
+    }
+    Ok(mapped)
+}
+
+/// Pushes `frame`.
+fn push_frame<K: Drop, P: Drop>(
+    frames: &mut Vec<Frame<K, P>>,
+    frame: Frame<K, P>,
+) -> Result<(), Memory>
+    ensures pushed { OnOk result (frames.new.items ≡ frames.old.items ++ frame ∷ []) }
+    ensures refused { OnErr result (frames.new.items ≡ frames.old.items) }
+{
     match frames.push(frame) {
         Ok(()) => Ok(()),
         Err(_) => Err(Memory),
     }
+}
+
+/// Looks for the frame of `key` from the place `from` on.
+fn scan<R: Rules>(
+    rules: &R,
+    frames: &[Frame<R::Key, R::Part>],
+    from: usize,
+    key: &R::Key,
+) -> Option<usize>
+    requires { from ≤ length frames.now }
+    ensures found { IfSome result (λ i. (i < length frames.now) × HoldsAt (λ f. f.key ≡ key.now) frames.now i) }
+    ensures none { IfNone result ((i : ℕ) → from ≤ i → nth (frame_keys frames.now) i ≡ Some key.now → ⊥) }
+{
+    for place in from..frames.len() {
+        if is_same_key(rules, &frames[place].key, key) {
+            return Some(place);
+        }
+    }
+    None
+}
+
+/// The lesser of `a` and `b`.
+fn lesser(a: usize, b: usize) -> usize
+    ensures left { result ≤ a }
+    ensures right { result ≤ b }
+{
+    if b < a { b } else { a }
 }
 
 impl<R: Rules> Stack<R> {
@@ -104,20 +164,33 @@ impl<R: Rules> Stack<R> {
         Stack {
             frames: Vec::new(alloc),
             places: BTreeMap::new(alloc),
+            mapped: 0,
+            numbers: Vec::new(alloc),
+            popped: NOWHERE,
         }
     }
 
-    /// Pushes `frame`, whose key is not on the stack.
+    /// Pushes `frame`, whose key is not on the stack. Its slot may be `number`.
     pub(crate) fn push(
         &mut self,
         alloc: Global,
         rules: &R,
         frame: Frame<R::Key, R::Part>,
+        number: usize,
     ) -> Result<(), Memory>
         requires { In frame.key (frame_keys self.old) → ⊥ }
         ensures { IfOk result (λ _. self.new ≡ self.old ++ frame ∷ []) }
     {
-        push_frame(alloc, rules, &mut self.frames, &mut self.places, frame)
+        push(&mut self.numbers, number)?;
+        self.mapped = map_next(
+            alloc,
+            rules,
+            &mut self.places,
+            self.mapped,
+            self.frames.as_slice(),
+        )?;
+        push_frame(&mut self.frames, frame)?;
+        Ok(())
     }
 
     /// Pops the last frame.
@@ -125,7 +198,27 @@ impl<R: Rules> Stack<R> {
         ensures items { self.old ≡ self.new ++ option_to_list result }
         ensures empty { IfNone result (self.old ≡ []) }
     {
-        self.frames.pop()
+        self.popped = match self.numbers.pop() {
+            Some(number) => number,
+            None => NOWHERE,
+        };
+        let popped = self.frames.pop();
+        self.mapped = lesser(self.mapped, self.frames.as_slice().len());
+        popped
+    }
+
+    /// The slot that the frame that was popped last may have.
+    pub(crate) fn popped(&self) -> usize {
+        self.popped
+    }
+
+    /// The slots that the frames from `place` on may have.
+    pub(crate) fn numbers_from(&self, alloc: Global, place: usize) -> Result<Vec<usize>, Memory> {
+        let mut numbers = Vec::new(alloc);
+        for i in place..self.numbers.as_slice().len() {
+            push(&mut numbers, self.numbers.as_slice()[i])?;
+        }
+        Ok(numbers)
     }
 
     /// The place of the frame of `key`, in logarithmic time.
@@ -133,9 +226,16 @@ impl<R: Rules> Stack<R> {
         ensures found { IfSome result (λ i. (i < length self.now) × HoldsAt (λ f. f.key ≡ key.now) self.now i) }
         ensures none { IfNone result (In key.now (frame_keys self.now) → ⊥) }
     {
+        let frames = self.frames.as_slice();
+        match scan(rules, frames, self.mapped, key) {
+            Some(place) => return Some(place),
+            None => {}
+        }
+        if self.mapped == 0 {
+            return None;
+        }
         match noted(rules, &self.places, key) {
             Some(place) => {
-                let frames = self.frames.as_slice();
                 if place < frames.len() {
                     if is_same_key(rules, &frames[place].key, key) {
                         return Some(place);
@@ -153,6 +253,9 @@ impl<R: Rules> Stack<R> {
         ensures rest { OnOk result (self.new ≡ take place self.old) }
         ensures taken { IfOk result (λ v. v.items ≡ drop place self.old) }
     {
-        Ok(self.frames.split_off(place)?)
+        let taken = self.frames.split_off(place)?;
+        self.numbers.truncate(place);
+        self.mapped = lesser(self.mapped, place);
+        Ok(taken)
     }
 }

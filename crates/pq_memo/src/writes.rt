@@ -16,8 +16,10 @@ ghost use Rattle.pq_memo.specs.Writes.{IsDated, IsMarked, IsPublished, remarked}
 ghost use Rattle.pq_memo.specs.aux.Durabilities.{IsKnown, HasDurability, IsLeastRead};
 ghost use Rattle.pq_memo.specs.aux.Written.{HasRoom};
 
-use crate::entry::{Entry, mark_in};
+use crate::entry::{Entry, number_at};
 use crate::memos::Memos;
+use crate::ring::push;
+use crate::slots::NOWHERE;
 use crate::unpublished::Unpublished;
 use pq_inputs::{Durability, Inputs};
 use pq_rules::{Answer, Memory, Rules, Shared, same_answer};
@@ -34,13 +36,13 @@ pub(crate) fn lower(a: Durability, b: Durability) -> Durability
 
 impl<R: Rules> Memos<R> {
     /// The durability of `key`, an input or a key with a memo.
-    fn durability_of(&self, key: &R::Key, inputs: &Inputs) -> Durability
+    fn durability_of(&self, key: &R::Key, near: usize, inputs: &Inputs) -> Durability
         requires { IsKnown (R.machine self.now.rules) (HasIn (memo_at R.Key.cmp self.now.places)) key.now }
         ensures { HasDurability (R.machine self.now.rules) inputs.now.files (HasIn (memo_at R.Key.cmp self.now.places)) key.now result }
     {
         match self.rules.file(key) {
             Some(name) => inputs.durability(name),
-            None => match self.entry(key) {
+            None => match self.entry(key, near) {
                 Some(entry) => entry.durability(),
                 None => unreachable!(),
             },
@@ -48,13 +50,19 @@ impl<R: Rules> Memos<R> {
     }
 
     /// The least durability of `reads`.
-    pub(crate) fn least_of(&self, reads: &[R::Key], inputs: &Inputs) -> Durability
+    pub(crate) fn least_of(
+        &self,
+        reads: &[R::Key],
+        numbers: &[usize],
+        inputs: &Inputs,
+    ) -> Durability
         requires { Each (IsKnown (R.machine self.now.rules) (HasIn (memo_at R.Key.cmp self.now.places))) reads.now }
         ensures { IsLeastRead (R.machine self.now.rules) inputs.now.files (HasIn (memo_at R.Key.cmp self.now.places)) (λ q. In q reads.now) result }
     {
         let mut least = Durability::High;
         for i in 0..reads.len() {
-            least = lower(least, self.durability_of(&reads[i], inputs));
+            let near = number_at(numbers, i);
+            least = lower(least, self.durability_of(&reads[i], near, inputs));
         }
         least
     }
@@ -70,7 +78,7 @@ impl<R: Rules> Memos<R> {
         if self.lasts(entry, inputs) {
             return entry.durability();
         }
-        self.least_of(entry.reads(), inputs)
+        self.least_of(entry.reads(), entry.numbers(), inputs)
     }
 
     /// Marks the memo of `key`, which is `Green`, as verified now. Its durability becomes the least
@@ -82,22 +90,32 @@ impl<R: Rules> Memos<R> {
         ensures kept { KeptOver R.Key.cmp (R.machine self.old.rules) inputs.now self.new.places }
         ensures marked { IsMarked R.Key.cmp (R.machine self.old.rules) inputs.now self.old.places key.now self.new.places }
     {
-        let durability = match self.entry(key) {
+        self.mark_near(key, NOWHERE, inputs);
+    }
+
+    /// Marks the memo of `key`, which is looked for first at `near`: see `mark_verified`.
+    pub(crate) fn mark_near(&mut self, key: &R::Key, near: usize, inputs: &Inputs)
+        requires kept { KeptOver R.Key.cmp (R.machine self.old.rules) inputs.now self.old.places }
+        requires green { IsGreen (R.machine self.old.rules) inputs.now.history inputs.now.revision (HasIn (memo_at R.Key.cmp self.old.places)) key.now }
+        ensures rules { self.new.rules ≡ self.old.rules }
+        ensures kept { KeptOver R.Key.cmp (R.machine self.old.rules) inputs.now self.new.places }
+        ensures marked { IsMarked R.Key.cmp (R.machine self.old.rules) inputs.now self.old.places key.now self.new.places }
+    {
+        let durability = match self.entry(key, near) {
             Some(entry) => self.durability_now(entry, inputs),
             None => unreachable!(),
         };
-        self.remark(key, inputs.now().number(), durability);
+        self.remark(key, near, inputs.now().number(), durability);
     }
 
     /// Sets the verified revision and the durability of the memo of `key`, if it has one.
-    fn remark(&mut self, key: &R::Key, revision: u64, durability: Durability)
+    fn remark(&mut self, key: &R::Key, near: usize, revision: u64, durability: Durability)
         ensures rules { self.new.rules ≡ self.old.rules }
         ensures marked { (q : R.Key) → memo_at R.Key.cmp self.new.places q
             ≡ (if is_eq (R.Key.cmp key.now q) then option_map (λ (m : Memo R.Key R.Value). remarked m revision durability) (memo_at R.Key.cmp self.old.places key.now) else memo_at R.Key.cmp self.old.places q) }
     {
-        if let Some(place) = self.entries.get_mut(key) {
-            mark_in(place, revision, durability);
-        }
+        self.entries
+            .remark(&self.rules, key, near, revision, durability);
     }
 
     /// The changed revision of `answer` for `key`: that of the memo of `key`, if its answer is
@@ -105,12 +123,13 @@ impl<R: Rules> Memos<R> {
     pub(crate) fn changed_by(
         &self,
         key: &R::Key,
+        near: usize,
         answer: &Answer<R::Key, R::Value>,
         now: u64,
     ) -> u64
         ensures { IsDated now (HasIn (memo_at R.Key.cmp self.now.places)) key.now answer.now result }
     {
-        match self.entry(key) {
+        match self.entry(key, near) {
             Some(entry) => {
                 if same_answer(&self.rules, entry.answer(), answer) {
                     return entry.changed();
@@ -125,6 +144,7 @@ impl<R: Rules> Memos<R> {
     fn store(
         &mut self,
         key: R::Key,
+        near: usize,
         entry: Entry<R::Key, R::Value>,
     ) -> Result<(), (R::Key, Entry<R::Key, R::Value>)>
         ensures rules { self.new.rules ≡ self.old.rules }
@@ -132,16 +152,7 @@ impl<R: Rules> Memos<R> {
         ensures refused { OnErr result (IsSameTable (memo_at R.Key.cmp self.old.places) (memo_at R.Key.cmp self.new.places)) }
         ensures returned { IfErr result (λ e. (e.0 ≡ key) × (e.1 ≡ entry)) }
     {
-        match self.entries.insert(key, Some(entry)) {
-            Ok(_) => Ok(()),
-            Err(failed) => {
-                let (key, place) = failed.value;
-                match place {
-                    Some(entry) => Err((key, entry)),
-                    None => unreachable!(),
-                }
-            }
-        }
+        self.entries.store(&self.rules, key, near, entry)
     }
 
     /// Publishes `answer` as the answer of `key` now, with the `reads` that its rule made. If the
@@ -165,40 +176,82 @@ impl<R: Rules> Memos<R> {
         ensures refused { OnErr result (IsSameTable (memo_at R.Key.cmp self.old.places) (memo_at R.Key.cmp self.new.places)) }
         ensures returned { IfErr result (λ u. (u.key ≡ key) × (u.answer ≡ answer) × (u.reads.items ≡ reads.items)) }
     {
-        let durability = self.least_of(&reads, inputs);
+        self.publish_near(key, NOWHERE, answer, reads, inputs)
+    }
+
+    /// The numbers of `reads`, which the rule of `key` made. They are looked for where the reads of
+    /// its memo are, if it has one, which is looked for first at `near`.
+    pub(crate) fn numbers_of(
+        &self,
+        key: &R::Key,
+        near: usize,
+        reads: &[R::Key],
+    ) -> Result<Vec<usize>, Memory> {
+        let mut numbers = Vec::new(self.entries.alloc());
+        numbers.reserve(reads.len())?;
+        for i in 0..reads.len() {
+            let number = self.number(&reads[i], self.read_number(key, near, i));
+            push(&mut numbers, number)?;
+        }
+        Ok(numbers)
+    }
+
+    /// Publishes `answer` as that of `key`, which is looked for first at `near`: see `publish`.
+    pub(crate) fn publish_near(
+        &mut self,
+        key: R::Key,
+        near: usize,
+        answer: Shared<Answer<R::Key, R::Value>>,
+        reads: Vec<R::Key>,
+        inputs: &Inputs,
+    ) -> Result<(), Unpublished<R::Key, R::Value>>
+        requires kept { KeptOver R.Key.cmp (R.machine self.old.rules) inputs.now self.old.places }
+        requires ruled { 0 < (R.machine self.old.rules).level key }
+        requires reads { HasReads (over R.Key.cmp (R.machine self.old.rules) inputs.now.files) key answer reads.items }
+        requires up_to_date { Each (IsUpToDate (R.machine self.old.rules) inputs.now.revision (HasIn (memo_at R.Key.cmp self.old.places))) reads.items }
+        requires no_ring { (ring : List R.Key) → answer ≡ Cycle ring → In key ring → ⊥ }
+        ensures rules { self.new.rules ≡ self.old.rules }
+        ensures kept { KeptOver R.Key.cmp (R.machine self.old.rules) inputs.now self.new.places }
+        ensures published { OnOk result (IsPublished R.Key.cmp (R.machine self.old.rules) inputs.now self.old.places key answer reads.items self.new.places) }
+        ensures refused { OnErr result (IsSameTable (memo_at R.Key.cmp self.old.places) (memo_at R.Key.cmp self.new.places)) }
+        ensures returned { IfErr result (λ u. (u.key ≡ key) × (u.answer ≡ answer) × (u.reads.items ≡ reads.items)) }
+    {
+        let numbers = match self.numbers_of(&key, near, &reads) {
+            Ok(numbers) => numbers,
+            Err(_) => return Err(Unpublished { key, answer, reads }),
+        };
+        let durability = self.least_of(&reads, &numbers, inputs);
         let now = inputs.now().number();
-        let changed = self.changed_by(&key, answer.get(), now);
-        match self.store(key, Entry::new(answer, now, changed, reads, durability, 0)) {
+        let changed = self.changed_by(&key, near, answer.get(), now);
+        let entry = Entry::new(answer, now, changed, reads, durability, 0, numbers);
+        match self.store(key, near, entry) {
             Ok(()) => Ok(()),
             Err((key, entry)) => Err(entry.unpublished(key)),
         }
     }
 
-    /// Makes a place for `key`, if it has none.
-    pub(crate) fn make_room(&mut self, alloc: Global, key: &R::Key) -> Result<(), Memory>
+    /// Makes a slot of `key`, if it has none, and returns its number.
+    pub(crate) fn make_room(
+        &mut self,
+        alloc: Global,
+        key: &R::Key,
+        near: usize,
+    ) -> Result<usize, Memory>
         ensures rules { self.new.rules ≡ self.old.rules }
         ensures same { IsSameTable (memo_at R.Key.cmp self.old.places) (memo_at R.Key.cmp self.new.places) }
         ensures room { OnOk result (HasRoom R.Key.cmp self.new.places key.now) }
         ensures kept { (q : R.Key) → HasRoom R.Key.cmp self.old.places q → HasRoom R.Key.cmp self.new.places q }
     {
-        if self.entries.get(key).is_some() {
-            return Ok(());
-        }
-        let copy = self.rules.copy_key(alloc, key)?;
-        self.entries.insert(copy, None)?;
-        Ok(())
+        self.entries.make_room(alloc, &self.rules, key, near)
     }
 
     /// Gives `key`, which has a place, the memo `entry`. It takes no memory.
-    pub(crate) fn put(&mut self, key: R::Key, entry: Entry<R::Key, R::Value>)
+    pub(crate) fn put(&mut self, key: R::Key, near: usize, entry: Entry<R::Key, R::Value>)
         requires room { HasRoom R.Key.cmp self.old.places key }
         ensures rules { self.new.rules ≡ self.old.rules }
         ensures put { IsPut R.Key.cmp (memo_at R.Key.cmp self.old.places) key entry (memo_at R.Key.cmp self.new.places) }
         ensures kept { (q : R.Key) → HasRoom R.Key.cmp self.old.places q → HasRoom R.Key.cmp self.new.places q }
     {
-        match self.entries.insert(key, Some(entry)) {
-            Ok(_) => {}
-            Err(_) => unreachable!(),
-        }
+        self.entries.put(&self.rules, &key, near, entry);
     }
 }

@@ -12,8 +12,8 @@ use Rattle.pq_memo.proofs.RoundTurned.{last_apart}
 use Rattle.pq_memo.proofs.Advancing.{needs_awaits, needs_linked, needs_distinct, one_table, moved_to}
 use Rattle.pq_memo.proofs.memos.Memos.advance.Goals as goal
 
-pub step-requires-clause-frame : goal.step-requires-clause-frame
-step-requires-clause-frame g c =
+pub step_near-requires-clause-frame : goal.step_near-requires-clause-frame
+step_near-requires-clause-frame g c =
     (linked_last g.R.Key.Ord.cmp (g.R.Rules.machine c.args.self.now.rules) c.args.inputs.now (memo_at g.R.Key.Ord.cmp c.args.self.now.places)
     c.args.stack.now c.args.frame c.requires.linked).0
 
@@ -22,8 +22,8 @@ enter-requires-clause-linked g c =
     let s = rw c.in-Ok-Needs.field-0-is at c.in-Ok-Needs.ensures.step in
     moved_to (λ (r : g.row.R.Denot) (t : g.row.R-Key.Denot → Option (Memo g.row.R-Key.Denot g.row.R-Value.Denot)).
     Linked g.R.Key.Ord.cmp (g.R.Rules.machine r) c.args.inputs.now t (c.args.stack.now ++ c.in-Ok-Needs.frame ∷ []))
-    c.args.self.now.rules c.step.new.self.rules (memo_at g.R.Key.Ord.cmp c.args.self.now.places) (memo_at g.R.Key.Ord.cmp c.step.new.self.places)
-    c.step.ensures.rules (one_table (memo_at g.R.Key.Ord.cmp c.args.self.now.places) (memo_at g.R.Key.Ord.cmp c.step.new.self.places) s.0)
+    c.args.self.now.rules c.step_near.new.self.rules (memo_at g.R.Key.Ord.cmp c.args.self.now.places) (memo_at g.R.Key.Ord.cmp c.step_near.new.self.places)
+    c.step_near.ensures.rules (one_table (memo_at g.R.Key.Ord.cmp c.args.self.now.places) (memo_at g.R.Key.Ord.cmp c.step_near.new.self.places) s.0)
     (needs_linked g.R.Key.Ord.cmp (g.R.Rules.machine c.args.self.now.rules) c.args.inputs.now (memo_at g.R.Key.Ord.cmp c.args.self.now.places)
     c.args.stack.now c.args.frame c.in-Ok-Needs.frame c.in-Ok-Needs.next s.1 s.2 s.3 c.requires.linked)
 
@@ -37,8 +37,8 @@ enter-requires-clause-awaits g c =
     let s = rw c.in-Ok-Needs.field-0-is at c.in-Ok-Needs.ensures.step in
     moved_to (λ (r : g.row.R.Denot) (t : g.row.R-Key.Denot → Option (Memo g.row.R-Key.Denot g.row.R-Value.Denot)).
     Awaits g.R.Key.Ord.cmp (g.R.Rules.machine r) c.args.inputs.now.history c.args.inputs.now.revision (HasIn t) c.in-Ok-Needs.frame.key c.in-Ok-Needs.frame.stage c.in-Ok-Needs.next)
-    c.args.self.now.rules c.step.new.self.rules (memo_at g.R.Key.Ord.cmp c.args.self.now.places) (memo_at g.R.Key.Ord.cmp c.step.new.self.places)
-    c.step.ensures.rules (one_table (memo_at g.R.Key.Ord.cmp c.args.self.now.places) (memo_at g.R.Key.Ord.cmp c.step.new.self.places) s.0)
+    c.args.self.now.rules c.step_near.new.self.rules (memo_at g.R.Key.Ord.cmp c.args.self.now.places) (memo_at g.R.Key.Ord.cmp c.step_near.new.self.places)
+    c.step_near.ensures.rules (one_table (memo_at g.R.Key.Ord.cmp c.args.self.now.places) (memo_at g.R.Key.Ord.cmp c.step_near.new.self.places) s.0)
     (needs_awaits g.R.Key.Ord.cmp (g.R.Rules.machine c.args.self.now.rules) c.args.inputs.now (memo_at g.R.Key.Ord.cmp c.args.self.now.places)
     c.args.stack.now c.args.frame c.in-Ok-Needs.frame c.in-Ok-Needs.next s.1 s.2 s.3)
 
@@ -58,8 +58,8 @@ resume-requires-clause-came g c =
     moved_to (λ (r : g.row.R.Denot) (t : g.row.R-Key.Denot → Option (Memo g.row.R-Key.Denot g.row.R-Value.Denot)).
     Came g.R.Key.Ord.cmp (g.R.Rules.machine r) c.args.inputs.now.history c.args.inputs.now.revision (HasIn t) c.in-Ok-GoesOn.key
     ((g.R.Rules.machine r).advance c.in-Ok-GoesOn.part c.get.result.now) c.in-Ok-GoesOn.reads.items)
-    c.args.self.now.rules c.step.new.self.rules (memo_at g.R.Key.Ord.cmp c.args.self.now.places) (memo_at g.R.Key.Ord.cmp c.step.new.self.places)
-    c.step.ensures.rules (one_table (memo_at g.R.Key.Ord.cmp c.args.self.now.places) (memo_at g.R.Key.Ord.cmp c.step.new.self.places) s.0)
+    c.args.self.now.rules c.step_near.new.self.rules (memo_at g.R.Key.Ord.cmp c.args.self.now.places) (memo_at g.R.Key.Ord.cmp c.step_near.new.self.places)
+    c.step_near.ensures.rules (one_table (memo_at g.R.Key.Ord.cmp c.args.self.now.places) (memo_at g.R.Key.Ord.cmp c.step_near.new.self.places) s.0)
     (moved_to (λ (k : g.row.R-Key.Denot) (a : Answer g.row.R-Key.Denot g.row.R-Value.Denot).
     Came g.R.Key.Ord.cmp (g.R.Rules.machine c.args.self.now.rules) c.args.inputs.now.history c.args.inputs.now.revision (HasIn (memo_at g.R.Key.Ord.cmp c.args.self.now.places)) k
     ((g.R.Rules.machine c.args.self.now.rules).advance c.in-Ok-GoesOn.part a) c.in-Ok-GoesOn.reads.items)
@@ -73,7 +73,7 @@ returns-in-Ok-Finished-clause-advanced g c =
     inr (
       refl,
       inl (
-        wrote_finished g.R.Key.Ord.cmp exact (g.R.Rules.machine c.args.self.now.rules) c.args.inputs.now c.args.self.now.places c.args.frame.key c.step.new.self.places
+        wrote_finished g.R.Key.Ord.cmp exact (g.R.Rules.machine c.args.self.now.rules) c.args.inputs.now c.args.self.now.places c.args.frame.key c.step_near.new.self.places
             c.requires.stale s,
         refl,
       ),
@@ -93,7 +93,7 @@ returns-in-Ok-Needs-clause-advanced g c =
         stale = s.4;
         entered = subst (λ (t : g.row.R-Key.Denot → Option (Memo g.row.R-Key.Denot g.row.R-Value.Denot)).
             HasEntered c.args.inputs.now.revision t (memo_at g.R.Key.Ord.cmp c.enter.new.self.places) (c.args.stack.now ++ c.in-Ok-Needs.frame ∷ []) c.in-Ok-Needs.next c.enter.new.stack)
-            (one_table (memo_at g.R.Key.Ord.cmp c.args.self.now.places) (memo_at g.R.Key.Ord.cmp c.step.new.self.places) s.0)
+            (one_table (memo_at g.R.Key.Ord.cmp c.args.self.now.places) (memo_at g.R.Key.Ord.cmp c.step_near.new.self.places) s.0)
             c.in_ok-enter-in-Ok-Needs.ensures.entered;
       })),
     )
@@ -114,8 +114,8 @@ returns-in-Ok-Starts-clause-advanced g c =
             (moved_to (λ (r : g.row.R.Denot) (t : g.row.R-Key.Denot → Option (Memo g.row.R-Key.Denot g.row.R-Value.Denot)).
             HasTaken (g.R.Rules.machine r) c.args.inputs.now.revision t (memo_at g.R.Key.Ord.cmp c.start.new.self.places)
             c.in-Ok-Starts.key ((g.R.Rules.machine r).start c.in-Ok-Starts.key) [] c.args.stack.now c.start.new.stack)
-            c.step.new.self.rules c.args.self.now.rules (memo_at g.R.Key.Ord.cmp c.step.new.self.places) (memo_at g.R.Key.Ord.cmp c.args.self.now.places)
-            (sym c.step.ensures.rules) (sym (one_table (memo_at g.R.Key.Ord.cmp c.args.self.now.places) (memo_at g.R.Key.Ord.cmp c.step.new.self.places) s.0))
+            c.step_near.new.self.rules c.args.self.now.rules (memo_at g.R.Key.Ord.cmp c.step_near.new.self.places) (memo_at g.R.Key.Ord.cmp c.args.self.now.places)
+            (sym c.step_near.ensures.rules) (sym (one_table (memo_at g.R.Key.Ord.cmp c.args.self.now.places) (memo_at g.R.Key.Ord.cmp c.step_near.new.self.places) s.0))
             c.in_ok-start-in-Ok-Starts.ensures.taken);
       },
       c.in_ok-start-in-Ok-Starts.ensures.carried,
@@ -139,8 +139,8 @@ returns-in-Ok-GoesOn-clause-advanced g c =
             (moved_to (λ (r : g.row.R.Denot) (t : g.row.R-Key.Denot → Option (Memo g.row.R-Key.Denot g.row.R-Value.Denot)).
             HasTaken (g.R.Rules.machine r) c.args.inputs.now.revision t (memo_at g.R.Key.Ord.cmp c.resume.new.self.places)
             c.in-Ok-GoesOn.key ((g.R.Rules.machine r).advance c.in-Ok-GoesOn.part c.get.result.now) c.in-Ok-GoesOn.reads.items c.args.stack.now c.resume.new.stack)
-            c.step.new.self.rules c.args.self.now.rules (memo_at g.R.Key.Ord.cmp c.step.new.self.places) (memo_at g.R.Key.Ord.cmp c.args.self.now.places)
-            (sym c.step.ensures.rules) (sym (one_table (memo_at g.R.Key.Ord.cmp c.args.self.now.places) (memo_at g.R.Key.Ord.cmp c.step.new.self.places) s.0))
+            c.step_near.new.self.rules c.args.self.now.rules (memo_at g.R.Key.Ord.cmp c.step_near.new.self.places) (memo_at g.R.Key.Ord.cmp c.args.self.now.places)
+            (sym c.step_near.ensures.rules) (sym (one_table (memo_at g.R.Key.Ord.cmp c.args.self.now.places) (memo_at g.R.Key.Ord.cmp c.step_near.new.self.places) s.0))
             c.in_ok-resume-in-Ok-GoesOn.ensures.taken);
       })),
     )

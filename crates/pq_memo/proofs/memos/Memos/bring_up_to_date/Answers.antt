@@ -1,12 +1,14 @@
-use Rattle.std.proofs.Common.{[], ◌<◌, ◌∷◌, ◌++◌, List, refl, sym, ◌∙◌, ap, subst}
+use Rattle.std.proofs.Common.{[], ◌<◌, ◌∷◌, ◌++◌, List, Option, refl, sym, ◌∙◌, ap, subst}
 use Rattle.pq_rules.specs.aux.Evaluator.{Distinct}
 use Rattle.pq_rules.proofs.ListLemmas.{not_both}
 use Rattle.pq_rules.proofs.Weight.{Exact}
 use Rattle.pq_memo.specs.declared.frame.Frame.{Frame}
-use Rattle.pq_memo.specs.Sound.{sources_at}
+use Rattle.pq_memo.specs.Sound.{Memo, sources_at}
 use Rattle.pq_memo.specs.Look.{IsUpToDate}
 use Rattle.pq_memo.specs.Table.{memo_at, HasIn}
 use Rattle.pq_memo.specs.aux.Demand.{Going, walks, weight}
+use Rattle.pq_memo.proofs.TableCalls.{kept_same}
+use Rattle.pq_memo.proofs.Advancing.{one_table, moved_to}
 use Rattle.pq_memo.proofs.Demanding.{begins, ready, stepped, ended, handed_same}
 use Rattle.pq_memo.proofs.memos.Memos.bring_up_to_date.Goals as goal
 
@@ -16,16 +18,22 @@ returns-then-is_up_to_date-clause-once g c = rw c.new-carried.ensures.items tt
 
 pub steps-init : goal.steps-init
 steps-init g c = record {
-  rules = refl;
+  rules = c.make_room.ensures.rules;
   going =
       let laws = g.met.R.Rules.lawful c.args.self.now.rules (sources_at c.args.inputs.now.history c.args.inputs.now.revision) in
-      begins g.R.Key.Ord.cmp (g.R.Rules.machine c.args.self.now.rules) c.args.inputs.now
+      moved_to (λ (r : g.row.R.Denot) (t : g.row.R-Key.Denot → Option (Memo g.row.R-Key.Denot g.row.R-Value.Denot)).
+      Going g.R.Key.Ord.cmp (g.R.Rules.machine r) c.args.inputs.now (g.R.Rules.reach r (sources_at c.args.inputs.now.history c.args.inputs.now.revision) c.args.key.now)
+      c.args.key.now (memo_at g.R.Key.Ord.cmp c.args.self.now.places) t c.push.new.self c.new-carried.result.items)
+      c.args.self.now.rules c.make_room.new.self.rules (memo_at g.R.Key.Ord.cmp c.args.self.now.places) (memo_at g.R.Key.Ord.cmp c.make_room.new.self.places)
+      c.make_room.ensures.rules
+      (one_table (memo_at g.R.Key.Ord.cmp c.args.self.now.places) (memo_at g.R.Key.Ord.cmp c.make_room.new.self.places) c.make_room.ensures.same)
+      (begins g.R.Key.Ord.cmp (g.R.Rules.machine c.args.self.now.rules) c.args.inputs.now
       (g.R.Rules.reach c.args.self.now.rules (sources_at c.args.inputs.now.history c.args.inputs.now.revision)) c.args.key.now
       (memo_at g.R.Key.Ord.cmp c.args.self.now.places) laws c.requires
       (λ up. not_both (c.is_up_to_date.ensures.1 up) c.if-is_up_to_date.false)
       c.push.new.self c.new-carried.result.items c.in_ok-copy.copy (c.in_ok-copy.ensures {u = tt}).copy
       ((c.in_ok-push.ensures {u = tt}) ∙ ap (λ (l : List (Frame g.row.R-Key.Denot g.row.R-Part.Denot)). l ++ walks c.in_ok-copy.copy ∷ []) c.new-stack.ensures)
-      c.new-carried.ensures.items;
+      c.new-carried.ensures.items);
 }
 
 pub advance-requires-clause-stale : goal.advance-requires-clause-stale
@@ -98,3 +106,18 @@ returns-clause-covered g c =
     (g.R.Rules.reach c.steps.self.rules (sources_at c.args.inputs.now.history c.args.inputs.now.revision)) c.args.key.now
     c.now-latest.ensures.counted laws (memo_at g.R.Key.Ord.cmp c.args.self.now.places) (memo_at g.R.Key.Ord.cmp c.steps.self.places)
     c.steps.stack c.steps.carried.items empty c.steps.invariant.going).covered
+
+pub returns-in_err-number-clause-kept : goal.returns-in_err-number-clause-kept
+returns-in_err-number-clause-kept g c =
+    kept_same g.R.Key.Ord.cmp (g.R.Rules.machine c.args.self.now.rules) c.args.inputs.now c.args.self.now.places c.make_room.new.self.places
+    c.make_room.ensures.same c.requires
+
+pub returns-in_err-copy-clause-kept : goal.returns-in_err-copy-clause-kept
+returns-in_err-copy-clause-kept g c =
+    kept_same g.R.Key.Ord.cmp (g.R.Rules.machine c.args.self.now.rules) c.args.inputs.now c.args.self.now.places c.make_room.new.self.places
+    c.make_room.ensures.same c.requires
+
+pub returns-in_err-push-clause-kept : goal.returns-in_err-push-clause-kept
+returns-in_err-push-clause-kept g c =
+    kept_same g.R.Key.Ord.cmp (g.R.Rules.machine c.args.self.now.rules) c.args.inputs.now c.args.self.now.places c.make_room.new.self.places
+    c.make_room.ensures.same c.requires

@@ -4,6 +4,7 @@ use Rattle.pq_memo.specs.Table.{memo_at}
 use Rattle.pq_memo.specs.aux.Demand.{LastAwaits}
 use Rattle.pq_memo.proofs.Stacked.{last_awaits}
 use Rattle.pq_memo.proofs.RoundTurned.{last_apart}
+use Rattle.pq_memo.proofs.TableCalls.{kept_same}
 use Rattle.pq_memo.proofs.memos.Memos.enter.Goals as goal
 
 pub push-requires : goal.push-requires
@@ -15,3 +16,18 @@ close-requires-clause-awaits g c =
     (sym (c.in_ok-push.ensures {u = tt}))
     (last_awaits g.R.Key.Ord.cmp (g.R.Rules.machine c.args.self.now.rules) c.args.inputs.now (memo_at g.R.Key.Ord.cmp c.args.self.now.places) c.args.next
     c.args.stack.now c.args.frame c.requires.awaits)
+
+pub returns-in_err-number-in-None-clause-kept : goal.returns-in_err-number-in-None-clause-kept
+returns-in_err-number-in-None-clause-kept g c =
+    kept_same g.R.Key.Ord.cmp (g.R.Rules.machine c.args.self.now.rules) c.args.inputs.now c.args.self.now.places c.make_room.new.self.places
+    c.make_room.ensures.same c.requires.kept
+
+pub returns-in_err-push-in-None-clause-kept : goal.returns-in_err-push-in-None-clause-kept
+returns-in_err-push-in-None-clause-kept g c =
+    kept_same g.R.Key.Ord.cmp (g.R.Rules.machine c.args.self.now.rules) c.args.inputs.now c.args.self.now.places c.make_room.new.self.places
+    c.make_room.ensures.same c.requires.kept
+
+pub returns-in_ok-push-in-None-clause-kept : goal.returns-in_ok-push-in-None-clause-kept
+returns-in_ok-push-in-None-clause-kept g c =
+    kept_same g.R.Key.Ord.cmp (g.R.Rules.machine c.args.self.now.rules) c.args.inputs.now c.args.self.now.places c.make_room.new.self.places
+    c.make_room.ensures.same c.requires.kept

@@ -10,7 +10,7 @@ returns-in-Ok-clause-taken g c =
     let laws = g.met.R.Rules.lawful c.args.self.now.rules [] in
     let exact : Exact g.R.Key.Ord.cmp = record { total = g.met.R.Key.Ord.total; exact = laws.exact } in
     inr (
-      wrote_published g.R.Key.Ord.cmp exact (g.R.Rules.machine c.args.self.now.rules) c.args.inputs.now c.args.self.now.places c.args.key c.publish.new.self.places
+      wrote_published g.R.Key.Ord.cmp exact (g.R.Rules.machine c.args.self.now.rules) c.args.inputs.now c.args.self.now.places c.args.key c.publish_near.new.self.places
           c.in_ok-answer-in-Done.answer c.args.reads.items c.in-Ok.ensures.published,
       refl,
     )

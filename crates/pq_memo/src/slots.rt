@@ -1,0 +1,350 @@
+//! The slots of the table: each has a key, and an entry if the key has a memo.
+//!
+//! A key has a number, that of its slot: the count of the slots made before. It never changes. An
+//! index finds the number of a key in logarithmic time. Who knows where a key may be passes that
+//! number along: one comparison then takes the place of the search, and a wrong number only costs
+//! that comparison. So numbers that are kept elsewhere are in no contract.
+ghost use Rattle.std.specs.Prelude.{◌≡◌, ◌<◌, ◌++◌, ◌∷◌, [], length, IsTrue, IsSome, IfSome, IfNone, IfErr, OnOk, OnErr, Some, None, option_copied, if◌then◌else◌};
+ghost use Rattle.std.specs.Option.{option_map};
+ghost use Rattle.std.specs.Map.{lookup};
+ghost use Rattle.std.specs.BTreeMap.{is_at};
+ghost use Rattle.std.specs.Ordering.{is_eq};
+ghost use Rattle.pq_memo.specs.Sound.{Memo};
+ghost use Rattle.pq_memo.specs.Table.{memo_at, joined, IsPut, IsSameTable};
+ghost use Rattle.pq_memo.specs.Writes.{remarked};
+ghost use Rattle.pq_memo.specs.aux.Slots.{key_at, value_at, with_at};
+ghost use Rattle.pq_memo.specs.aux.Written.{HasRoom};
+
+use crate::entry::{Entry, mark_in};
+use crate::stack::{noted, put_place};
+use pq_inputs::Durability;
+use pq_rules::{Memory, Rules, is_same_key};
+use std::alloc::Global;
+use std::collections::BTreeMap;
+use std::marker::Model;
+
+/// A number that no slot has.
+pub(crate) const NOWHERE: usize = usize::MAX;
+
+/// Where to look first for the key of a frame, and for the key that it waits for. No contract
+/// speaks of it.
+#[derive(Clone, Copy)]
+pub(crate) struct Near {
+    pub(crate) own: usize,
+    pub(crate) next: usize,
+}
+
+impl Near {
+    /// The key of the frame is looked for first at `own`.
+    pub(crate) fn new(own: usize) -> Self {
+        Near { own, next: NOWHERE }
+    }
+}
+
+/// A key, and what the table keeps of it. Contracts see the pair.
+#[derive(Drop)]
+pub(crate) struct Slot<K, V> {
+    key: K,
+    entry: Option<Entry<K, V>>,
+}
+
+impl<K, V> Model for Slot<K, V> {
+    ghost use Rattle.std.specs.Prelude.{Option};
+    ghost use Rattle.pq_memo.specs.Sound.{Memo};
+
+    ghost Value = { K × Option (Memo K V) };
+
+    ghost view = { λ s. (s.key, s.entry) };
+}
+
+impl<K, V> Slot<K, V> {
+    /// The key.
+    fn key(&self) -> &K
+        ensures { result.now ≡ self.now.0 }
+    {
+        &self.key
+    }
+
+    /// The entry, if the key has a memo.
+    fn entry(&self) -> Option<&Entry<K, V>>
+        ensures { option_copied result ≡ self.now.1 }
+    {
+        self.entry.as_ref()
+    }
+
+    /// Marks the entry, if there is one.
+    fn mark(&mut self, revision: u64, durability: Durability)
+        ensures { self.new ≡ (self.old.0, option_map (λ m. remarked m revision durability) self.old.1) }
+    {
+        mark_in(&mut self.entry, revision, durability);
+    }
+}
+
+impl<K: Drop, V: Drop> Slot<K, V> {
+    /// Gives the key the memo `entry`.
+    fn set(&mut self, entry: Entry<K, V>)
+        ensures { self.new ≡ (self.old.0, Some entry) }
+    {
+        self.entry = Some(entry);
+    }
+}
+
+/// Marks the entry of the slot `number`, if it has one.
+fn mark_at<K, V>(slots: &mut Vec<Slot<K, V>>, number: usize, revision: u64, durability: Durability)
+    requires { number < length slots.old.items }
+    ensures { slots.new.items ≡ with_at slots.old.items number (option_map (λ m. remarked m revision durability) (joined (value_at slots.old.items number))) }
+{
+    slots[number].mark(revision, durability);
+}
+
+/// Gives the key of the slot `number` the memo `entry`.
+fn set_at<K: Drop, V: Drop>(slots: &mut Vec<Slot<K, V>>, number: usize, entry: Entry<K, V>)
+    requires { number < length slots.old.items }
+    ensures { slots.new.items ≡ with_at slots.old.items number (Some entry) }
+{
+    slots[number].set(entry);
+}
+
+/// Slots with distinct keys. Contracts see their list, in the order of their numbers.
+#[derive(Drop)]
+pub(crate) struct Slots<R: Rules> {
+    alloc: Global,
+    index: BTreeMap<R::Key, usize>,
+    slots: Vec<Slot<R::Key, R::Value>>,
+    // Where to look for a key second: the slot that was written last. No contract speaks of it.
+    last: usize,
+}
+
+impl<R: Rules> Model for Slots<R> {
+    ghost use Rattle.std.specs.Prelude.{List, Option};
+    ghost use Rattle.pq_memo.specs.Sound.{Memo};
+    ghost use Rattle.pq_memo.specs.aux.Slots.{IsNumbered};
+
+    ghost Value = { List (R.Key × Option (Memo R.Key R.Value)) };
+
+    ghost view = { λ s. s.slots.items };
+
+    ghost invariant = { λ s. IsNumbered R.Key.cmp s.index.entries s.slots.items };
+}
+
+impl<R: Rules> Slots<R> {
+    /// No slots. They take their memory from `alloc`.
+    pub(crate) fn new(alloc: Global) -> Self
+        ensures { result ≡ [] }
+    {
+        Slots {
+            alloc,
+            index: BTreeMap::new(alloc),
+            slots: Vec::new(alloc),
+            last: NOWHERE,
+        }
+    }
+
+    /// The allocator.
+    pub(crate) fn alloc(&self) -> Global {
+        self.alloc
+    }
+
+    /// Whether the slot `number` has `key`.
+    fn is_slot_of(&self, rules: &R, key: &R::Key, number: usize) -> bool
+        ensures { IsTrue result → key_at self.now number ≡ Some key.now }
+    {
+        let slots = self.slots.as_slice();
+        if number < slots.len() {
+            if is_same_key(rules, slots[number].key(), key) {
+                return true;
+            }
+        }
+        false
+    }
+
+    /// The number of `key`, if it has a slot. It is looked for first at `near`.
+    pub(crate) fn find(&self, rules: &R, key: &R::Key, near: usize) -> Option<usize>
+        ensures found { IfSome result (λ n. key_at self.now n ≡ Some key.now) }
+        ensures none { IfNone result (lookup (is_at (R.Key.cmp key.now)) self.now ≡ None) }
+    {
+        if self.is_slot_of(rules, key, near) {
+            return Some(near);
+        }
+        if self.is_slot_of(rules, key, self.last) {
+            return Some(self.last);
+        }
+        noted(rules, &self.index, key)
+    }
+
+    /// The entry of the slot `number`, which is that of `_key`.
+    fn entry_at(&self, _rules: &R, _key: &R::Key, number: usize) -> Option<&Entry<R::Key, R::Value>>
+        requires { key_at self.now number ≡ Some _key.now }
+        ensures { option_copied result ≡ memo_at R.Key.cmp self.now _key.now }
+    {
+        self.slots.as_slice()[number].entry()
+    }
+
+    /// The entry of `key`, which is looked for first at `near`. `near` becomes its number.
+    pub(crate) fn entry(
+        &self,
+        rules: &R,
+        key: &R::Key,
+        near: &mut usize,
+    ) -> Option<&Entry<R::Key, R::Value>>
+        ensures { option_copied result ≡ memo_at R.Key.cmp self.now key.now }
+    {
+        match self.find(rules, key, *near) {
+            Some(number) => {
+                *near = number;
+                self.entry_at(rules, key, number)
+            }
+            None => {
+                *near = NOWHERE;
+                None
+            }
+        }
+    }
+
+    /// Sets the verified revision and the durability of the memo of `_key`, if it has one. Its slot
+    /// is `number`.
+    fn mark(
+        &mut self,
+        _rules: &R,
+        _key: &R::Key,
+        number: usize,
+        revision: u64,
+        durability: Durability,
+    )
+        requires { key_at self.old number ≡ Some _key.now }
+        ensures marked { (q : R.Key) → memo_at R.Key.cmp self.new q
+            ≡ (if is_eq (R.Key.cmp _key.now q) then option_map (λ (m : Memo R.Key R.Value). remarked m revision durability) (memo_at R.Key.cmp self.old _key.now) else memo_at R.Key.cmp self.old q) }
+    {
+        mark_at(&mut self.slots, number, revision, durability);
+        self.last = number;
+    }
+
+    /// Sets the verified revision and the durability of the memo of `key`, if it has one.
+    pub(crate) fn remark(
+        &mut self,
+        rules: &R,
+        key: &R::Key,
+        near: usize,
+        revision: u64,
+        durability: Durability,
+    )
+        ensures marked { (q : R.Key) → memo_at R.Key.cmp self.new q
+            ≡ (if is_eq (R.Key.cmp key.now q) then option_map (λ (m : Memo R.Key R.Value). remarked m revision durability) (memo_at R.Key.cmp self.old key.now) else memo_at R.Key.cmp self.old q) }
+    {
+        if let Some(number) = self.find(rules, key, near) {
+            self.mark(rules, key, number, revision, durability);
+        }
+    }
+
+    /// Gives `_key`, whose slot is `number`, the memo `entry`.
+    fn set(&mut self, _rules: &R, _key: &R::Key, number: usize, entry: Entry<R::Key, R::Value>)
+        requires { key_at self.old number ≡ Some _key.now }
+        ensures put { IsPut R.Key.cmp (memo_at R.Key.cmp self.old) _key.now entry (memo_at R.Key.cmp self.new) }
+        ensures kept { (q : R.Key) → HasRoom R.Key.cmp self.old q → HasRoom R.Key.cmp self.new q }
+    {
+        set_at(&mut self.slots, number, entry);
+        self.last = number;
+    }
+
+    /// Makes a slot of `key`, which has none, with `entry`. If an allocation fails, both come back.
+    fn add(
+        &mut self,
+        rules: &R,
+        key: R::Key,
+        entry: Option<Entry<R::Key, R::Value>>,
+    ) -> Result<(), (R::Key, Option<Entry<R::Key, R::Value>>)>
+        requires { lookup (is_at (R.Key.cmp key)) self.old ≡ None }
+        ensures added { OnOk result ((q : R.Key) → lookup (is_at (R.Key.cmp q)) self.new ≡ (if is_eq (R.Key.cmp key q) then Some entry else lookup (is_at (R.Key.cmp q)) self.old)) }
+        ensures refused { OnErr result (self.new ≡ self.old) }
+        ensures returned { IfErr result (λ e. (e.0 ≡ key) × (e.1 ≡ entry)) }
+    {
+        let copy = match rules.copy_key(self.alloc, &key) {
+            Ok(copy) => copy,
+            Err(_) => return Err((key, entry)),
+        };
+        let number = self.slots.as_slice().len();
+        if self.slots.reserve(1).is_err() {
+            return Err((key, entry));
+        }
+        match put_place(rules, &mut self.index, copy, number) {
+            Ok(()) => {}
+            Err(_) => return Err((key, entry)),
+        }
+        self.slots.push_reserved(Slot { key, entry });
+        self.last = number;
+        Ok(())
+    }
+
+    /// Gives `key` the memo `entry`. If an allocation fails, both come back.
+    pub(crate) fn store(
+        &mut self,
+        rules: &R,
+        key: R::Key,
+        near: usize,
+        entry: Entry<R::Key, R::Value>,
+    ) -> Result<(), (R::Key, Entry<R::Key, R::Value>)>
+        ensures put { OnOk result (IsPut R.Key.cmp (memo_at R.Key.cmp self.old) key entry (memo_at R.Key.cmp self.new)) }
+        ensures refused { OnErr result (IsSameTable (memo_at R.Key.cmp self.old) (memo_at R.Key.cmp self.new)) }
+        ensures returned { IfErr result (λ e. (e.0 ≡ key) × (e.1 ≡ entry)) }
+    {
+        match self.find(rules, &key, near) {
+            Some(number) => {
+                self.set(rules, &key, number, entry);
+                Ok(())
+            }
+            None => match self.add(rules, key, Some(entry)) {
+                Ok(()) => Ok(()),
+                Err(back) => {
+                    let (key, entry) = back;
+                    match entry {
+                        Some(entry) => Err((key, entry)),
+                        None => unreachable!(),
+                    }
+                }
+            },
+        }
+    }
+
+    /// Gives `key`, which has a slot, the memo `entry`. It takes no memory.
+    pub(crate) fn put(
+        &mut self,
+        rules: &R,
+        key: &R::Key,
+        near: usize,
+        entry: Entry<R::Key, R::Value>,
+    )
+        requires room { HasRoom R.Key.cmp self.old key.now }
+        ensures put { IsPut R.Key.cmp (memo_at R.Key.cmp self.old) key.now entry (memo_at R.Key.cmp self.new) }
+        ensures kept { (q : R.Key) → HasRoom R.Key.cmp self.old q → HasRoom R.Key.cmp self.new q }
+    {
+        match self.find(rules, key, near) {
+            Some(number) => self.set(rules, key, number, entry),
+            None => unreachable!(),
+        }
+    }
+
+    /// Makes a slot of `key`, if it has none, and returns its number.
+    pub(crate) fn make_room(
+        &mut self,
+        alloc: Global,
+        rules: &R,
+        key: &R::Key,
+        near: usize,
+    ) -> Result<usize, Memory>
+        ensures same { IsSameTable (memo_at R.Key.cmp self.old) (memo_at R.Key.cmp self.new) }
+        ensures room { OnOk result (HasRoom R.Key.cmp self.new key.now) }
+        ensures kept { (q : R.Key) → HasRoom R.Key.cmp self.old q → HasRoom R.Key.cmp self.new q }
+    {
+        match self.find(rules, key, near) {
+            Some(number) => Ok(number),
+            None => {
+                let copy = rules.copy_key(alloc, key)?;
+                let number = self.slots.as_slice().len();
+                match self.add(rules, copy, None) {
+                    Ok(()) => Ok(number),
+                    Err(_) => Err(Memory),
+                }
+            }
+        }
+    }
+}
