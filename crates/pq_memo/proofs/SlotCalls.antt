@@ -1,14 +1,13 @@
 -- The calls of the slots of a table, over the list that contracts see.
-use Rattle.std.proofs.Common.{◌≡◌, ℕ, zero, suc, ◌+◌, ◌<◌, ◌≤◌, List, [], ◌∷◌, ◌++◌, length, get_or, slice_set, Option, Some, None, IsSome, refl, sym, ◌∙◌, ap, subst, inl, inr, arith, Bool, true, false, cond}
+use Rattle.std.proofs.Common.{◌≡◌, ℕ, zero, suc, ◌<◌, List, [], ◌∷◌, ◌++◌, length, get_or, slice_set, Option, Some, None, IsSome, refl, sym, ◌∙◌, ap, subst, inl, inr, arith, Bool, true, false, cond}
 use Rattle.std.specs.declared.cmp.Ordering.{Ordering}
 use Rattle.std.specs.Ordering.{is_eq}
-use Rattle.std.specs.Cmp.{Equal-is, tied_itself}
 use Rattle.std.specs.Option.{IfNone}
 use Rattle.std.specs.Map.{lookup}
 use Rattle.std.specs.BTreeMap.{is_at}
 use Rattle.pq_rules.proofs.Weight.{Exact}
 use Rattle.pq_memo.proofs.Makes.{either}
-use Rattle.pq_memo.proofs.Numbered.{found_value, not_found, has_slot, numbered_with, lookup_with, numbered_more, lookup_added, key_within, none_some, same_key, tied}
+use Rattle.pq_memo.proofs.Numbered.{found_value, not_found, has_slot, numbered_with, lookup_with, numbered_more, lookup_added, key_within, same_key, tied}
 use Rattle.pq_memo.specs.Sound.{Memo}
 use Rattle.pq_memo.specs.Table.{memo_at, joined, IsPut, IsSameTable}
 use Rattle.pq_memo.specs.aux.Stack.{place_in}

@@ -3,7 +3,7 @@
 //!
 //! `look` is the red-green algorithm (the Salsa book): a memo is valid where no input as durable as
 //! it changed, or where each of its reads is up to date and unchanged. `look` takes one search of
-//! the table where durability decides, and else one more a read; it takes no memory.
+//! the table, and where durability does not decide a comparison of keys a read; it takes no memory.
 //!
 //! A frame is a key that is being brought up to date. One `step` takes it as far as it goes without
 //! the answer of another key; `publish_round` publishes the ring of frames that wait for each
@@ -16,7 +16,8 @@
 //! `specs/Looks` (what `look` answers), `specs/Cause`, `specs/Table` and `specs/Writes` (what calls
 //! write), `specs/Frames` and `specs/Steps`, `specs/Demand` and `specs/EngineView` (what a demand
 //! answers and leaves). Modules: `entry` (what is kept of a key), `look`, `state` (private tests),
-//! `memos` (the table, reading), `writes` (marking and publishing), `ring` (publishing a ring),
+//! `slots` (keys by number), `memos` (the table, reading), `writes` (marking and publishing), `ring`
+//! (publishing a ring), `compared` (old answers and a ring),
 //! `member` and `unpublished` (what goes in, and what comes back), `frame` and `restored` (a step),
 //! `round` (frames in a round), `engine` and `demanded` (what a demand answers), `demand` (bringing
 //! a key up to date), `stack` (its frames), `laws`.

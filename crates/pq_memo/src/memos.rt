@@ -240,7 +240,7 @@ impl<R: Rules> Memos<R> {
     }
 
     /// The state of `key`. It takes no memory. It takes logarithmic time where durability decides,
-    /// and else as much again for each read up to the one that it names.
+    /// and else a comparison more for each read up to the one that it names.
     pub fn look<'a>(&'a self, key: &R::Key, inputs: &Inputs) -> Look<'a, R::Key>
         ensures { IsLook (R.machine self.now.rules) inputs.now.history inputs.now.revision (HasIn (memo_at R.Key.cmp self.now.places)) key.now result }
     {

@@ -1,7 +1,8 @@
 //! What writes one memo: marking it as verified, and publishing an answer.
 //!
-//! Marking costs a search for each read, where durability does not confirm the memo. Publishing
-//! costs a search for each read, and one comparison with the old answer.
+//! Marking costs a comparison of keys for each read, where durability does not confirm the memo.
+//! Publishing costs one comparison with the old answer, and for each read one with the key at its
+//! old number, or a search if it is another read than before. The numbers that it finds are kept.
 ghost use Rattle.std.specs.Prelude.{◌≡◌, ◌⊎◌, ◌<◌, ◌≤◌, List, IfOk, IfErr, OnOk, OnErr, if◌then◌else◌};
 ghost use Rattle.std.specs.Option.{option_map};
 ghost use Rattle.std.specs.Ordering.{is_eq};

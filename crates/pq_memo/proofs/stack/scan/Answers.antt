@@ -1,4 +1,3 @@
-use Rattle.std.proofs.Common.{add-one}
 use Rattle.pq_rules.proofs.ListLemmas.{not_both}
 use Rattle.pq_memo.proofs.Indexed.{passed_none, passed_next, passed_all}
 use Rattle.pq_memo.proofs.stack.scan.Goals as goal

@@ -1,4 +1,4 @@
-use Rattle.std.proofs.Common.{[], ◌<◌, ◌∷◌, ◌++◌, List, Option, refl, sym, ◌∙◌, ap, subst}
+use Rattle.std.proofs.Common.{[], ◌<◌, ◌∷◌, ◌++◌, List, Option, sym, ◌∙◌, ap, subst}
 use Rattle.pq_rules.specs.aux.Evaluator.{Distinct}
 use Rattle.pq_rules.proofs.ListLemmas.{not_both}
 use Rattle.pq_rules.proofs.Weight.{Exact}

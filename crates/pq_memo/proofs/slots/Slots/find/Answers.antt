@@ -1,6 +1,5 @@
-use Rattle.std.proofs.Common.{[], Option, Some, None, ◌≡◌, ℕ}
+use Rattle.std.proofs.Common.{[]}
 use Rattle.pq_rules.proofs.Weight.{Exact}
-use Rattle.std.specs.Option.{IfNone}
 use Rattle.pq_memo.proofs.SlotCalls.{none_here, if_none}
 use Rattle.pq_memo.proofs.slots.Slots.find.Goals as goal
 
