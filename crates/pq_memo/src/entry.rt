@@ -34,7 +34,8 @@ impl<K, V> Model for Entry<K, V> {
 }
 
 impl<K, V> Entry<K, V> {
-    /// Makes an entry. Its key is looked for first at `place` of a cycle, and its reads at `numbers`.
+    /// Makes an entry. Its key is looked for first at `place` of a cycle, and its reads at
+    /// `numbers`.
     pub(crate) fn new(
         answer: Shared<Answer<K, V>>,
         verified: u64,

@@ -3,8 +3,8 @@
 //! A frame walks over the recorded reads of its key's memo, or its key's rule waits for an answer.
 //! A step takes a frame and the table, and does what it can without the answer of another key. So
 //! frames can be laid aside between two steps and take turns. A walk goes on from its place: all
-//! its steps together cost two comparisons of keys for each read, which is looked for where its
-//! slot was when the memo was made. A rule that starts again looks for what it asks in the same way.
+//! its steps together cost two comparisons of keys for each read, which is looked for where it was
+//! when the memo was made. A rule that starts again looks for what it asks in the same way.
 ghost use Rattle.std.specs.Prelude.{◌≡◌, ◌≤◌, ◌<◌, ◌++◌, ◌∷◌, [], List, length, take, IfOk, IfErr, IfSome, IfNone, OnErr};
 ghost use Rattle.pq_rules.specs.Relations.{Each};
 ghost use Rattle.pq_memo.specs.Look.{IsUpToDate, IsStill};
@@ -301,7 +301,7 @@ impl<R: Rules> Memos<R> {
         ensures refused { OnErr result (IsSameTable (memo_at R.Key.cmp self.old.places) (memo_at R.Key.cmp self.new.places)) }
         ensures returned { IfErr result (λ f. (f.key ≡ frame.key) × IsSameStage f.stage frame.stage) }
     {
-        let mut near = Near::new(NOWHERE);
+        let mut near = Near::new(self.number(&frame.key, NOWHERE));
         self.step_near(alloc, frame, inputs, &mut near)
     }
 

@@ -2,9 +2,9 @@
 //!
 //! All that can fail comes first: the ring's answer, and for each key a place in the table and a
 //! copy of the pointer to that answer. The members are then moved into their places, which takes no
-//! memory. It takes a search at most for each key and each read, and none where their numbers are at
-//! hand, and one comparison of the ring with each old answer; neighbours whose old answer is one ring
-//! share a comparison.
+//! memory. It takes a search at most for each key and each read, and none where their numbers are
+//! at hand, and one comparison of the ring with each old answer; neighbours whose old answer is one
+//! ring share a comparison.
 ghost use Rattle.std.specs.Prelude.{◌≡◌, ◌<◌, ◌++◌, ◌∷◌, [], List, length, IfOk, IfErr, OnOk, OnErr};
 ghost use Rattle.pq_inputs.specs.declared.durability.Durability.{Durability};
 ghost use Rattle.pq_inputs.specs.Sources.{Table};

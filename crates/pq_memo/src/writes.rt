@@ -91,7 +91,8 @@ impl<R: Rules> Memos<R> {
         ensures kept { KeptOver R.Key.cmp (R.machine self.old.rules) inputs.now self.new.places }
         ensures marked { IsMarked R.Key.cmp (R.machine self.old.rules) inputs.now self.old.places key.now self.new.places }
     {
-        self.mark_near(key, NOWHERE, inputs);
+        let near = self.number(key, NOWHERE);
+        self.mark_near(key, near, inputs);
     }
 
     /// Marks the memo of `key`, which is looked for first at `near`: see `mark_verified`.
@@ -177,7 +178,8 @@ impl<R: Rules> Memos<R> {
         ensures refused { OnErr result (IsSameTable (memo_at R.Key.cmp self.old.places) (memo_at R.Key.cmp self.new.places)) }
         ensures returned { IfErr result (λ u. (u.key ≡ key) × (u.answer ≡ answer) × (u.reads.items ≡ reads.items)) }
     {
-        self.publish_near(key, NOWHERE, answer, reads, inputs)
+        let near = self.number(&key, NOWHERE);
+        self.publish_near(key, near, answer, reads, inputs)
     }
 
     /// The numbers of `reads`, which the rule of `key` made. They are looked for where the reads of
