@@ -25,9 +25,10 @@ first_is (r ∷ rs) n part =
     let b = nat_eq r.item n && is_part r.part part in
     ap (λ (t : TypeOf). cond b (type_to r.resolution) t) (first_is rs n part) ∙ either_first b r rs (first_at rs n part)
 
--- `KnownFrom refs part index firsts` is that `firsts` are the first indexes among the references
--- from `index` on
-pub record KnownFrom (refs : List ResolvedReference) (part : TypePart) (index : ℕ) (firsts : List ℕ) : Type 0 where
+-- `KnownFrom refs part count index firsts` is that `firsts` are the first indexes of the first
+-- `count` items among the references from `index` on
+pub record KnownFrom (refs : List ResolvedReference) (part : TypePart) (count index : ℕ) (firsts : List ℕ) : Type 0 where
+  pub len : length firsts ≡ count
   pub within : index ≤ length refs
   pub each : (n : ℕ) → n < length firsts → get_or firsts n 0 ≡ index + first_at (drop index refs) n part
 
@@ -40,9 +41,10 @@ first_more : (r : ResolvedReference) (rs : List ResolvedReference) (n : ℕ) (pa
 unfolding first_at
 first_more r rs n part = refl
 
-pub known_none : (refs : List ResolvedReference) (part : TypePart) (firsts : List ℕ)
-    → ((n : ℕ) → n < length firsts → get_or firsts n 0 ≡ length refs) → KnownFrom refs part (length refs) firsts
-known_none refs part firsts all = record {
+pub known_none : (refs : List ResolvedReference) (part : TypePart) (count : ℕ) (firsts : List ℕ)
+    → length firsts ≡ count → ((n : ℕ) → n < length firsts → get_or firsts n 0 ≡ length refs) → KnownFrom refs part count (length refs) firsts
+known_none refs part count firsts len all = record {
+  len = len;
   within = omega arith;
   each = λ n l.
       let none : first_at (drop (length refs) refs) n part ≡ 0 =
@@ -55,13 +57,14 @@ shift : (b : Bool) (i x : ℕ) → cond b i (i + 1 + x) ≡ i + cond b 0 (suc x)
 shift true i x = sym (add-zero i)
 shift false i x = omega arith
 
-pub known_more : (refs : List ResolvedReference) (part : TypePart) (index : ℕ) (old new : List ℕ) (r : ResolvedReference) → r ≡ get_or refs index r
+pub known_more : (refs : List ResolvedReference) (part : TypePart) (count index : ℕ) (old new : List ℕ) (r : ResolvedReference) → r ≡ get_or refs index r
     → length new ≡ length old
     → ((n : ℕ) → n < length old → get_or new n 0 ≡ cond (nat_eq r.item n && is_part r.part part) index (get_or old n 0))
-    → KnownFrom refs part (index + 1) old → KnownFrom refs part index new
-known_more refs part index old new r is len puts so_far =
+    → KnownFrom refs part count (index + 1) old → KnownFrom refs part count index new
+known_more refs part count index old new r is len puts so_far =
     let within = so_far.within in
     record {
+      len = len ∙ so_far.len;
       within = omega arith;
       each = λ n l.
           let b = nat_eq r.item n && is_part r.part part in
@@ -72,7 +75,7 @@ known_more refs part index old new r is len puts so_far =
           puts n inner ∙ ap (λ (x : ℕ). cond b index x) (so_far.each n inner) ∙ shift b index (first_at rest n part) ∙ ap (λ (x : ℕ). index + x) (sym here);
     }
 
-pub known_all : (refs : List ResolvedReference) (part : TypePart) (index : ℕ) (firsts : List ℕ) → index ≡ 0 → KnownFrom refs part index firsts → IsFirsts refs part firsts
-known_all refs part index firsts none so_far = record {
+pub known_all : (refs : List ResolvedReference) (part : TypePart) (count index : ℕ) (firsts : List ℕ) → index ≡ 0 → KnownFrom refs part count index firsts → IsFirsts refs part firsts
+known_all refs part count index firsts none so_far = record {
   each = λ n l. so_far.each n l ∙ ap (λ (i : ℕ). i + first_at (drop i refs) n part) none ∙ omega arith;
 }

@@ -39,7 +39,7 @@ use Rattle.pq_checks.specs.aux.Queries.{check_level, check_left, check_starts, c
 use Rattle.pq_checks.specs.declared.fault.Fault.{Fault}
 use Rattle.pq_checks.specs.declared.surroundings.Checked.{Checked}
 use Rattle.pq_checks.specs.declared.surroundings.Imported.{Imported}
-use Rattle.pq_proto.specs.Compile.{Compiles, IsDefinition, IsDescriptor, definition_by, descriptor_by, is_sent, offset_at, read_in, symbols_by}
+use Rattle.pq_proto.specs.Compile.{Compiles, IsDefinition, IsDescriptor, definition_by, descriptor_by, is_sent, offset_at, read_in, symbols_of}
 use Rattle.pq_proto.specs.Definition.{definition_at}
 use Rattle.pq_proto.specs.aux.CheckKinds.{AsksIn, CheckPartIn, check_starts_in, check_advances_in}
 use Rattle.pq_proto.specs.aux.Outputs.{output_level, diagnostics_read, parsed_read, resolved_read, descriptor_starts, descriptor_advances, descriptor_left, descriptor_falls, symbols_starts, symbols_advances, references_turn, target_turn, definition_advances, definition_left, definition_falls}
@@ -53,7 +53,7 @@ use Rattle.pq_proto.specs.declared.queries.descriptor.DescriptorPart.{Descriptor
 use Rattle.pq_proto.specs.declared.queries.descriptor.DescriptorPart.TheVariants as descriptors
 use Rattle.pq_proto.specs.declared.rules.ProtoPart.{ProtoPart}
 use Rattle.pq_proto.specs.declared.rules.ProtoPart.TheVariants.{Checking, Diagnosing, Describing, Listing, Locating}
-use Rattle.pq_proto.specs.declared.type_item.TypeItem.{TypeItem}
+use Rattle.pq_proto.specs.declared.definition.TypeItem.{TypeItem}
 use Rattle.pq_proto.specs.declared.value.Location.{Location}
 use Rattle.pq_proto.specs.declared.value.ProtoValue.{ProtoValue}
 use Rattle.pq_proto.specs.declared.value.ProtoValue.TheVariants as values
@@ -256,7 +256,7 @@ module _ (order : ProtoKey → ProtoKey → Ordering) (files : Sources)
         let p = parse_answer f in (
           _,
           makes_once i (λ x. keys.Symbols x) (λ (q : Unit {0}). Listing) (λ v. values.Symbols v) output_level symbols_starts (λ q a. symbols_advances a)
-              (symbols_embed order files order_is one_way t u) (λ x. keys.Parse x) (λ x. tt) (λ x a. symbols_by (parsed_read a)) (λ x. refl) (λ x a. refl) (λ x. omega arith) f p.0 p.1,
+              (symbols_embed order files order_is one_way t u) (λ x. keys.Parse x) (λ x. tt) (λ x a. symbols_of (parsed_read a)) (λ x. refl) (λ x a. refl) (λ x. omega arith) f p.0 p.1,
         )
 
     next_asks : (f : List ℕ) (d : Checked) (sent : Bool)

@@ -28,7 +28,7 @@ use Rattle.pq_schema.specs.declared.resolved.ResolvedReference.{ResolvedReferenc
 use Rattle.pq_checks.specs.ChecksSum.{ChecksSum, ChecksMeans}
 use Rattle.pq_checks.specs.Diagnostics.{AreDiagnostics}
 use Rattle.pq_checks.specs.declared.surroundings.Checked.{Checked}
-use Rattle.pq_proto.specs.Compile.{Compiles, IsDefinition, IsDescriptor, is_sent, location_of, offset_at, read_in, symbols_by}
+use Rattle.pq_proto.specs.Compile.{Compiles, IsDefinition, IsDescriptor, is_sent, location_of, offset_at, read_in, symbols_of}
 use Rattle.pq_proto.specs.Definition.{definition_at}
 use Rattle.pq_proto.specs.Descriptor.{descriptor}
 use Rattle.pq_proto.specs.aux.Outputs.{output_level, parsed_read, resolved_read, diagnostics_read, descriptor_starts, descriptor_next, descriptor_advances, symbols_starts, symbols_advances, definition_starts, references_turn, target_turn, definition_advances}
@@ -42,7 +42,7 @@ use Rattle.pq_proto.specs.declared.queries.descriptor.DescriptorPart.{Descriptor
 use Rattle.pq_proto.specs.declared.queries.descriptor.DescriptorPart.TheVariants as descriptors
 use Rattle.pq_proto.specs.declared.rules.ProtoPart.{ProtoPart}
 use Rattle.pq_proto.specs.declared.rules.ProtoPart.TheVariants.{Parsing, Importing, LinkingFiles, Defining, Scoping, Resolving, Checking, Diagnosing, Describing, Listing, Locating}
-use Rattle.pq_proto.specs.declared.type_item.TypeItem.{TypeItem}
+use Rattle.pq_proto.specs.declared.definition.TypeItem.{TypeItem}
 use Rattle.pq_proto.specs.declared.value.Location.{Location}
 use Rattle.pq_proto.specs.declared.value.ProtoValue.{ProtoValue}
 use Rattle.pq_proto.specs.declared.value.ProtoValue.TheVariants as values
@@ -175,11 +175,11 @@ module _ (order : ProtoKey → ProtoKey → Ordering) (files : Sources)
     pub symbols_embed : Embeds m (λ f. keys.Symbols f) (λ (q : Unit {0}). Listing) (λ v. values.Symbols v) output_level symbols_starts (λ q a. symbols_advances a)
     symbols_embed = record { level_is = λ x. refl; start_is = λ x. refl; advance_is = λ q a. refl }
 
-    symbols_are : (f : List ℕ) (a : A) → Means m (keys.Symbols f) a → a ≡ Value (values.Symbols (symbols_by (read_in files f)))
+    symbols_are : (f : List ℕ) (a : A) → Means m (keys.Symbols f) a → a ≡ Value (values.Symbols (symbols_of (read_in files f)))
     symbols_are f a h =
         let o = once m (λ x. keys.Symbols x) (λ (q : Unit {0}). Listing) (λ v. values.Symbols v) output_level symbols_starts (λ q b. symbols_advances b) symbols_embed
-        (λ x. keys.Parse x) (λ x. tt) (λ x b. symbols_by (parsed_read b)) (λ x. refl) (λ x b. refl) (λ x. omega arith) f a h in
-        o.2 ∙ ap (λ (p : ParsedFile). Value (values.Symbols (symbols_by p))) (parsed_is f o.0 o.1)
+        (λ x. keys.Parse x) (λ x. tt) (λ x b. symbols_of (parsed_read b)) (λ x. refl) (λ x b. refl) (λ x. omega arith) f a h in
+        o.2 ∙ ap (λ (p : ParsedFile). Value (values.Symbols (symbols_of p))) (parsed_is f o.0 o.1)
 
     -- ---- descriptors
 

@@ -22,7 +22,7 @@ use Rattle.pq_proto.specs.Types.{referred}
 use Rattle.pq_proto.specs.Descriptor.{descriptor, messages_in}
 use Rattle.pq_proto.specs.Symbols.{symbols, symbols_in}
 use Rattle.pq_proto.specs.Definition.{definition_at}
-use Rattle.pq_proto.specs.declared.type_item.TypeItem.{TypeItem}
+use Rattle.pq_proto.specs.declared.definition.TypeItem.{TypeItem}
 
 abbrev span : ℕ → ℕ → Span
 span start end = record { start = start; end = end }

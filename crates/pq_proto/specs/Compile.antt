@@ -34,7 +34,7 @@ use Rattle.pq_proto.specs.Symbols.{symbols}
 use Rattle.pq_proto.specs.declared.key.Place.{Place}
 use Rattle.pq_proto.specs.declared.key.ProtoKey.{ProtoKey}
 use Rattle.pq_proto.specs.declared.key.ProtoKey.TheVariants as keys
-use Rattle.pq_proto.specs.declared.type_item.TypeItem.{TypeItem}
+use Rattle.pq_proto.specs.declared.definition.TypeItem.{TypeItem}
 use Rattle.pq_proto.specs.declared.value.Location.{Location}
 use Rattle.pq_proto.specs.declared.value.ProtoValue.{ProtoValue}
 use Rattle.pq_proto.specs.declared.value.ProtoValue.TheVariants as values
@@ -87,9 +87,9 @@ IsDescriptor files f t =
 
 -- ---- symbols
 
--- `symbols_by file` is the list of the symbols of a file that is read as `file`, as a text
-abbrev pub symbols_by : ParsedFile → List ℕ
-symbols_by file = compact_text (symbols (position_in file) (nodes_of file))
+-- `symbols_of file` is the list of the symbols of a file that is read as `file`, as a text
+abbrev pub symbols_of : ParsedFile → List ℕ
+symbols_of file = compact_text (symbols (position_in file) (nodes_of file))
 
 -- ---- definitions
 
@@ -140,5 +140,5 @@ Compiles files (keys.Resolved f) a = (rs : List ResolvedReference) × (a ≡ Val
 Compiles files (keys.Checks f) a = (c : Checked) × (a ≡ Value (values.Checks c)) × IsChecked files f c
 Compiles files (keys.Diagnostics f) a = (d : Checked) × (a ≡ Value (values.Diagnostics d)) × AreDiagnostics files f d
 Compiles files (keys.Descriptor f) a = (t : List ℕ) × (a ≡ Value (values.Descriptor t)) × IsDescriptor files f t
-Compiles files (keys.Symbols f) a = a ≡ Value (values.Symbols (symbols_by (read_in files f)))
+Compiles files (keys.Symbols f) a = a ≡ Value (values.Symbols (symbols_of (read_in files f)))
 Compiles files (keys.Definition f place) a = (d : Option Location) × (a ≡ Value (values.Definition d)) × IsDefinition files f place d

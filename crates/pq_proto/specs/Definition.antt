@@ -9,7 +9,7 @@ use Rattle.pq_schema.specs.declared.references.TypePart.TheVariants as parts
 use Rattle.pq_schema.specs.declared.resolution.Resolution.{Resolution}
 use Rattle.pq_schema.specs.declared.resolution.Resolution.TheVariants as resolutions
 use Rattle.pq_schema.specs.declared.resolved.ResolvedReference.{ResolvedReference}
-use Rattle.pq_proto.specs.declared.type_item.TypeItem.{TypeItem}
+use Rattle.pq_proto.specs.declared.definition.TypeItem.{TypeItem}
 
 -- `part_span statement part` is the span of the type that is the part `part` of `statement`
 abbrev pub part_span : Statement → TypePart → Option Span

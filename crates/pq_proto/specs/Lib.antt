@@ -5,6 +5,7 @@ pub mod Settings
 pub mod Reserved
 pub mod Types
 pub mod Descriptor
+pub mod Ranges
 pub mod Symbols
 pub mod Definition
 pub mod aux

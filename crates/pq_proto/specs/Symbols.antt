@@ -9,17 +9,11 @@ use Rattle.pq_syntax.specs.declared.tree.Statement.{Statement}
 use Rattle.pq_syntax.specs.declared.tree.Statement.TheVariants.{Message, Field, MapField, Oneof, Enum, Value, Service, Method}
 use Rattle.pq_proto.specs.Bodies.{Body, Empty, Holds, body_of}
 use Rattle.pq_proto.specs.Lists.{list_data}
+use Rattle.pq_proto.specs.Ranges.{range_data}
 
--- `position_data p` is the position `p` (LSP 3.17, "Position")
-abbrev pub position_data : Position → Data
-position_data p =
-    object (member (codes "character") (number (unsigned p.character)) (member (codes "line") (number (unsigned p.line)) no_members))
-
--- `range_data place s` is the span `s` as a range (LSP 3.17, "Range"), where `place` gives the
--- position of an offset
-abbrev pub range_data : (ℕ → Position) → Span → Data
-range_data place s =
-    object (member (codes "end") (position_data (place s.end)) (member (codes "start") (position_data (place s.start)) no_members))
+-- `span_data place s` is the span `s` as a range, where `place` gives the position of an offset
+abbrev pub span_data : (ℕ → Position) → Span → Data
+span_data place s = range_data (place s.start) (place s.end)
 
 -- `symbol_data place kind name whole children` is the symbol of the kind `kind` and the name `name`
 -- that the span `whole` declares, with the symbols `children` in it
@@ -28,8 +22,8 @@ symbol_data place kind name whole children =
     object (member (codes "children") (list_data children)
     (member (codes "kind") (number (unsigned kind))
     (member (codes "name") (string name.text)
-    (member (codes "range") (range_data place whole)
-    (member (codes "selectionRange") (range_data place name.span) no_members)))))
+    (member (codes "range") (span_data place whole)
+    (member (codes "selectionRange") (span_data place name.span) no_members)))))
 
 -- `symbols_by place whole children statement` lists the symbols that `statement` with the span
 -- `whole` adds, where `children` lists those in its body. A oneof is no symbol: its members are

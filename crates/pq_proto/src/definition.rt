@@ -4,11 +4,20 @@ ghost use Rattle.std.specs.Option.{option_copied};
 ghost use Rattle.pq_proto.specs.Definition.{definition_at, holds, part_span, span_of, type_item};
 
 use crate::Memory;
-use crate::type_item::TypeItem;
 use pq_lex::Span;
+use pq_names::Text;
 use pq_schema::{Resolution, ResolvedReference, TypePart};
 use pq_syntax::{Node, Statement};
 use std::alloc::Global;
+
+/// An item of a file that defines a type.
+#[derive(Drop, PartialEq, Eq)]
+pub struct TypeItem {
+    /// The file.
+    pub file: Text,
+    /// The number of the item: the statements of a file count from 0, in text order.
+    pub item: usize,
+}
 
 /// The span of the type that is the part `part` of `statement`.
 fn part_span(statement: &Statement, part: TypePart) -> Option<Span>

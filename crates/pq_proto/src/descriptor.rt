@@ -1,4 +1,7 @@
 //! The descriptor of a file, printed in one go.
+//!
+//! `messages` with their `fields`, `enums` and `services` are its parts, and `settings`, `reserved`,
+//! `types` and `names` what these share. `references` looks up what a type refers to.
 ghost use Rattle.std.specs.Prelude.{◌≡◌, [], ◌∷◌, ◌++◌, cond, IfOk, OnOk};
 ghost use Rattle.std.specs.Str.{is_utf8};
 ghost use Rattle.serde_json.specs.Written.{compact_text};
@@ -6,17 +9,27 @@ ghost use Rattle.pq_proto.specs.Descriptor.{descriptor, file_data, import_by, im
 ghost use Rattle.pq_proto.specs.aux.Printed.{tokens_of, values_of};
 ghost use Rattle.pq_proto.specs.aux.Rests.{left};
 
+mod enums;
+mod fields;
+mod messages;
+mod names;
+mod references;
+mod reserved;
+mod services;
+mod settings;
+mod types;
+
 use crate::Memory;
 use crate::bodies::{Body, Held, sizes_of};
-use crate::enums::print_enums;
-use crate::lists::{Part, print_list};
-use crate::messages::print_messages;
-use crate::names::package_of;
-use crate::printer::Printer;
-use crate::references::References;
-use crate::reserved::as_text;
-use crate::services::print_services;
-use crate::settings::print_options_in;
+use crate::descriptor::enums::print_enums;
+use crate::descriptor::messages::print_messages;
+use crate::descriptor::names::package_of;
+use crate::descriptor::references::References;
+use crate::descriptor::reserved::as_text;
+use crate::descriptor::services::print_services;
+use crate::descriptor::settings::print_options_in;
+use crate::printing::lists::{Part, print_list};
+use crate::printing::printer::Printer;
 use pq_names::Text;
 use pq_schema::ResolvedReference;
 use pq_syntax::{ImportKind, Node, Statement};

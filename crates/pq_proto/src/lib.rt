@@ -7,50 +7,33 @@
 //! compact text of the data. A walk over a body passes over what lies deeper in one step, and a
 //! reference is looked up in constant time: both take time linear in the file and the text.
 //!
-//! Modules: `bodies` (walks), `references` (the look-up of types), `printer` (tokens), `lists`
-//! (what is printed of each statement of a body); `settings` (options), `reserved`, `names` (full names),
-//! `types`, `fields`, `enums`, `messages`, `services`, `descriptor`; `symbols`; `definition` over
-//! `type_item`; `key`, `value`, `queries` (those of descriptors, symbols and
-//! definitions); `rules` (the rule set of all queries) over `embedded` and `reads`, `compilation`;
-//! `laws`, `rule_laws`.
+//! `descriptor`, `symbols` and `definition` are functions of a tree and its resolved references. They
+//! walk its `bodies`, print by `printing`, and read `files`. `key` and `value` are those of all
+//! queries, `queries` has the queries of descriptors, symbols and definitions, and `rules` the rule
+//! set of all queries with its laws.
 #![tactic(auto)]
 
 mod bodies;
-mod compilation;
 mod definition;
 mod descriptor;
-mod embedded;
-mod enums;
-mod fields;
+mod files;
 mod key;
-mod laws;
-mod lists;
-mod messages;
-mod names;
-mod printer;
+mod printing;
 mod queries;
-mod reads;
-mod references;
-mod reserved;
-mod rule_laws;
 mod rules;
-mod services;
-mod settings;
 mod symbols;
-mod type_item;
-mod types;
 mod value;
 
-pub use compilation::compile;
-pub use definition::definition_at;
+pub use definition::{TypeItem, definition_at};
 pub use descriptor::descriptor_text;
+pub use files::position_in;
 pub use key::{Place, ProtoKey};
-pub use laws::equal_keys;
-pub use printer::Printer;
+pub use printing::printer::Printer;
+pub use printing::ranges::print_range;
 pub use queries::{DefinitionPart, DefinitionQuery, DescriptorPart, DescriptorQuery, SymbolsQuery};
-pub use rule_laws::{one_compilation, proto_values};
+pub use rules::compilation::compile;
+pub use rules::laws::{equal_keys, one_compilation, proto_values};
 pub use rules::{ProtoPart, ProtoRules};
 pub use std::alloc::AllocError as Memory;
-pub use symbols::{Positions, symbols_text};
-pub use type_item::TypeItem;
+pub use symbols::symbols_text;
 pub use value::{Location, ProtoValue};

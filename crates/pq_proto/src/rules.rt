@@ -1,13 +1,22 @@
 //! The rule set of proto3 files: the queries of links, of schemas, of checks and of this crate, put
 //! together.
+//!
+//! `embedded` says once how a query's turns are turns of the rule set, and `reads` how the queries
+//! below make their keys and read their answers. `compilation` compiles one key from scratch, and
+//! `laws` has what the rule set means.
 ghost use Rattle.std.specs.Prelude.{◌≡◌, IfOk, IfErr, option_copied};
 
+pub(crate) mod compilation;
+mod embedded;
+pub(crate) mod laws;
+mod reads;
+
 use crate::Memory;
-use crate::embedded::{advance_of, start_of};
 use crate::key::ProtoKey;
 use crate::queries::{
     DefinitionPart, DefinitionQuery, DescriptorPart, DescriptorQuery, SymbolsQuery,
 };
+use crate::rules::embedded::{advance_of, start_of};
 use crate::value::{Location, ProtoValue};
 use pq_checks::{CheckPart, ChecksQuery, DiagnosticsQuery};
 use pq_links::{ImportsQuery, LinkedQuery, Linking, ParseQuery};

@@ -1,61 +1,19 @@
--- Parts that are printed one after the other, and results that were printed before.
-use Rattle.std.proofs.Common.{◌≡◌, ℕ, zero, suc, ◌+◌, ◌/◌, ◌%◌, ◌<◌, ◌≤◌, ◌==◌, Bool, true, false, length, get_or, drop, map, List, [], ◌∷◌, ◌++◌, refl, sym, ap, ◌∙◌, subst, arith, append-nil, append_assoc}
-use Rattle.std.specs.Prelude.{codes, decimal, flat_map, if◌then◌else◌}
-use Rattle.std.specs.Fmt.{digits, digits_onto, digit_glyph}
+-- Responses that are printed token by token, and results that were printed before.
+use Rattle.std.proofs.Common.{◌≡◌, ℕ, zero, suc, ◌+◌, ◌/◌, ◌%◌, ◌<◌, ◌≤◌, ◌==◌, ℤ, pos, negsuc, Bool, true, false, List, [], ◌∷◌, ◌++◌, refl, sym, ap, ◌∙◌, subst, arith, append_assoc}
+use Rattle.std.specs.Prelude.{codes, decimal, if◌then◌else◌}
+use Rattle.std.specs.Fmt.{digits, digits_onto, digit_glyph, signed_decimal}
 use Rattle.std.proofs.lemmas.Bool.Decides.{nat_tests}
-use Rattle.std.proofs.lemmas.List.{at_drop_all, at_drop_more}
-use Rattle.json.specs.Print.{escape, escape_byte, print}
-use Rattle.json.specs.Token.{Token, end_array}
-use Rattle.json.specs.Tree.{items_tokens}
-use Rattle.serde_json.specs.Data.{Data, string, object, member, no_members}
-use Rattle.serde_json.specs.View.{items_of}
-use Rattle.serde_json.specs.Written.{compact_text, items_outline}
+use Rattle.json.specs.Print.{escape, escape_byte, print, print_from}
+use Rattle.json.specs.Token.{Token}
+use Rattle.serde_json.specs.Data.{Data, string, number, object, member, no_members}
+use Rattle.serde_json.specs.Find.{of_integer}
+use Rattle.serde_json.specs.Written.{compact_text}
 use Rattle.serde_json.proofs.Texts.{print-outline}
-use Rattle.pq_frame.specs.Labels.{LabelModel, label_data}
-use Rattle.pq_proto.specs.aux.Printed.{tokens_of, values_of}
+use Rattle.pq_frame.specs.Labels.{LabelModel, no_label, integer_label, text_label, label_data}
+use Rattle.pq_proto.specs.aux.Printed.{tokens_of}
+use Rattle.pq_proto.proofs.ListSteps.{link}
 use Rattle.pq_session.specs.Reply.{reply_data, result_start, result_text, descriptor_data, descriptor_text}
-
--- ---- a chain of parts
-
-pub link : {T : Type 0} (old mid new more rest : List T) → mid ≡ old ++ more → new ≡ mid ++ rest → new ≡ old ++ (more ++ rest)
-link {T} old mid new more rest first later = later ∙ ap (λ (ts : List T). ts ++ rest) first ∙ append_assoc old more rest
-
--- ---- a list
-
--- `PrintedTo f old out xs i` is that `out` is `old` with what `f` makes of the first `i` of `xs`,
--- said by what is left
-pub record PrintedTo {X T : Type 0} (f : X → List T) (old out : List T) (xs : List X) (i : ℕ) : Type 0 where
-  pub is : out ++ flat_map f (drop i xs) ≡ old ++ flat_map f xs
-
-pub printed_none : {X T : Type 0} (f : X → List T) (old : List T) (xs : List X) → PrintedTo f old old xs 0
-printed_none f old xs = record { is = refl }
-
-pub printed_more : {X T : Type 0} (f : X → List T) (old out more : List T) (xs : List X) (i : ℕ) (x : X)
-    → i < length xs → x ≡ get_or xs i x → more ≡ out ++ f x → PrintedTo f old out xs i → PrintedTo f old more xs (i + 1)
-printed_more {X} {T} f old out more xs i x within is adds so_far =
-    let rest = flat_map f (drop (i + 1) xs) in
-    let left : flat_map f (drop i xs) ≡ f x ++ rest = at_drop_more (λ ys. flat_map f ys) xs i x within ∙ ap (λ (y : X). f y ++ rest) (sym is) in
-    record {
-      is = ap (λ (ts : List T). ts ++ rest) adds ∙ append_assoc out (f x) rest ∙ ap (λ (ts : List T). out ++ ts) (sym left) ∙ so_far.is;
-    }
-
-pub printed_all : {X T : Type 0} (f : X → List T) (old out : List T) (xs : List X) (i : ℕ)
-    → length xs ≤ i → PrintedTo f old out xs i → out ≡ old ++ flat_map f xs
-printed_all {X} {T} f old out xs i past so_far =
-    sym (append-nil out) ∙ ap (λ (ts : List T). out ++ ts) (sym (at_drop_all (λ ys. flat_map f ys) xs i past)) ∙ so_far.is
-
--- the tokens of a value for each item
-pub values_map : {X : Type 0} (f : X → Data) (xs : List X) → values_of (map f xs) ≡ flat_map (λ x. tokens_of (f x)) xs
-values_map f [] = refl
-values_map f (x ∷ xs) = ap (λ ts. tokens_of (f x) ++ ts) (values_map f xs)
-
--- the tokens of a list of values, and what comes after them
-pub list_then : (ds : List Data) (rest : List Token) → values_of ds ++ (end_array ∷ rest) ≡ items_tokens (items_outline (items_of ds)) ++ rest
-list_then [] rest = refl
-list_then (d ∷ ds) rest =
-    append_assoc (tokens_of d) (values_of ds) (end_array ∷ rest)
-    ∙ ap (λ ts. tokens_of d ++ ts) (list_then ds rest)
-    ∙ sym (append_assoc (tokens_of d) (items_tokens (items_outline (items_of ds))) rest)
+use Rattle.pq_session.specs.aux.Starts.{start_tokens}
 
 -- ---- texts that are printed as they are
 
@@ -92,12 +50,30 @@ pub result_spliced : (label : LabelModel) (d : Data) → result_text label (comp
 unfolding result_text escape_byte
 result_spliced label d = simp append_assoc
 
--- a result that is printed token by token
-pub printed_result : (label : LabelModel) (d : Data) (text : List ℕ) (empty out : List Token)
-    → empty ≡ [] → out ≡ empty ++ tokens_of d → text ≡ print out → result_text label text ≡ compact_text (reply_data (label_data label) d)
-printed_result label d text empty out none adds is =
-    let printed : text ≡ compact_text d = is ∙ ap print (adds ∙ ap (λ (ts : List Token). ts ++ tokens_of d) none) ∙ print-outline d in
-    ap (result_text label) printed ∙ result_spliced label d
+-- ---- a response that is printed token by token
+
+pub integer_tokens : (z : ℤ) → tokens_of (number (of_integer z)) ≡ Token.number (signed_decimal z) ∷ []
+integer_tokens (pos n) = refl
+integer_tokens (negsuc n) = refl
+
+pub start_text : (label : LabelModel) → print (start_tokens label) ≡ result_start label
+unfolding print_from escape_byte
+start_text no_label = refl
+start_text (integer_label (pos n)) = refl
+start_text (integer_label (negsuc n)) = refl
+start_text (text_label text) = simp append_assoc
+
+pub printed_reply : (label : LabelModel) (d : Data) (empty start done out : List Token)
+    → empty ≡ [] → start ≡ empty ++ start_tokens label → done ≡ start ++ tokens_of d → out ≡ done ++ Token.end_object ∷ []
+    → print out ≡ compact_text (reply_data (label_data label) d)
+printed_reply label d empty start done out none starts adds ends =
+    let rest : List Token = tokens_of d ++ Token.end_object ∷ [] in
+    let first : start ≡ start_tokens label = starts ∙ ap (λ (ts : List Token). ts ++ start_tokens label) none in
+    let all : out ≡ start_tokens label ++ rest = link start done out (tokens_of d) (Token.end_object ∷ []) adds ends ∙ ap (λ (ts : List Token). ts ++ rest) first in
+    let more : List Token = Token.key (codes "jsonrpc") ∷ Token.string (codes "2.0") ∷ Token.key (codes "result") ∷ [] in
+    let whole : out ≡ tokens_of (reply_data (label_data label) d) =
+    all ∙ ap (λ (ts : List Token). Token.begin_object ∷ Token.key (codes "id") ∷ ts) (append_assoc (tokens_of (label_data label)) more rest) in
+    ap print whole ∙ print-outline (reply_data (label_data label) d)
 
 -- the text of a revision is printed without escapes
 revision_spliced : (label : LabelModel) (d : Data) (text : List ℕ)

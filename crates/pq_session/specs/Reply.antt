@@ -12,7 +12,7 @@ use Rattle.pq_checks.specs.declared.fault.Fault.{Fault}
 use Rattle.pq_checks.specs.declared.surroundings.Checked.{Checked}
 use Rattle.pq_proto.specs.Compile.{position_in}
 use Rattle.pq_proto.specs.Lists.{list_data}
-use Rattle.pq_proto.specs.Symbols.{position_data}
+use Rattle.pq_proto.specs.Ranges.{range_data}
 use Rattle.pq_proto.specs.declared.key.Place.{Place}
 use Rattle.pq_proto.specs.declared.value.Location.{Location}
 use Rattle.pq_session.specs.declared.protocol.refusals.Refusal.{Refusal}
@@ -103,10 +103,6 @@ unfoldable pub null_text : LabelModel → List ℕ
 null_text label = compact_text (reply_data (label_data label) null)
 
 -- ---- diagnostics
-
--- `range_data start end` is the range from `start` to `end` (LSP 3.17, "Range").
-abbrev pub range_data : Position → Position → Data
-range_data start end = object (member (codes "end") (position_data end) (member (codes "start") (position_data start) no_members))
 
 -- `diagnostic_data file f` is the error `f` of a file that is read as `file` (LSP 3.17,
 -- "Diagnostic").

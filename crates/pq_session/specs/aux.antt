@@ -4,3 +4,4 @@ pub mod ItemOf
 pub mod ServerState
 pub mod Answered
 pub mod Steps
+pub mod Starts

@@ -15,7 +15,7 @@ use Rattle.pq_schema.specs.Missing.{nodes_of}
 use Rattle.pq_schema.specs.declared.resolved.ResolvedReference.{ResolvedReference}
 use Rattle.pq_checks.specs.Surroundings.{no_checked}
 use Rattle.pq_checks.specs.declared.surroundings.Checked.{Checked}
-use Rattle.pq_proto.specs.Compile.{is_sent, symbols_by, offset_at, location_of}
+use Rattle.pq_proto.specs.Compile.{is_sent, symbols_of, offset_at, location_of}
 use Rattle.pq_proto.specs.Definition.{definition_at}
 use Rattle.pq_proto.specs.Descriptor.{descriptor}
 use Rattle.pq_proto.specs.declared.key.Place.{Place}
@@ -25,7 +25,7 @@ use Rattle.pq_proto.specs.declared.queries.definition.DefinitionPart.{Definition
 use Rattle.pq_proto.specs.declared.queries.definition.DefinitionPart.TheVariants as definitions
 use Rattle.pq_proto.specs.declared.queries.descriptor.DescriptorPart.{DescriptorPart}
 use Rattle.pq_proto.specs.declared.queries.descriptor.DescriptorPart.TheVariants as descriptors
-use Rattle.pq_proto.specs.declared.type_item.TypeItem.{TypeItem}
+use Rattle.pq_proto.specs.declared.definition.TypeItem.{TypeItem}
 use Rattle.pq_proto.specs.declared.value.Location.{Location}
 use Rattle.pq_proto.specs.declared.value.ProtoValue.{ProtoValue}
 use Rattle.pq_proto.specs.declared.value.ProtoValue.TheVariants as values
@@ -81,7 +81,7 @@ symbols_starts f = Ask (keys.Parse f) tt
 
 -- `symbols_advances a` is the turn after the answer `a`: it is done with the symbols
 abbrev pub symbols_advances : Answer ProtoKey ProtoValue → Turn ProtoKey (Unit {0}) (List ℕ)
-symbols_advances a = Done (symbols_by (parsed_read a))
+symbols_advances a = Done (symbols_of (parsed_read a))
 
 -- ---- definitions
 

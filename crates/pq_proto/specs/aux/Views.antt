@@ -6,8 +6,8 @@ use Rattle.pq_syntax.specs.declared.tree.Statement.TheVariants.{Message, Field, 
 use Rattle.pq_proto.specs.Reserved.{integer}
 use Rattle.pq_proto.specs.Types.{TypeOf}
 use Rattle.pq_proto.specs.Descriptor.{FieldOf}
-use Rattle.pq_proto.specs.declared.types.TypeName.{TypeName}
-use Rattle.pq_proto.specs.declared.fields.FieldParts.{FieldParts}
+use Rattle.pq_proto.specs.declared.descriptor.types.TypeName.{TypeName}
+use Rattle.pq_proto.specs.declared.descriptor.fields.FieldParts.{FieldParts}
 
 -- `type_of t` is the type `t`
 abbrev pub type_of : TypeName → TypeOf

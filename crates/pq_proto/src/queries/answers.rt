@@ -2,7 +2,6 @@
 //! file.
 ghost use Rattle.std.specs.Prelude.{◌≡◌, [], option_copied, unwrap_or};
 ghost use Rattle.pq_links.specs.declared.files.ParsedFile.TheVariants.{Absent};
-ghost use Rattle.pq_schema.specs.Missing.{nodes_of};
 ghost use Rattle.pq_checks.specs.Surroundings.{no_checked};
 ghost use Rattle.pq_proto.specs.aux.Outputs.{diagnostics_read, parsed_read, resolved_read};
 
@@ -12,7 +11,7 @@ use pq_checks::Checked;
 use pq_links::ParsedFile;
 use pq_rules::{Answer, Shared};
 use pq_schema::ResolvedReference;
-use pq_syntax::{Items, Node, Parsed};
+use pq_syntax::Items;
 
 /// What `answer` says that a file is read as.
 pub(crate) fn parsed_in<'a>(
@@ -57,19 +56,5 @@ pub(crate) fn references_in<'a>(answer: &'a Answer<ProtoKey, ProtoValue>) -> &'a
     match resolved_in(answer) {
         Some(references) => references.get().as_slice(),
         None => &[],
-    }
-}
-
-/// The statements of a file that is read as `file`: an absent file has none, and neither has one
-/// with a syntax error.
-pub(crate) fn statements(file: &ParsedFile) -> &[Node]
-    ensures nodes { result.now ≡ nodes_of file.now }
-{
-    match file {
-        ParsedFile::Present {
-            parsed: Parsed::Tree(nodes),
-            ..
-        } => nodes.as_slice(),
-        _ => &[],
     }
 }

@@ -2,16 +2,15 @@
 ghost use Rattle.std.specs.Prelude.{◌≡◌, IfOk, option_and_then, slice_get};
 ghost use Rattle.pq_schema.specs.Missing.{nodes_of};
 ghost use Rattle.pq_syntax.specs.declared.tree.Node.{Node as NodeContents};
-ghost use Rattle.pq_proto.specs.Compile.{location_of, offset_at, place_at, type_name};
+ghost use Rattle.pq_proto.specs.Compile.{location_of, offset_at, type_name};
 ghost use Rattle.pq_proto.specs.Definition.{definition_at};
 ghost use Rattle.pq_proto.specs.aux.Outputs.{definition_advances, definition_falls, definition_left, definition_starts, output_level, parsed_read, references_turn, resolved_read, target_turn};
 
 use crate::Memory;
-use crate::definition::definition_at;
+use crate::definition::{TypeItem, definition_at};
+use crate::files::{offset_at, place_at, statements};
 use crate::key::{Place, ProtoKey};
-use crate::queries::answers::{parsed_in, references_in, statements};
-use crate::symbols::Positions;
-use crate::type_item::TypeItem;
+use crate::queries::answers::{parsed_in, references_in};
 use crate::value::{Location, ProtoValue};
 use pq_lex::Span;
 use pq_links::ParsedFile;
@@ -38,23 +37,6 @@ pub enum DefinitionPart {
 /// is there, and where that resolves to no type.
 #[derive(Drop)]
 pub struct DefinitionQuery;
-
-/// The offset at `place` in a file that is read as `file`.
-fn offset_at(file: &ParsedFile, place: Place) -> Option<usize>
-    ensures offset { result ≡ offset_at file.now place }
-{
-    match file {
-        ParsedFile::Absent => None,
-        ParsedFile::Present { lines, .. } => lines.offset(place.position()),
-    }
-}
-
-/// The position of `offset` as a place, in a file that is read as `file`.
-fn place_at(file: &ParsedFile, offset: usize) -> Place
-    ensures place { result ≡ place_at file.now offset }
-{
-    Place::of(file.position_of(offset))
-}
 
 /// The span of the name of the type that `statement` defines.
 fn type_name(statement: &Statement) -> Option<Span>

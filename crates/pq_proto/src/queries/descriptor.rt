@@ -1,21 +1,19 @@
 //! The query of a file's descriptor.
 ghost use Rattle.std.specs.Prelude.{◌≡◌, IfOk};
 ghost use Rattle.std.specs.List.{list_any};
-ghost use Rattle.serde_json.specs.Written.{compact_text};
 ghost use Rattle.pq_rules.specs.declared.turn.Turn.TheVariants.{Ask};
-ghost use Rattle.pq_schema.specs.Missing.{nodes_of};
 ghost use Rattle.pq_checks.specs.Codes.{severity};
 ghost use Rattle.pq_checks.specs.declared.fault.Fault.{Fault as FaultContents};
-ghost use Rattle.pq_proto.specs.Compile.{is_present, is_sent, is_severe};
-ghost use Rattle.pq_proto.specs.Descriptor.{descriptor};
-ghost use Rattle.pq_proto.specs.aux.Outputs.{descriptor_advances, descriptor_falls, descriptor_left, descriptor_next, descriptor_starts, diagnostics_read, output_level, resolved_read};
+ghost use Rattle.pq_proto.specs.Compile.{is_sent, is_severe};
+ghost use Rattle.pq_proto.specs.aux.Outputs.{descriptor_advances, descriptor_falls, descriptor_left, descriptor_next, descriptor_starts, diagnostics_read, output_level};
 ghost use Rattle.pq_proto.specs.declared.key.ProtoKey.TheVariants.{Resolved};
 ghost use Rattle.pq_proto.specs.declared.queries.descriptor.DescriptorPart.TheVariants.{ReadResolved};
 
 use crate::Memory;
 use crate::descriptor::descriptor_text;
+use crate::files::statements;
 use crate::key::ProtoKey;
-use crate::queries::answers::{diagnostics_in, references_in, statements};
+use crate::queries::answers::{diagnostics_in, references_in};
 use crate::value::ProtoValue;
 use pq_checks::{Checked, Code, Fault, Severity};
 use pq_links::ParsedFile;
@@ -48,16 +46,6 @@ fn is_severe(code: Code) -> bool
     }
 }
 
-/// Whether a file that is read as `file` has a text.
-fn is_present(file: &ParsedFile) -> bool
-    ensures present { result ≡ is_present file.now }
-{
-    match file {
-        ParsedFile::Absent => false,
-        ParsedFile::Present { .. } => true,
-    }
-}
-
 /// Whether one of `faults` is an error.
 fn has_error(faults: &[Fault]) -> bool
     ensures some { result ≡ list_any (λ (f : FaultContents). is_severe (severity f.code)) faults.now }
@@ -69,7 +57,8 @@ fn has_error(faults: &[Fault]) -> bool
 fn is_sent(checked: &Checked) -> bool
     ensures sent { result ≡ is_sent checked.now }
 {
-    is_present(checked.file.get()) && !has_error(checked.faults.as_slice())
+    matches!(checked.file.get(), ParsedFile::Present { .. })
+        && !has_error(checked.faults.as_slice())
 }
 
 /// The turn after the diagnostics `checked` of the file `file`, which has a descriptor.
@@ -99,23 +88,6 @@ fn after_diagnostics(
         }
     }
     Ok(Turn::Done(Text::new(alloc, "null")?))
-}
-
-/// The descriptor of the file `file`, which is read as `parsed`, by its resolved references.
-fn after_references(
-    alloc: Global,
-    file: &Text,
-    parsed: &ParsedFile,
-    answer: &Answer<ProtoKey, ProtoValue>,
-) -> Result<Text, Memory>
-    ensures text { IfOk result (λ t. t ≡ compact_text (descriptor (resolved_read answer.now) file.now (nodes_of parsed.now))) }
-{
-    descriptor_text(
-        alloc,
-        file.as_str(),
-        statements(parsed),
-        references_in(answer),
-    )
 }
 
 impl Query for DescriptorQuery {
@@ -166,7 +138,12 @@ impl Query for DescriptorQuery {
                 }
             }
             DescriptorPart::ReadResolved(file, parsed) => {
-                match after_references(alloc, &file, parsed.get(), answer) {
+                match descriptor_text(
+                    alloc,
+                    file.as_str(),
+                    statements(parsed.get()),
+                    references_in(answer),
+                ) {
                     Ok(text) => Ok(Turn::Done(text)),
                     Err(_) => Err(DescriptorPart::ReadResolved(file, parsed)),
                 }

@@ -1,11 +1,11 @@
 //! The query of a file's symbols.
 ghost use Rattle.std.specs.Prelude.{◌≡◌, IfOk};
-ghost use Rattle.pq_proto.specs.Compile.{symbols_by};
+ghost use Rattle.pq_proto.specs.Compile.{symbols_of};
 ghost use Rattle.pq_proto.specs.aux.Outputs.{output_level, parsed_read, symbols_advances, symbols_falls, symbols_starts};
 
 use crate::Memory;
 use crate::key::ProtoKey;
-use crate::queries::answers::{parsed_in, statements};
+use crate::queries::answers::parsed_in;
 use crate::symbols::symbols_text;
 use crate::value::ProtoValue;
 use pq_links::ParsedFile;
@@ -18,20 +18,13 @@ use std::alloc::Global;
 #[derive(Drop)]
 pub struct SymbolsQuery;
 
-/// The symbols of a file that is read as `file`.
-fn symbols_of(alloc: Global, file: &ParsedFile) -> Result<Text, Memory>
-    ensures symbols { IfOk result (λ t. t ≡ symbols_by file.now) }
-{
-    symbols_text(alloc, statements(file), file)
-}
-
 /// The symbols of the file that was read by `answer`.
 fn after_file(alloc: Global, answer: &Answer<ProtoKey, ProtoValue>) -> Result<Text, Memory>
-    ensures symbols { IfOk result (λ t. t ≡ symbols_by (parsed_read answer.now)) }
+    ensures symbols { IfOk result (λ t. t ≡ symbols_of (parsed_read answer.now)) }
 {
     match parsed_in(answer) {
-        Some(file) => symbols_of(alloc, file.get()),
-        None => symbols_of(alloc, &ParsedFile::Absent),
+        Some(file) => symbols_text(alloc, file.get()),
+        None => symbols_text(alloc, &ParsedFile::Absent),
     }
 }
 

@@ -4,11 +4,11 @@ ghost use Rattle.pq_frame.specs.Labels.{label_model};
 ghost use Rattle.pq_session.specs.Reply.{diagnostics_text as text_of_diagnostics, location_text as text_of_location};
 ghost use Rattle.pq_session.specs.Replies.{value_text as text_of_value, answer_text as text_of_answer, reply_text as text_of_reply};
 
-use crate::protocol::ranges::print_location;
+use crate::protocol::locations::print_location;
 use crate::protocol::refusals::Refusal;
 use crate::protocol::replies::{cancelled_text, null_text, refusal_text};
 use crate::protocol::reports::print_report;
-use crate::protocol::results::{descriptor_text, result_text};
+use crate::protocol::results::{descriptor_text, print_start, result_text};
 use crate::protocol::root::Root;
 use crate::state::items::Want;
 use crate::state::outcomes::{Outcome, Reply};
@@ -29,9 +29,10 @@ fn diagnostics_text(
         ≡ text_of_diagnostics (label_model label.now) checked.now revision) }
 {
     let mut out = Printer::new(alloc);
+    print_start(&mut out, label)?;
     print_report(alloc, &mut out, checked, revision)?;
-    let report = out.into_text(alloc)?;
-    result_text(alloc, label, report.as_str())
+    out.end_object()?;
+    Ok(out.into_string())
 }
 
 /// The response of a definition at `location`.
@@ -45,9 +46,10 @@ fn location_text(
         ≡ text_of_location (label_model label.now) root.now location.now) }
 {
     let mut out = Printer::new(alloc);
+    print_start(&mut out, label)?;
     print_location(alloc, &mut out, root, location)?;
-    let text = out.into_text(alloc)?;
-    result_text(alloc, label, text.as_str())
+    out.end_object()?;
+    Ok(out.into_string())
 }
 
 /// The response of `value`, which a key has at `revision`. A value that no request asks for gives
@@ -101,7 +103,8 @@ pub(crate) fn answer_text(
 /// descriptor, with the revision. A plain reply has the text of its request. A cancelled one is the
 /// error -32801 with the two revisions, and a starved one the error -32603.
 ///
-/// A text of an answer is copied into the reply and not read again. Only `Memory` is an error, after
+/// Diagnostics and locations are printed into the reply. A text of an answer is copied into it, and
+/// not read again. Only `Memory` is an error, after
 /// an allocation failure.
 pub fn reply_text(
     alloc: Global,

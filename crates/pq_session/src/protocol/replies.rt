@@ -1,7 +1,7 @@
 //! The texts of responses that name no file: JSON values, written without white space.
 ghost use Rattle.std.specs.Prelude.{◌≡◌, IfOk, false, string_bytes};
 ghost use Rattle.serde_json.specs.View.{view};
-ghost use Rattle.serde_json.specs.Written.{compact_text, has_float};
+ghost use Rattle.serde_json.specs.Written.{has_float};
 ghost use Rattle.serde_json.specs.Data.{null};
 ghost use Rattle.pq_frame.specs.Labels.{label_model, label_data};
 ghost use Rattle.pq_session.specs.Reply.{error_code, error_message, error_data, cancelled_data, reply_data, initialized_data, refusal_text as text_of_refusal, cancelled_text as text_of_cancelled, initialized_text as text_of_initialized, null_text as text_of_null};
@@ -126,12 +126,4 @@ pub(crate) fn cancelled_text(
     ensures { IfOk result (λ s. string_bytes s ≡ text_of_cancelled (label_model label.now) started seen) }
 {
     cancelled_value(alloc, label, started, seen)?.to_string(alloc)
-}
-
-/// The text of the member `id` of a response.
-#[tactic(auto, using(crate::proofs::ReplyLemmas::label_has_no_float))]
-pub(crate) fn label_text(alloc: Global, label: &Label) -> Result<String, AllocError>
-    ensures { IfOk result (λ s. string_bytes s ≡ compact_text (label_data (label_model label.now))) }
-{
-    label_value(alloc, label)?.to_string(alloc)
 }

@@ -1,13 +1,12 @@
 //! The report of the diagnostics of a file (LSP 3.17, "Diagnostic",
 //! "RelatedFullDocumentDiagnosticReport"), printed token by token.
-ghost use Rattle.std.specs.Prelude.{◌≡◌, ◌++◌, map, IfOk, OnOk};
+ghost use Rattle.std.specs.Prelude.{◌≡◌, ◌++◌, map, OnOk};
 ghost use Rattle.pq_proto.specs.aux.Printed.{tokens_of, values_of};
 ghost use Rattle.pq_session.specs.Reply.{diagnostic_data, report_data};
 
-use crate::protocol::ranges::{position_in, print_range};
 use pq_checks::{Checked, Fault};
 use pq_links::ParsedFile;
-use pq_proto::Printer;
+use pq_proto::{Printer, position_in, print_range};
 use std::alloc::{AllocError, Global};
 
 /// Prints the error `fault` of a file that is read as `file`.

@@ -1,22 +1,47 @@
-//! The texts of responses whose result is printed already: it is put between the parts around it,
-//! and never read again.
-ghost use Rattle.std.specs.Prelude.{◌≡◌, IfOk, string_bytes};
-ghost use Rattle.pq_frame.specs.Labels.{label_model};
+//! What comes before and after the result of a response. A result is printed between the two, or
+//! was printed before: then its text is put between them, and never read again.
+ghost use Rattle.std.specs.Prelude.{◌≡◌, ◌++◌, IfOk, OnOk, string_bytes};
+ghost use Rattle.pq_frame.specs.Labels.{label_data, label_model};
+ghost use Rattle.pq_proto.specs.aux.Printed.{tokens_of};
 ghost use Rattle.pq_session.specs.Reply.{result_start, result_text as text_of_result, descriptor_text as text_of_descriptor};
+ghost use Rattle.pq_session.specs.aux.Starts.{start_tokens};
 
-use crate::protocol::replies::label_text;
 use pq_frame::Label;
+use pq_proto::Printer;
 use std::alloc::{AllocError, Global};
 
-/// The start of a response, up to its result.
+/// Prints the member `id` of a response.
+#[tactic(auto, using(crate::proofs::PrintLemmas::integer_tokens))]
+fn print_label(out: &mut Printer, label: &Label) -> Result<(), AllocError>
+    ensures { OnOk result (out.new ≡ out.old ++ tokens_of (label_data (label_model label.now))) }
+{
+    match label {
+        Label::None => out.null(),
+        Label::Unsigned(n) => out.unsigned(*n),
+        Label::Negative(n) => out.signed(*n),
+        Label::Text(text) => out.text(text.as_str()),
+    }
+}
+
+/// Prints a response up to its result.
+pub(crate) fn print_start(out: &mut Printer, label: &Label) -> Result<(), AllocError>
+    ensures { OnOk result (out.new ≡ out.old ++ start_tokens (label_model label.now)) }
+{
+    out.begin_object()?;
+    out.key("id")?;
+    print_label(out, label)?;
+    out.text_member("jsonrpc", "2.0")?;
+    out.key("result")?;
+    Ok(())
+}
+
+/// The text of a response up to its result.
 fn result_start(alloc: Global, label: &Label) -> Result<String, AllocError>
     ensures { IfOk result (λ s. string_bytes s ≡ result_start (label_model label.now)) }
 {
-    let id = label_text(alloc, label)?;
-    let mut reply = String::from_str(alloc, "{\"id\":")?;
-    reply.push_str(id.as_str())?;
-    reply.push_str(",\"jsonrpc\":\"2.0\",\"result\":")?;
-    Ok(reply)
+    let mut out = Printer::new(alloc);
+    print_start(&mut out, label)?;
+    Ok(out.into_string())
 }
 
 /// The response whose result is the JSON text `text`.

@@ -4,16 +4,17 @@ use Rattle.std.proofs.lemmas.Result.{on_ok_weaker}
 use Rattle.json.specs.Token.{Token, begin_object, end_object, begin_array, end_array, key, string, number}
 use Rattle.serde_json.specs.Data.{Data}
 use Rattle.pq_proto.specs.Bodies.{Body}
-use Rattle.pq_proto.specs.Symbols.{range_data, symbol_data, symbols_by, symbols_in}
+use Rattle.pq_proto.specs.Compile.{position_in}
+use Rattle.pq_proto.specs.Symbols.{span_data, symbol_data, symbols_by, symbols_in}
 use Rattle.pq_proto.specs.aux.Printed.{tokens_of, values_of}
 use Rattle.pq_proto.specs.aux.Rests.{left}
 use Rattle.pq_proto.proofs.ListSteps.{left_more, left_all, link, list_then, symbols_first, symbols_none, symbols_named}
 use Rattle.pq_proto.proofs.symbols.+symbols.Goals as goal
 
 pub print_each_symbol-statements-preserved : goal.print_each_symbol-statements-preserved
-print_each_symbol-statements-preserved g t c =
+print_each_symbol-statements-preserved t c =
     let held = c.in-Some.held in
-    let place = g.P.Positions.place c.args.places.now in
+    let place = position_in c.args.file.now in
     left_more (λ (b : Body). symbols_in place b) c.args.out.now c.statements.out c.print_symbols_at.new.out (left c.args.body.now) (left c.statements.rest) (left c.next.new.self)
     (symbols_by place held.node.now.span (symbols_in place (left held.inside)) held.node.now.statement)
     (length c.statements.rest.nodes) (length c.next.new.self.nodes) (length c.args.body.now.nodes)
@@ -21,13 +22,13 @@ print_each_symbol-statements-preserved g t c =
     c.in_ok-print_symbols_at.ensures c.in-Some.ensures.shorter c.statements.invariant
 
 pub print_each_symbol-returns : goal.print_each_symbol-returns
-print_each_symbol-returns g t c =
-    let place = g.P.Positions.place c.args.places.now in
+print_each_symbol-returns t c =
+    let place = position_in c.args.file.now in
     left_all (λ (b : Body). symbols_in place b) c.args.out.now c.statements.out (left c.args.body.now) (left c.statements.rest) (length c.statements.rest.nodes) (length c.args.body.now.nodes)
     (ap (λ (b : Body). symbols_in place b) c.in_default.ensures.body ∙ symbols_none place) c.statements.invariant
 
 pub print_symbol-returns : goal.print_symbol-returns
-print_symbol-returns g t c =
+print_symbol-returns t c =
     let o0 : List Token = c.args.out.now in
     let o1 : List Token = c.begin_object.new.self in
     let o2 : List Token = c.key.new.self in
@@ -37,21 +38,21 @@ print_symbol-returns g t c =
     let o6 : List Token = c.unsigned_member.new.self in
     let o7 : List Token = c.text_member.new.self in
     let o8 : List Token = c.key-2.new.self in
-    let o9 : List Token = c.print_range.new.out in
+    let o9 : List Token = c.print_span.new.out in
     let o10 : List Token = c.key-3.new.self in
-    let o11 : List Token = c.print_range-2.new.out in
+    let o11 : List Token = c.print_span-2.new.out in
     let o12 : List Token = c.end_object.new.self in
     let x1 : List Token = begin_object ∷ [] in
     let x2 : List Token = key (codes "children") ∷ [] in
     let x3 : List Token = begin_array ∷ [] in
-    let x4 : List Token = values_of (symbols_in (g.P.Positions.place c.args.places.now) (left c.args.held.now.inside)) in
+    let x4 : List Token = values_of (symbols_in (position_in c.args.file.now) (left c.args.held.now.inside)) in
     let x5 : List Token = end_array ∷ [] in
     let x6 : List Token = key (codes "kind") ∷ number (decimal c.args.kind) ∷ [] in
     let x7 : List Token = key (codes "name") ∷ string c.args.name.now.text ∷ [] in
     let x8 : List Token = key (codes "range") ∷ [] in
-    let x9 : List Token = tokens_of (range_data (g.P.Positions.place c.args.places.now) c.args.held.now.node.now.span) in
+    let x9 : List Token = tokens_of (span_data (position_in c.args.file.now) c.args.held.now.node.now.span) in
     let x10 : List Token = key (codes "selectionRange") ∷ [] in
-    let x11 : List Token = tokens_of (range_data (g.P.Positions.place c.args.places.now) c.args.name.now.span) in
+    let x11 : List Token = tokens_of (span_data (position_in c.args.file.now) c.args.name.now.span) in
     let x12 : List Token = end_object ∷ [] in
     let r12 : List Token = x12 in
     let r11 : List Token = x11 ++ r12 in
@@ -73,9 +74,9 @@ print_symbol-returns g t c =
     let s6 : o6 ≡ o5 ++ x6 = c.in_ok-unsigned_member.ensures in
     let s7 : o7 ≡ o6 ++ x7 = c.in_ok-text_member.ensures ∙ ap (λ (t : List ℕ). o6 ++ (key (codes "name") ∷ string t ∷ [])) c.as_str.ensures.same in
     let s8 : o8 ≡ o7 ++ x8 = c.in_ok-key-2.ensures in
-    let s9 : o9 ≡ o8 ++ x9 = c.in_ok-print_range.ensures in
+    let s9 : o9 ≡ o8 ++ x9 = c.in_ok-print_span.ensures in
     let s10 : o10 ≡ o9 ++ x10 = c.in_ok-key-3.ensures in
-    let s11 : o11 ≡ o10 ++ x11 = c.in_ok-print_range-2.ensures in
+    let s11 : o11 ≡ o10 ++ x11 = c.in_ok-print_span-2.ensures in
     let s12 : o12 ≡ o11 ++ x12 = c.in_ok-end_object.ensures in
     let e12 : o12 ≡ o11 ++ r12 = s12 in
     let e11 : o12 ≡ o10 ++ r11 = link o10 o11 o12 x11 r12 s11 e12 in
@@ -89,11 +90,11 @@ print_symbol-returns g t c =
     let e3 : o12 ≡ o2 ++ r3 = link o2 o3 o12 x3 r4 s3 e4 in
     let e2 : o12 ≡ o1 ++ r2 = link o1 o2 o12 x2 r3 s2 e3 in
     let e1 : o12 ≡ o0 ++ r1 = link o0 o1 o12 x1 r2 s1 e2 in
-    e1 ∙ ap (λ (ts : List Token). o0 ++ (begin_object ∷ key (codes "children") ∷ begin_array ∷ ts)) (list_then (symbols_in (g.P.Positions.place c.args.places.now) (left c.args.held.now.inside)) r6)
+    e1 ∙ ap (λ (ts : List Token). o0 ++ (begin_object ∷ key (codes "children") ∷ begin_array ∷ ts)) (list_then (symbols_in (position_in c.args.file.now) (left c.args.held.now.inside)) r6)
 
 pub print_symbols_at-returns-in-Some : goal.print_symbols_at-returns-in-Some
-print_symbols_at-returns-in-Some g t c =
-    let place = g.P.Positions.place c.args.places.now in
+print_symbols_at-returns-in-Some t c =
+    let place = position_in c.args.file.now in
     let old : List Token = c.args.out.now in
     let children : List Data = symbols_in place (left c.args.held.now.inside) in
     let one = symbol_data place c.in-Some.kind c.in-Some.name.now c.args.held.now.node.now.span children in

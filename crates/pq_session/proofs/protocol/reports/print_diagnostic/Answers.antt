@@ -6,9 +6,9 @@ use Rattle.pq_links.specs.declared.files.ParsedFile.{ParsedFile}
 use Rattle.pq_checks.specs.Codes.{code_text, severity, severity_number}
 use Rattle.pq_checks.specs.declared.fault.Fault.{Fault}
 use Rattle.pq_proto.specs.Compile.{position_in}
+use Rattle.pq_proto.specs.Ranges.{range_data}
 use Rattle.pq_proto.specs.aux.Printed.{tokens_of}
-use Rattle.pq_session.specs.Reply.{range_data}
-use Rattle.pq_session.proofs.PrintLemmas.{link}
+use Rattle.pq_proto.proofs.ListSteps.{link}
 use Rattle.pq_session.proofs.protocol.reports.print_diagnostic.Goals as goal
 
 pub returns : goal.returns

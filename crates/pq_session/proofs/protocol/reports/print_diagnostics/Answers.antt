@@ -3,7 +3,7 @@ use Rattle.json.specs.Token.{Token}
 use Rattle.pq_checks.specs.declared.fault.Fault.{Fault}
 use Rattle.pq_proto.specs.aux.Printed.{tokens_of}
 use Rattle.pq_session.specs.Reply.{diagnostic_data}
-use Rattle.pq_session.proofs.PrintLemmas.{printed_all, values_map}
+use Rattle.pq_proto.proofs.ListSteps.{printed_all, values_map}
 use Rattle.pq_session.proofs.protocol.reports.print_diagnostics.Goals as goal
 
 pub returns : goal.returns

@@ -1,7 +1,7 @@
 use Rattle.pq_checks.specs.declared.fault.Fault.{Fault}
 use Rattle.pq_proto.specs.aux.Printed.{tokens_of}
 use Rattle.pq_session.specs.Reply.{diagnostic_data}
-use Rattle.pq_session.proofs.PrintLemmas.{PrintedTo}
+use Rattle.pq_proto.proofs.ListSteps.{PrintedTo}
 use Rattle.pq_session.proofs.protocol.reports.print_diagnostics.Given as goal
 
 abbrev pub invariant-faults : goal.invariant-faults

@@ -6,9 +6,8 @@ use Rattle.pq_links.specs.declared.files.ParsedFile.{ParsedFile}
 use Rattle.pq_checks.specs.declared.fault.Fault.{Fault}
 use Rattle.pq_checks.specs.declared.surroundings.Checked.{Checked}
 use Rattle.pq_proto.specs.aux.Printed.{values_of}
+use Rattle.pq_proto.proofs.ListSteps.{link, list_then}
 use Rattle.pq_session.specs.Reply.{diagnostic_data}
-use Rattle.pq_session.proofs.PrintLemmas.{list_then}
-use Rattle.pq_session.proofs.PrintLemmas.{link}
 use Rattle.pq_session.proofs.protocol.reports.print_report.Goals as goal
 
 pub returns : goal.returns

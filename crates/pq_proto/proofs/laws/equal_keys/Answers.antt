@@ -1,5 +1,0 @@
-use Rattle.pq_proto.specs.aux.KeyOrder.{key_exact}
-use Rattle.pq_proto.proofs.laws.equal_keys.Goals as goal
-
-pub returns : goal.returns
-returns c = key_exact

@@ -1,5 +1,0 @@
-use Rattle.pq_proto.proofs.RuleMeaning.{proto_one, proto_some}
-use Rattle.pq_proto.proofs.rule_laws.one_compilation.Goals as goal
-
-pub returns : goal.returns
-returns c = record { some = proto_some; one = proto_one }

@@ -1,0 +1,55 @@
+//! What a file that is read as its tree or first error has: its statements, and the positions of its
+//! offsets.
+ghost use Rattle.std.specs.Prelude.{◌≡◌};
+ghost use Rattle.pq_schema.specs.Missing.{nodes_of};
+ghost use Rattle.pq_proto.specs.Compile.{offset_at, place_at, position_in};
+
+use crate::key::Place;
+use pq_lex::Position;
+use pq_links::ParsedFile;
+use pq_syntax::{Node, Parsed};
+
+/// The statements of a file that is read as `file`: an absent file has none, and neither has one
+/// with a syntax error.
+pub(crate) fn statements(file: &ParsedFile) -> &[Node]
+    ensures nodes { result.now ≡ nodes_of file.now }
+{
+    match file {
+        ParsedFile::Present {
+            parsed: Parsed::Tree(nodes),
+            ..
+        } => nodes.as_slice(),
+        _ => &[],
+    }
+}
+
+/// The position of `offset` in a file that is read as `file`. An absent file has the first position
+/// alone.
+pub fn position_in(file: &ParsedFile, offset: usize) -> Position
+    ensures { result ≡ position_in file.now offset }
+{
+    match file {
+        ParsedFile::Absent => Position {
+            line: 0,
+            character: 0,
+        },
+        ParsedFile::Present { lines, .. } => lines.position(offset),
+    }
+}
+
+/// The position of `offset` as a place, in a file that is read as `file`.
+pub(crate) fn place_at(file: &ParsedFile, offset: usize) -> Place
+    ensures place { result ≡ place_at file.now offset }
+{
+    Place::of(position_in(file, offset))
+}
+
+/// The offset at `place` in a file that is read as `file`.
+pub(crate) fn offset_at(file: &ParsedFile, place: Place) -> Option<usize>
+    ensures offset { result ≡ offset_at file.now place }
+{
+    match file {
+        ParsedFile::Absent => None,
+        ParsedFile::Present { lines, .. } => lines.offset(place.position()),
+    }
+}
