@@ -135,6 +135,18 @@ below_find root name [] all = inr refl
 below_find root name (d ∷ ds) all =
     below_test root name d (find (λ (x : Definition). bytes_eq x.full_name name) ds) (bytes_eq d.full_name name) refl all.0 (below_find root name ds all.1)
 
+-- a file that is not near a name does not have it
+pub can_have : (files : List FileDefs) (near : List ℕ) (name : List ℕ) (k : ℕ) (f : FileDefs)
+    → AreNear near files (around name)
+    → Each IsBelow files
+    → slice_get files k ≡ Some f
+    → In k near ⊎ (find_in f name ≡ None)
+can_have files near name k f are all at =
+    elim (below_find f.defs.package_name name f.defs.definitions (each_at IsBelow files k f all at)) [
+      | inl among ↦ inl (are k f at among)
+      | inr none ↦ inr none
+    ]
+
 none_by : (name : List ℕ) (o : Option FileDefs) → ((f : FileDefs) → o ≡ Some f → find_in f name ≡ None) → find_at o name ≡ None
 none_by name None h = refl
 none_by name (Some f) h = h f refl

@@ -14,6 +14,7 @@ pub mod Dotted
 pub mod Near
 pub mod Searches
 pub mod Grouping
+pub mod FirstNear
 pub mod ResolutionRows
 pub mod ScopeMeaning
 pub mod ResolvedMeaning

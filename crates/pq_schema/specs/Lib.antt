@@ -3,6 +3,7 @@ pub mod Definitions
 pub mod References
 pub mod ScopeContents
 pub mod Resolution
+pub mod Others
 pub mod Missing
 pub mod Compile
 pub mod Answers

@@ -9,6 +9,7 @@ pub mod Hits
 pub mod Scopes
 pub mod Grouping
 pub mod Firsts
+pub mod FirstOf
 pub mod SameScopes
 pub mod EqualScopes
 pub mod Queries

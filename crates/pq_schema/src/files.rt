@@ -4,13 +4,18 @@
 //! once for all the names that a reference is looked up by.
 ghost use Rattle.std.specs.Prelude.{◌≡◌, IfOk};
 ghost use Rattle.std.specs.Option.{option_copied};
+ghost use Rattle.std.specs.List.Sorted.{IsSorted};
+ghost use Rattle.std.specs.Ordering.{nat_cmp};
 ghost use Rattle.pq_schema.specs.Resolution.{meaning, is_package};
+ghost use Rattle.pq_schema.specs.aux.FirstOf.{first_of, other_with};
 ghost use Rattle.pq_schema.specs.aux.Grouping.{AreNear, around};
 ghost use Rattle.pq_schema.specs.aux.Hits.{meaning_at};
 ghost use Rattle.pq_schema.specs.aux.Scopes.{chain};
 
 use crate::by_package::{Entry, file_at, first_place, has_package, packages_of, places_near};
 use crate::definitions::Definition;
+use crate::nesting::outer;
+use crate::others::other_in;
 use crate::scope::FileDefs;
 use pq_names::{Memory, Text};
 use std::alloc::Global;
@@ -59,12 +64,16 @@ impl Files {
         &self.files
     }
 
-    /// The places of the files whose package is `within`, a prefix of it before a dot, or empty.
+    /// The places of the files whose package is `within`, a prefix of it before a dot, or empty, in
+    /// order.
     pub(crate) fn near(&self, alloc: Global, within: Option<&str>) -> Result<Vec<usize>, Memory>
         ensures near { IfOk result
             (λ v. AreNear v.items self.now (chain (option_copied within.entry))) }
+        ensures rising { IfOk result (λ v. IsSorted nat_cmp v.items) }
     {
-        places_near(alloc, &self.packages, within)
+        let mut near = places_near(alloc, &self.packages, within)?;
+        near.sort_unstable();
+        Ok(near)
     }
 
     /// The first definition with the full name `name`: the files in order, then each in text order.
@@ -85,6 +94,19 @@ impl Files {
             },
             None => None,
         }
+    }
+
+    /// The name of the first of the files, but of the file `file`, that defines `name`.
+    pub(crate) fn first_other(
+        &self,
+        alloc: Global,
+        file: &str,
+        name: &str,
+    ) -> Result<Option<&Text>, Memory>
+        ensures first { IfOk result (λ o. option_copied o ≡ first_of (other_with file.now name.now) self.now) }
+    {
+        let near = self.near(alloc, outer(name))?;
+        Ok(other_in(self.files.as_slice(), &near, file, name))
     }
 
     /// Whether `name` is a package of the files, or the part of one before a dot.

@@ -11,11 +11,12 @@
 //!
 //! Modules: `definitions` (what a file defines), `define` (what a statement defines), `index` (the
 //! search by full name), `references`, `outline` (the package and the scopes of a file),
-//! `full_name` and `enclosing` (names that share their scopes), `map_entries`; `scope` (the files that a file sees and reaches), `files` and `by_package` (the
-//! look-up of a full name, and which files it asks), `nesting` (the scopes around a scope),
-//! `search` (the search from scope to scope), `resolution` (its answers); `keys` (what a sum
-//! offers), `defined`, `scopes` over `collected`, and `resolved` (the queries), `rules` (the rule
-//! set); `laws`, `scope_laws`.
+//! `full_name` and `enclosing` (names that share their scopes), `map_entries`; `scope` (the files
+//! that a file sees and reaches), `files` and `by_package` (the look-up of a full name, and which
+//! files it asks), `others` (the other files that define a name), `nesting` (the scopes around a
+//! scope), `search` (the search from scope to scope), `resolution` (its answers); `keys` (what a
+//! sum offers), `defined`, `scopes` over `collected`, and `resolved` (the queries), `rules` (the
+//! rule set); `laws`, `scope_laws`.
 #![tactic(auto)]
 
 mod by_package;
@@ -31,6 +32,7 @@ mod keys;
 mod laws;
 mod map_entries;
 mod nesting;
+mod others;
 mod outline;
 mod references;
 mod resolution;

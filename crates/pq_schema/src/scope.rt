@@ -1,5 +1,7 @@
 //! The scope of a file: the definitions that it sees, and those that it reaches.
 ghost use Rattle.std.specs.Prelude.{◌≡◌, IfOk};
+ghost use Rattle.std.specs.Option.{option_copied};
+ghost use Rattle.pq_schema.specs.Others.{first_other};
 
 use crate::definitions::Defs;
 use crate::files::Files;
@@ -55,6 +57,23 @@ impl Scope {
         ensures value { result.now ≡ self.now.reach }
     {
         self.reach.as_slice()
+    }
+
+    /// The name of the first file that defines `full_name`, of the files that the file `file` sees,
+    /// but `file` itself.
+    ///
+    /// Files whose package is not a prefix of the name before a dot are not asked. Each other file
+    /// takes one binary search.
+    pub fn first_other(
+        &self,
+        alloc: Global,
+        file: &str,
+        full_name: &str,
+    ) -> Result<Option<&Text>, Memory>
+        ensures first { IfOk result
+            (λ o. option_copied o ≡ first_other file.now full_name.now self.now) }
+    {
+        self.visible.first_other(alloc, file, full_name)
     }
 
     /// The files whose definitions the file sees.

@@ -1,0 +1,28 @@
+-- Auxiliary: the first answer that a file gives (used by proofs and contracts of private functions
+-- only).
+use Rattle.std.specs.Prelude.{ℕ, bytes_eq, cond, not, ◌&&◌, slice_get, List, [], ◌∷◌, Option, Some, None}
+use Rattle.pq_schema.specs.declared.scope.FileDefs.{FileDefs}
+use Rattle.pq_schema.specs.Others.{defines}
+
+-- `either a b` is `a`, or `b` if `a` is `None`
+abbrev pub either : {X : Type 0} → Option X → Option X → Option X
+either None b = b
+either (Some x) b = Some x
+
+-- `first_of answer files` is the first answer that one of `files` gives
+abbrev pub first_of : {X : Type 0} → (FileDefs → Option X) → List FileDefs → Option X
+first_of answer [] = None
+first_of answer (f ∷ fs) = either (answer f) (first_of answer fs)
+
+-- `answer_by answer file` is the answer that the file gives, if there is one
+abbrev pub answer_by : {X : Type 0} → (FileDefs → Option X) → Option FileDefs → Option X
+answer_by answer None = None
+answer_by answer (Some f) = answer f
+
+-- `answer_at answer files k` is the answer that the file at the place `k` gives
+abbrev pub answer_at : {X : Type 0} → (FileDefs → Option X) → List FileDefs → ℕ → Option X
+answer_at answer files k = answer_by answer (slice_get files k)
+
+-- `other_with file name f` is the name of the file `f` if it is not `file` and defines `name`
+abbrev pub other_with : List ℕ → List ℕ → FileDefs → Option (List ℕ)
+other_with file name f = cond (not (bytes_eq f.file file) && defines name f) (Some f.file) None
