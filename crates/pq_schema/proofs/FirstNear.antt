@@ -1,10 +1,8 @@
 -- The first answer of files is that of the first near file which gives one, where a file answers
 -- for a full name only if it defines the name.
 use Rattle.std.proofs.Common.{◌≡◌, ℕ, suc, zero, ◌<◌, ◌≤◌, Bool, true, false, cond, ◌&&◌, true≢false, List, [], ◌∷◌, length, get_or, Option, Some, None, inl, inr, refl, sym, ap, subst, ◌∙◌, arith}
-use Rattle.std.specs.Prelude.{bytes_eq, find, is_some, not, slice_get, filter}
+use Rattle.std.specs.Prelude.{bytes_eq, find, is_some, not, slice_get, filter, option_map}
 use Rattle.std.specs.List.{list_any}
-use Rattle.std.specs.List.Sorted.{IsSorted}
-use Rattle.std.specs.Ordering.{nat_cmp}
 use Rattle.std.specs.Option.{option_copied}
 use Rattle.std.specs.Borrow.{Bor}
 use Rattle.std.proofs.lemmas.Bool.{cases_lt}
@@ -15,9 +13,14 @@ use Rattle.pq_rules.proofs.ListLemmas.{in_contains}
 use Rattle.pq_schema.specs.declared.definitions.Definition.{Definition}
 use Rattle.pq_schema.specs.declared.scope.FileDefs.{FileDefs}
 use Rattle.pq_schema.specs.Others.{defines, first_with}
-use Rattle.pq_schema.specs.aux.FirstOf.{either, first_of, answer_by, answer_at, other_with}
+use Rattle.pq_schema.specs.Resolution.{Meaning, meaning}
+use Rattle.pq_schema.specs.Resolution.Meaning.{Defined, Undefined}
+use Rattle.pq_schema.specs.declared.named.Place.{Place}
+use Rattle.pq_schema.specs.aux.FirstOf.{either, first_of, answer_by, answer_at, other_with, definition_in}
 use Rattle.pq_schema.specs.aux.Grouping.{AreNear, IsBelow, around, find_in}
+use Rattle.pq_schema.specs.aux.Hits.{placed, meaning_at}
 use Rattle.pq_schema.proofs.Grouping.{can_have}
+use Rattle.pq_schema.proofs.Meanings.{or_else, defined_find}
 
 -- ---- the first answer of a list
 
@@ -35,7 +38,7 @@ module _ {X : Type 0} (answer : FileDefs → Option X) where
 
 module _ {X : Type 0} (answer : FileDefs → Option X) (files : List FileDefs) (near : List ℕ) (name : List ℕ)
     (only : (f : FileDefs) → find_in f name ≡ None → answer f ≡ None)
-    (are : AreNear near files (around name)) (sorted : IsSorted nat_cmp near) (below : Each IsBelow files) where
+    (are : AreNear near files (around name)) (below : Each IsBelow files) where
   -- where the near files give no answer, the others do not
   silent_by : (k : ℕ) (o : Option FileDefs) → slice_get files k ≡ o → (In k near → answer_by answer o ≡ None) → answer_by answer o ≡ None
   silent_by k None at h = refl
@@ -51,7 +54,7 @@ module _ {X : Type 0} (answer : FileDefs → Option X) (files : List FileDefs) (
       let is : get_or near c.0 0 ≡ k = get_or_default near c.0 0 k c.1 ∙ c.2 in
       elim (cases_lt c.0 i) [
         | inl front ↦ (c.0, front, is)
-        | inr up ↦ let rising = IsNonDecreasingBy-from_sort (λ (n : ℕ). n) near sorted i c.0 0 up c.1 in absurd (omega arith)
+        | inr up ↦ let rising = IsNonDecreasingBy-from_sort (λ (n : ℕ). n) near are.rising i c.0 0 up c.1 in absurd (omega arith)
       ]
 
   pub hit : (i : ℕ) (x : X) → i < length near
@@ -63,13 +66,13 @@ module _ {X : Type 0} (answer : FileDefs → Option X) (files : List FileDefs) (
       (λ k less. silent k (λ there. let e = earlier i k within there less in subst (λ (m : ℕ). answer_at answer files m ≡ None) e.2 (none e.0 e.1)))
       is
 
-  pub hit_some : (i : ℕ) (o : Option (Bor X)) → i < length near
+  pub hit_some : (i : ℕ) (o : Option X) → i < length near
       → ((j : ℕ) → j < i → answer_at answer files (get_or near j 0) ≡ None)
       → is_some o ≡ true
-      → option_copied o ≡ answer_at answer files (get_or near i 0)
-      → option_copied o ≡ first_of answer files
+      → o ≡ answer_at answer files (get_or near i 0)
+      → o ≡ first_of answer files
   hit_some i None within none some is = absurd (true≢false (sym some))
-  hit_some i (Some x) within none some is = sym (hit i x.now within none (sym is))
+  hit_some i (Some x) within none some is = sym (hit i x within none (sym is))
 
   pub past : (i : ℕ) → length near ≤ i
       → ((j : ℕ) → j < i → answer_at answer files (get_or near j 0) ≡ None)
@@ -117,3 +120,39 @@ others_first file name (f ∷ fs) = by (bytes_eq f.file file) refl (defines name
     by true e t d rest = rw e rest
     by false e true d rest = rw (e, d) refl
     by false e false d rest = rw (e, d) rest
+
+-- ---- the first definition of a name
+
+pub is_placed : (o : Option Place) → is_some (placed o) ≡ is_some o
+is_placed None = refl
+is_placed (Some p) = refl
+
+-- a file without the name has no definition of it
+pub definition_only : (name : List ℕ) (f : FileDefs) → find_in f name ≡ None → definition_in name f ≡ None
+definition_only name f none = ap (λ (o : Option Definition). option_map (λ (d : Definition). (f.file, d)) o) none
+
+pub definition_there : (files : List FileDefs) (place : ℕ) (name : List ℕ) (f : FileDefs) (d : Definition)
+    → slice_get files place ≡ Some f
+    → Some d ≡ find_in f name
+    → Some (f.file, d) ≡ answer_at (definition_in name) files place
+definition_there files place name f d at is =
+    ap (λ (o : Option Definition). option_map (λ (x : Definition). (f.file, x)) o) is ∙ sym (ap (λ (o : Option FileDefs). answer_by (definition_in name) o) at)
+
+-- `meaning_of answer` is the meaning of a name whose first definition is `answer`
+abbrev pub meaning_of : Option (List ℕ × Definition) → Meaning
+meaning_of None = Undefined
+meaning_of (Some a) = Defined a.0 a.1
+
+pub placed_meaning : (o : Option Place) → meaning_at o ≡ meaning_of (placed o)
+placed_meaning None = refl
+placed_meaning (Some p) = refl
+
+pub meaning_first : (files : List FileDefs) (name : List ℕ) → meaning files name ≡ meaning_of (first_of (definition_in name) files)
+unfolding meaning
+meaning_first [] name = refl
+meaning_first (f ∷ fs) name = defined_find f.file f.defs.definitions name (meaning fs name) ∙ by (find_in f name) (meaning_first fs name)
+  where
+    by : (o : Option Definition) → meaning fs name ≡ meaning_of (first_of (definition_in name) fs)
+        → or_else f.file o (meaning fs name) ≡ meaning_of (either (option_map (λ (d : Definition). (f.file, d)) o) (first_of (definition_in name) fs))
+    by None rest = rest
+    by (Some d) rest = refl

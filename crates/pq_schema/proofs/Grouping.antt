@@ -1,23 +1,21 @@
 -- The index of packages: it has each name of a package, and the files near a name are all that can
 -- have it.
-use Rattle.std.proofs.Common.{◌≡◌, ◌⊎◌, inl, inr, ℕ, suc, ◌+◌, ◌<◌, ◌≤◌, ◌==◌, Bool, true, false, cond, ◌||◌, nat_eq, true≢false, List, [], ◌∷◌, ◌++◌, length, get_or, take, drop, zero, Option, Some, None, IsSome, refl, sym, ap, subst, ◌∙◌, arith, add-one, append-nil, append_assoc}
-use Rattle.std.specs.Prelude.{bytes_eq, codes, find, is_some, slice_get}
+use Rattle.std.proofs.Common.{◌≡◌, ◌⊎◌, inl, inr, ℕ, suc, ◌+◌, ◌<◌, ◌≤◌, ◌==◌, Bool, true, false, cond, ◌||◌, nat_eq, List, [], ◌∷◌, ◌++◌, length, get_or, take, drop, zero, Option, Some, None, refl, sym, ap, subst, ◌∙◌, arith, add-one, append-nil, append_assoc}
+use Rattle.std.specs.Prelude.{bytes_eq, codes, find, slice_get}
 use Rattle.std.specs.List.{starts_with, list_any, Contains}
-use Rattle.std.proofs.lemmas.List.{at_drop_all, drop_more, drop_all, take_more}
+use Rattle.std.proofs.lemmas.List.{at_drop_all, drop_more, drop_all}
 use Rattle.std.proofs.lemmas.List.Sorted.{list_any-IsPermutation, Contains-permutation}
-use Rattle.std.proofs.lemmas.Option.{slice_get_within, get_or_from_slice_get, same_Some}
+use Rattle.std.proofs.lemmas.Option.{same_Some}
 use Rattle.std.proofs.lemmas.Slice.Eq.{bytes_eq-Decides}
 use Rattle.pq_rules.specs.Relations.{Each, In}
-use Rattle.pq_rules.specs.aux.Lists.{in_append}
 use Rattle.pq_schema.specs.declared.scope.FileDefs.{FileDefs}
 use Rattle.pq_schema.specs.declared.definitions.Definition.{Definition}
-use Rattle.pq_schema.specs.Resolution.{meaning, is_package, prefixes}
-use Rattle.pq_schema.specs.Resolution.Meaning.{Undefined}
+use Rattle.pq_schema.specs.Resolution.{is_package, prefixes}
 use Rattle.pq_schema.specs.aux.InPackage.{AllBelow, Below, dotted}
 use Rattle.pq_schema.specs.aux.Scopes.{is_among}
-use Rattle.pq_schema.specs.aux.Grouping.{AreNear, IsBelow, IsIndex, around, find_in, find_at, defined_at, roots}
+use Rattle.pq_schema.specs.aux.Grouping.{AreNear, IsBelow, IsIndex, around, find_in, roots}
 use Rattle.pq_schema.proofs.Among.{among_append, covers_dotted, starts_among}
-use Rattle.pq_schema.proofs.Meanings.{covers, or_else, defined_find, meaning_more, meaning_end, package_cons}
+use Rattle.pq_schema.proofs.Meanings.{covers, package_cons}
 
 -- ---- the packages
 
@@ -143,104 +141,6 @@ pub can_have : (files : List FileDefs) (near : List ℕ) (name : List ℕ) (k : 
     → In k near ⊎ (find_in f name ≡ None)
 can_have files near name k f are all at =
     elim (below_find f.defs.package_name name f.defs.definitions (each_at IsBelow files k f all at)) [
-      | inl among ↦ inl (are k f at among)
+      | inl among ↦ inl (are.all k f at among)
       | inr none ↦ inr none
     ]
-
-none_by : (name : List ℕ) (o : Option FileDefs) → ((f : FileDefs) → o ≡ Some f → find_in f name ≡ None) → find_at o name ≡ None
-none_by name None h = refl
-none_by name (Some f) h = h f refl
-
--- once the files that can have the name are asked
-pub asked : (files : List FileDefs) (near : List ℕ) (name : List ℕ) (next : ℕ)
-    → AreNear near files (around name)
-    → Each IsBelow files
-    → ((k : ℕ) → In k near → k < next → defined_at files name k ≡ None)
-    → (k : ℕ) → k < next → defined_at files name k ≡ None
-asked files near name next are all here k below =
-    none_by name (slice_get files k)
-    (λ f at. elim (below_find f.defs.package_name name f.defs.definitions (each_at IsBelow files k f all at)) [
-      | inr none ↦ none
-      | inl among ↦ sym (ap (λ (o : Option FileDefs). find_at o name) at) ∙ here k (are k f at among) below
-    ])
-
--- ---- the least place
-
-pub in_more : (places : List ℕ) (i k : ℕ) → i < length places → In k (take (i + 1) places) → In k (take i places) ⊎ (k ≡ get_or places i 0)
-in_more places i k within h =
-    elim (in_append k (take i places) (get_or places i 0 ∷ []) (subst (λ (ks : List ℕ). In k ks) (take_more places i 0 within) h)) [
-      | inl earlier ↦ inl earlier
-      | inr last ↦ elim last [ inl here ↦ inr here | inr never ↦ absurd never ]
-    ]
-
-pub found_more : {X : Type 0} (P : X → Type 0) (best least next : X)
-    → (least ≡ best) ⊎ P least
-    → (next ≡ least) ⊎ P next
-    → (next ≡ best) ⊎ P next
-found_more P best least next (inl same) (inl kept) = inl (kept ∙ same)
-found_more P best least next (inr is) (inl kept) = inr (subst P (sym kept) is)
-found_more P best least next so_far (inr is) = inr is
-
-pub found_among : {X : Type 0} (N P : X → Type 0) (least next : X)
-    → N least ⊎ P least
-    → (next ≡ least) ⊎ P next
-    → N next ⊎ P next
-found_among N P least next (inl beyond) (inl kept) = inl (subst N (sym kept) beyond)
-found_among N P least next (inr is) (inl kept) = inr (subst P (sym kept) is)
-found_among N P least next so_far (inr is) = inr is
-
--- ---- the meaning at the least place
-
-pub meaning_before : (files : List FileDefs) (name : List ℕ) (n : ℕ)
-    → ((k : ℕ) → k < n → defined_at files name k ≡ None)
-    → meaning files name ≡ meaning (drop n files) name
-unfolding meaning
-meaning_before files name zero h = refl
-meaning_before [] name (suc n) h = refl
-meaning_before (f ∷ fs) name (suc n) h =
-    defined_find f.file f.defs.definitions name (meaning fs name)
-    ∙ ap (λ (o : Option Definition). or_else f.file o (meaning fs name)) (h 0 (omega arith))
-    ∙ meaning_before fs name n (λ k l. h (suc k) (omega arith))
-
-pub meaning_first : (files : List FileDefs) (name : List ℕ) (n : ℕ) (f : FileDefs) (found : Option Definition)
-    → ((k : ℕ) → k < n → defined_at files name k ≡ None)
-    → slice_get files n ≡ Some f
-    → found ≡ find_in f name
-    → meaning files name ≡ or_else f.file found (meaning (drop (n + 1) files) name)
-meaning_first files name n f found none at is =
-    meaning_before files name n none
-    ∙ meaning_more files n f name found (slice_get_within files n f at) (sym (get_or_from_slice_get files n f f at)) is
-
-pub meaning_absent : (files : List FileDefs) (name : List ℕ) (n : ℕ)
-    → ((k : ℕ) → k < n → defined_at files name k ≡ None)
-    → length files ≤ n
-    → meaning files name ≡ Undefined
-meaning_absent files name n none beyond = meaning_before files name n none ∙ meaning_end files n name beyond
-
--- a definition that is found is that of the file at its place
-pub found_there : (files : List FileDefs) (name : List ℕ) (n : ℕ) (f : FileDefs) (found : Option Definition) (d : Definition)
-    → slice_get files n ≡ Some f
-    → found ≡ Some d
-    → ((length files ≤ n) × (found ≡ None)) ⊎ ((found ≡ defined_at files name n) × IsSome (defined_at files name n))
-    → Some d ≡ find_in f name
-found_there files name n f found d at is (inl nowhere) = let none = sym is ∙ nowhere.1 in cc
-found_there files name n f found d at is (inr there) = sym is ∙ there.0 ∙ ap (λ (o : Option FileDefs). find_at o name) at
-
--- and there is a file at its place
-pub found_place : (files : List FileDefs) (name : List ℕ) (n : ℕ) (found : Option Definition) (d : Definition)
-    → slice_get files n ≡ None
-    → found ≡ Some d
-    → ((length files ≤ n) × (found ≡ None)) ⊎ ((found ≡ defined_at files name n) × IsSome (defined_at files name n))
-    → ⊥
-found_place files name n found d at is (inl nowhere) = let none = sym is ∙ nowhere.1 in cc
-found_place files name n found d at is (inr there) =
-    true≢false (sym there.1 ∙ ap (λ (o : Option FileDefs). is_some (find_at o name)) at)
-
--- without a definition the search went past the files
-pub found_nothing : (files : List FileDefs) (name : List ℕ) (n : ℕ) (found : Option Definition)
-    → found ≡ None
-    → ((length files ≤ n) × (found ≡ None)) ⊎ ((found ≡ defined_at files name n) × IsSome (defined_at files name n))
-    → length files ≤ n
-found_nothing files name n found is (inl nowhere) = nowhere.0
-found_nothing files name n found is (inr there) =
-    absurd (true≢false (sym there.1 ∙ ap (λ (o : Option Definition). is_some o) (sym there.0 ∙ is)))

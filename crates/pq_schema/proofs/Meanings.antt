@@ -1,13 +1,12 @@
 -- The meaning of a full name, file by file.
-use Rattle.std.proofs.Common.{◌≡◌, ℕ, ◌<◌, ◌≤◌, ◌+◌, ◌==◌, Bool, true, false, cond, ◌||◌, nat_eq, true≢false, List, [], ◌∷◌, ◌++◌, length, get_or, drop, Option, Some, None, refl, sym, ap, ◌∙◌, arith}
+use Rattle.std.proofs.Common.{◌≡◌, ℕ, ◌==◌, Bool, true, false, cond, ◌||◌, nat_eq, true≢false, List, [], ◌∷◌, ◌++◌, length, Option, Some, None, refl, arith}
 use Rattle.std.specs.Prelude.{bytes_eq, codes, find}
 use Rattle.std.specs.List.{starts_with}
-use Rattle.std.proofs.lemmas.List.{at_drop_more, at_drop_all}
 use Rattle.std.proofs.lemmas.Bool.Decides.{Decides-eqb}
 use Rattle.pq_schema.specs.declared.scope.FileDefs.{FileDefs}
 use Rattle.pq_schema.specs.declared.definitions.Definition.{Definition}
-use Rattle.pq_schema.specs.Resolution.{Meaning, meaning, defined_in, is_package}
-use Rattle.pq_schema.specs.Resolution.Meaning.{Defined, Undefined}
+use Rattle.pq_schema.specs.Resolution.{Meaning, defined_in, is_package}
+use Rattle.pq_schema.specs.Resolution.Meaning.{Defined}
 
 -- `or_else file found otherwise` is the definition that is found in the file `file`, or `otherwise`
 abbrev pub or_else : List ℕ → Option Definition → Meaning → Meaning
@@ -26,23 +25,6 @@ unfolding defined_in
 defined_find file [] name otherwise = refl
 defined_find file (d ∷ ds) name otherwise =
     found_test file d (bytes_eq d.full_name name) (find (λ (x : Definition). bytes_eq x.full_name name) ds) _ otherwise (defined_find file ds name otherwise)
-
--- the files from place `i` on: the file at `i`, then those after it
-pub meaning_more : (files : List FileDefs) (i : ℕ) (f : FileDefs) (name : List ℕ) (found : Option Definition)
-    → i < length files
-    → f ≡ get_or files i f
-    → found ≡ find (λ (d : Definition). bytes_eq d.full_name name) f.defs.definitions
-    → meaning (drop i files) name ≡ or_else f.file found (meaning (drop (i + 1) files) name)
-unfolding meaning
-meaning_more files i f name found within is is_found =
-    at_drop_more (λ (fs : List FileDefs). meaning fs name) files i f within
-    ∙ ap (λ (x : FileDefs). meaning (x ∷ drop (i + 1) files) name) (sym is)
-    ∙ defined_find f.file f.defs.definitions name (meaning (drop (i + 1) files) name)
-    ∙ ap (λ (o : Option Definition). or_else f.file o (meaning (drop (i + 1) files) name)) (sym is_found)
-
-pub meaning_end : (files : List FileDefs) (i : ℕ) (name : List ℕ) → length files ≤ i → meaning (drop i files) name ≡ Undefined
-unfolding meaning
-meaning_end files i name beyond = at_drop_all (λ (fs : List FileDefs). meaning fs name) files i beyond
 
 -- `covers root name` is that `name` is the package `root`, or the part of it before a dot
 abbrev pub covers : List ℕ → List ℕ → Bool

@@ -65,10 +65,13 @@ or_either false b h = h
 -- the files near the scopes further out
 pub near_further : (near : List ℕ) (files : List FileDefs) (inner next : Option (List ℕ))
     → after_first inner ≡ chain next → AreNear near files (chain inner) → AreNear near files (chain next)
-near_further near files inner next is are k f at among =
-    are k f at (subst (λ (ss : List (List ℕ)). is_among f.defs.package_name ss ≡ true) (sym (chain_first inner))
-    (or_either (bytes_eq (first_of inner) f.defs.package_name) (is_among f.defs.package_name (after_first inner))
-    (subst (λ (ss : List (List ℕ)). is_among f.defs.package_name ss ≡ true) (sym is) among)))
+near_further near files inner next is are = record {
+  rising = are.rising;
+  all = λ k f at among.
+      are.all k f at (subst (λ (ss : List (List ℕ)). is_among f.defs.package_name ss ≡ true) (sym (chain_first inner))
+      (or_either (bytes_eq (first_of inner) f.defs.package_name) (is_among f.defs.package_name (after_first inner))
+      (subst (λ (ss : List (List ℕ)). is_among f.defs.package_name ss ≡ true) (sym is) among)));
+}
 
 none_around : prefixes [] ≡ []
 unfolding prefixes
@@ -86,6 +89,9 @@ near_name near files inner name full plain is are = subst (λ (n : List ℕ). Ar
     by : (o : Option (List ℕ)) → AreNear near files (chain o) → AreNear near files (around (qualified (first_of o) name))
     by None a = subst (λ (ps : List (List ℕ)). AreNear near files (ps ++ [] ∷ [])) (sym (no_dot name plain)) a
     by (Some []) a = subst (λ (ps : List (List ℕ)). AreNear near files (ps ++ [] ∷ [])) (sym (no_dot name plain))
-        (λ k f at among. subst (λ (ps : List (List ℕ)). AreNear near files ([] ∷ ps ++ [] ∷ [])) none_around a k f at (empty f.defs.package_name among))
+        (record {
+          rising = a.rising;
+          all = λ k f at among. (subst (λ (ps : List (List ℕ)). AreNear near files ([] ∷ ps ++ [] ∷ [])) none_around a).all k f at (empty f.defs.package_name among);
+        })
     by (Some (c ∷ cs)) a = subst (λ (ps : List (List ℕ)). AreNear near files (ps ++ [] ∷ []))
         (sym (ap prefixes (append_assoc (c ∷ cs) (codes ".") name) ∙ before_last (c ∷ cs) name plain)) a

@@ -8,7 +8,6 @@ pub mod Equal
 pub mod Hits
 pub mod Scopes
 pub mod Grouping
-pub mod Firsts
 pub mod FirstOf
 pub mod SameScopes
 pub mod EqualScopes

@@ -5,19 +5,17 @@
 //! bytes, each with a dot after it, so those that begin with a name and a dot are neighbours. A
 //! binary search finds the first. An entry shares the bytes of its name with the file, so the
 //! memory does not depend on the lengths of the names.
-ghost use Rattle.std.specs.Prelude.{◌≡◌, ◌⊎◌, ℕ, ◌<◌, ◌≤◌, ◌∷◌, ◌++◌, [], List, Some, None, IfOk, OnOk, bytes_eq, get_or, length, nat_eq, true, false, slice_get};
+ghost use Rattle.std.specs.Prelude.{◌≡◌, ℕ, ◌<◌, ◌≤◌, ◌++◌, [], List, IfOk, OnOk, bytes_eq, get_or, length, nat_eq, true, false};
 ghost use Rattle.std.specs.Option.{option_copied};
 ghost use Rattle.std.specs.Ordering.{is_lt, nat_cmp};
 ghost use Rattle.std.specs.Cmp.Lexicographic.{slice_cmp};
 ghost use Rattle.std.specs.List.{Contains, list_any, starts_with};
 ghost use Rattle.std.specs.List.Sorted.{IsSorted};
-ghost use Rattle.pq_rules.specs.Relations.{Each, In};
-ghost use Rattle.pq_schema.specs.aux.Grouping.{AreNear, IsBelow, IsIndex, around, defined_at, root_order};
+ghost use Rattle.pq_rules.specs.Relations.{In};
+ghost use Rattle.pq_schema.specs.aux.Grouping.{IsIndex, root_order};
 ghost use Rattle.pq_schema.specs.aux.InPackage.{dotted};
-ghost use Rattle.pq_schema.specs.aux.Firsts.{IsFoundAt, IsNowhere};
 ghost use Rattle.pq_schema.specs.aux.Scopes.{chain, is_among};
 
-use crate::definitions::Definition;
 use crate::nesting::{outer, scope_or_empty};
 use crate::scope::FileDefs;
 use pq_names::{Memory, Text};
@@ -137,76 +135,4 @@ pub(crate) fn places_near(
             None => return Ok(near),
         }
     }
-}
-
-/// The file at `place`.
-pub(crate) fn file_at(files: &[FileDefs], place: usize) -> Option<&FileDefs>
-    ensures file { option_copied result ≡ slice_get files.now place }
-{
-    files.get(place)
-}
-
-/// The first definition with a full name: the place of its file, and the definition.
-#[derive(Clone, Copy)]
-pub(crate) struct First<'a> {
-    pub(crate) place: usize,
-    pub(crate) definition: Option<&'a Definition>,
-}
-
-/// The first definition with the full name `name` in the file at `place`.
-fn named_at<'a>(files: &'a [FileDefs], place: usize, name: &str) -> Option<&'a Definition>
-    ensures is { option_copied result ≡ defined_at files.now name.now place }
-{
-    match file_at(files, place) {
-        Some(f) => f.defs.get().find(name),
-        None => None,
-    }
-}
-
-/// The definition with the full name `name` in the file at `place`, if that comes before `best` and
-/// has one; else `best`.
-fn lesser<'a>(files: &'a [FileDefs], place: usize, name: &str, best: First<'a>) -> First<'a>
-    ensures least { result.place ≤ best.entry.place }
-    ensures here { place < result.place → defined_at files.now name.now place ≡ None }
-    ensures found { (result ≡ best.entry) ⊎ IsFoundAt files.now name.now result }
-{
-    if place >= best.place {
-        return best;
-    }
-    match named_at(files, place, name) {
-        Some(definition) => First {
-            place,
-            definition: Some(definition),
-        },
-        None => best,
-    }
-}
-
-/// The first of `best` and of those of `places` at which a file has the full name `name`.
-fn first_in<'a>(files: &'a [FileDefs], places: &[usize], name: &str, best: First<'a>) -> First<'a>
-    ensures least { result.place ≤ best.entry.place }
-    ensures others { (k : ℕ) → In k places.now → k < result.place
-        → defined_at files.now name.now k ≡ None }
-    ensures found { (result ≡ best.entry) ⊎ IsFoundAt files.now name.now result }
-{
-    let mut least = best;
-    'places: for place in places {
-        least = lesser(files, *place, name, least);
-    }
-    least
-}
-
-/// The first of `files` that has the full name `name`, or their number. `near` has the places of
-/// the files that can have the name.
-pub(crate) fn first_place<'a>(files: &'a [FileDefs], near: &[usize], name: &str) -> First<'a>
-    requires near { AreNear near.now files.now (around name.now) }
-    requires below { Each IsBelow files.now }
-    ensures before { (k : ℕ) → k < result.place → defined_at files.now name.now k ≡ None }
-    ensures found { IsNowhere files.now result ⊎ IsFoundAt files.now name.now result }
-{
-    let nowhere = First {
-        place: files.len(),
-        definition: None,
-    };
-    first_in(files, near, name, nowhere)
 }

@@ -4,29 +4,19 @@
 //! once for all the names that a reference is looked up by.
 ghost use Rattle.std.specs.Prelude.{◌≡◌, IfOk};
 ghost use Rattle.std.specs.Option.{option_copied};
-ghost use Rattle.std.specs.List.Sorted.{IsSorted};
-ghost use Rattle.std.specs.Ordering.{nat_cmp};
 ghost use Rattle.pq_schema.specs.Resolution.{meaning, is_package};
 ghost use Rattle.pq_schema.specs.aux.FirstOf.{first_of, other_with};
 ghost use Rattle.pq_schema.specs.aux.Grouping.{AreNear, around};
 ghost use Rattle.pq_schema.specs.aux.Hits.{meaning_at};
 ghost use Rattle.pq_schema.specs.aux.Scopes.{chain};
 
-use crate::by_package::{Entry, file_at, first_place, has_package, packages_of, places_near};
-use crate::definitions::Definition;
+use crate::by_package::{Entry, has_package, packages_of, places_near};
+use crate::named::{Place, first_definition, first_other};
 use crate::nesting::outer;
-use crate::others::other_in;
 use crate::scope::FileDefs;
 use pq_names::{Memory, Text};
 use std::alloc::Global;
 use std::marker::Model;
-
-/// A definition, and the name of the file that has it.
-#[derive(Clone, Copy)]
-pub(crate) struct Place<'a> {
-    pub(crate) file: &'a Text,
-    pub(crate) definition: &'a Definition,
-}
 
 /// Files in order, with their definitions. Contracts see the list.
 #[derive(Drop)]
@@ -69,7 +59,6 @@ impl Files {
     pub(crate) fn near(&self, alloc: Global, within: Option<&str>) -> Result<Vec<usize>, Memory>
         ensures near { IfOk result
             (λ v. AreNear v.items self.now (chain (option_copied within.entry))) }
-        ensures rising { IfOk result (λ v. IsSorted nat_cmp v.items) }
     {
         let mut near = places_near(alloc, &self.packages, within)?;
         near.sort_unstable();
@@ -82,18 +71,7 @@ impl Files {
         requires near { AreNear near.now self.now (around name.now) }
         ensures first { meaning_at result ≡ meaning self.now name.now }
     {
-        let files = self.files.as_slice();
-        let first = first_place(files, near, name);
-        match first.definition {
-            Some(definition) => match file_at(files, first.place) {
-                Some(f) => Some(Place {
-                    file: &f.file,
-                    definition,
-                }),
-                None => None,
-            },
-            None => None,
-        }
+        first_definition(self.files.as_slice(), near, name)
     }
 
     /// The name of the first of the files, but of the file `file`, that defines `name`.
@@ -106,7 +84,7 @@ impl Files {
         ensures first { IfOk result (λ o. option_copied o ≡ first_of (other_with file.now name.now) self.now) }
     {
         let near = self.near(alloc, outer(name))?;
-        Ok(other_in(self.files.as_slice(), &near, file, name))
+        Ok(first_other(self.files.as_slice(), &near, file, name))
     }
 
     /// Whether `name` is a package of the files, or the part of one before a dot.

@@ -12,9 +12,8 @@
 //! Modules: `definitions` (what a file defines), `define` (what a statement defines), `index` (the
 //! search by full name), `references`, `outline` (the package and the scopes of a file),
 //! `full_name` and `enclosing` (names that share their scopes), `map_entries`; `scope` (the files
-//! that a file sees and reaches), `files` and `by_package` (the look-up of a full name, and which
-//! files it asks), `others` (the other files that define a name), `nesting` (the scopes around a
-//! scope), `search` (the search from scope to scope), `resolution` (its answers); `keys` (what a
+//! that a file sees and reaches), `files` over `by_package` and `named` (the look-up of a full
+//! name, which files it asks, and the first that has it), `nesting` (the scopes around a scope), `search` (the search from scope to scope), `resolution` (its answers); `keys` (what a
 //! sum offers), `defined`, `scopes` over `collected`, and `resolved` (the queries), `rules` (the
 //! rule set); `laws`, `scope_laws`.
 #![tactic(auto)]
@@ -31,8 +30,8 @@ mod index;
 mod keys;
 mod laws;
 mod map_entries;
+mod named;
 mod nesting;
-mod others;
 mod outline;
 mod references;
 mod resolution;

@@ -5,8 +5,8 @@ ghost use Rattle.pq_schema.specs.Resolution.Lookup.{IsType};
 ghost use Rattle.pq_schema.specs.declared.resolution.ResolveFault.TheVariants.{Memory as OutOfMemory};
 
 use crate::definitions::DefinitionKind;
-use crate::files::Place;
 use crate::full_name::FullName;
+use crate::named::Place;
 use crate::scope::Scope;
 use crate::search::{Outcome, look_up};
 use pq_lex::Span;

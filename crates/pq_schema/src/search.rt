@@ -10,7 +10,8 @@ ghost use Rattle.pq_schema.specs.aux.Grouping.{AreNear, around};
 ghost use Rattle.pq_schema.specs.aux.Hits.{found_at, lookup_at};
 
 use crate::definitions::DefinitionKind;
-use crate::files::{Files, Place};
+use crate::files::Files;
+use crate::named::Place;
 use crate::nesting::{innermost, outer, scope_or_empty};
 use crate::scope::Scope;
 use pq_names::{Memory, Text};

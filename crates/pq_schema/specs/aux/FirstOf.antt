@@ -1,8 +1,10 @@
 -- Auxiliary: the first answer that a file gives (used by proofs and contracts of private functions
 -- only).
-use Rattle.std.specs.Prelude.{ℕ, bytes_eq, cond, not, ◌&&◌, slice_get, List, [], ◌∷◌, Option, Some, None}
+use Rattle.std.specs.Prelude.{option_map, ℕ, bytes_eq, cond, not, ◌&&◌, slice_get, List, [], ◌∷◌, Option, Some, None}
 use Rattle.pq_schema.specs.declared.scope.FileDefs.{FileDefs}
+use Rattle.pq_schema.specs.declared.definitions.Definition.{Definition}
 use Rattle.pq_schema.specs.Others.{defines}
+use Rattle.pq_schema.specs.aux.Grouping.{find_in}
 
 -- `either a b` is `a`, or `b` if `a` is `None`
 abbrev pub either : {X : Type 0} → Option X → Option X → Option X
@@ -26,3 +28,8 @@ answer_at answer files k = answer_by answer (slice_get files k)
 -- `other_with file name f` is the name of the file `f` if it is not `file` and defines `name`
 abbrev pub other_with : List ℕ → List ℕ → FileDefs → Option (List ℕ)
 other_with file name f = cond (not (bytes_eq f.file file) && defines name f) (Some f.file) None
+
+-- `definition_in name f` is the first definition with the full name `name` in the file `f`, beside
+-- the name of the file
+abbrev pub definition_in : List ℕ → FileDefs → Option (List ℕ × Definition)
+definition_in name f = option_map (λ (d : Definition). (f.file, d)) (find_in f name)

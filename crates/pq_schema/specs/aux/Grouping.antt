@@ -1,6 +1,6 @@
 -- Auxiliary: the packages of a list of files, the invariant of `Files` (used by proofs and
 -- invariants only).
-use Rattle.std.specs.Prelude.{◌≡◌, ℕ, suc, true, bytes_eq, codes, find, slice_get, List, [], ◌∷◌, ◌++◌, Option, Some, None}
+use Rattle.std.specs.Prelude.{◌≡◌, ℕ, suc, true, bytes_eq, find, slice_get, List, [], ◌∷◌, ◌++◌, Option, Some}
 use Rattle.std.specs.List.Sorted.{IsPermutation, IsSorted}
 use Rattle.std.specs.declared.cmp.Ordering.{Ordering}
 use Rattle.std.specs.Cmp.Lexicographic.{slice_cmp}
@@ -15,15 +15,6 @@ use Rattle.pq_schema.specs.aux.Scopes.{is_among}
 -- `find_in f name` is the first definition of the file `f` with the full name `name`
 abbrev pub find_in : FileDefs → List ℕ → Option Definition
 find_in f name = find (λ (d : Definition). bytes_eq d.full_name name) f.defs.definitions
-
-abbrev pub find_at : Option FileDefs → List ℕ → Option Definition
-find_at None name = None
-find_at (Some f) name = find_in f name
-
--- `defined_at files name k` is the first definition with the full name `name` in the file at the
--- place `k`
-abbrev pub defined_at : List FileDefs → List ℕ → ℕ → Option Definition
-defined_at files name k = find_at (slice_get files k) name
 
 -- `IsBelow f` is that the file `f` has its definitions below its package
 abbrev pub IsBelow : FileDefs → Type 0
@@ -51,6 +42,7 @@ abbrev pub around : List ℕ → List (List ℕ)
 around name = prefixes name ++ [] ∷ []
 
 -- `AreNear near files roots` is that `near` has the place of each of `files` whose package is one of
--- `roots`
-abbrev pub AreNear : List ℕ → List FileDefs → List (List ℕ) → Type 0
-AreNear near files ss = (k : ℕ) (f : FileDefs) → slice_get files k ≡ Some f → is_among f.defs.package_name ss ≡ true → In k near
+-- `roots`, and that the places rise
+pub record AreNear (near : List ℕ) (files : List FileDefs) (roots : List (List ℕ)) : Type 0 where
+  pub rising : IsSorted nat_cmp near
+  pub all : (k : ℕ) (f : FileDefs) → slice_get files k ≡ Some f → is_among f.defs.package_name roots ≡ true → In k near

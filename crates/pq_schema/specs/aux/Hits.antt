@@ -1,10 +1,11 @@
 -- Auxiliary: what the program's look-ups answer, in the words of the resolution.
-use Rattle.std.specs.Prelude.{Option, Some, None}
+use Rattle.std.specs.Prelude.{ℕ, List, Option, Some, None}
 use Rattle.pq_schema.specs.Resolution.{Found, Meaning, Lookup}
 use Rattle.pq_schema.specs.Resolution.Found.{FoundType, FoundOther, FoundNothing}
 use Rattle.pq_schema.specs.Resolution.Meaning.{Defined, Undefined}
 use Rattle.pq_schema.specs.Resolution.Lookup.{IsType, IsNotFound, IsNotVisible, IsNotAType}
-use Rattle.pq_schema.specs.declared.files.Place.{Place}
+use Rattle.pq_schema.specs.declared.definitions.Definition.{Definition}
+use Rattle.pq_schema.specs.declared.named.Place.{Place}
 use Rattle.pq_schema.specs.declared.search.Hit.{Hit}
 use Rattle.pq_schema.specs.declared.search.Hit.TheVariants.{«Type» as TypeHit, Other as OtherHit, Nothing as NothingHit}
 use Rattle.pq_schema.specs.declared.search.Outcome.{Outcome}
@@ -14,6 +15,11 @@ use Rattle.pq_schema.specs.declared.search.Outcome.TheVariants.{«Type» as Type
 abbrev pub meaning_at : Option Place → Meaning
 meaning_at None = Undefined
 meaning_at (Some p) = Defined p.file.now p.definition.now
+
+-- `placed place` is the file and the definition at `place`
+abbrev pub placed : Option Place → Option (List ℕ × Definition)
+placed None = None
+placed (Some p) = Some (p.file.now, p.definition.now)
 
 -- `found_at hit` is what a search ends in that ends in `hit`
 abbrev pub found_at : Hit → Found

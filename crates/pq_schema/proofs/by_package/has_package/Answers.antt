@@ -1,4 +1,4 @@
-use Rattle.std.proofs.Common.{◌≡◌, ℕ, List, Some, sym, ap, ◌∙◌, nat_eq}
+use Rattle.std.proofs.Common.{ℕ, List, Some, sym, ap, ◌∙◌, nat_eq}
 use Rattle.std.specs.List.{starts_with}
 use Rattle.std.proofs.lemmas.Option.{slice_get-get_or, slice_get_past}
 use Rattle.pq_schema.specs.aux.InPackage.{dotted}

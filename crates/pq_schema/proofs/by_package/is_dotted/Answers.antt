@@ -1,4 +1,4 @@
-use Rattle.std.proofs.Common.{◌≡◌, List, ℕ, sym, ap, ◌∙◌, ◌&&◌, nat_eq}
+use Rattle.std.proofs.Common.{List, ℕ, sym, ap, ◌∙◌, ◌&&◌}
 use Rattle.std.specs.Prelude.{bytes_eq}
 use Rattle.std.proofs.lemmas.Bool.Decides.{Decides-eqb}
 use Rattle.pq_schema.specs.aux.InPackage.{dotted}

@@ -1,7 +1,7 @@
-use Rattle.std.proofs.Common.{◌≡◌, Some, true, false, sym, ap, ◌∙◌, ◌&&◌, nat_eq}
+use Rattle.std.proofs.Common.{Some, sym, ap, ◌∙◌, ◌&&◌, nat_eq}
 use Rattle.std.specs.List.{starts_with}
 use Rattle.std.proofs.lemmas.Bool.Decides.{Decides-eqb}
-use Rattle.std.proofs.lemmas.Option.{slice_get-get_or, slice_get_past}
+use Rattle.std.proofs.lemmas.Option.{slice_get-get_or}
 use Rattle.pq_schema.proofs.Dotted.{inside_at, other_byte}
 use Rattle.pq_schema.proofs.by_package.is_inside.Goals as goal
 

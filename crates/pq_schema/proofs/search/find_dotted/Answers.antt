@@ -6,7 +6,7 @@ use Rattle.pq_schema.specs.aux.Hits.{found_at}
 use Rattle.pq_schema.specs.aux.Scopes.{first_of}
 use Rattle.pq_schema.proofs.Walks.{dotted_found, dotted_none, further, no_further}
 use Rattle.std.proofs.lemmas.Result.{IfOk-weaker}
-use Rattle.pq_schema.proofs.Near.{near_chain, near_further, near_name}
+use Rattle.pq_schema.proofs.Near.{near_further, near_name}
 use Rattle.pq_schema.proofs.search.find_dotted.Goals as goal
 
 pub decides-requires : goal.decides-requires

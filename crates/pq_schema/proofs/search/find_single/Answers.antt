@@ -6,7 +6,7 @@ use Rattle.pq_schema.specs.aux.Hits.{found_at}
 use Rattle.pq_schema.specs.aux.Scopes.{first_of, after_first}
 use Rattle.pq_schema.specs.declared.search.Hit.{Hit}
 use Rattle.pq_schema.proofs.Walks.{single_more, single_none, nothing_further, stays_type, further, no_further}
-use Rattle.pq_schema.proofs.Near.{near_chain, near_further, near_name}
+use Rattle.pq_schema.proofs.Near.{near_further, near_name}
 use Rattle.pq_schema.proofs.search.find_single.Goals as goal
 
 pub find_full-requires : goal.find_full-requires

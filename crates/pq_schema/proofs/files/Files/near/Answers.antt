@@ -16,9 +16,11 @@ returns c =
     let sorted = c.sort_unstable.new.self.items in
     record {
       near = subst (λ (fs : List FileDefs). AreNear sorted fs (chain (option_copied c.args.within))) c.self.view_is
-          (λ k f at among.
-          let there = c.in_ok-near.ensures.places f.defs.package_name k among
-          (subst (λ (es : List (List ℕ × ℕ)). Contains es (dotted f.defs.package_name, k)) (sym c.deref.ensures.value) (listed c.self.inside.files.items c.self.invariant k f at)) in
-          contains_in k sorted (Contains-permutation near sorted k c.sort_unstable.ensures.permutation (in_contains k near there)));
-      rising = c.sort_unstable.ensures.sorted;
+          (record {
+            rising = c.sort_unstable.ensures.sorted;
+            all = λ k f at among.
+                let there = c.in_ok-near.ensures.places f.defs.package_name k among
+                (subst (λ (es : List (List ℕ × ℕ)). Contains es (dotted f.defs.package_name, k)) (sym c.deref.ensures.value) (listed c.self.inside.files.items c.self.invariant k f at)) in
+                contains_in k sorted (Contains-permutation near sorted k c.sort_unstable.ensures.permutation (in_contains k near there));
+          });
     }

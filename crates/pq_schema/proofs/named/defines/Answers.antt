@@ -3,7 +3,7 @@ use Rattle.std.specs.Prelude.{is_some, find, bytes_eq}
 use Rattle.pq_schema.specs.Contents.{Defs}
 use Rattle.pq_schema.specs.declared.definitions.Definition.{Definition}
 use Rattle.pq_schema.proofs.FirstNear.{found_defines, some_copied}
-use Rattle.pq_schema.proofs.others.defines.Goals as goal
+use Rattle.pq_schema.proofs.named.defines.Goals as goal
 
 pub returns : goal.returns
 returns c =
