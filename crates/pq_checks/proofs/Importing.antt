@@ -1,5 +1,5 @@
 -- The errors of imports, by what the code looks up: states by name, and names listed before.
-use Rattle.std.proofs.Common.{◌≡◌, ℕ, zero, suc, arith, ◌+◌, ◌<◌, Bool, true, false, cond, List, [], ◌∷◌, ◌++◌, take, drop, length, get_or, map, refl, sym, ◌∙◌, ap, append_assoc, add-one, drop-cons}
+use Rattle.std.proofs.Common.{◌≡◌, ℕ, zero, suc, arith, ◌+◌, ◌<◌, Bool, true, false, cond, List, [], ◌∷◌, ◌++◌, drop, length, get_or, refl, sym, ◌∙◌, ap, append_assoc, add-one, drop-cons}
 use Rattle.std.specs.Prelude.{bytes_eq, codes, Option, Some, None, unwrap_or}
 use Rattle.std.specs.Borrow.{Bor}
 use Rattle.pq_syntax.specs.declared.parts.Strings.{Strings}

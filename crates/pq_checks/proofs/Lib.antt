@@ -13,7 +13,6 @@ pub mod Joined
 pub mod Spotted
 pub mod Sets
 pub mod References
-pub mod Elsewhere
 pub mod Importing
 pub mod DiagnosticsGiven
 pub mod TableRows

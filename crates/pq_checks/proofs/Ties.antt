@@ -1,5 +1,5 @@
 -- Keys that tie are equal: numbers, owners and names; and what ranges of keys have.
-use Rattle.std.proofs.Common.{◌≡◌, ℕ, ℤ, pos, negsuc, Bool, true, false, cond, List, [], ◌∷◌, map, refl, sym, ap, ◌∙◌, arith, nat_lt, nat_le}
+use Rattle.std.proofs.Common.{◌≡◌, ℕ, ℤ, pos, negsuc, Bool, true, false, cond, List, [], ◌∷◌, refl, sym, ap, ◌∙◌, arith, nat_lt, nat_le}
 use Rattle.std.specs.Prelude.{◌&&◌, ◌||◌, Option, Some, None, is_some, int_le, nat_eq, bytes_eq, flat_map}
 use Rattle.std.specs.List.{list_any}
 use Rattle.std.specs.Option.{option_eq, option_cmp}
@@ -13,8 +13,8 @@ use Rattle.std.proofs.lemmas.Cmp.{eq_by_cmp_equiv}
 use Rattle.std.proofs.lemmas.Slice.Eq.{bytes_eq-Decides}
 use Rattle.std.proofs.lemmas.List.Folds.{list_any-append}
 use Rattle.std.proofs.lemmas.Map.Text.{is_eq-slice_cmp}
-use Rattle.pq_schema.specs.aux.NameOrder.{names_tie}
 use Rattle.pq_schema.specs.contracts.full_name.FullNameOrd.TheImpl as order
+use Rattle.pq_schema.specs.contracts.full_name.FullNameOrd.TheImpl.Laws.{matches_eq-law}
 use Rattle.pq_schema.specs.declared.definitions.Definition.{Definition}
 use Rattle.pq_checks.specs.Faults.{same_item, has_number, is_reserved, covers}
 use Rattle.pq_checks.specs.Members.{Member, ReservedName}
@@ -142,4 +142,4 @@ name_back k q n owner value =
 
 -- which full names tie with that of a definition
 pub full_name_back : (k q : List ℕ) (d : Definition) → k ≡ d.full_name → is_eq (order.ghosts.cmp k q) ≡ is_full_name q d
-full_name_back k q d is = sym (names_tie k q) ∙ turned k q ∙ ap (λ n. bytes_eq q n) is
+full_name_back k q d is = sym (matches_eq-law k q) ∙ turned k q ∙ ap (λ n. bytes_eq q n) is

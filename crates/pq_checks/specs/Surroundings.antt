@@ -1,15 +1,14 @@
 -- What the checks of a file know beside its tree: its imports' files, its definitions, what its
 -- type references resolve to, and the definitions that it sees.
-use Rattle.std.specs.Prelude.{ℕ, Bool, cond, bytes_eq, not, find, filter, List, [], ◌∷◌, Option, option_map}
-use Rattle.std.specs.List.{list_any}
+use Rattle.std.specs.Prelude.{ℕ, cond, bytes_eq, List, [], ◌∷◌, Option}
 use Rattle.pq_syntax.specs.declared.fault.Parsed.{Parsed}
 use Rattle.pq_syntax.specs.declared.fault.Parsed.TheVariants.{Tree, Fault}
 use Rattle.pq_links.specs.declared.files.ParsedFile.{ParsedFile}
 use Rattle.pq_links.specs.declared.files.ParsedFile.TheVariants.{Absent, Present}
-use Rattle.pq_schema.specs.ScopeContents.{Scope}
 use Rattle.pq_schema.specs.declared.definitions.Definition.{Definition}
 use Rattle.pq_schema.specs.declared.resolved.ResolvedReference.{ResolvedReference}
 use Rattle.pq_schema.specs.declared.scope.FileDefs.{FileDefs}
+pub use Rattle.pq_schema.specs.Others.{other_files, first_with}
 use Rattle.pq_checks.specs.declared.surroundings.FileState.{FileState}
 use Rattle.pq_checks.specs.declared.surroundings.FileState.TheVariants.{Missing, Unreadable, Readable}
 use Rattle.pq_checks.specs.declared.surroundings.Imported.{Imported}
@@ -40,23 +39,11 @@ pub record Surroundings : Type 0 where
   -- the type references of the file, in text order, with what they resolve to
   pub references : List ResolvedReference
 
--- `other_files f s` lists the files of the scope `s` that the file `f` sees, but `f` itself
-abbrev pub other_files : List ℕ → Scope → List FileDefs
-other_files f s = filter (λ (v : FileDefs). not (bytes_eq v.file f)) s.visible
-
 -- `state_in imported file` is the state of the file named `file` among `imported`; a file that is
 -- not among them counts as readable
 abbrev pub state_in : List Imported → List ℕ → FileState
 state_in [] file = Readable
 state_in (i ∷ is) file = cond (bytes_eq i.file file) i.state (state_in is file)
-
--- `defines full_name file` is whether `file` has a definition with the full name `full_name`
-abbrev pub defines : List ℕ → FileDefs → Bool
-defines full_name file = list_any (λ (d : Definition). bytes_eq d.full_name full_name) file.defs.definitions
-
--- `first_with full_name files` is the name of the first of `files` that defines `full_name`
-abbrev pub first_with : List ℕ → List FileDefs → Option (List ℕ)
-first_with full_name files = option_map (λ (f : FileDefs). f.file) (find (defines full_name) files)
 
 -- `no_checked` is the checks of an absent file: it has no errors
 abbrev pub no_checked : Checked

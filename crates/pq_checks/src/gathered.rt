@@ -1,14 +1,14 @@
 //! What the rule of a file's checks has gathered, and the errors by it.
-ghost use Rattle.std.specs.Prelude.{◌≡◌, ◌-◌, ◌∷◌, [], ◌++◌, IfOk, OnOk, OnErr, cond, drop, flat_map, is_some, take, length, slice_get};
+ghost use Rattle.std.specs.Prelude.{◌≡◌, ◌-◌, ◌∷◌, [], ◌++◌, None, IfOk, OnOk, OnErr, cond, drop, flat_map, is_some, take, length, slice_get};
 ghost use Rattle.std.specs.Option.{option_copied};
 ghost use Rattle.pq_checks.specs.Compile.{parsed_faults, file_faults};
 ghost use Rattle.pq_checks.specs.Faults.{elsewhere_faults, faults, link_faults, definition_faults, type_faults};
-ghost use Rattle.pq_checks.specs.Surroundings.{other_files};
+ghost use Rattle.pq_schema.specs.Others.{other_files};
 ghost use Rattle.pq_checks.specs.aux.Gathering.{surroundings_of, checked_of};
 
 use crate::Memory;
 use crate::code::{syntax_code, syntax_text};
-use crate::definition_lines::{other_files, push_elsewhere_faults, push_twice_faults};
+use crate::definition_lines::{push_elsewhere_faults, push_twice_faults};
 use crate::fault::Fault;
 use crate::import_lines::push_import_faults;
 use crate::member_lines::push_member_faults;
@@ -202,43 +202,39 @@ fn push_elsewhere(
     if known.linked.ring.is_some() {
         return Ok(());
     }
-    let others = other_files(alloc, known.linked.file.as_str(), known.scope.get())?;
     push_elsewhere_faults(
         alloc,
         faults,
-        others.as_slice(),
+        known.linked.file.as_str(),
+        known.scope.get(),
         nodes,
         known.defs.get().definitions(),
     )
 }
 
-/// Adds the errors of the definitions.
+/// Adds the errors of the definitions. What the file imports does not matter to them.
 fn push_definitions(
     alloc: Global,
     faults: &mut Vec<Fault>,
     known: &Known,
-    imported: &[Imported],
-    next: Option<&Text>,
     nodes: &[Node],
 ) -> Result<(), Memory>
     ensures said { IfOk result (λ _. faults.new.items ≡ faults.old.items
-        ++ definition_faults (surroundings_of known.now imported.now (option_copied next.entry)) nodes.now) }
+        ++ definition_faults (surroundings_of known.now [] None) nodes.now) }
 {
     push_twice_faults(alloc, faults, known.defs.get().definitions())?;
     push_elsewhere(alloc, faults, known, nodes)
 }
 
-/// Adds the errors of the type references.
+/// Adds the errors of the type references. What the file imports does not matter to them.
 fn push_types(
     alloc: Global,
     faults: &mut Vec<Fault>,
     known: &Known,
-    imported: &[Imported],
-    next: Option<&Text>,
     nodes: &[Node],
 ) -> Result<(), Memory>
     ensures said { IfOk result (λ _. faults.new.items ≡ faults.old.items
-        ++ type_faults (surroundings_of known.now imported.now (option_copied next.entry)) nodes.now) }
+        ++ type_faults (surroundings_of known.now [] None) nodes.now) }
 {
     if known.linked.ring.is_some() {
         return Ok(());
@@ -260,9 +256,9 @@ fn tree_faults(
     let mut faults = Vec::new(alloc);
     push_unread_faults(alloc, &mut faults, nodes)?;
     push_links(alloc, &mut faults, known, imported, next, nodes)?;
-    push_definitions(alloc, &mut faults, known, imported, next, nodes)?;
+    push_definitions(alloc, &mut faults, known, nodes)?;
     push_member_faults(alloc, &mut faults, nodes)?;
-    push_types(alloc, &mut faults, known, imported, next, nodes)?;
+    push_types(alloc, &mut faults, known, nodes)?;
     Ok(faults)
 }
 

@@ -1,10 +1,10 @@
 use Rattle.std.proofs.Common.{◌≡◌, ◌++◌, drop}
 use Rattle.std.specs.Prelude.{flat_map}
+use Rattle.pq_schema.specs.Others.{other_files}
 use Rattle.pq_checks.specs.Faults.{elsewhere_faults}
-use Rattle.pq_checks.specs.aux.Views.{all_now}
 use Rattle.pq_checks.proofs.definition_lines.push_elsewhere_faults.Given as goal
 
 abbrev pub invariant-definitions : goal.invariant-definitions
 invariant-definitions l =
-    l.faults.items ++ flat_map (elsewhere_faults (all_now l.others) l.nodes) (drop l.definition-index l.definitions)
-    ≡ l.fn.faults.items ++ flat_map (elsewhere_faults (all_now l.others) l.nodes) l.definitions
+    l.faults.items ++ flat_map (elsewhere_faults (other_files l.file l.scope) l.nodes) (drop l.definition-index l.definitions)
+    ≡ l.fn.faults.items ++ flat_map (elsewhere_faults (other_files l.file l.scope) l.nodes) l.definitions
