@@ -1,5 +1,6 @@
 -- The state of a demand from its beginning to its end.
 use Rattle.std.proofs.Common.{◌≡◌, ℕ, ◌+◌, ◌<◌, ◌≤◌, List, [], ◌∷◌, ◌++◌, length, slice_get, Option, Some, refl, sym, ◌∙◌, ap, subst, inl, inr, arith}
+use Rattle.std.specs.Prelude.{Result, Ok, Err, IfOk, IfSome, None}
 use Rattle.std.specs.declared.cmp.Ordering.{Ordering}
 use Rattle.std.proofs.lemmas.Option.{same_Some}
 use Rattle.pq_inputs.specs.Sources.{Sources, Table}
@@ -143,3 +144,12 @@ answer_means {K} {P} {V} order exact m inputs latest table kept k a (inr r) =
     subst (λ (s : Sources). Means (over order m s) k a) (now_files inputs.history inputs.revision inputs.files latest)
     (subst (λ (x : Answer K V). Means (at order m inputs.history inputs.revision) k x) r.3
     (now_right order (strict order exact.total) m inputs.history inputs.revision table kept k r.0 r.1 r.2))
+
+-- and so is the answer that may have been read
+pub answer_read : {K P V E : Type 0} (order : K → K → Ordering) (exact : Exact order) (m : Machine K P V) (inputs : Table)
+    → slice_get inputs.history inputs.revision ≡ Some inputs.files → (table : K → Option (Memo K V)) → Kept order m inputs.history inputs.revision (HasIn table)
+    → (k : K) (r : Result (Option (Answer K V)) E) → IfOk r (λ o. IfSome o (λ a. IsReadAnswer order m inputs.files inputs.revision (HasIn table) k a))
+    → IfOk r (λ o. IfSome o (λ a. Means (over order m inputs.files) k a))
+answer_read order exact m inputs latest table kept k (Ok (Some a)) h = answer_means order exact m inputs latest table kept k a h
+answer_read order exact m inputs latest table kept k (Ok None) h = tt
+answer_read order exact m inputs latest table kept k (Err e) h = tt

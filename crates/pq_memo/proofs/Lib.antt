@@ -29,3 +29,4 @@ pub mod Demanding
 pub mod Indexed
 pub mod Numbered
 pub mod SlotCalls
+pub mod RoundBegun

@@ -53,7 +53,7 @@ turned_from {K} {P} i fs k h j =
     ])
 
 -- the least of distinct keys is less than each other
-least_less : {K P : Type 0} (order : K → K → Ordering) → ((a b : K) → order a b ≡ Equal → a ≡ b)
+pub least_less : {K P : Type 0} (order : K → K → Ordering) → ((a b : K) → order a b ≡ Equal → a ≡ b)
     → (fs : List (Frame K P)) (i : ℕ) → IsLeastKey order fs i → Distinct (frame_keys fs)
     → (front : List (Frame K P)) (item : Frame K P) (back : List (Frame K P)) → fs ≡ front ++ item ∷ back → ((d : Frame K P) → get_or fs i d ≡ item)
     → Each (λ y. order item.key y ≡ Less) (frame_keys (back ++ front))
@@ -97,7 +97,7 @@ module _ {K P V : Type 0} (order : K → K → Ordering) (m : Machine K P V) (in
   join_ways t x (y ∷ xs) e ys a b = (a.0, join_ways t y xs e ys a.1 b)
 
   -- a round may begin at any of its frames
-  turned : (z : K) (fs : List (Frame K P)) (front : List (Frame K P)) (y : Frame K P) (back : List (Frame K P)) → Way z fs → fs ≡ front ++ y ∷ back
+  pub turned : (z : K) (fs : List (Frame K P)) (front : List (Frame K P)) (y : Frame K P) (back : List (Frame K P)) → Way z fs → fs ≡ front ++ y ∷ back
       → ((x : Frame K P) (xs : List (Frame K P)) → fs ≡ x ∷ xs → x.key ≡ z) → Way y.key (y ∷ (back ++ front))
   turned z fs [] y back w whole first =
       let here : Way z (y ∷ back) = subst (λ (l : List (Frame K P)). Way z l) whole w in

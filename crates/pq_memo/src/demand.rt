@@ -25,7 +25,7 @@ use pq_rules::{Answer, Memory, Rules, Shared, Turn};
 use std::alloc::Global;
 
 /// The place of the frame with the least key.
-fn least_place<R: Rules>(_rules: &R, frames: &[Frame<R::Key, R::Part>]) -> usize
+pub(crate) fn least_place<R: Rules>(_rules: &R, frames: &[Frame<R::Key, R::Part>]) -> usize
     requires { 0 < length frames.now }
     ensures within { result < length frames.now }
     ensures least { IsLeastKey R.Key.cmp frames.now result }
@@ -276,7 +276,7 @@ impl<R: Rules> Memos<R> {
     {
         let _latest = inputs.now();
         let mut carried = Vec::new(alloc);
-        if self.is_up_to_date(key, near, inputs) {
+        if self.is_up_to_date_near(key, near, inputs) {
             return Ok(carried);
         }
         let number = self.make_room(alloc, key, near)?;

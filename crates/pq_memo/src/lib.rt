@@ -20,7 +20,7 @@
 //! `ring` (publishing a ring), `compared` (old answers and a ring), `member` and `unpublished` (what
 //! goes in, and what comes back), `frame` and `restored` (a step), `round` (frames in a round),
 //! `engine` and `demanded` (what a demand answers), `demand` (bringing a key up to date), `stack`
-//! (its frames), `laws`.
+//! (its frames), `turned` and `usable` (for callers that keep frames), `laws`.
 #![tactic(auto)]
 
 mod compared;
@@ -39,7 +39,9 @@ mod round;
 mod slots;
 mod stack;
 mod state;
+mod turned;
 mod unpublished;
+mod usable;
 mod writes;
 
 pub use demanded::{Carried, Demanded};
@@ -49,4 +51,5 @@ pub use laws::{kept_is_sound, look_is_right, turns_are_right};
 pub use look::{Look, Why};
 pub use member::Member;
 pub use memos::Memos;
+pub use stack::Stack;
 pub use unpublished::{Unpublished, UnpublishedRing};

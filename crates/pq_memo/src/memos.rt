@@ -54,7 +54,7 @@ impl<R: Rules> Memos<R> {
     }
 
     /// The rule set.
-    pub(crate) fn rules(&self) -> &R
+    pub fn rules(&self) -> &R
         ensures { result.now ≡ self.now.rules }
     {
         &self.rules
@@ -130,7 +130,7 @@ impl<R: Rules> Memos<R> {
     }
 
     /// Whether `key` is an input, or its memo was verified now.
-    pub(crate) fn is_up_to_date(&self, key: &R::Key, near: usize, inputs: &Inputs) -> bool
+    pub(crate) fn is_up_to_date_near(&self, key: &R::Key, near: usize, inputs: &Inputs) -> bool
         ensures { IsTrue result ↔ IsUpToDate (R.machine self.now.rules) inputs.now.revision (HasIn (memo_at R.Key.cmp self.now.places)) key.now }
     {
         self.fresh_change(key, near, inputs).is_some()

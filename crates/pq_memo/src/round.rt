@@ -88,7 +88,7 @@ impl<R: Rules> Memos<R> {
     }
 
     /// Makes the member of a ring for each of `frames`.
-    fn members_of(
+    pub(crate) fn members_of(
         &self,
         alloc: Global,
         frames: &[Frame<R::Key, R::Part>],

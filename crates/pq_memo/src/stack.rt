@@ -22,7 +22,7 @@ const NEAR: usize = 8;
 
 /// Frames with distinct keys, the first to be brought up to date last. Contracts see their list.
 #[derive(Drop)]
-pub(crate) struct Stack<R: Rules> {
+pub struct Stack<R: Rules> {
     frames: Vec<Frame<R::Key, R::Part>>,
     // The places of the frames before `mapped`.
     places: BTreeMap<R::Key, usize>,
@@ -158,7 +158,7 @@ fn lesser(a: usize, b: usize) -> usize
 
 impl<R: Rules> Stack<R> {
     /// An empty stack.
-    pub(crate) fn new(alloc: Global) -> Self
+    pub fn new(alloc: Global) -> Self
         ensures { result ≡ [] }
     {
         Stack {
@@ -194,7 +194,7 @@ impl<R: Rules> Stack<R> {
     }
 
     /// Pops the last frame.
-    pub(crate) fn pop(&mut self) -> Option<Frame<R::Key, R::Part>>
+    pub fn pop(&mut self) -> Option<Frame<R::Key, R::Part>>
         ensures items { self.old ≡ self.new ++ option_to_list result }
         ensures empty { IfNone result (self.old ≡ []) }
     {
@@ -222,7 +222,7 @@ impl<R: Rules> Stack<R> {
     }
 
     /// The place of the frame of `key`, in logarithmic time.
-    pub(crate) fn place_of(&self, rules: &R, key: &R::Key) -> Option<usize>
+    pub fn place_of(&self, rules: &R, key: &R::Key) -> Option<usize>
         ensures found { IfSome result (λ i. (i < length self.now) × HoldsAt (λ f. f.key ≡ key.now) self.now i) }
         ensures none { IfNone result (In key.now (frame_keys self.now) → ⊥) }
     {
@@ -257,5 +257,58 @@ impl<R: Rules> Stack<R> {
         self.numbers.truncate(place);
         self.mapped = lesser(self.mapped, place);
         Ok(taken)
+    }
+}
+
+impl<R: Rules> Stack<R> {
+    /// Pushes `frame`, whose key is not on the stack. If an allocation fails, the stack is as it
+    /// was, and `frame` comes back.
+    pub fn put(
+        &mut self,
+        alloc: Global,
+        rules: &R,
+        frame: Frame<R::Key, R::Part>,
+    ) -> Result<(), Frame<R::Key, R::Part>>
+        requires { In frame.key (frame_keys self.old) → ⊥ }
+        ensures pushed { OnOk result (self.new ≡ self.old ++ frame ∷ []) }
+        ensures refused { OnErr result (self.new ≡ self.old) }
+        ensures returned { IfErr result (λ f. f ≡ frame) }
+    {
+        if push(&mut self.numbers, NOWHERE).is_err() {
+            return Err(frame);
+        }
+        match map_next(
+            alloc,
+            rules,
+            &mut self.places,
+            self.mapped,
+            self.frames.as_slice(),
+        ) {
+            Ok(mapped) => self.mapped = mapped,
+            Err(_) => return Err(frame),
+        }
+        match self.frames.push(frame) {
+            Ok(()) => return Ok(()),
+            Err(failed) => return Err(failed.value),
+        }
+    }
+
+    /// The frames, the last above the others.
+    pub fn frames(&self) -> &[Frame<R::Key, R::Part>]
+        ensures { result.now ≡ self.now }
+    {
+        &self.frames
+    }
+
+    /// Drops the frames from `place` on. It takes no memory.
+    pub fn cut(&mut self, place: usize)
+        ensures { self.new ≡ take place self.old }
+    {
+        if place >= self.frames.as_slice().len() {
+            return;
+        }
+        self.frames.truncate(place);
+        self.numbers.truncate(place);
+        self.mapped = lesser(self.mapped, place);
     }
 }

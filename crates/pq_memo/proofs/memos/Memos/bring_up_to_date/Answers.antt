@@ -12,9 +12,9 @@ use Rattle.pq_memo.proofs.Advancing.{one_table, moved_to}
 use Rattle.pq_memo.proofs.Demanding.{begins, ready, stepped, ended, handed_same}
 use Rattle.pq_memo.proofs.memos.Memos.bring_up_to_date.Goals as goal
 
-pub returns-then-is_up_to_date-clause-once : goal.returns-then-is_up_to_date-clause-once
+pub returns-then-is_up_to_date_near-clause-once : goal.returns-then-is_up_to_date_near-clause-once
 unfolding Distinct
-returns-then-is_up_to_date-clause-once g c = rw c.new-carried.ensures.items tt
+returns-then-is_up_to_date_near-clause-once g c = rw c.new-carried.ensures.items tt
 
 pub steps-init : goal.steps-init
 steps-init g c = record {
@@ -30,7 +30,7 @@ steps-init g c = record {
       (begins g.R.Key.Ord.cmp (g.R.Rules.machine c.args.self.now.rules) c.args.inputs.now
       (g.R.Rules.reach c.args.self.now.rules (sources_at c.args.inputs.now.history c.args.inputs.now.revision)) c.args.key.now
       (memo_at g.R.Key.Ord.cmp c.args.self.now.places) laws c.requires
-      (λ up. not_both (c.is_up_to_date.ensures.1 up) c.if-is_up_to_date.false)
+      (λ up. not_both (c.is_up_to_date_near.ensures.1 up) c.if-is_up_to_date_near.false)
       c.push.new.self c.new-carried.result.items c.in_ok-copy.copy (c.in_ok-copy.ensures {u = tt}).copy
       ((c.in_ok-push.ensures {u = tt}) ∙ ap (λ (l : List (Frame g.row.R-Key.Denot g.row.R-Part.Denot)). l ++ walks c.in_ok-copy.copy ∷ []) c.new-stack.ensures)
       c.new-carried.ensures.items);
@@ -95,7 +95,7 @@ returns-clause-up_to_date g c =
     c.steps.stack c.steps.carried.items empty c.steps.invariant.going).up_to_date
 
 pub returns-clause-idle : goal.returns-clause-idle
-returns-clause-idle g c up = absurd (not_both (c.is_up_to_date.ensures.1 up) c.if-is_up_to_date.false)
+returns-clause-idle g c up = absurd (not_both (c.is_up_to_date_near.ensures.1 up) c.if-is_up_to_date_near.false)
 
 pub returns-clause-covered : goal.returns-clause-covered
 returns-clause-covered g c =
