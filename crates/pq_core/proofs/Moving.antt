@@ -1,0 +1,309 @@
+-- The calls of a core as moves of the ledgers that it stands for: opening, accepting, editing,
+-- starting.
+use Rattle.std.proofs.Common.{◌≡◌, ◌≢◌, ℕ, zero, suc, ◌+◌, ◌-◌, ◌<◌, ◌≤◌, ◌^◌, ◌⊎◌, Bool, true, false, List, [], ◌∷◌, ◌++◌, map, length, slice_get, slice_set, Option, Some, None, refl, sym, ◌∙◌, ap, subst, inl, inr, arith}
+use Rattle.std.specs.Prelude.{Ok, Err, Result}
+use Rattle.pq_inputs.specs.Sources.{Sources, Table}
+use Rattle.pq_inputs.specs.Refusal.{refusal}
+use Rattle.pq_rules.specs.declared.turn.Answer.{Answer}
+use Rattle.pq_rules.specs.Relations.{In}
+use Rattle.pq_core.proofs.Lists.{get_set, get_append, get_longer, get_last, get_within, get_there, get_map, set_long, set_same, set_other, append_long, map_long, same_or_other, some_one, none_some}
+use Rattle.pq_core.proofs.Standing.{Elsewhere, RunsThere, entry_elsewhere, client_elsewhere, client_entry, count_same, count_closed, count_opened, restand}
+use Rattle.pq_core.proofs.Calling.{LaneSet, RunSet, SameCounts, SameFields, stands_same, open_of, closed_of, none_open, run_seen, none_runs, run_at, lane_open, lane_shut, run_entry, placed}
+use Rattle.pq_core.specs.Replies.{ReplyView}
+use Rattle.pq_core.specs.Changes.{ChangeView}
+use Rattle.pq_core.specs.Ledger.{Out, Place, Waiting, Running, Ready, Put, Dropped, Entry, Client, Ledger, IsOpen, IsClosed, IsEntry, with_client, with_entry, moved_to, opened, with_outbox, place_closed, entry_closed, closed}
+use Rattle.pq_core.specs.Moves.{Reaches, RunAt, Runs, NoneRuns, Waits, NoneWaits, Opens, Accepts, Edits, Starts, IsRequestOf, open_count, max_clients, window, owed, first_place, new_entry, with_new, changed, started_at, ended, ended_entry, place_ended, reply_at, with_out}
+use Rattle.pq_core.specs.Kept.{Kept}
+use Rattle.pq_core.specs.aux.Stands.{RunSeen, Fields, EntryStands, ClientStands, HasRun, Stands}
+use Rattle.pq_core.specs.declared.request.Request.{Request}
+use Rattle.pq_core.specs.declared.request.Want.{Want}
+use Rattle.pq_core.specs.declared.request.Want.TheVariants.{Demand, Fixed}
+
+-- `SameQueues f g` is that `f` and `g` have the same requests that may wait and the same runs
+pub record SameQueues {K L : Type 0} (f g : Fields K L) : Type 0 where
+  pub waiting : g.waiting ≡ f.waiting
+  pub runs : (r : ℕ) → g.runs r ≡ f.runs r
+  pub started : g.started ≡ f.started
+
+abbrev pub waiting_place : {K V : Type 0} → Place K V
+waiting_place = Waiting
+
+module _ {K L : Type 0} where
+  -- but for a lane nothing differs
+  pub elsewhere_lane : (f g : Fields K L) (c n : ℕ) (lane : Option L) → LaneSet f g c lane → SameQueues f g → Elsewhere f g c n
+  elsewhere_lane f g c n lane s q = record {
+    lanes = s.others;
+    waiting = λ k i ne w. subst (λ (ws : List (ℕ × ℕ)). In (k, i) ws) (sym q.waiting) w;
+    later = let a : g.started ≡ f.started = q.started in omega arith;
+    kept = λ r run h ne. q.runs r ∙ h;
+    back = λ r run h ne. sym (q.runs r) ∙ h;
+  }
+
+module _ {K V L O : Type 0} (AsLane : L → Client K V O → Type 0) (means : Sources → K → Answer K V → Type 0) (puts : O → List (ReplyView K V)) where
+  -- a run of the core is older than the next
+  pub run_below : (f : Fields K L) (l : Ledger K V O) (r : ℕ) (run : RunSeen K) → Stands AsLane means puts f l → f.runs r ≡ Some run → r < f.started
+  run_below f l r run s h =
+      let x = s.runs r run h in
+      (subst (λ (p : Place K V). EntryStands f run.client run.number x.entry p) x.runs ((s.each run.client x.client x.client_here).entries run.number x.entry x.here)).0
+
+  -- no run is of a request that is not in a run
+  pub none_there : (f g : Fields K L) (l : Ledger K V O) (c n : ℕ) (client : Client K V O) (entries : List (Entry K V)) → Stands AsLane means puts f l
+      → slice_get l.clients c ≡ Some client → ((r : ℕ) → g.runs r ≡ f.runs r)
+      → ((entry : Entry K V) (r s : ℕ) (o : Option (Out K)) → slice_get client.entries n ≡ Some entry → entry.place ≡ Running r s o → ⊥)
+      → RunsThere g c n entries
+  none_there f g l c n client entries s here same other r run h w v =
+      let x = s.runs r run (sym (same r) ∙ h) in
+      let is : x.client ≡ client = some_one x.client client (sym x.client_here ∙ (ap (λ (k : ℕ). slice_get l.clients k) w ∙ here)) in
+      absurd (other x.entry r run.started run.out
+      (ap (λ (k : ℕ). slice_get client.entries k) (sym v) ∙ (ap (λ (y : Client K V O). slice_get y.entries run.number) (sym is) ∙ x.here))
+      x.runs)
+
+  -- a client is opened
+  pub open_stands : (f g : Fields K L) (l m : Ledger K V O) (lane : L) (outbox : O) → Stands AsLane means puts f l
+      → LaneSet f g f.clients (Some lane) → SameQueues f g → g.inputs ≡ f.inputs → g.opened ≡ f.opened + 1 → g.clients ≡ f.clients + 1
+      → AsLane lane (opened outbox) → m ≡ record { inputs = l.inputs; clients = l.clients ++ opened outbox ∷ []; runs = l.runs }
+      → Kept means puts m → Stands AsLane means puts g m
+  open_stands f g l m lane outbox s set q inputs count clients as_lane e kept = record {
+    inputs = ap (λ (y : Ledger K V O). y.inputs) e ∙ (s.inputs ∙ sym inputs);
+    clients = ap (λ (xs : List (Client K V O)). length xs) clients_set ∙ (append_long l.clients (opened outbox) ∙ (ap (λ (n : ℕ). n + 1) s.clients ∙ sym clients));
+    opened = ap (λ (xs : List (Client K V O)). open_count xs) clients_set ∙ (count_opened l.clients outbox ∙ (ap (λ (n : ℕ). n + 1) s.opened ∙ sym count));
+    started = ap (λ (y : Ledger K V O). y.runs) e ∙ (s.started ∙ sym q.started);
+    within = λ c x h. elim (same_or_other c f.clients) [
+      | inl w ↦ let d : g.clients ≡ f.clients + 1 = clients in let is : c ≡ f.clients = w in omega arith
+      | inr w ↦ let a : c < f.clients = s.within c x (sym (set.others c w) ∙ h) in let d : g.clients ≡ f.clients + 1 = clients in omega arith
+    ];
+    each = λ c client h. elim (get_append l.clients (opened outbox) c client (ap (λ (xs : List (Client K V O)). slice_get xs c) (sym clients_set) ∙ h)) [
+      | inl w ↦ subst (λ (y : Client K V O). ClientStands AsLane g c y) (sym w.1) (new_client c (w.0 ∙ s.clients))
+      | inr w ↦ client_elsewhere AsLane f g f.clients 0 c client (elsewhere_lane f g f.clients 0 (Some lane) set q) (not_new c client w) (s.each c client w)
+    ];
+    runs = λ r run h.
+        let x = s.runs r run (sym (q.runs r) ∙ h) in
+        record {
+          client = x.client;
+          entry = x.entry;
+          client_here = ap (λ (xs : List (Client K V O)). slice_get xs run.client) clients_set ∙ get_longer l.clients (opened outbox ∷ []) run.client x.client x.client_here;
+          here = x.here;
+          runs = x.runs;
+          request = x.request;
+        };
+    kept = kept;
+  }
+    where
+      clients_set : m.clients ≡ l.clients ++ opened outbox ∷ []
+      clients_set = ap (λ (y : Ledger K V O). y.clients) e
+
+      not_new : (c : ℕ) (client : Client K V O) → slice_get l.clients c ≡ Some client → c ≢ f.clients
+      not_new c client h w =
+          let a : c < length l.clients = get_within l.clients c client h in
+          let b : length l.clients ≡ f.clients = s.clients in
+          let is : c ≡ f.clients = w in
+          absurd (omega arith)
+
+      new_client : (c : ℕ) → c ≡ f.clients → ClientStands AsLane g c (opened outbox)
+      new_client c w = record {
+        lane = λ o. (lane, ap g.lanes w ∙ set.here, as_lane);
+        shut = λ o. absurd (not_shut o);
+        dropped = λ o. absurd (not_shut o);
+        entries = λ n entry h. absurd (none_some entry h);
+      }
+        where
+          not_shut : true ≡ false → ⊥
+          not_shut o = cc
+
+  -- a request is accepted
+  pub accept_stands : (f g : Fields K L) (l m : Ledger K V O) (c n : ℕ) (client : Client K V O) (lane : L) (request : Request K) → Stands AsLane means puts f l
+      → IsOpen l c client → n ≡ length client.entries → LaneSet f g c (Some lane) → SameCounts f g → ((r : ℕ) → g.runs r ≡ f.runs r) → g.started ≡ f.started
+      → ((k i : ℕ) → In (k, i) f.waiting → In (k, i) g.waiting)
+      → EntryStands g c n (new_entry {V = V} c n request l.inputs.revision) (first_place c n request l.inputs.revision request.want)
+      → AsLane lane (with_new client (new_entry c n request l.inputs.revision))
+      → m ≡ with_client l c (with_new client (new_entry c n request l.inputs.revision)) → Kept means puts m → Stands AsLane means puts g m
+  accept_stands f g l m c n client lane request s is_open number set counts runs started waiting there as_lane e kept =
+      restand AsLane means puts f g l m c n client after s is_open.here elsewhere counts.inputs counts.clients
+      (ap (λ (y : Ledger K V O). y.inputs) e) (ap (λ (y : Ledger K V O). y.clients) e) (ap (λ (y : Ledger K V O). y.runs) e ∙ (s.started ∙ sym started))
+      (count_same l.clients c client after is_open.here refl ∙ (s.opened ∙ sym counts.opened))
+      (λ i entry ne h. get_longer client.entries (entry_new ∷ []) i entry h)
+      stands
+      (none_there f g l c n client (client.entries ++ entry_new ∷ []) s is_open.here runs
+      (λ entry r st o h p. let a : n < length client.entries = get_within client.entries n entry h in let b : n ≡ length client.entries = number in absurd (omega arith)))
+      kept
+    where
+      entry_new : Entry K V
+      entry_new = new_entry c n request l.inputs.revision
+
+      after : Client K V O
+      after = with_new client entry_new
+
+      elsewhere : Elsewhere f g c n
+      elsewhere = record {
+        lanes = set.others;
+        waiting = λ k i ne w. waiting k i w;
+        later = let a : g.started ≡ f.started = started in omega arith;
+        kept = λ r run h ne. runs r ∙ h;
+        back = λ r run h ne. sym (runs r) ∙ h;
+      }
+
+      stands : ClientStands AsLane g c after
+      stands = record {
+        lane = λ o. (lane, set.here, as_lane);
+        shut = λ o. absurd (both (sym is_open.open_yet ∙ o));
+        dropped = λ o. absurd (both (sym is_open.open_yet ∙ o));
+        entries = λ i entry h. elim (get_append client.entries entry_new i entry h) [
+          | inl w ↦
+              subst (λ (y : ℕ). EntryStands g c y entry entry.place) (number ∙ sym w.0)
+              (subst (λ (y : Entry K V). EntryStands g c n y y.place) (sym w.1) there)
+          | inr w ↦
+              entry_elsewhere f g c n c i entry entry.place elsewhere
+              (λ v. let a : i < length client.entries = get_within client.entries i entry w in let b : n ≡ length client.entries = number in let d : i ≡ n = v.1 in absurd (omega arith))
+              ((s.each c client is_open.here).entries i entry w)
+        ];
+      }
+        where
+          both : true ≡ false → ⊥
+          both o = cc
+
+  -- an edit is accepted
+  pub edit_stands : (f g : Fields K L) (l m : Ledger K V O) (change : ChangeView) → Stands AsLane means puts f l
+      → g.inputs ≡ changed f.inputs change → g.opened ≡ f.opened → g.clients ≡ f.clients → ((c : ℕ) → g.lanes c ≡ f.lanes c) → SameQueues f g
+      → m ≡ record { inputs = changed l.inputs change; clients = l.clients; runs = l.runs } → Kept means puts m → Stands AsLane means puts g m
+  edit_stands f g l m change s inputs count clients lanes q e kept =
+      let h : SameFields f (record { inputs = f.inputs; lanes = g.lanes; opened = g.opened; clients = g.clients; waiting = g.waiting; runs = g.runs; started = g.started }) = record {
+        counts = record { inputs = refl; opened = count; clients = clients };
+        lanes = lanes;
+        waiting = q.waiting;
+        runs = q.runs;
+        started = q.started;
+      } in
+      let x = stands_same AsLane means puts f _ l h s in
+      record {
+        inputs = ap (λ (y : Ledger K V O). y.inputs) e ∙ (ap (λ (t : Table). changed t change) s.inputs ∙ sym inputs);
+        clients = ap (λ (y : Ledger K V O). length y.clients) e ∙ x.clients;
+        opened = ap (λ (y : Ledger K V O). open_count y.clients) e ∙ x.opened;
+        started = ap (λ (y : Ledger K V O). y.runs) e ∙ x.started;
+        within = x.within;
+        each = λ c client w.
+            let y = x.each c client (ap (λ (z : Ledger K V O). slice_get z.clients c) (sym e) ∙ w) in
+            record { lane = y.lane; shut = y.shut; dropped = y.dropped; entries = λ n entry v. entry_same c n entry entry.place (y.entries n entry v) };
+        runs = λ r run w.
+            let y = x.runs r run w in
+            record {
+              client = y.client;
+              entry = y.entry;
+              client_here = ap (λ (z : Ledger K V O). slice_get z.clients run.client) e ∙ y.client_here;
+              here = y.here;
+              runs = y.runs;
+              request = y.request;
+            };
+        kept = kept;
+      }
+    where
+      entry_same : (c n : ℕ) (entry : Entry K V) (place : Place K V)
+          → EntryStands (record { inputs = f.inputs; lanes = g.lanes; opened = g.opened; clients = g.clients; waiting = g.waiting; runs = g.runs; started = g.started }) c n entry place
+          → EntryStands g c n entry place
+      entry_same c n entry Waiting x = x
+      entry_same c n entry (Running r st o) x = x
+      entry_same c n entry (Ready reply) x = x
+      entry_same c n entry Put x = x
+      entry_same c n entry Dropped x = x
+
+  -- items of the queue whose requests do not wait are dropped
+  pub drop_stands : (f g : Fields K L) (l : Ledger K V O) → Stands AsLane means puts f l → SameCounts f g → ((k : ℕ) → g.lanes k ≡ f.lanes k)
+      → ((r : ℕ) → g.runs r ≡ f.runs r) → g.started ≡ f.started
+      → ((k i : ℕ) → In (k, i) f.waiting → In (k, i) g.waiting ⊎ ((client : Client K V O) (entry : Entry K V) → Waits l k client i entry → ⊥))
+      → Stands AsLane means puts g l
+  drop_stands f g l s counts lanes runs started waiting = record {
+    inputs = s.inputs ∙ sym counts.inputs;
+    clients = s.clients ∙ sym counts.clients;
+    opened = s.opened ∙ sym counts.opened;
+    started = s.started ∙ sym started;
+    within = λ k lane h. subst (λ (i : ℕ). k < i) (sym counts.clients) (s.within k lane (sym (lanes k) ∙ h));
+    each = λ k client h.
+        let x = s.each k client h in
+        record {
+          lane = λ o. let w = x.lane o in (w.0, lanes k ∙ w.1, w.2);
+          shut = λ o. lanes k ∙ x.shut o;
+          dropped = x.dropped;
+          entries = λ i entry v. entry_kept k client i entry entry.place h v refl (x.entries i entry v);
+        };
+    runs = λ r run h. s.runs r run (sym (runs r) ∙ h);
+    kept = s.kept;
+  }
+    where
+      entry_kept : (k : ℕ) (client : Client K V O) (i : ℕ) (entry : Entry K V) (place : Place K V) → slice_get l.clients k ≡ Some client
+          → slice_get client.entries i ≡ Some entry → entry.place ≡ place → EntryStands f k i entry place → EntryStands g k i entry place
+      entry_kept k client i entry Waiting h v p x = elim (waiting k i x) [
+        | inl w ↦ w
+        | inr w ↦ absurd (w client entry (record { is_entry = record { client_here = h; here = v }; waits = p }))
+      ]
+      entry_kept k client i entry (Running r st o) h v p x = (subst (λ (m : ℕ). r < m) (sym started) x.0, runs r ∙ x.1)
+      entry_kept k client i entry (Ready reply) h v p x = x
+      entry_kept k client i entry Put h v p x = x
+      entry_kept k client i entry Dropped h v p x = x
+
+  -- where nothing may wait, nothing waits
+  pub none_waits : (f : Fields K L) (l : Ledger K V O) → Stands AsLane means puts f l → f.waiting ≡ [] → NoneWaits l
+  none_waits f l s e c client n entry w =
+      subst (λ (ws : List (ℕ × ℕ)). In (c, n) ws) e
+      (subst (λ (p : Place K V). EntryStands f c n entry p) w.waits ((s.each c client w.is_entry.client_here).entries n entry w.is_entry.here))
+
+  -- a request is started
+  pub start_stands : (f g : Fields K L) (l m : Ledger K V O) (c n : ℕ) (client : Client K V O) (entry : Entry K V) (lane : L) → Stands AsLane means puts f l
+      → client.is_open ≡ true → Waits l c client n entry → LaneSet f g c (Some lane) → SameCounts f g
+      → RunSet f g f.started (Some (record { client = c; number = n; request = entry.request; started = l.inputs.revision; out = None }))
+      → g.started ≡ f.started + 1 → ((k i : ℕ) → ((k ≡ c) × (i ≡ n) → ⊥) → In (k, i) f.waiting → In (k, i) g.waiting)
+      → AsLane lane (with_entry client n (moved_to entry (Running f.started l.inputs.revision None)))
+      → m ≡ started_at l f.started c client n entry → Kept means puts m → Stands AsLane means puts g m
+  start_stands f g l m c n client entry lane s is_open w set counts runs started waiting as_lane e kept =
+      restand AsLane means puts f g l m c n client after s w.is_entry.client_here elsewhere counts.inputs counts.clients
+      (ap (λ (y : Ledger K V O). y.inputs) e) (ap (λ (y : Ledger K V O). y.clients) e)
+      (ap (λ (y : Ledger K V O). y.runs) e ∙ (ap (λ (i : ℕ). i + 1) s.started ∙ sym started))
+      (count_same l.clients c client after w.is_entry.client_here refl ∙ (s.opened ∙ sym counts.opened))
+      (λ i other ne h. set_other client.entries n entry_after i ne ∙ h)
+      (client_entry AsLane f g c n client entry_after elsewhere (s.each c client w.is_entry.client_here)
+      (let a : g.started ≡ f.started + 1 = started in omega arith, runs.here)
+      (λ o. (lane, set.here, as_lane))
+      (λ o. absurd (both (sym is_open ∙ o)))
+      (λ o. absurd (both (sym is_open ∙ o))))
+      there
+      kept
+    where
+      entry_after : Entry K V
+      entry_after = moved_to entry (Running f.started l.inputs.revision None)
+
+      after : Client K V O
+      after = with_entry client n entry_after
+
+      both : true ≡ false → ⊥
+      both o = cc
+
+      elsewhere : Elsewhere f g c n
+      elsewhere = record {
+        lanes = set.others;
+        waiting = waiting;
+        later = let a : g.started ≡ f.started + 1 = started in omega arith;
+        kept = λ r run h ne. runs.others r (let a : r < f.started = run_below f l r run s h in omega arith) ∙ h;
+        back = λ r run h ne. elim (same_or_other r f.started) [
+          | inl v ↦
+              let is = some_one run _ (sym h ∙ (ap g.runs v ∙ runs.here)) in
+              absurd (ne (ap (λ (y : RunSeen K). y.client) is, ap (λ (y : RunSeen K). y.number) is))
+          | inr v ↦ sym (runs.others r v) ∙ h
+        ];
+      }
+
+      there : RunsThere g c n (slice_set client.entries n entry_after)
+      there r run h v z = elim (same_or_other r f.started) [
+        | inl u ↦
+            let is = some_one run _ (sym h ∙ (ap g.runs u ∙ runs.here)) in (
+              entry_after,
+              set_same client.entries n entry_after (get_within client.entries n entry w.is_entry.here),
+              subst (λ (y : RunSeen K). placed {K = K} {V = V} f.started l.inputs.revision None ≡ placed r y.started y.out) (sym is)
+                  (subst (λ (y : ℕ). placed {K = K} {V = V} f.started l.inputs.revision None ≡ placed y l.inputs.revision None) (sym u) refl),
+              ap (λ (y : RunSeen K). y.request) is,
+            )
+        | inr u ↦
+            none_there f f l c n client (slice_set client.entries n entry_after) s w.is_entry.client_here (λ q. refl)
+            (λ other q st o hh p. absurd (waits_not (sym w.waits ∙ (ap (λ (y : Entry K V). y.place) (some_one entry other (sym w.is_entry.here ∙ hh)) ∙ p))))
+            r run (sym (runs.others r u) ∙ h) v z
+      ]
+        where
+          waits_not : {q st : ℕ} {o : Option (Out K)} → waiting_place {K = K} {V = V} ≡ placed {K = K} {V = V} q st o → ⊥
+          waits_not x = cc

@@ -1,0 +1,62 @@
+use Rattle.std.proofs.Common.{◌≡◌, ◌≤◌, ◌+◌, ◌-◌, ℕ, refl, sym, arith}
+use Rattle.pq_core.proofs.CoreReleasing.{some_opened, close_moved, close_none}
+use Rattle.pq_core.proofs.cores.Core.close_client.Goals as goal
+
+less_one : (n : ℕ) → 1 ≤ n → n - 1 + 1 ≡ n
+less_one n h = omega arith
+
+pub overflow_sub-self : goal.overflow_sub-self
+overflow_sub-self g c =
+    let w = c.self.invariant.ledger in
+    some_opened g.R.Key.Ord.cmp (g.R.Rules.machine c.self.inside.memos.rules) g.O.Outbox.puts _ w.0 c.number-seat.result c.in-Some.lane w.1 (sym c.in-Some.ensures.value)
+
+pub invariant_of-self : goal.invariant_of-self
+invariant_of-self g c =
+    let w = c.self.invariant in
+    let here = sym c.in-Some.ensures.value in
+    let some = some_opened g.R.Key.Ord.cmp (g.R.Rules.machine c.self.inside.memos.rules) g.O.Outbox.puts _ w.ledger.0 c.number-seat.result c.in-Some.lane w.ledger.1 here in
+    let moved = close_moved g.R.Key.Ord.cmp (g.R.Rules.machine c.self.inside.memos.rules) g.O.Outbox.puts _ _ c.number-seat.result c.in-Some.lane
+    c.into_outbox.result w.ledger.0 here c.take.ensures.found c.into_outbox.ensures
+    (record { inputs = refl; clients = refl; waiting = refl; runs = refl; started = refl }) (less_one c.self.inside.opened some) w.ledger.1 in
+    record {
+      kept = w.kept;
+      lanes_above = c.take.ensures.above c.self.inside.clients w.lanes_above;
+      runs_above = w.runs_above;
+      room = w.room;
+      current = w.current;
+      ledger = (moved.0, moved.2);
+    }
+
+pub returns-in-Some-clause-moved : goal.returns-in-Some-clause-moved
+returns-in-Some-clause-moved g c =
+    let here = sym c.in-Some.ensures.value in
+    let w = c.self.invariant in
+    let some = some_opened g.R.Key.Ord.cmp (g.R.Rules.machine c.self.inside.memos.rules) g.O.Outbox.puts _ w.ledger.0 c.number-seat.result c.in-Some.lane w.ledger.1 here in
+    rw (← c.self.view_is)
+    (rw (← c.number-seat.ensures)
+    (λ l s. close_moved g.R.Key.Ord.cmp (g.R.Rules.machine c.self.inside.memos.rules) g.O.Outbox.puts _ _ c.number-seat.result c.in-Some.lane
+    c.into_outbox.result l here c.take.ensures.found c.into_outbox.ensures
+    (record { inputs = refl; clients = refl; waiting = refl; runs = refl; started = refl }) (less_one c.self.inside.opened some) s))
+
+pub invariant_of-self-in-None : goal.invariant_of-self-in-None
+invariant_of-self-in-None g c =
+    let w = c.self.invariant in
+    let moved = close_none g.R.Key.Ord.cmp (g.R.Rules.machine c.self.inside.memos.rules) g.O.Outbox.puts _ _ c.number-seat.result w.ledger.0
+    (sym c.in-None.ensures.value) c.take.ensures.found
+    (record { inputs = refl; clients = refl; waiting = refl; runs = refl; started = refl }) refl w.ledger.1 in
+    record {
+      kept = w.kept;
+      lanes_above = c.take.ensures.above c.self.inside.clients w.lanes_above;
+      runs_above = w.runs_above;
+      room = w.room;
+      current = w.current;
+      ledger = (moved.0, moved.2);
+    }
+
+pub returns-in-None-clause-moved : goal.returns-in-None-clause-moved
+returns-in-None-clause-moved g c =
+    rw (← c.self.view_is)
+    (rw (← c.number-seat.ensures)
+    (λ l s. close_none g.R.Key.Ord.cmp (g.R.Rules.machine c.self.inside.memos.rules) g.O.Outbox.puts _ _ c.number-seat.result l
+    (sym c.in-None.ensures.value) c.take.ensures.found
+    (record { inputs = refl; clients = refl; waiting = refl; runs = refl; started = refl }) refl s))

@@ -1,0 +1,88 @@
+use Rattle.std.proofs.Common.{rules, ◌≡◌, ◌+◌, ℕ, refl, sym, ◌∙◌, subst, ap, Some, arith}
+use Rattle.std.specs.Option.{option_map}
+use Rattle.std.specs.Prelude.{string_bytes}
+use Rattle.pq_core.specs.Cores.{CoreView, held}
+use Rattle.pq_core.specs.Changes.{ChangeView}
+use Rattle.pq_core.specs.aux.Accepting.{MayNotEdit}
+use Rattle.pq_core.specs.aux.Rising.{found}
+use Rattle.pq_core.specs.aux.Lanes.{LaneView}
+use Rattle.pq_core.proofs.CoreOpening.{unmoved}
+use Rattle.pq_core.proofs.CoreAccepting.{edit_refusal_so, edit_moved, edit_refused, run_past, table_is}
+use Rattle.pq_core.proofs.cores.Core.edit.Goals as goal
+
+pub returns-in-Some-clause-moved : goal.returns-in-Some-clause-moved
+returns-in-Some-clause-moved g c =
+    let refused : MayNotEdit (held (record { rules = c.self.inside.memos.rules; places = c.self.inside.memos.places; inputs = c.self.inside.inputs; lanes = c.self.inside.lanes; opened = c.self.inside.opened; clients = c.self.inside.clients; waiting = c.self.inside.waiting.items; runs = c.self.inside.runs; started = c.self.inside.started })) c.args.client c.in-Some.fault =
+    subst (λ (v : CoreView g.row.R.Denot g.row.R-Key.Denot g.row.R-Part.Denot g.row.R-Value.Denot g.row.O.Denot). MayNotEdit (held v) c.args.client c.in-Some.fault) (sym c.self.view_is)
+    (rw c.number.ensures at (c.in-Some.ensures {u = tt}).refused) in
+    rw (← c.self.view_is)
+    (λ l s. (
+      l,
+      (refl, edit_refusal_so g.R.Key.Ord.cmp (g.R.Rules.machine c.self.inside.memos.rules) g.O.Outbox.puts _ l c.args.client c.args.change c.in-Some.fault s refused, refl),
+      s,
+    ))
+
+pub invariant_of-self : goal.invariant_of-self
+invariant_of-self g c =
+    let w = c.self.invariant in
+    let may : (lane : LaneView g.row.R-Key.Denot g.row.R-Value.Denot g.row.O.Denot) × (found c.self.inside.lanes.items c.args.client ≡ Some lane) =
+    subst (λ (v : CoreView g.row.R.Denot g.row.R-Key.Denot g.row.R-Part.Denot g.row.R-Value.Denot g.row.O.Denot). (lane : LaneView g.row.R-Key.Denot g.row.R-Value.Denot g.row.O.Denot) × (found v.lanes.items c.args.client ≡ Some lane)) (sym c.self.view_is) (rw c.number.ensures at (c.in_default.ensures {u = tt}).may) in
+    let told = c.in-Ok.ensures {u = tt} in
+    let table = table_is c.set.new.self c.self.inside.inputs (record { file = c.change.inside.file; text = option_map string_bytes c.change.inside.text; durability = c.change.inside.durability }) (rw c.as_str.ensures.same at told.files) (told.revision.1 ∙ told.revision.0) told.history in
+    let moved = edit_moved g.R.Key.Ord.cmp (g.R.Rules.machine c.self.inside.memos.rules) g.O.Outbox.puts
+    (held (record { rules = c.self.inside.memos.rules; places = c.self.inside.memos.places; inputs = c.self.inside.inputs; lanes = c.self.inside.lanes; opened = c.self.inside.opened; clients = c.self.inside.clients; waiting = c.self.inside.waiting.items; runs = c.self.inside.runs; started = c.self.inside.started }))
+    (record { inputs = c.set.new.self; lanes = c.self.inside.lanes.items; opened = c.self.inside.opened; clients = c.self.inside.clients; waiting = c.self.inside.waiting.items; runs = c.self.inside.runs.items; started = c.self.inside.started })
+    c.args.client c.in-Ok.revision (record { file = c.change.inside.file; text = option_map string_bytes c.change.inside.text; durability = c.change.inside.durability }) w.ledger.0 may (rw c.as_str.ensures.same at told.accepted) told.revision.0 table (λ k. refl) refl refl refl (λ k. refl) refl w.ledger.1 in
+    record {
+      kept = c.kept_is_sound.ensures.next c.self.inside.inputs c.set.new.self
+          (record { counted = c.now-latest.ensures.counted; latest = c.now-latest.ensures.last; revision = told.revision.1 ∙ told.revision.0; history = told.history }) w.kept;
+      lanes_above = w.lanes_above;
+      runs_above = w.runs_above;
+      room = w.room;
+      current = λ r run h e.
+          let a = run_past g.R.Key.Ord.cmp (g.R.Rules.machine c.self.inside.memos.rules) g.O.Outbox.puts (held (record { rules = c.self.inside.memos.rules; places = c.self.inside.memos.places; inputs = c.self.inside.inputs; lanes = c.self.inside.lanes; opened = c.self.inside.opened; clients = c.self.inside.clients; waiting = c.self.inside.waiting.items; runs = c.self.inside.runs; started = c.self.inside.started })) w.ledger.0 r run w.ledger.1 h in
+          let b = told.revision.1 ∙ told.revision.0 in
+          absurd (omega (arith, a, b, e));
+      ledger = (moved.0, moved.2);
+    }
+
+pub returns-in-Ok-clause-moved : goal.returns-in-Ok-clause-moved
+returns-in-Ok-clause-moved g c =
+    let may : (lane : LaneView g.row.R-Key.Denot g.row.R-Value.Denot g.row.O.Denot) × (found c.self.inside.lanes.items c.args.client ≡ Some lane) =
+    subst (λ (v : CoreView g.row.R.Denot g.row.R-Key.Denot g.row.R-Part.Denot g.row.R-Value.Denot g.row.O.Denot). (lane : LaneView g.row.R-Key.Denot g.row.R-Value.Denot g.row.O.Denot) × (found v.lanes.items c.args.client ≡ Some lane)) (sym c.self.view_is) (rw c.number.ensures at (c.in_default.ensures {u = tt}).may) in
+    let told = c.in-Ok.ensures {u = tt} in
+    let table = table_is c.set.new.self c.self.inside.inputs (record { file = c.change.inside.file; text = option_map string_bytes c.change.inside.text; durability = c.change.inside.durability }) (rw c.as_str.ensures.same at told.files) (told.revision.1 ∙ told.revision.0) told.history in
+    rw (← c.self.view_is)
+    (rw (← c.change.view_is)
+    (λ l s. edit_moved g.R.Key.Ord.cmp (g.R.Rules.machine c.self.inside.memos.rules) g.O.Outbox.puts
+    (held (record { rules = c.self.inside.memos.rules; places = c.self.inside.memos.places; inputs = c.self.inside.inputs; lanes = c.self.inside.lanes; opened = c.self.inside.opened; clients = c.self.inside.clients; waiting = c.self.inside.waiting.items; runs = c.self.inside.runs; started = c.self.inside.started }))
+    (record { inputs = c.set.new.self; lanes = c.self.inside.lanes.items; opened = c.self.inside.opened; clients = c.self.inside.clients; waiting = c.self.inside.waiting.items; runs = c.self.inside.runs.items; started = c.self.inside.started })
+    c.args.client c.in-Ok.revision (record { file = c.change.inside.file; text = option_map string_bytes c.change.inside.text; durability = c.change.inside.durability }) l may (rw c.as_str.ensures.same at told.accepted) told.revision.0 table (λ k. refl) refl refl refl (λ k. refl) refl s))
+
+pub returns-in-Err-clause-moved : goal.returns-in-Err-clause-moved
+returns-in-Err-clause-moved g c =
+    let may : (lane : LaneView g.row.R-Key.Denot g.row.R-Value.Denot g.row.O.Denot) × (found c.self.inside.lanes.items c.args.client ≡ Some lane) =
+    subst (λ (v : CoreView g.row.R.Denot g.row.R-Key.Denot g.row.R-Part.Denot g.row.R-Value.Denot g.row.O.Denot). (lane : LaneView g.row.R-Key.Denot g.row.R-Value.Denot g.row.O.Denot) × (found v.lanes.items c.args.client ≡ Some lane)) (sym c.self.view_is) (rw c.number.ensures at (c.in_default.ensures {u = tt}).may) in
+    let told = c.in-Err.ensures {u = tt} in
+    rw (← c.self.view_is)
+    (rw (← c.change.view_is)
+    (λ l s. (
+      l,
+      (
+        ap (λ x. record { file = c.change.inside.file; text = option_map string_bytes x; durability = c.change.inside.durability }) told.back,
+        edit_refused g.R.Key.Ord.cmp (g.R.Rules.machine c.self.inside.memos.rules) g.O.Outbox.puts (held (record { rules = c.self.inside.memos.rules; places = c.self.inside.memos.places; inputs = c.self.inside.inputs; lanes = c.self.inside.lanes; opened = c.self.inside.opened; clients = c.self.inside.clients; waiting = c.self.inside.waiting.items; runs = c.self.inside.runs; started = c.self.inside.started })) c.args.client (record { file = c.change.inside.file; text = option_map string_bytes c.change.inside.text; durability = c.change.inside.durability }) c.in-Err.refused.fault l may
+            (rw c.as_str.ensures.same at told.fault) s,
+        refl,
+      ),
+      unmoved g.R.Key.Ord.cmp (g.R.Rules.machine c.self.inside.memos.rules) g.O.Outbox.puts _ _ l
+          (record {
+            inputs = told.refused;
+            lanes = λ k. refl;
+            opened = refl;
+            clients = refl;
+            waiting = refl;
+            runs = λ k. refl;
+            started = refl;
+          })
+          s,
+    )))

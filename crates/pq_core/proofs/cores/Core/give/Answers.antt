@@ -1,0 +1,224 @@
+use Rattle.std.proofs.Common.{rules, ◌≡◌, ℕ, ◌≤◌, ◌<◌, ◌+◌, ◌⊎◌, true, length, Some, None, refl, sym, ◌∙◌, ap, subst, inl, inr, arith}
+use Rattle.pq_memo.specs.Table.{memo_at, KeptOver}
+use Rattle.pq_core.specs.RightReply.{answer_by}
+use Rattle.pq_core.specs.Cores.{CoreView, held}
+use Rattle.pq_core.specs.Moves.{RunAt, IsMade, IsOf, GoesOn, ended, with_out, out_of}
+use Rattle.pq_core.specs.aux.Runs.{RunView, RunKept, out_at}
+use Rattle.pq_core.specs.aux.Stands.{RunSeen}
+use Rattle.pq_core.specs.declared.outcome.Outcome.TheVariants.{Cancelled, Answered}
+use Rattle.pq_core.proofs.Changing.{none_taken, set_back}
+use Rattle.pq_core.proofs.CoreOpening.{unmoved}
+use Rattle.pq_core.proofs.CoreAccepting.{false_true}
+use Rattle.pq_core.proofs.CoreRunning.{run_here, no_run, run_within, run_demands, overtaken, current, end_moved, stop_moved, out_moved, back_moved, others_kept, all_kept, not_fitting, give_stopped, give_moved, give_refused}
+use Rattle.pq_core.proofs.Renewed.{renewed_same}
+use Rattle.pq_core.proofs.cores.Core.give.Goals as goal
+
+pub invariant_of-self : goal.invariant_of-self
+invariant_of-self g c =
+    let w = c.self.invariant in
+    let nothing = sym (rw c.number-id.ensures at (c.in-None.ensures {u = tt}).value) in
+    let same = none_taken c.self.inside.runs c.take.new.self c.args.run nothing (rw c.number-id.ensures at c.take.ensures.found) c.take.ensures.above c.take.ensures.room in
+    record {
+      kept = w.kept;
+      lanes_above = w.lanes_above;
+      runs_above = same.above c.self.inside.started w.runs_above;
+      room =
+          let a : length c.self.inside.waiting.items ≤ c.self.inside.runs.room = w.room in
+          let b = same.room in
+          omega (arith, a, b);
+      current = λ r run h e. w.current r run (sym (same.found r) ∙ h) e;
+      ledger = (
+        w.ledger.0,
+        unmoved g.R.Key.Ord.cmp (g.R.Rules.machine c.self.inside.memos.rules) g.O.Outbox.puts _ _ w.ledger.0 (record {
+          inputs = refl;
+          lanes = λ k. refl;
+          opened = refl;
+          clients = refl;
+          waiting = refl;
+          runs = same.found;
+          started = refl;
+        }) w.ledger.1,
+      );
+    }
+
+pub returns-in-None-clause-moved : goal.returns-in-None-clause-moved
+returns-in-None-clause-moved g c =
+    let nothing = sym (rw c.number-id.ensures at (c.in-None.ensures {u = tt}).value) in
+    let same = none_taken c.self.inside.runs c.take.new.self c.args.run nothing (rw c.number-id.ensures at c.take.ensures.found) c.take.ensures.above c.take.ensures.room in
+    rw (← c.self.view_is)
+    (λ l s. (
+      l,
+      (refl, λ at h o. no_run g.R.Key.Ord.cmp (g.R.Rules.machine c.self.inside.memos.rules) g.O.Outbox.puts (held (record { rules = c.self.inside.memos.rules; places = c.self.inside.memos.places; inputs = c.self.inside.inputs; lanes = c.self.inside.lanes; opened = c.self.inside.opened; clients = c.self.inside.clients; waiting = c.self.inside.waiting.items; runs = c.self.inside.runs; started = c.self.inside.started })) l c.args.run s nothing at h, refl),
+      unmoved g.R.Key.Ord.cmp (g.R.Rules.machine c.self.inside.memos.rules) g.O.Outbox.puts _ _ l (record {
+        inputs = refl;
+        lanes = λ k. refl;
+        opened = refl;
+        clients = refl;
+        waiting = refl;
+        runs = same.found;
+        started = refl;
+      }) s,
+    ))
+
+pub invariant_of-self-then-not-fits : goal.invariant_of-self-then-not-fits
+invariant_of-self-then-not-fits g c =
+    let w = c.self.invariant in
+    let here = sym (rw c.number-id.ensures at (c.in-Some.ensures {u = tt}).value) in
+    let set = set_back c.self.inside.runs c.take.new.self c.put_back.new.self c.args.run c.in-Some.taken (rw c.number-id.ensures at c.take.ensures.found) c.take.ensures.above
+    (rw c.in-Some.is at c.take.ensures.more_room) (rw c.number-id.ensures at c.put_back.ensures.found) c.put_back.ensures.room c.put_back.ensures.above in
+    record {
+      kept = w.kept;
+      lanes_above = w.lanes_above;
+      runs_above = set.above c.self.inside.started w.runs_above;
+      room =
+          let a : length c.self.inside.waiting.items ≤ c.self.inside.runs.room = w.room in
+          let b = set.room in
+          omega (arith, a, b);
+      current = all_kept g.R.Key.Ord.cmp (g.R.Rules.machine c.self.inside.memos.rules) c.self.inside.inputs (memo_at g.R.Key.Ord.cmp c.self.inside.memos.places) (memo_at g.R.Key.Ord.cmp c.self.inside.memos.places) c.self.inside.runs.items _ c.args.run c.in-Some.taken (renewed_same (g.R.Rules.machine c.self.inside.memos.rules) c.self.inside.inputs.revision _ _ (λ q. refl)) set.found w.current (w.current c.args.run c.in-Some.taken here);
+      ledger = (w.ledger.0, back_moved g.R.Key.Ord.cmp (g.R.Rules.machine c.self.inside.memos.rules) g.O.Outbox.puts (held (record { rules = c.self.inside.memos.rules; places = c.self.inside.memos.places; inputs = c.self.inside.inputs; lanes = c.self.inside.lanes; opened = c.self.inside.opened; clients = c.self.inside.clients; waiting = c.self.inside.waiting.items; runs = c.self.inside.runs; started = c.self.inside.started })) (record { inputs = c.self.inside.inputs; lanes = c.self.inside.lanes.items; opened = c.self.inside.opened; clients = c.self.inside.clients; waiting = c.self.inside.waiting.items; runs = c.put_back.new.self.items; started = c.self.inside.started }) w.ledger.0 c.args.run c.in-Some.taken c.in-Some.taken w.ledger.1 here (record { client = refl; number = refl; request = refl; started = refl }) refl set.found (λ k. refl) (record { inputs = refl; opened = refl; clients = refl; waiting = refl; started = refl }));
+    }
+
+pub returns-then-not-fits-clause-moved : goal.returns-then-not-fits-clause-moved
+returns-then-not-fits-clause-moved g c =
+    let here = sym (rw c.number-id.ensures at (c.in-Some.ensures {u = tt}).value) in
+    let set = set_back c.self.inside.runs c.take.new.self c.put_back.new.self c.args.run c.in-Some.taken (rw c.number-id.ensures at c.take.ensures.found) c.take.ensures.above
+    (rw c.in-Some.is at c.take.ensures.more_room) (rw c.number-id.ensures at c.put_back.ensures.found) c.put_back.ensures.room c.put_back.ensures.above in
+    let wrong : (c.args.done.run ≡ c.args.run) × (c.args.done.started ≡ c.in-Some.taken.started) × (out_at c.in-Some.taken.top ≡ Some (out_of c.args.done)) → ⊥ =
+    λ f. false_true (sym c.if-not-fits.true ∙ c.fits.ensures.1 (rw c.new.ensures (rw c.number-id.ensures f))) in
+    rw (← c.self.view_is)
+    (λ l s. (l, (refl, not_fitting g.R.Key.Ord.cmp (g.R.Rules.machine c.self.inside.memos.rules) g.O.Outbox.puts c.self.inside.memos.rules (held (record { rules = c.self.inside.memos.rules; places = c.self.inside.memos.places; inputs = c.self.inside.inputs; lanes = c.self.inside.lanes; opened = c.self.inside.opened; clients = c.self.inside.clients; waiting = c.self.inside.waiting.items; runs = c.self.inside.runs; started = c.self.inside.started })) l c.args.run c.in-Some.taken c.args.done s here wrong, refl), back_moved g.R.Key.Ord.cmp (g.R.Rules.machine c.self.inside.memos.rules) g.O.Outbox.puts (held (record { rules = c.self.inside.memos.rules; places = c.self.inside.memos.places; inputs = c.self.inside.inputs; lanes = c.self.inside.lanes; opened = c.self.inside.opened; clients = c.self.inside.clients; waiting = c.self.inside.waiting.items; runs = c.self.inside.runs; started = c.self.inside.started })) (record { inputs = c.self.inside.inputs; lanes = c.self.inside.lanes.items; opened = c.self.inside.opened; clients = c.self.inside.clients; waiting = c.self.inside.waiting.items; runs = c.put_back.new.self.items; started = c.self.inside.started }) l c.args.run c.in-Some.taken c.in-Some.taken s here (record { client = refl; number = refl; request = refl; started = refl }) refl set.found (λ k. refl) (record { inputs = refl; opened = refl; clients = refl; waiting = refl; started = refl })))
+
+pub stop_run-requires-clause-within : goal.stop_run-requires-clause-within
+stop_run-requires-clause-within g c =
+    let here = sym (rw c.number-id.ensures at (c.in-Some.ensures {u = tt}).value) in
+    λ lane h. run_within g.R.Key.Ord.cmp (g.R.Rules.machine c.self.inside.memos.rules) g.O.Outbox.puts (held (record { rules = c.self.inside.memos.rules; places = c.self.inside.memos.places; inputs = c.self.inside.inputs; lanes = c.self.inside.lanes; opened = c.self.inside.opened; clients = c.self.inside.clients; waiting = c.self.inside.waiting.items; runs = c.self.inside.runs; started = c.self.inside.started })) c.self.invariant.ledger.0 c.args.run c.in-Some.taken lane c.self.invariant.ledger.1 here h
+
+pub invariant_of-self-then-is_overtaken : goal.invariant_of-self-then-is_overtaken
+invariant_of-self-then-is_overtaken g c =
+    let w = c.self.invariant in
+    let here = sym (rw c.number-id.ensures at (c.in-Some.ensures {u = tt}).value) in
+    let runs = rw c.number-id.ensures at c.take.ensures.found in
+    let x = run_here g.R.Key.Ord.cmp (g.R.Rules.machine c.self.inside.memos.rules) g.O.Outbox.puts (held (record { rules = c.self.inside.memos.rules; places = c.self.inside.memos.places; inputs = c.self.inside.inputs; lanes = c.self.inside.lanes; opened = c.self.inside.opened; clients = c.self.inside.clients; waiting = c.self.inside.waiting.items; runs = c.self.inside.runs; started = c.self.inside.started })) w.ledger.0 c.args.run c.in-Some.taken w.ledger.1 here in
+    let moved = stop_moved g.R.Key.Ord.cmp (g.R.Rules.machine c.self.inside.memos.rules) g.O.Outbox.puts c.self.inside.memos.rules (held (record { rules = c.self.inside.memos.rules; places = c.self.inside.memos.places; inputs = c.self.inside.inputs; lanes = c.self.inside.lanes; opened = c.self.inside.opened; clients = c.self.inside.clients; waiting = c.self.inside.waiting.items; runs = c.self.inside.runs; started = c.self.inside.started })) (record { inputs = c.self.inside.inputs; lanes = c.stop_run.new.lanes.items; opened = c.self.inside.opened; clients = c.self.inside.clients; waiting = c.self.inside.waiting.items; runs = c.take.new.self.items; started = c.self.inside.started }) w.ledger.0 c.args.run c.in-Some.taken x w.ledger.1 here
+    (rw c.now-now.ensures.now at (c.is_overtaken.ensures.0 c.if-is_overtaken.true)) runs
+    (λ lane h k. rw c.now-now.ensures.now at ((c.stop_run.ensures.«open» lane h).found k)) (λ h k. (c.stop_run.ensures.closed h).found k) (record { inputs = refl; opened = refl; clients = refl; waiting = refl; started = refl }) in
+    record {
+      kept = w.kept;
+      lanes_above = c.stop_run.ensures.above c.self.inside.clients w.lanes_above;
+      runs_above = c.take.ensures.above c.self.inside.started w.runs_above;
+      room =
+          let a : length c.self.inside.waiting.items ≤ c.self.inside.runs.room = w.room in
+          let b = c.take.ensures.room in
+          omega (arith, a, b);
+      current = others_kept g.R.Key.Ord.cmp (g.R.Rules.machine c.self.inside.memos.rules) c.self.inside.inputs (memo_at g.R.Key.Ord.cmp c.self.inside.memos.places) (memo_at g.R.Key.Ord.cmp c.self.inside.memos.places) c.self.inside.runs.items c.take.new.self.items c.args.run (renewed_same (g.R.Rules.machine c.self.inside.memos.rules) c.self.inside.inputs.revision _ _ (λ q. refl)) runs w.current;
+      ledger = (ended w.ledger.0 x.at x.at.entry.starved (Cancelled x.at.started w.ledger.0.inputs.revision), moved.1);
+    }
+
+pub returns-then-is_overtaken-clause-moved : goal.returns-then-is_overtaken-clause-moved
+returns-then-is_overtaken-clause-moved g c =
+    let here = sym (rw c.number-id.ensures at (c.in-Some.ensures {u = tt}).value) in
+    let runs = rw c.number-id.ensures at c.take.ensures.found in
+    rw (← c.self.view_is)
+    (λ l s.
+    let x = run_here g.R.Key.Ord.cmp (g.R.Rules.machine c.self.inside.memos.rules) g.O.Outbox.puts (held (record { rules = c.self.inside.memos.rules; places = c.self.inside.memos.places; inputs = c.self.inside.inputs; lanes = c.self.inside.lanes; opened = c.self.inside.opened; clients = c.self.inside.clients; waiting = c.self.inside.waiting.items; runs = c.self.inside.runs; started = c.self.inside.started })) l c.args.run c.in-Some.taken s here in
+    let moved = stop_moved g.R.Key.Ord.cmp (g.R.Rules.machine c.self.inside.memos.rules) g.O.Outbox.puts c.self.inside.memos.rules (held (record { rules = c.self.inside.memos.rules; places = c.self.inside.memos.places; inputs = c.self.inside.inputs; lanes = c.self.inside.lanes; opened = c.self.inside.opened; clients = c.self.inside.clients; waiting = c.self.inside.waiting.items; runs = c.self.inside.runs; started = c.self.inside.started })) (record { inputs = c.self.inside.inputs; lanes = c.stop_run.new.lanes.items; opened = c.self.inside.opened; clients = c.self.inside.clients; waiting = c.self.inside.waiting.items; runs = c.take.new.self.items; started = c.self.inside.started }) l c.args.run c.in-Some.taken x s here
+    (rw c.now-now.ensures.now at (c.is_overtaken.ensures.0 c.if-is_overtaken.true)) runs
+    (λ lane h k. rw c.now-now.ensures.now at ((c.stop_run.ensures.«open» lane h).found k)) (λ h k. (c.stop_run.ensures.closed h).found k) (record { inputs = refl; opened = refl; clients = refl; waiting = refl; started = refl }) in
+    give_stopped g.R.Key.Ord.cmp (g.R.Rules.machine c.self.inside.memos.rules) g.O.Outbox.puts c.self.inside.memos.rules (held (record { rules = c.self.inside.memos.rules; places = c.self.inside.memos.places; inputs = c.self.inside.inputs; lanes = c.self.inside.lanes; opened = c.self.inside.opened; clients = c.self.inside.clients; waiting = c.self.inside.waiting.items; runs = c.self.inside.runs; started = c.self.inside.started })) (record { inputs = c.self.inside.inputs; lanes = c.stop_run.new.lanes.items; opened = c.self.inside.opened; clients = c.self.inside.clients; waiting = c.self.inside.waiting.items; runs = c.take.new.self.items; started = c.self.inside.started }) l c.args.run c.in-Some.taken c.args.done x (rw c.number-id.ensures at (rw c.new.ensures at (c.fits.ensures.0 c.if-not-fits.false))) moved s (rw c.now-now.ensures.now at (c.is_overtaken.ensures.0 c.if-is_overtaken.true)))
+
+pub give-requires-clause-rules : goal.give-requires-clause-rules
+give-requires-clause-rules g c =
+    let here = sym (rw c.number-id.ensures at (c.in-Some.ensures {u = tt}).value) in
+    let made = subst (λ (v : CoreView g.row.R.Denot g.row.R-Key.Denot g.row.R-Part.Denot g.row.R-Value.Denot g.row.O.Denot). IsMade v.rules v.inputs c.args.done) (sym c.self.view_is) c.requires in
+    let fit = (rw c.number-id.ensures at (rw c.new.ensures at (c.fits.ensures.0 c.if-not-fits.false))) in
+    let x = run_here g.R.Key.Ord.cmp (g.R.Rules.machine c.self.inside.memos.rules) g.O.Outbox.puts (held (record { rules = c.self.inside.memos.rules; places = c.self.inside.memos.places; inputs = c.self.inside.inputs; lanes = c.self.inside.lanes; opened = c.self.inside.opened; clients = c.self.inside.clients; waiting = c.self.inside.waiting.items; runs = c.self.inside.runs; started = c.self.inside.started })) c.self.invariant.ledger.0 c.args.run c.in-Some.taken c.self.invariant.ledger.1 here in
+    let now = (current g.R.Key.Ord.cmp (g.R.Rules.machine c.self.inside.memos.rules) g.O.Outbox.puts (held (record { rules = c.self.inside.memos.rules; places = c.self.inside.memos.places; inputs = c.self.inside.inputs; lanes = c.self.inside.lanes; opened = c.self.inside.opened; clients = c.self.inside.clients; waiting = c.self.inside.waiting.items; runs = c.self.inside.runs; started = c.self.inside.started })) c.self.invariant.ledger.0 c.args.run c.in-Some.taken c.self.invariant.ledger.1 x (λ o. false_true (sym c.if-is_overtaken.false ∙ c.is_overtaken.ensures.1 (rw c.now-now.ensures.now o)))).1 in
+    (made (fit.1 ∙ now)).0
+
+pub give-requires-clause-files : goal.give-requires-clause-files
+give-requires-clause-files g c =
+    let here = sym (rw c.number-id.ensures at (c.in-Some.ensures {u = tt}).value) in
+    let made = subst (λ (v : CoreView g.row.R.Denot g.row.R-Key.Denot g.row.R-Part.Denot g.row.R-Value.Denot g.row.O.Denot). IsMade v.rules v.inputs c.args.done) (sym c.self.view_is) c.requires in
+    let fit = (rw c.number-id.ensures at (rw c.new.ensures at (c.fits.ensures.0 c.if-not-fits.false))) in
+    let x = run_here g.R.Key.Ord.cmp (g.R.Rules.machine c.self.inside.memos.rules) g.O.Outbox.puts (held (record { rules = c.self.inside.memos.rules; places = c.self.inside.memos.places; inputs = c.self.inside.inputs; lanes = c.self.inside.lanes; opened = c.self.inside.opened; clients = c.self.inside.clients; waiting = c.self.inside.waiting.items; runs = c.self.inside.runs; started = c.self.inside.started })) c.self.invariant.ledger.0 c.args.run c.in-Some.taken c.self.invariant.ledger.1 here in
+    let now = (current g.R.Key.Ord.cmp (g.R.Rules.machine c.self.inside.memos.rules) g.O.Outbox.puts (held (record { rules = c.self.inside.memos.rules; places = c.self.inside.memos.places; inputs = c.self.inside.inputs; lanes = c.self.inside.lanes; opened = c.self.inside.opened; clients = c.self.inside.clients; waiting = c.self.inside.waiting.items; runs = c.self.inside.runs; started = c.self.inside.started })) c.self.invariant.ledger.0 c.args.run c.in-Some.taken c.self.invariant.ledger.1 x (λ o. false_true (sym c.if-is_overtaken.false ∙ c.is_overtaken.ensures.1 (rw c.now-now.ensures.now o)))).1 in
+    (made (fit.1 ∙ now)).1
+
+pub give-requires-clause-current : goal.give-requires-clause-current
+give-requires-clause-current g c =
+    let here = sym (rw c.number-id.ensures at (c.in-Some.ensures {u = tt}).value) in
+    let made = subst (λ (v : CoreView g.row.R.Denot g.row.R-Key.Denot g.row.R-Part.Denot g.row.R-Value.Denot g.row.O.Denot). IsMade v.rules v.inputs c.args.done) (sym c.self.view_is) c.requires in
+    let fit = (rw c.number-id.ensures at (rw c.new.ensures at (c.fits.ensures.0 c.if-not-fits.false))) in
+    let x = run_here g.R.Key.Ord.cmp (g.R.Rules.machine c.self.inside.memos.rules) g.O.Outbox.puts (held (record { rules = c.self.inside.memos.rules; places = c.self.inside.memos.places; inputs = c.self.inside.inputs; lanes = c.self.inside.lanes; opened = c.self.inside.opened; clients = c.self.inside.clients; waiting = c.self.inside.waiting.items; runs = c.self.inside.runs; started = c.self.inside.started })) c.self.invariant.ledger.0 c.args.run c.in-Some.taken c.self.invariant.ledger.1 here in
+    let now = (current g.R.Key.Ord.cmp (g.R.Rules.machine c.self.inside.memos.rules) g.O.Outbox.puts (held (record { rules = c.self.inside.memos.rules; places = c.self.inside.memos.places; inputs = c.self.inside.inputs; lanes = c.self.inside.lanes; opened = c.self.inside.opened; clients = c.self.inside.clients; waiting = c.self.inside.waiting.items; runs = c.self.inside.runs; started = c.self.inside.started })) c.self.invariant.ledger.0 c.args.run c.in-Some.taken c.self.invariant.ledger.1 x (λ o. false_true (sym c.if-is_overtaken.false ∙ c.is_overtaken.ensures.1 (rw c.now-now.ensures.now o)))).1 in
+    now
+
+pub give-requires-clause-run_kept : goal.give-requires-clause-run_kept
+give-requires-clause-run_kept g c =
+    let here = sym (rw c.number-id.ensures at (c.in-Some.ensures {u = tt}).value) in
+    let made = subst (λ (v : CoreView g.row.R.Denot g.row.R-Key.Denot g.row.R-Part.Denot g.row.R-Value.Denot g.row.O.Denot). IsMade v.rules v.inputs c.args.done) (sym c.self.view_is) c.requires in
+    let fit = (rw c.number-id.ensures at (rw c.new.ensures at (c.fits.ensures.0 c.if-not-fits.false))) in
+    let x = run_here g.R.Key.Ord.cmp (g.R.Rules.machine c.self.inside.memos.rules) g.O.Outbox.puts (held (record { rules = c.self.inside.memos.rules; places = c.self.inside.memos.places; inputs = c.self.inside.inputs; lanes = c.self.inside.lanes; opened = c.self.inside.opened; clients = c.self.inside.clients; waiting = c.self.inside.waiting.items; runs = c.self.inside.runs; started = c.self.inside.started })) c.self.invariant.ledger.0 c.args.run c.in-Some.taken c.self.invariant.ledger.1 here in
+    let now = (current g.R.Key.Ord.cmp (g.R.Rules.machine c.self.inside.memos.rules) g.O.Outbox.puts (held (record { rules = c.self.inside.memos.rules; places = c.self.inside.memos.places; inputs = c.self.inside.inputs; lanes = c.self.inside.lanes; opened = c.self.inside.opened; clients = c.self.inside.clients; waiting = c.self.inside.waiting.items; runs = c.self.inside.runs; started = c.self.inside.started })) c.self.invariant.ledger.0 c.args.run c.in-Some.taken c.self.invariant.ledger.1 x (λ o. false_true (sym c.if-is_overtaken.false ∙ c.is_overtaken.ensures.1 (rw c.now-now.ensures.now o)))).1 in
+    c.self.invariant.current c.args.run c.in-Some.taken here now
+
+pub invariant_of-self-in-Ok : goal.invariant_of-self-in-Ok
+invariant_of-self-in-Ok g c =
+    let w = c.self.invariant in
+    let here = sym (rw c.number-id.ensures at (c.in-Some.ensures {u = tt}).value) in
+    let set = set_back c.self.inside.runs c.take.new.self c.put_back-in-Ok.new.self c.args.run c.give.new.self (rw c.number-id.ensures at c.take.ensures.found) c.take.ensures.above
+    (rw c.in-Some.is at c.take.ensures.more_room) (rw c.number-id.ensures at c.put_back-in-Ok.ensures.found) c.put_back-in-Ok.ensures.room c.put_back-in-Ok.ensures.above in
+    let moved = give_moved g.R.Key.Ord.cmp (g.R.Rules.machine c.self.inside.memos.rules) g.O.Outbox.puts c.self.inside.memos.rules (held (record { rules = c.self.inside.memos.rules; places = c.self.inside.memos.places; inputs = c.self.inside.inputs; lanes = c.self.inside.lanes; opened = c.self.inside.opened; clients = c.self.inside.clients; waiting = c.self.inside.waiting.items; runs = c.self.inside.runs; started = c.self.inside.started })) (record { inputs = c.self.inside.inputs; lanes = c.self.inside.lanes.items; opened = c.self.inside.opened; clients = c.self.inside.clients; waiting = c.self.inside.waiting.items; runs = c.put_back-in-Ok.new.self.items; started = c.self.inside.started }) w.ledger.0 c.args.run c.in-Some.taken c.give.new.self c.args.done w.ledger.1 here (λ o. false_true (sym c.if-is_overtaken.false ∙ c.is_overtaken.ensures.1 (rw c.now-now.ensures.now o))) (rw c.number-id.ensures at (rw c.new.ensures at (c.fits.ensures.0 c.if-not-fits.false))) c.give.ensures.same (c.in-Ok.ensures {u = tt}).taken set.found (λ k. refl) (record { inputs = refl; opened = refl; clients = refl; waiting = refl; started = refl }) in
+    rw c.give.ensures.rules
+    (record {
+      kept = c.give.ensures.kept;
+      lanes_above = w.lanes_above;
+      runs_above = set.above c.self.inside.started w.runs_above;
+      room =
+          let a : length c.self.inside.waiting.items ≤ c.self.inside.runs.room = w.room in
+          let b = set.room in
+          omega (arith, a, b);
+      current = all_kept g.R.Key.Ord.cmp (g.R.Rules.machine c.self.inside.memos.rules) c.self.inside.inputs (memo_at g.R.Key.Ord.cmp c.self.inside.memos.places) (memo_at g.R.Key.Ord.cmp c.give.new.memos.places) c.self.inside.runs.items _ c.args.run c.give.new.self c.give.ensures.renewed set.found w.current (λ e. c.give.ensures.run_kept);
+      ledger = (moved.0, moved.2);
+    })
+
+pub returns-in-Ok-clause-moved : goal.returns-in-Ok-clause-moved
+returns-in-Ok-clause-moved g c =
+    let here = sym (rw c.number-id.ensures at (c.in-Some.ensures {u = tt}).value) in
+    let set = set_back c.self.inside.runs c.take.new.self c.put_back-in-Ok.new.self c.args.run c.give.new.self (rw c.number-id.ensures at c.take.ensures.found) c.take.ensures.above
+    (rw c.in-Some.is at c.take.ensures.more_room) (rw c.number-id.ensures at c.put_back-in-Ok.ensures.found) c.put_back-in-Ok.ensures.room c.put_back-in-Ok.ensures.above in
+    rw (← c.self.view_is)
+    (λ l s. give_moved g.R.Key.Ord.cmp (g.R.Rules.machine c.self.inside.memos.rules) g.O.Outbox.puts c.self.inside.memos.rules (held (record { rules = c.self.inside.memos.rules; places = c.self.inside.memos.places; inputs = c.self.inside.inputs; lanes = c.self.inside.lanes; opened = c.self.inside.opened; clients = c.self.inside.clients; waiting = c.self.inside.waiting.items; runs = c.self.inside.runs; started = c.self.inside.started })) (record { inputs = c.self.inside.inputs; lanes = c.self.inside.lanes.items; opened = c.self.inside.opened; clients = c.self.inside.clients; waiting = c.self.inside.waiting.items; runs = c.put_back-in-Ok.new.self.items; started = c.self.inside.started }) l c.args.run c.in-Some.taken c.give.new.self c.args.done s here (λ o. false_true (sym c.if-is_overtaken.false ∙ c.is_overtaken.ensures.1 (rw c.now-now.ensures.now o))) (rw c.number-id.ensures at (rw c.new.ensures at (c.fits.ensures.0 c.if-not-fits.false))) c.give.ensures.same (c.in-Ok.ensures {u = tt}).taken set.found (λ k. refl) (record { inputs = refl; opened = refl; clients = refl; waiting = refl; started = refl }))
+
+pub invariant_of-self-in-Err : goal.invariant_of-self-in-Err
+invariant_of-self-in-Err g c =
+    let w = c.self.invariant in
+    let here = sym (rw c.number-id.ensures at (c.in-Some.ensures {u = tt}).value) in
+    let set = set_back c.self.inside.runs c.take.new.self c.put_back-in-Err.new.self c.args.run c.give.new.self (rw c.number-id.ensures at c.take.ensures.found) c.take.ensures.above
+    (rw c.in-Some.is at c.take.ensures.more_room) (rw c.number-id.ensures at c.put_back-in-Err.ensures.found) c.put_back-in-Err.ensures.room c.put_back-in-Err.ensures.above in
+    let fit = (rw c.number-id.ensures at (rw c.new.ensures at (c.fits.ensures.0 c.if-not-fits.false))) in
+    rw c.give.ensures.rules
+    (record {
+      kept = c.give.ensures.kept;
+      lanes_above = w.lanes_above;
+      runs_above = set.above c.self.inside.started w.runs_above;
+      room =
+          let a : length c.self.inside.waiting.items ≤ c.self.inside.runs.room = w.room in
+          let b = set.room in
+          omega (arith, a, b);
+      current = all_kept g.R.Key.Ord.cmp (g.R.Rules.machine c.self.inside.memos.rules) c.self.inside.inputs (memo_at g.R.Key.Ord.cmp c.self.inside.memos.places) (memo_at g.R.Key.Ord.cmp c.give.new.memos.places) c.self.inside.runs.items _ c.args.run c.give.new.self c.give.ensures.renewed set.found w.current (λ e. c.give.ensures.run_kept);
+      ledger = (w.ledger.0, back_moved g.R.Key.Ord.cmp (g.R.Rules.machine c.self.inside.memos.rules) g.O.Outbox.puts (held (record { rules = c.self.inside.memos.rules; places = c.self.inside.memos.places; inputs = c.self.inside.inputs; lanes = c.self.inside.lanes; opened = c.self.inside.opened; clients = c.self.inside.clients; waiting = c.self.inside.waiting.items; runs = c.self.inside.runs; started = c.self.inside.started })) (record { inputs = c.self.inside.inputs; lanes = c.self.inside.lanes.items; opened = c.self.inside.opened; clients = c.self.inside.clients; waiting = c.self.inside.waiting.items; runs = c.put_back-in-Err.new.self.items; started = c.self.inside.started }) w.ledger.0 c.args.run c.in-Some.taken c.give.new.self w.ledger.1 here c.give.ensures.same ((c.in-Err.ensures {u = tt}).refused ∙ sym fit.2) set.found (λ k. refl) (record { inputs = refl; opened = refl; clients = refl; waiting = refl; started = refl }));
+    })
+
+pub returns-in-Err-clause-moved : goal.returns-in-Err-clause-moved
+returns-in-Err-clause-moved g c =
+    let here = sym (rw c.number-id.ensures at (c.in-Some.ensures {u = tt}).value) in
+    let set = set_back c.self.inside.runs c.take.new.self c.put_back-in-Err.new.self c.args.run c.give.new.self (rw c.number-id.ensures at c.take.ensures.found) c.take.ensures.above
+    (rw c.in-Some.is at c.take.ensures.more_room) (rw c.number-id.ensures at c.put_back-in-Err.ensures.found) c.put_back-in-Err.ensures.room c.put_back-in-Err.ensures.above in
+    let fit = (rw c.number-id.ensures at (rw c.new.ensures at (c.fits.ensures.0 c.if-not-fits.false))) in
+    rw (← c.self.view_is)
+    (λ l s. (
+      l,
+      ((c.in-Err.ensures {u = tt}).back, give_refused g.R.Key.Ord.cmp (g.R.Rules.machine c.self.inside.memos.rules) g.O.Outbox.puts c.self.inside.memos.rules (held (record { rules = c.self.inside.memos.rules; places = c.self.inside.memos.places; inputs = c.self.inside.inputs; lanes = c.self.inside.lanes; opened = c.self.inside.opened; clients = c.self.inside.clients; waiting = c.self.inside.waiting.items; runs = c.self.inside.runs; started = c.self.inside.started })) l c.args.run c.in-Some.taken c.args.done s here (λ o. false_true (sym c.if-is_overtaken.false ∙ c.is_overtaken.ensures.1 (rw c.now-now.ensures.now o))) fit, refl),
+      back_moved g.R.Key.Ord.cmp (g.R.Rules.machine c.self.inside.memos.rules) g.O.Outbox.puts (held (record { rules = c.self.inside.memos.rules; places = c.self.inside.memos.places; inputs = c.self.inside.inputs; lanes = c.self.inside.lanes; opened = c.self.inside.opened; clients = c.self.inside.clients; waiting = c.self.inside.waiting.items; runs = c.self.inside.runs; started = c.self.inside.started })) (record { inputs = c.self.inside.inputs; lanes = c.self.inside.lanes.items; opened = c.self.inside.opened; clients = c.self.inside.clients; waiting = c.self.inside.waiting.items; runs = c.put_back-in-Err.new.self.items; started = c.self.inside.started }) l c.args.run c.in-Some.taken c.give.new.self s here c.give.ensures.same ((c.in-Err.ensures {u = tt}).refused ∙ sym fit.2) set.found (λ k. refl) (record { inputs = refl; opened = refl; clients = refl; waiting = refl; started = refl }),
+    ))

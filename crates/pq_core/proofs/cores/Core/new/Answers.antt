@@ -1,0 +1,26 @@
+use Rattle.std.proofs.Common.{rules, ◌≡◌, ℕ, ◌≤◌, ◌<◌, refl, sym, ◌∙◌, ap, subst, Some, None, length, arith}
+use Rattle.pq_core.proofs.Lists.{none_some}
+use Rattle.pq_core.proofs.CoreOpening.{new_stands}
+use Rattle.pq_core.specs.Cores.{held}
+use Rattle.pq_core.specs.Ledger.{unused}
+use Rattle.pq_core.proofs.cores.Core.new.Goals as goal
+
+pub invariant_of-result : goal.invariant_of-result
+invariant_of-result g c =
+    record {
+      kept = record { memos = λ k memo h. absurd (none_some memo (sym (c.new.ensures.empty k) ∙ h)) };
+      lanes_above = c.new-2.ensures.above 0;
+      runs_above = c.new-4.ensures.above 0;
+      room = rw c.new-3.ensures.items (omega arith);
+      current = λ r run h. absurd (none_some run (sym (c.new-4.ensures.none r) ∙ h));
+      ledger = (
+        unused c.args.inputs,
+        new_stands g.R.Key.Ord.cmp (g.R.Rules.machine c.new.result.rules) g.O.Outbox.puts _ c.now-latest.ensures.counted c.now-latest.ensures.last
+            c.new-2.ensures.none c.new-4.ensures.none refl refl refl,
+      );
+    }
+
+pub returns-clause-stands : goal.returns-clause-stands
+returns-clause-stands g c =
+    new_stands g.R.Key.Ord.cmp (g.R.Rules.machine c.args.rules) g.O.Outbox.puts _ c.now-latest.ensures.counted c.now-latest.ensures.last
+    c.new-2.ensures.none c.new-4.ensures.none refl refl refl

@@ -1,0 +1,8 @@
+use Rattle.pq_memo.specs.Table.{memo_at}
+use Rattle.pq_core.proofs.Framed.{cut_lowered}
+use Rattle.pq_core.proofs.frames.Frames.close.Goals as goal
+
+pub returns-in-Some-clause-frames_kept : goal.returns-in-Some-clause-frames_kept
+returns-in-Some-clause-frames_kept g c =
+    cut_lowered g.R.Key.Ord.cmp (g.R.Rules.machine c.args.memos.now.rules) c.args.inputs.now (memo_at g.R.Key.Ord.cmp c.args.memos.now.places) _ c.args._next.now c.args.self.now.stack
+    c.cut.new.self c.lower.new.self.stack c.lower.new.self.top c.requires.waits c.requires.differ c.cut.ensures c.lower.ensures

@@ -1,0 +1,6 @@
+use Rattle.std.proofs.Common.{inr}
+use Rattle.pq_core.proofs.frames.Frames.go_on.Goals as goal
+
+pub returns-clause-frames_kept : goal.returns-clause-frames_kept
+returns-clause-frames_kept g c =
+    (c.requires.below, inr ((g.R.Rules.machine c.args.memos.now.rules).advance c.args.part c.args.answer, c.requires.came))

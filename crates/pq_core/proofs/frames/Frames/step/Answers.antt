@@ -1,0 +1,119 @@
+use Rattle.std.proofs.Common.{[], Option, sym, subst, inr}
+use Rattle.pq_rules.proofs.Weight.{Exact}
+use Rattle.pq_memo.specs.Sound.{Memo}
+use Rattle.pq_memo.specs.Table.{memo_at, HasIn}
+use Rattle.pq_memo.specs.Frames.{Came, IsFrame}
+use Rattle.pq_memo.specs.Steps.{IsWhy}
+use Rattle.pq_memo.proofs.Advancing.{one_table, moved_to}
+use Rattle.pq_core.specs.declared.frames.Top.TheVariants.{At}
+use Rattle.pq_core.specs.aux.Runs.{Renewed, KeptBelow, HandedOut}
+use Rattle.pq_core.proofs.Renewed.{renewed_same, renewed_finished, up_waits, frames_still}
+use Rattle.pq_core.proofs.Framed.{lowered, below_as, frame_as}
+use Rattle.pq_core.proofs.frames.Frames.step.Goals as goal
+
+pub returns-in_err-wait-in-Ok-Needs-clause-renewed : goal.returns-in_err-wait-in-Ok-Needs-clause-renewed
+returns-in_err-wait-in-Ok-Needs-clause-renewed g c =
+    let s = rw c.in-Ok-Needs.field-0-is at c.in-Ok-Needs.ensures.step in
+    moved_to (λ (r : g.row.R.Denot) (t : g.row.R-Key.Denot → Option (Memo g.row.R-Key.Denot g.row.R-Value.Denot)).
+    Renewed (g.R.Rules.machine r) c.args.inputs.now.revision t (memo_at g.R.Key.Ord.cmp c.wait.new.memos.places))
+    c.step.new.self.rules c.args.memos.now.rules (memo_at g.R.Key.Ord.cmp c.step.new.self.places) (memo_at g.R.Key.Ord.cmp c.args.memos.now.places)
+    (sym c.step.ensures.rules) (sym (one_table (memo_at g.R.Key.Ord.cmp c.args.memos.now.places) (memo_at g.R.Key.Ord.cmp c.step.new.self.places) s.0))
+    c.wait.ensures.renewed
+
+pub returns-in_ok-wait-in-Ok-Needs-clause-renewed : goal.returns-in_ok-wait-in-Ok-Needs-clause-renewed
+returns-in_ok-wait-in-Ok-Needs-clause-renewed g c =
+    let s = rw c.in-Ok-Needs.field-0-is at c.in-Ok-Needs.ensures.step in
+    moved_to (λ (r : g.row.R.Denot) (t : g.row.R-Key.Denot → Option (Memo g.row.R-Key.Denot g.row.R-Value.Denot)).
+    Renewed (g.R.Rules.machine r) c.args.inputs.now.revision t (memo_at g.R.Key.Ord.cmp c.wait.new.memos.places))
+    c.step.new.self.rules c.args.memos.now.rules (memo_at g.R.Key.Ord.cmp c.step.new.self.places) (memo_at g.R.Key.Ord.cmp c.args.memos.now.places)
+    (sym c.step.ensures.rules) (sym (one_table (memo_at g.R.Key.Ord.cmp c.args.memos.now.places) (memo_at g.R.Key.Ord.cmp c.step.new.self.places) s.0))
+    c.wait.ensures.renewed
+
+pub start-requires-clause-below : goal.start-requires-clause-below
+start-requires-clause-below g c =
+    let s = rw c.in-Ok-Starts.field-0-is at c.in-Ok-Starts.ensures.step in
+    moved_to (λ (r : g.row.R.Denot) (t : g.row.R-Key.Denot → Option (Memo g.row.R-Key.Denot g.row.R-Value.Denot)).
+    KeptBelow g.R.Key.Ord.cmp (g.R.Rules.machine r) c.args.inputs.now t c.args.self.now.stack c.in-Ok-Starts.key)
+    c.args.memos.now.rules c.step.new.self.rules (memo_at g.R.Key.Ord.cmp c.args.memos.now.places) (memo_at g.R.Key.Ord.cmp c.step.new.self.places)
+    c.step.ensures.rules (one_table (memo_at g.R.Key.Ord.cmp c.args.memos.now.places) (memo_at g.R.Key.Ord.cmp c.step.new.self.places) s.0)
+    (below_as g.R.Key.Ord.cmp (g.R.Rules.machine c.args.memos.now.rules) c.args.inputs.now (memo_at g.R.Key.Ord.cmp c.args.memos.now.places) c.args.self.now.stack c.args.frame.key c.in-Ok-Starts.key s.1 c.requires.below)
+
+pub go_on-requires-clause-below : goal.go_on-requires-clause-below
+go_on-requires-clause-below g c =
+    let s = rw c.in-Ok-GoesOn.field-0-is at c.in-Ok-GoesOn.ensures.step in
+    moved_to (λ (r : g.row.R.Denot) (t : g.row.R-Key.Denot → Option (Memo g.row.R-Key.Denot g.row.R-Value.Denot)).
+    KeptBelow g.R.Key.Ord.cmp (g.R.Rules.machine r) c.args.inputs.now t c.args.self.now.stack c.in-Ok-GoesOn.key)
+    c.args.memos.now.rules c.step.new.self.rules (memo_at g.R.Key.Ord.cmp c.args.memos.now.places) (memo_at g.R.Key.Ord.cmp c.step.new.self.places)
+    c.step.ensures.rules (one_table (memo_at g.R.Key.Ord.cmp c.args.memos.now.places) (memo_at g.R.Key.Ord.cmp c.step.new.self.places) s.0)
+    (below_as g.R.Key.Ord.cmp (g.R.Rules.machine c.args.memos.now.rules) c.args.inputs.now (memo_at g.R.Key.Ord.cmp c.args.memos.now.places) c.args.self.now.stack c.args.frame.key c.in-Ok-GoesOn.key s.1 c.requires.below)
+
+pub start-requires-clause-because : goal.start-requires-clause-because
+start-requires-clause-because g c =
+    let s = rw c.in-Ok-Starts.field-0-is at c.in-Ok-Starts.ensures.step in
+    moved_to (λ (r : g.row.R.Denot) (t : g.row.R-Key.Denot → Option (Memo g.row.R-Key.Denot g.row.R-Value.Denot)).
+    IsWhy (g.R.Rules.machine r) c.args.inputs.now.history c.args.inputs.now.revision (HasIn t) c.in-Ok-Starts.key c.in-Ok-Starts.why)
+    c.args.memos.now.rules c.step.new.self.rules (memo_at g.R.Key.Ord.cmp c.args.memos.now.places) (memo_at g.R.Key.Ord.cmp c.step.new.self.places)
+    c.step.ensures.rules (one_table (memo_at g.R.Key.Ord.cmp c.args.memos.now.places) (memo_at g.R.Key.Ord.cmp c.step.new.self.places) s.0)
+    (subst (λ (k : g.row.R-Key.Denot). IsWhy (g.R.Rules.machine c.args.memos.now.rules) c.args.inputs.now.history c.args.inputs.now.revision (HasIn (memo_at g.R.Key.Ord.cmp c.args.memos.now.places)) k c.in-Ok-Starts.why) (sym s.1) s.3)
+
+pub go_on-requires-clause-came : goal.go_on-requires-clause-came
+go_on-requires-clause-came g c =
+    let s = rw c.in-Ok-GoesOn.field-0-is at c.in-Ok-GoesOn.ensures.step in
+    moved_to (λ (r : g.row.R.Denot) (t : g.row.R-Key.Denot → Option (Memo g.row.R-Key.Denot g.row.R-Value.Denot)).
+    Came g.R.Key.Ord.cmp (g.R.Rules.machine r) c.args.inputs.now.history c.args.inputs.now.revision (HasIn t) c.in-Ok-GoesOn.key
+    ((g.R.Rules.machine r).advance c.in-Ok-GoesOn.part c.in-Ok-GoesOn.answer) c.in-Ok-GoesOn.reads.items)
+    c.args.memos.now.rules c.step.new.self.rules (memo_at g.R.Key.Ord.cmp c.args.memos.now.places) (memo_at g.R.Key.Ord.cmp c.step.new.self.places)
+    c.step.ensures.rules (one_table (memo_at g.R.Key.Ord.cmp c.args.memos.now.places) (memo_at g.R.Key.Ord.cmp c.step.new.self.places) s.0)
+    (subst (λ (k : g.row.R-Key.Denot). Came g.R.Key.Ord.cmp (g.R.Rules.machine c.args.memos.now.rules) c.args.inputs.now.history c.args.inputs.now.revision (HasIn (memo_at g.R.Key.Ord.cmp c.args.memos.now.places)) k
+    ((g.R.Rules.machine c.args.memos.now.rules).advance c.in-Ok-GoesOn.part c.in-Ok-GoesOn.answer) c.in-Ok-GoesOn.reads.items) (sym s.1) s.3)
+
+pub returns-in-Ok-Finished-clause-renewed : goal.returns-in-Ok-Finished-clause-renewed
+returns-in-Ok-Finished-clause-renewed g c =
+    let laws = g.met.R.Rules.lawful c.args.memos.now.rules [] in
+    let exact : Exact g.R.Key.Ord.cmp = record { total = g.met.R.Key.Ord.total; exact = laws.exact } in
+    let s = rw c.in-Ok-Finished.field-0-is at c.in-Ok-Finished.ensures.step in
+    (renewed_finished g.R.Key.Ord.cmp exact (g.R.Rules.machine c.args.memos.now.rules) c.args.inputs.now c.args.memos.now.places c.step.new.self.places c.args.frame.key c.requires.stale s)
+
+pub returns-in-Ok-Finished-clause-frames_kept : goal.returns-in-Ok-Finished-clause-frames_kept
+returns-in-Ok-Finished-clause-frames_kept g c =
+    let laws = g.met.R.Rules.lawful c.args.memos.now.rules [] in
+    let exact : Exact g.R.Key.Ord.cmp = record { total = g.met.R.Key.Ord.total; exact = laws.exact } in
+    let s = rw c.in-Ok-Finished.field-0-is at c.in-Ok-Finished.ensures.step in
+    lowered g.R.Key.Ord.cmp (g.R.Rules.machine c.args.memos.now.rules) c.args.inputs.now (memo_at g.R.Key.Ord.cmp c.step.new.self.places) c.args.frame.key c.args.self.now.stack
+    c.lower.new.self.stack c.lower.new.self.top
+    (up_waits g.R.Key.Ord.cmp (g.R.Rules.machine c.args.memos.now.rules) c.args.inputs.now (memo_at g.R.Key.Ord.cmp c.args.memos.now.places) (memo_at g.R.Key.Ord.cmp c.step.new.self.places)
+    (renewed_finished g.R.Key.Ord.cmp exact (g.R.Rules.machine c.args.memos.now.rules) c.args.inputs.now c.args.memos.now.places c.step.new.self.places c.args.frame.key c.requires.stale s)
+    c.args.frame.key c.args.self.now.stack c.requires.below.waits)
+    c.requires.below.differ c.lower.ensures
+
+pub returns-in-Ok-Starts-clause-advanced : goal.returns-in-Ok-Starts-clause-advanced
+returns-in-Ok-Starts-clause-advanced g c =
+    let s = rw c.in-Ok-Starts.field-0-is at c.in-Ok-Starts.ensures.step in
+    moved_to (λ (r : g.row.R.Denot) (t : g.row.R-Key.Denot → Option (Memo g.row.R-Key.Denot g.row.R-Value.Denot)).
+    HandedOut (g.R.Rules.machine r) r c.args.inputs.now t c.args.id c.start.new.self.top c.start.result)
+    c.step.new.self.rules c.args.memos.now.rules (memo_at g.R.Key.Ord.cmp c.step.new.self.places) (memo_at g.R.Key.Ord.cmp c.args.memos.now.places)
+    (sym c.step.ensures.rules) (sym (one_table (memo_at g.R.Key.Ord.cmp c.args.memos.now.places) (memo_at g.R.Key.Ord.cmp c.step.new.self.places) s.0))
+    c.start.ensures.handed
+
+pub returns-in-Ok-GoesOn-clause-advanced : goal.returns-in-Ok-GoesOn-clause-advanced
+returns-in-Ok-GoesOn-clause-advanced g c =
+    let s = rw c.in-Ok-GoesOn.field-0-is at c.in-Ok-GoesOn.ensures.step in
+    moved_to (λ (r : g.row.R.Denot) (t : g.row.R-Key.Denot → Option (Memo g.row.R-Key.Denot g.row.R-Value.Denot)).
+    HandedOut (g.R.Rules.machine r) r c.args.inputs.now t c.args.id c.go_on.new.self.top c.go_on.result)
+    c.step.new.self.rules c.args.memos.now.rules (memo_at g.R.Key.Ord.cmp c.step.new.self.places) (memo_at g.R.Key.Ord.cmp c.args.memos.now.places)
+    (sym c.step.ensures.rules) (sym (one_table (memo_at g.R.Key.Ord.cmp c.args.memos.now.places) (memo_at g.R.Key.Ord.cmp c.step.new.self.places) s.0))
+    c.go_on.ensures.handed
+
+pub returns-in-Err-clause-frames_kept : goal.returns-in-Err-clause-frames_kept
+returns-in-Err-clause-frames_kept g c =
+    let back = c.in-Err.ensures.returned in
+    frames_still g.R.Key.Ord.cmp (g.R.Rules.machine c.args.memos.now.rules) c.args.inputs.now (memo_at g.R.Key.Ord.cmp c.args.memos.now.places) (memo_at g.R.Key.Ord.cmp c.step.new.self.places)
+    (renewed_same (g.R.Rules.machine c.args.memos.now.rules) c.args.inputs.now.revision (memo_at g.R.Key.Ord.cmp c.args.memos.now.places) (memo_at g.R.Key.Ord.cmp c.step.new.self.places) c.in-Err.ensures.refused)
+    c.args.self.now.stack (At c.in-Err.frame) (
+      below_as g.R.Key.Ord.cmp (g.R.Rules.machine c.args.memos.now.rules) c.args.inputs.now (memo_at g.R.Key.Ord.cmp c.args.memos.now.places) c.args.self.now.stack c.args.frame.key c.in-Err.frame.key back.0 c.requires.below,
+      inr (
+          subst (λ (k : g.row.R-Key.Denot). IsFrame g.R.Key.Ord.cmp (g.R.Rules.machine c.args.memos.now.rules) c.args.inputs.now.history c.args.inputs.now.revision
+          (HasIn (memo_at g.R.Key.Ord.cmp c.args.memos.now.places)) k c.in-Err.frame.stage) (sym back.0)
+          (frame_as g.R.Key.Ord.cmp (g.R.Rules.machine c.args.memos.now.rules) c.args.inputs.now (memo_at g.R.Key.Ord.cmp c.args.memos.now.places) c.args.frame.key c.in-Err.frame.stage c.args.frame.stage back.1 c.requires.frame)
+          ),
+    )

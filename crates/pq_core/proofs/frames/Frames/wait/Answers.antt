@@ -1,0 +1,32 @@
+use Rattle.std.proofs.Common.{List, sym, subst, inr}
+use Rattle.pq_memo.specs.declared.frame.Frame.{Frame}
+use Rattle.pq_memo.specs.Table.{memo_at}
+use Rattle.pq_memo.specs.Frames.{frame_keys}
+use Rattle.pq_memo.specs.Demand.{Differ}
+use Rattle.pq_core.specs.aux.Runs.{WaitsUp}
+use Rattle.pq_core.proofs.Framed.{pushed_waits, pushed_keys, walked}
+use Rattle.pq_core.proofs.frames.Frames.wait.Goals as goal
+
+pub close-requires-clause-waits : goal.close-requires-clause-waits
+close-requires-clause-waits g c =
+    subst (λ (l : List (Frame g.row.R-Key.Denot g.row.R-Part.Denot)). WaitsUp g.R.Key.Ord.cmp (g.R.Rules.machine c.args.memos.now.rules) c.args.inputs.now (memo_at g.R.Key.Ord.cmp c.args.memos.now.places) c.args.next l)
+    (sym c.in-Ok.ensures.pushed) (pushed_waits g.R.Key.Ord.cmp (g.R.Rules.machine c.args.memos.now.rules) c.args.inputs.now (memo_at g.R.Key.Ord.cmp c.args.memos.now.places) c.args.self.now.stack c.args.frame c.args.next c.requires.below c.requires.awaits)
+
+pub close-requires-clause-differ : goal.close-requires-clause-differ
+close-requires-clause-differ g c =
+    subst (λ (l : List (Frame g.row.R-Key.Denot g.row.R-Part.Denot)). Differ (frame_keys l))
+    (sym c.in-Ok.ensures.pushed) (pushed_keys g.R.Key.Ord.cmp (g.R.Rules.machine c.args.memos.now.rules) c.args.inputs.now (memo_at g.R.Key.Ord.cmp c.args.memos.now.places) c.args.self.now.stack c.args.frame c.requires.below)
+
+pub returns-in-None-clause-frames_kept : goal.returns-in-None-clause-frames_kept
+returns-in-None-clause-frames_kept g c = (
+  record {
+    waits =
+        subst (λ (l : List (Frame g.row.R-Key.Denot g.row.R-Part.Denot)). WaitsUp g.R.Key.Ord.cmp (g.R.Rules.machine c.args.memos.now.rules) c.args.inputs.now (memo_at g.R.Key.Ord.cmp c.args.memos.now.places) c.args.next l)
+        (sym c.in-Ok.ensures.pushed) (pushed_waits g.R.Key.Ord.cmp (g.R.Rules.machine c.args.memos.now.rules) c.args.inputs.now (memo_at g.R.Key.Ord.cmp c.args.memos.now.places) c.args.self.now.stack c.args.frame c.args.next c.requires.below c.requires.awaits);
+    differ =
+        subst (λ (l : List (Frame g.row.R-Key.Denot g.row.R-Part.Denot)). Differ (frame_keys l))
+        (sym c.in-Ok.ensures.pushed) (pushed_keys g.R.Key.Ord.cmp (g.R.Rules.machine c.args.memos.now.rules) c.args.inputs.now (memo_at g.R.Key.Ord.cmp c.args.memos.now.places) c.args.self.now.stack c.args.frame c.requires.below);
+    apart = c.in-None.ensures.none;
+  },
+  inr (walked g.R.Key.Ord.cmp (g.R.Rules.machine c.args.memos.now.rules) c.args.inputs.now (memo_at g.R.Key.Ord.cmp c.args.memos.now.places) c.args.next c.requires.stale),
+)

@@ -1,0 +1,9 @@
+use Rattle.std.proofs.Common.{rules, ◌≡◌, ℕ, ◌≤◌, ◌<◌, refl, sym, ◌∙◌, ap, subst}
+use Rattle.pq_core.proofs.running.end_run.Goals as goal
+
+pub finish_in-requires : goal.finish_in-requires
+finish_in-requires g c = rw (← c.run.view_is) at c.requires.within
+
+pub returns-clause-open : goal.returns-clause-open
+returns-clause-open g c =
+    rw (← c.run.view_is) (rw c.new-2.ensures at (rw c.new.ensures at (rw c.new-reply.ensures at c.finish_in.ensures.«open»)))

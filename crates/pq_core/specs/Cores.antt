@@ -1,0 +1,101 @@
+-- What contracts see of a core: its rule set, the places of its memos, its inputs, and what it
+-- keeps of clients and runs.
+use Rattle.std.specs.Prelude.{ℕ, ◌≡◌, ◌≤◌, List, length, Option, Some, IfSome}
+use Rattle.std.specs.Option.{option_map}
+use Rattle.std.specs.declared.cmp.Ordering.{Ordering}
+use Rattle.pq_inputs.specs.Sources.{Table}
+use Rattle.pq_rules.specs.Turns.{Machine}
+use Rattle.pq_memo.specs.Sound.{Memo}
+use Rattle.pq_memo.specs.Table.{memo_at, HasIn, KeptOver}
+use Rattle.pq_memo.specs.Cause.{IsCause}
+use Rattle.pq_core.specs.Works.{WorkView}
+use Rattle.pq_core.specs.declared.moves.Move.{Move}
+use Rattle.pq_core.specs.declared.moves.Move.TheVariants.{Carry, Blocked, Stepped, Answered, Stopped}
+use Rattle.pq_core.specs.Replies.{ReplyView}
+use Rattle.pq_core.specs.Ledger.{Ledger}
+use Rattle.pq_core.specs.RightReply.{answer_by}
+use Rattle.pq_core.specs.declared.rising.Place.{Place}
+use Rattle.pq_core.specs.aux.Rising.{Slots, found, IsAbove}
+use Rattle.pq_core.specs.aux.Lanes.{LaneView, LaneStands}
+use Rattle.pq_core.specs.aux.Runs.{RunView, RunKept, out_at}
+use Rattle.pq_core.specs.aux.Stands.{RunSeen, Fields, Stands}
+
+-- `CoreView R K P V O` is a core
+pub record CoreView (R K P V O : Type 0) : Type 0 where
+  pub rules : R
+  pub places : List (K × Option (Memo K V))
+  pub inputs : Table
+  pub lanes : Slots (LaneView K V O)
+  pub opened : ℕ
+  pub clients : ℕ
+  pub waiting : List (ℕ × ℕ)
+  pub runs : Slots (RunView K P)
+  pub started : ℕ
+
+-- `run_seen run` is what the ledger knows of `run`
+abbrev pub run_seen : {K P : Type 0} → RunView K P → RunSeen K
+run_seen run = record { client = run.client; number = run.number; request = run.request; started = run.started; out = out_at run.top }
+
+-- `Held K P V O` is what a core keeps of inputs, clients and runs
+pub record Held (K P V O : Type 0) : Type 0 where
+  pub inputs : Table
+  pub lanes : List (Place (LaneView K V O))
+  pub opened : ℕ
+  pub clients : ℕ
+  pub waiting : List (ℕ × ℕ)
+  pub runs : List (Place (RunView K P))
+  pub started : ℕ
+
+-- `held core` is what `core` keeps of inputs, clients and runs
+abbrev pub held : {R K P V O : Type 0} → CoreView R K P V O → Held K P V O
+held core = record {
+  inputs = core.inputs;
+  lanes = core.lanes.items;
+  opened = core.opened;
+  clients = core.clients;
+  waiting = core.waiting;
+  runs = core.runs.items;
+  started = core.started;
+}
+
+-- `fields_of h` is `h` as maps from numbers
+abbrev pub fields_of : {K P V O : Type 0} → Held K P V O → Fields K (LaneView K V O)
+fields_of h = record {
+  inputs = h.inputs;
+  lanes = λ c. found h.lanes c;
+  opened = h.opened;
+  clients = h.clients;
+  waiting = h.waiting;
+  runs = λ r. option_map run_seen (found h.runs r);
+  started = h.started;
+}
+
+-- `StandsOf order m puts h l` is that what `h` keeps stands for the ledger `l`
+abbrev pub StandsOf : {K P V O : Type 0} → (K → K → Ordering) → Machine K P V → (O → List (ReplyView K V)) → Held K P V O → Ledger K V O → Type 0
+StandsOf order m puts h l = Stands (LaneStands puts) (answer_by order m) puts (fields_of h) l
+
+-- `StandsFor order m puts core l` is that `core` stands for the ledger `l`
+abbrev pub StandsFor : {R K P V O : Type 0} → (K → K → Ordering) → Machine K P V → (O → List (ReplyView K V)) → CoreView R K P V O → Ledger K V O → Type 0
+StandsFor order m puts core l = StandsOf order m puts (held core) l
+
+-- `IsWhole order m puts core` is the invariant of a core: its table keeps its invariant; the
+-- numbers of clients and runs are above those given; there is room for a run of each request that
+-- may wait; the frames of the current runs are in order; and it stands for a ledger
+pub record IsWhole {R K P V O : Type 0} (order : K → K → Ordering) (m : Machine K P V) (puts : O → List (ReplyView K V)) (core : CoreView R K P V O) : Type 0 where
+  pub kept : KeptOver order m core.inputs core.places
+  pub lanes_above : IsAbove core.clients core.lanes.items
+  pub runs_above : IsAbove core.started core.runs.items
+  pub room : length core.waiting ≤ core.runs.room
+  pub current : (r : ℕ) (run : RunView K P) → found core.runs.items r ≡ Some run → run.started ≡ core.inputs.revision
+      → RunKept order m core.inputs (memo_at order core.places) run
+  pub ledger : (l : Ledger K V O) × StandsOf order m puts (held core) l
+
+-- `HasCause order m core move` is that `move`, if it hands out a rule to be started, names a cause
+-- that the table of `core` gives
+abbrev pub HasCause : {R K P V O : Type 0} → (K → K → Ordering) → Machine K P V → CoreView R K P V O → Move (WorkView R K P V) → Type 0
+HasCause order m core (Carry work) =
+    IfSome work.why (λ why. IsCause order m core.inputs.history core.inputs.revision (HasIn (memo_at order core.places)) work.done.key why)
+HasCause order m core (Blocked other) = Unit {0}
+HasCause order m core Stepped = Unit {0}
+HasCause order m core Answered = Unit {0}
+HasCause order m core Stopped = Unit {0}

@@ -1,0 +1,10 @@
+pub mod Replies
+pub mod Changes
+pub mod Works
+pub mod Ledger
+pub mod RightReply
+pub mod Outboxes
+pub mod Moves
+pub mod Kept
+pub mod Cores
+pub mod aux

@@ -1,0 +1,11 @@
+-- Auxiliary: nothing below this module has to be believed (used by proofs and invariants only).
+pub mod Rooms
+pub mod Tasks
+pub mod Stands
+pub mod Rising
+pub mod Changes
+pub mod Lanes
+pub mod Runs
+pub mod Accepting
+pub mod Starting
+pub mod Resting

@@ -1,0 +1,152 @@
+-- Auxiliary: runs. A run brings the key of one request up to date at the sources of its start, in
+-- steps. Other runs take steps on the same table of memos in between. The invariant is that of a
+-- run whose start is the revision now.
+--
+-- `order` is the order of the keys, `m` the rule set, `inputs` the inputs, and a table is a
+-- function from keys.
+use Rattle.std.specs.Prelude.{ℕ, ◌≡◌, ◌⊎◌, List, [], ◌∷◌, ◌++◌, length, Option, Some, None, IfSome}
+use Rattle.std.specs.declared.cmp.Ordering.{Ordering}
+use Rattle.pq_inputs.specs.Sources.{Table}
+use Rattle.pq_rules.specs.declared.turn.Turn.{Turn}
+use Rattle.pq_rules.specs.declared.turn.Answer.{Answer}
+use Rattle.pq_rules.specs.Turns.{Machine, over}
+use Rattle.pq_rules.specs.Relations.{In}
+use Rattle.pq_rules.specs.Value.{Means}
+use Rattle.pq_memo.specs.declared.frame.Frame.{Frame}
+use Rattle.pq_memo.specs.Sound.{Memo}
+use Rattle.pq_memo.specs.Look.{IsUpToDate}
+use Rattle.pq_memo.specs.Table.{HasIn}
+use Rattle.pq_memo.specs.Frames.{Came, IsFrame, Awaits, frame_keys}
+use Rattle.pq_memo.specs.Steps.{IsWhy}
+use Rattle.pq_memo.specs.Demand.{Differ, IsVerified}
+use Rattle.pq_core.specs.Ledger.{Out}
+use Rattle.pq_core.specs.Works.{WorkView}
+use Rattle.pq_core.specs.Moves.{out_of}
+use Rattle.pq_core.specs.declared.request.Request.{Request}
+use Rattle.pq_core.specs.declared.request.Want.TheVariants.{Demand}
+use Rattle.pq_core.specs.declared.frames.Pending.{Pending}
+use Rattle.pq_core.specs.declared.frames.Top.{Top}
+use Rattle.pq_core.specs.declared.frames.Top.TheVariants.{Empty, At, Away}
+use Rattle.pq_core.specs.declared.run.Looked.{Looked}
+use Rattle.pq_core.specs.declared.run.Looked.TheVariants.{Carry, Stepped, Answered}
+
+-- `RunView K P` is a run: its client, the number of its request, the request, the revision of its
+-- start, the frames below the top, and the top
+pub record RunView (K P : Type 0) : Type 0 where
+  pub client : ℕ
+  pub number : ℕ
+  pub request : Request K
+  pub started : ℕ
+  pub stack : List (Frame K P)
+  pub top : Top K P
+
+-- `IsSameRun old new` is that `new` is the run `old` at another step
+pub record IsSameRun {K P : Type 0} (old new : RunView K P) : Type 0 where
+  pub client : new.client ≡ old.client
+  pub number : new.number ≡ old.number
+  pub request : new.request ≡ old.request
+  pub started : new.started ≡ old.started
+
+-- `out_at top` is the work that is out, if it is
+abbrev pub out_at : {K P : Type 0} → Top K P → Option (Out K)
+out_at Empty = None
+out_at (At frame) = None
+out_at (Away pending) = Some (record { key = pending.key; reads = length pending.reads.items })
+
+-- `IsRenewed m now before after k` is that `after` has of `k` the memo of `before`, or that `k` was
+-- not up to date and has a memo now that was verified now
+abbrev pub IsRenewed : {K P V : Type 0} → Machine K P V → ℕ → (K → Option (Memo K V)) → (K → Option (Memo K V)) → K → Type 0
+IsRenewed m now before after k = (after k ≡ before k) ⊎ ((IsUpToDate m now (HasIn before) k → ⊥) × IsVerified now after k)
+
+-- `Renewed m now before after` is that this holds of each key
+abbrev pub Renewed : {K P V : Type 0} → Machine K P V → ℕ → (K → Option (Memo K V)) → (K → Option (Memo K V)) → Type 0
+Renewed {K} m now before after = (k : K) → IsRenewed m now before after k
+
+-- `CanGoOn order m inputs table f` is that the key of `f` is up to date, or can be brought up to
+-- date from its stage on
+abbrev pub CanGoOn : {K P V : Type 0} → (K → K → Ordering) → Machine K P V → Table → (K → Option (Memo K V)) → Frame K P → Type 0
+CanGoOn order m inputs table f =
+    IsUpToDate m inputs.revision (HasIn table) f.key ⊎ IsFrame order m inputs.history inputs.revision (HasIn table) f.key f.stage
+
+-- `WaitsFor order m inputs table f z` is that the key of `f` is up to date, or that `f` waits for
+-- `z`
+abbrev pub WaitsFor : {K P V : Type 0} → (K → K → Ordering) → Machine K P V → Table → (K → Option (Memo K V)) → Frame K P → K → Type 0
+WaitsFor order m inputs table f z =
+    IsUpToDate m inputs.revision (HasIn table) f.key ⊎ Awaits order m inputs.history inputs.revision (HasIn table) f.key f.stage z
+
+-- `first_key z fs` is the key of the first of `fs`, or `z` if there is none
+abbrev pub first_key : {K P : Type 0} → K → List (Frame K P) → K
+first_key z [] = z
+first_key z (f ∷ fs) = f.key
+
+-- `WaitsUp order m inputs table z fs` is that the key of each of `fs` is up to date, or the frame
+-- waits for the key of the next, and the last for `z`
+unfoldable pub WaitsUp : {K P V : Type 0} → (K → K → Ordering) → Machine K P V → Table → (K → Option (Memo K V)) → K → List (Frame K P) → Type 0
+WaitsUp order m inputs table z [] = Unit {0}
+WaitsUp order m inputs table z (f ∷ fs) = WaitsFor order m inputs table f (first_key z fs) × WaitsUp order m inputs table z fs
+
+-- `KeptBelow order m inputs table stack k` is what holds of the frames below the top, whose key is
+-- `k`
+pub record KeptBelow {K P V : Type 0} (order : K → K → Ordering) (m : Machine K P V) (inputs : Table) (table : K → Option (Memo K V))
+    (stack : List (Frame K P)) (k : K) : Type 0 where
+  pub waits : WaitsUp order m inputs table k stack
+  pub differ : Differ (frame_keys stack)
+  pub apart : In k (frame_keys stack) → ⊥
+
+-- `CanTake order m inputs table pending` is that the key of `pending` is up to date, or that its
+-- rule came, by the reads, to some turn
+abbrev pub CanTake : {K P V : Type 0} → (K → K → Ordering) → Machine K P V → Table → (K → Option (Memo K V)) → Pending K → Type 0
+CanTake {K} {P} {V} order m inputs table pending =
+    IsUpToDate m inputs.revision (HasIn table) pending.key
+    ⊎ ((turn : Turn K P V) × Came order m inputs.history inputs.revision (HasIn table) pending.key turn pending.reads.items)
+
+-- `FramesKept order m inputs table stack top` is the invariant of the frames of a run that was
+-- started at the revision now
+abbrev pub FramesKept : {K P V : Type 0} → (K → K → Ordering) → Machine K P V → Table → (K → Option (Memo K V)) → List (Frame K P) → Top K P → Type 0
+FramesKept order m inputs table stack Empty = stack ≡ []
+FramesKept order m inputs table stack (At f) = KeptBelow order m inputs table stack f.key × CanGoOn order m inputs table f
+FramesKept order m inputs table stack (Away p) = KeptBelow order m inputs table stack p.key × CanTake order m inputs table p
+
+-- `RunKept order m inputs table run` is that of a run
+abbrev pub RunKept : {K P V : Type 0} → (K → K → Ordering) → Machine K P V → Table → (K → Option (Memo K V)) → RunView K P → Type 0
+RunKept order m inputs table run = FramesKept order m inputs table run.stack run.top
+
+-- `IsLowered before after top` is that the last frame of `before`, if there is one, is the top, and
+-- `after` those below
+abbrev pub IsLowered : {K P : Type 0} → List (Frame K P) → List (Frame K P) → Top K P → Type 0
+IsLowered before after Empty = (before ≡ []) × (after ≡ [])
+IsLowered before after (At f) = before ≡ after ++ f ∷ []
+IsLowered before after (Away p) = ⊥
+
+-- `HandedOut m rules inputs table run top work` is that `work` is of `run`, for a key whose rule has
+-- to start or go on, and that the top waits for it
+pub record HandedOut {R K P V : Type 0} (m : Machine K P V) (rules : R) (inputs : Table) (table : K → Option (Memo K V)) (run : ℕ) (top : Top K P)
+    (work : WorkView R K P V) : Type 0 where
+  pub rules_same : work.done.rules ≡ rules
+  pub run_same : work.done.run ≡ run
+  pub started : work.done.started ≡ inputs.revision
+  pub files : work.done.files ≡ inputs.files
+  pub out : out_at top ≡ Some (out_of work.done)
+  pub why : IfSome work.why (λ why. IsWhy m inputs.history inputs.revision (HasIn table) work.done.key why)
+
+-- `HasAdvanced m rules inputs table run top work` is that a step handed out `work`, or none
+abbrev pub HasAdvanced : {R K P V : Type 0} → Machine K P V → R → Table → (K → Option (Memo K V)) → ℕ → Top K P → Option (WorkView R K P V) → Type 0
+HasAdvanced m rules inputs table run top None = out_at top ≡ None
+HasAdvanced m rules inputs table run top (Some work) = HandedOut m rules inputs table run top work
+
+-- `IsAnswer order m inputs request answer` is that `answer` is that of the key of `request` at the
+-- sources now
+abbrev pub IsAnswer : {K P V : Type 0} → (K → K → Ordering) → Machine K P V → Table → Request K → Answer K V → Type 0
+IsAnswer {K} order m inputs request answer = (key : K) × (request.want ≡ Demand key) × Means (over order m inputs.files) key answer
+
+-- `IsStale m now Has request` is that the key of `request` is not up to date
+abbrev pub IsStale : {K P V : Type 0} → Machine K P V → ℕ → (K → Memo K V → Type 0) → Request K → Type 0
+IsStale {K} m now Has request = (key : K) → request.want ≡ Demand key → IsUpToDate m now Has key → ⊥
+
+-- `HasLooked order m rules inputs table run request top looked` is that a look handed out work,
+-- went on, or found the answer of the request's key at the sources now
+abbrev pub HasLooked : {R K P V : Type 0} → (K → K → Ordering) → Machine K P V → R → Table → (K → Option (Memo K V)) → ℕ → Request K → Top K P
+    → Looked (WorkView R K P V) (Answer K V) → Type 0
+HasLooked order m rules inputs table run request top (Carry work) = HandedOut m rules inputs table run top work
+HasLooked order m rules inputs table run request top Stepped = out_at top ≡ None
+HasLooked order m rules inputs table run request top (Answered answer) = IsAnswer order m inputs request answer × (out_at top ≡ None)

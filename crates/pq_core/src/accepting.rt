@@ -1,0 +1,161 @@
+//! Accepting requests and edits of clients.
+ghost use Rattle.std.specs.Prelude.{◌≡◌, ◌≤◌, ◌<◌, ◌+◌, ◌^◌, ◌⊎◌, [], ◌∷◌, ◌++◌, IfOk, IfErr, IfSome, IfNone, OnOk, OnErr, length, Some, None, true, false, IsTrue, ◌↔◌};
+ghost use Rattle.std.specs.VecDeque.{deque_capacity};
+ghost use Rattle.pq_core.specs.Kept.{IsDemand};
+ghost use Rattle.pq_core.specs.Ledger.{Ledger};
+ghost use Rattle.pq_core.specs.Moves.{Reaches, Accepts, Edits, window};
+ghost use Rattle.pq_core.specs.Cores.{StandsFor};
+ghost use Rattle.pq_core.specs.aux.Rising.{found};
+ghost use Rattle.pq_core.specs.aux.Changes.{IsSameMap};
+ghost use Rattle.pq_core.specs.aux.Lanes.{LaneView};
+ghost use Rattle.pq_core.specs.aux.Accepting.{MayNot, MayPost, MayNotEdit};
+
+use crate::cores::Core;
+use crate::fault::{AcceptFault, AcceptRefused, EditFault, EditRefused, Memory};
+use crate::ids::{ClientId, Number};
+use crate::in_lanes::accept_in;
+use crate::outbox::Outbox;
+use crate::request::{Change, Request, Want};
+use crate::rising::Rising;
+use pq_inputs::{Revision, SetRefused};
+use pq_memo::kept_is_sound;
+use pq_rules::Rules;
+use std::alloc::Global;
+use std::collections::VecDeque;
+
+/// Makes room for one more request that waits, and for the runs of all that may wait.
+fn make_room<T: Drop>(
+    waiting: &mut VecDeque<(u64, u64)>,
+    runs: &mut Rising<T>,
+) -> Result<(), Memory>
+    ensures queue { waiting.new.items ≡ waiting.old.items }
+    ensures runs { IsSameMap runs.old runs.new }
+    ensures room { OnOk result (length waiting.new.items < deque_capacity waiting.new) }
+    ensures run_room { OnOk result (length waiting.new.items + 1 ≤ runs.new.room) }
+{
+    waiting.reserve(1)?;
+    let more = waiting.len().saturating_add(1);
+    runs.reserve(more)?;
+    Ok(())
+}
+
+/// Whether the answer of a key is wanted.
+fn is_demand<K>(want: &Want<K>) -> bool
+    ensures { IsTrue result ↔ IsDemand want.now }
+{
+    match want {
+        Want::Demand(_) => true,
+        Want::Fixed(_) => false,
+    }
+}
+
+impl<R: Rules, O: Outbox<R::Key, R::Value> + Drop> Core<R, O> {
+    ghost use Rattle.pq_core.specs.Cores.{held};
+
+    /// The reason to refuse a request of `client` whatever memory there is.
+    fn accept_refusal(&self, client: u64) -> Option<AcceptFault>
+        ensures refused { IfSome result (λ fault. MayNot (held self.now) client fault) }
+        ensures may { IfNone result (MayPost (held self.now) client) }
+    {
+        if client >= self.clients {
+            return Some(AcceptFault::NoClient);
+        }
+        match self.lanes.get(client) {
+            Some(lane) => {
+                if lane.is_full() {
+                    return Some(AcceptFault::WindowFull);
+                }
+                return None;
+            }
+            None => return Some(AcceptFault::Closed),
+        }
+    }
+
+    /// Accepts `request` of `client`. The reply to a fixed text is ready at once.
+    ///
+    /// # Errors
+    ///
+    /// `NoClient`, `Closed`, `WindowFull`, `Memory`, in this order. The request comes back.
+    pub fn accept(
+        &mut self,
+        client: ClientId,
+        request: Request<R::Key>,
+    ) -> Result<Number, AcceptRefused<R::Key>>
+        ensures rules { self.new.rules ≡ self.old.rules }
+        ensures moved { (l : Ledger R.Key R.Value O) → StandsFor R.Key.cmp (R.machine self.old.rules) O.puts self.old l
+            → Reaches (Accepts O.puts client request result) l (StandsFor R.Key.cmp (R.machine self.old.rules) O.puts self.new) }
+    {
+        if let Some(fault) = self.accept_refusal(client.number()) {
+            return Err(AcceptRefused { fault, request });
+        }
+        if make_room(&mut self.waiting, &mut self.runs).is_err() {
+            let fault = AcceptFault::Memory;
+            return Err(AcceptRefused { fault, request });
+        }
+        let revision = self.inputs.now();
+        let waits = is_demand(&request.want);
+        match accept_in(&mut self.lanes, client, request, revision) {
+            Ok(number) => {
+                if waits {
+                    self.waiting
+                        .push_back_reserved((client.number(), number.number()));
+                    return Ok(number);
+                }
+                return Ok(number);
+            }
+            Err(request) => {
+                let fault = AcceptFault::Memory;
+                return Err(AcceptRefused { fault, request });
+            }
+        }
+    }
+
+    /// The reason to refuse an edit of `client` whatever the change is.
+    fn edit_refusal(&self, client: u64) -> Option<EditFault>
+        ensures refused { IfSome result (λ fault. MayNotEdit (held self.now) client fault) }
+        ensures may { IfNone result ((lane : LaneView R.Key R.Value O) × (found self.now.lanes.items client ≡ Some lane)) }
+    {
+        if client >= self.clients {
+            return Some(EditFault::NoClient);
+        }
+        match self.lanes.get(client) {
+            Some(_) => return None,
+            None => return Some(EditFault::Closed),
+        }
+    }
+
+    /// Makes the change of `client`, at the next revision. It waits for no run.
+    ///
+    /// # Errors
+    ///
+    /// `NoClient`, `Closed`, and those of `Inputs::set`, in this order. The change comes back.
+    pub fn edit(&mut self, client: ClientId, change: Change) -> Result<Revision, EditRefused>
+        ensures rules { self.new.rules ≡ self.old.rules }
+        ensures moved { (l : Ledger R.Key R.Value O) → StandsFor R.Key.cmp (R.machine self.old.rules) O.puts self.old l
+            → Reaches (Edits client change result) l (StandsFor R.Key.cmp (R.machine self.old.rules) O.puts self.new) }
+    {
+        if let Some(fault) = self.edit_refusal(client.number()) {
+            return Err(EditRefused { fault, change });
+        }
+        let Change {
+            file,
+            text,
+            durability,
+        } = change;
+        let _latest = self.inputs.now();
+        kept_is_sound(&self.memos);
+        match self.inputs.set(file.as_str(), text, durability) {
+            Ok(revision) => return Ok(revision),
+            Err(refused) => {
+                let SetRefused { fault, text } = refused;
+                let change = Change {
+                    file,
+                    text,
+                    durability,
+                };
+                let fault = EditFault::Input(fault);
+                return Err(EditRefused { fault, change });
+            }
+        }
+    }
+}

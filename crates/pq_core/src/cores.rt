@@ -1,0 +1,70 @@
+//! The core: open clients, runs, inputs and memos.
+//!
+//! A client that is open has a lane; the requests that wait have their numbers in a queue; each run
+//! keeps its request. Of a closed client only its runs are kept. Lanes and runs are found by their
+//! numbers in logarithmic time. `accept` makes the room that `start` needs, so that starting,
+//! starving, releasing and closing take no memory.
+//!
+//! A run is current while no edit was accepted since its start. The invariant of a current run is
+//! that of its frames over the table of memos; it outlasts the steps of other runs.
+ghost use Rattle.std.specs.Prelude.{◌≡◌, [], ℕ};
+ghost use Rattle.pq_memo.specs.Table.{memo_at};
+ghost use Rattle.pq_core.specs.Ledger.{unused};
+ghost use Rattle.pq_core.specs.Cores.{StandsFor};
+
+use crate::lane::Lane;
+use crate::outbox::Outbox;
+use crate::rising::Rising;
+use crate::run::Run;
+use pq_inputs::Inputs;
+use pq_memo::Memos;
+use pq_rules::Rules;
+use std::alloc::Global;
+use std::collections::VecDeque;
+use std::marker::Model;
+
+/// The core of the server. Each call is one step of the whole, and no call waits.
+#[derive(Drop)]
+pub struct Core<R: Rules, O: Outbox<R::Key, R::Value>> {
+    pub(crate) alloc: Global,
+    pub(crate) memos: Memos<R>,
+    pub(crate) inputs: Inputs,
+    pub(crate) lanes: Rising<Lane<R::Key, R::Value, O>>,
+    pub(crate) opened: usize,
+    pub(crate) clients: u64,
+    pub(crate) waiting: VecDeque<(u64, u64)>,
+    pub(crate) runs: Rising<Run<R>>,
+    pub(crate) started: u64,
+}
+
+impl<R: Rules, O: Outbox<R::Key, R::Value>> Model for Core<R, O> {
+    ghost use Rattle.pq_core.specs.Cores.{CoreView, IsWhole};
+
+    ghost Value = { CoreView R R.Key R.Part R.Value O };
+
+    ghost view = { λ c. record { rules = c.memos.rules; places = c.memos.places; inputs = c.inputs; lanes = c.lanes; opened = c.opened; clients = c.clients; waiting = c.waiting.items; runs = c.runs; started = c.started } };
+
+    ghost invariant = { λ c. IsWhole R.Key.cmp (R.machine c.memos.rules) O.puts (record { rules = c.memos.rules; places = c.memos.places; inputs = c.inputs; lanes = c.lanes; opened = c.opened; clients = c.clients; waiting = c.waiting.items; runs = c.runs; started = c.started }) };
+}
+
+impl<R: Rules, O: Outbox<R::Key, R::Value> + Drop> Core<R, O> {
+    /// A core without clients, over `inputs`.
+    pub fn new(alloc: Global, rules: R, inputs: Inputs) -> Self
+        ensures rules { result.rules ≡ rules }
+        ensures inputs { result.inputs ≡ inputs }
+        ensures stands { StandsFor R.Key.cmp (R.machine rules) O.puts result (unused inputs) }
+    {
+        let _latest = inputs.now();
+        Core {
+            alloc,
+            memos: Memos::new(alloc, rules),
+            inputs,
+            lanes: Rising::new(alloc),
+            opened: 0,
+            clients: 0,
+            waiting: VecDeque::new(alloc),
+            runs: Rising::new(alloc),
+            started: 0,
+        }
+    }
+}

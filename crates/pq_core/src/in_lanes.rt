@@ -1,0 +1,132 @@
+//! What calls do to the lane of one client.
+ghost use Rattle.std.specs.Prelude.{◌≡◌, ◌≤◌, ◌<◌, ◌+◌, ◌^◌, ◌⊎◌, ℕ, IfOk, IfErr, IfSome, IfNone, OnOk, OnErr, length, slice_get, Some, None};
+ghost use Rattle.pq_core.specs.Replies.{ReplyView};
+ghost use Rattle.pq_core.specs.aux.Rising.{found, IsAbove};
+ghost use Rattle.pq_core.specs.aux.Changes.{IsSetAt, IsSameMap};
+ghost use Rattle.pq_core.specs.aux.Lanes.{LaneView, IsOwed, with_owed, pushed, first_owed, LaneReleases, LaneTakes};
+ghost use Rattle.pq_core.specs.declared.request.Request.{Request};
+ghost use Rattle.pq_core.specs.declared.lane.Owed.TheVariants.{Waiting as OwedWaiting, Running as OwedRunning, Ready as OwedReady};
+ghost use Rattle.pq_core.specs.declared.moves.Released.TheVariants.{Nothing};
+ghost use Rattle.std.specs.Prelude.{Ok, false};
+
+use crate::fault::Memory;
+use crate::ids::{ClientId, Number};
+use crate::lane::Lane;
+use crate::moves::Released;
+use crate::outbox::{Outbox, Taking};
+use crate::reply::Reply;
+use crate::request::Request;
+use crate::rising::Rising;
+use pq_inputs::Revision;
+
+/// Accepts `request` in the lane of `client`. It comes back if the client has no lane or an
+/// allocation fails.
+pub(crate) fn accept_in<K: Drop, V: Drop, O: Drop>(
+    lanes: &mut Rising<Lane<K, V, O>>,
+    client: ClientId,
+    request: Request<K>,
+    revision: Revision,
+) -> Result<Number, Request<K>>
+    requires { (lane : LaneView K V O) → found lanes.old.items client ≡ Some lane → lane.put + length lane.owed + 1 < 2 ^ 64 }
+    ensures accepted { IfOk result (λ n. (lane : LaneView K V O) × (found lanes.old.items client ≡ Some lane) × (n ≡ lane.put + length lane.owed)
+        × IsSetAt lanes.old lanes.new client (Some (pushed lane (first_owed client n request revision request.want)))) }
+    ensures refused { OnErr result (IsSameMap lanes.old lanes.new) }
+    ensures back { IfErr result (λ back. back ≡ request) }
+{
+    match lanes.take(client.number()) {
+        Some(lane) => {
+            let mut lane = lane;
+            let accepted = lane.accept(client, request, revision);
+            lanes.put_back(client.number(), lane);
+            accepted
+        }
+        None => Err(request),
+    }
+}
+
+/// Starts the request `number` of `client`, if it waits. Returns it.
+pub(crate) fn start_in<K: Drop, V: Drop, O: Drop>(
+    lanes: &mut Rising<Lane<K, V, O>>,
+    client: u64,
+    number: u64,
+) -> Option<Request<K>>
+    ensures started { IfSome result (λ request. (lane : LaneView K V O) × (found lanes.old.items client ≡ Some lane) × IsOwed lane number (OwedWaiting request)
+        × IsSetAt lanes.old lanes.new client (Some (with_owed lane number OwedRunning))) }
+    ensures none { IfNone result (((lane : LaneView K V O) (request : Request K) → found lanes.old.items client ≡ Some lane → IsOwed lane number (OwedWaiting request) → ⊥)
+        × IsSameMap lanes.old lanes.new) }
+{
+    match lanes.take(client) {
+        Some(lane) => {
+            let mut lane = lane;
+            let request = lane.start(number);
+            lanes.put_back(client, lane);
+            request
+        }
+        None => None,
+    }
+}
+
+/// Makes `reply` the reply to the request `number` of `client`, if the client is open.
+pub(crate) fn finish_in<K: Drop, V: Drop, O: Drop>(
+    lanes: &mut Rising<Lane<K, V, O>>,
+    client: u64,
+    number: u64,
+    reply: Reply<K, V>,
+)
+    requires { (lane : LaneView K V O) → found lanes.old.items client ≡ Some lane → (lane.put ≤ number) × (number < lane.put + length lane.owed) }
+    ensures open { (lane : LaneView K V O) → found lanes.old.items client ≡ Some lane → IsSetAt lanes.old lanes.new client (Some (with_owed lane number (OwedReady reply))) }
+    ensures closed { found lanes.old.items client ≡ None → IsSameMap lanes.old lanes.new }
+    ensures above { (m : ℕ) → IsAbove m lanes.old.items → IsAbove m lanes.new.items }
+{
+    match lanes.take(client) {
+        Some(lane) => {
+            let mut lane = lane;
+            lane.finish(number, reply);
+            lanes.put_back(client, lane);
+            return;
+        }
+        None => return,
+    }
+}
+
+/// Puts the next reply to `client` into its outbox, if it is open and the reply is ready.
+pub(crate) fn release_in<K: Drop, V: Drop, O: Outbox<K, V> + Drop>(
+    lanes: &mut Rising<Lane<K, V, O>>,
+    client: u64,
+) -> Released
+    requires put { (lane : LaneView K V O) → found lanes.old.items client ≡ Some lane → lane.put ≡ length (O.puts lane.outbox) }
+    requires numbered { (lane : LaneView K V O) (reply : ReplyView K V) → found lanes.old.items client ≡ Some lane → slice_get lane.owed 0 ≡ Some (OwedReady reply) → reply.number ≡ lane.put }
+    ensures open { (lane : LaneView K V O) → found lanes.old.items client ≡ Some lane
+        → (after : LaneView K V O) × LaneReleases O.puts O.takes O.was_full result lane after × IsSetAt lanes.old lanes.new client (Some after) }
+    ensures closed { found lanes.old.items client ≡ None → (result ≡ Nothing) × IsSameMap lanes.old lanes.new }
+{
+    match lanes.take(client) {
+        Some(lane) => {
+            let mut lane = lane;
+            let released = lane.release();
+            lanes.put_back(client, lane);
+            return released;
+        }
+        None => return Released::Nothing,
+    }
+}
+
+/// Takes the next reply out of the outbox of `client`, if it is open.
+pub(crate) fn take_in<K: Drop, V: Drop, O: Taking<K, V> + Drop>(
+    lanes: &mut Rising<Lane<K, V, O>>,
+    client: u64,
+) -> Result<bool, Memory>
+    ensures open { (lane : LaneView K V O) → found lanes.old.items client ≡ Some lane
+        → (after : LaneView K V O) × LaneTakes O.puts O.takes result lane after × IsSetAt lanes.old lanes.new client (Some after) }
+    ensures closed { found lanes.old.items client ≡ None → (result ≡ Ok false) × IsSameMap lanes.old lanes.new }
+{
+    match lanes.take(client) {
+        Some(lane) => {
+            let mut lane = lane;
+            let taken = lane.take();
+            lanes.put_back(client, lane);
+            return taken;
+        }
+        None => return Ok(false),
+    }
+}

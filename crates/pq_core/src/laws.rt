@@ -1,0 +1,52 @@
+//! Laws of the ledger, each as the contract of a function that does nothing.
+//!
+//! They are what holds of every ledger that is reached, whatever the calls answer.
+ghost use Rattle.std.specs.Prelude.{◌≡◌, ℕ, [], Bool, Option, Result};
+ghost use Rattle.std.specs.declared.alloc.AllocError.{AllocError};
+ghost use Rattle.pq_core.specs.Changes.{ChangeView};
+ghost use Rattle.pq_core.specs.Works.{DoneView, WorkView};
+ghost use Rattle.pq_core.specs.Ledger.{Ledger, IsClosed};
+ghost use Rattle.pq_core.specs.Moves.{Opens, Accepts, Edits, Starts, Looks, Gives, Starves, Releases, Closes, TakesOut};
+ghost use Rattle.pq_core.specs.RightReply.{answer_by};
+ghost use Rattle.pq_core.specs.Kept.{Kept};
+ghost use Rattle.pq_core.specs.declared.request.Request.{Request};
+ghost use Rattle.pq_core.specs.declared.fault.OpenRefused.{OpenRefused};
+ghost use Rattle.pq_core.specs.declared.fault.AcceptRefused.{AcceptRefused};
+ghost use Rattle.pq_core.specs.declared.fault.EditRefused.{EditRefused};
+ghost use Rattle.pq_core.specs.declared.fault.LookFault.{LookFault};
+ghost use Rattle.pq_core.specs.declared.fault.GiveRefused.{GiveRefused};
+ghost use Rattle.pq_core.specs.declared.moves.Move.{Move};
+ghost use Rattle.pq_core.specs.declared.moves.Released.{Released};
+
+use crate::outbox::Outbox;
+use pq_rules::Rules;
+
+/// Each move keeps what holds of every ledger: the replies put are those to the first requests, in
+/// order, and each reply is right. A client is opened with an outbox into which nothing was put.
+pub fn moves_keep<R: Rules, O: Outbox<R::Key, R::Value>>(_rules: &R)
+    ensures opens { (outbox : O) (answer : Result ℕ (OpenRefused O)) (l m : Ledger R.Key R.Value O) → O.puts outbox ≡ [] → Kept (answer_by R.Key.cmp (R.machine _rules.now)) O.puts l → Opens outbox answer l m → Kept (answer_by R.Key.cmp (R.machine _rules.now)) O.puts m }
+    ensures accepts { (client : ℕ) (request : Request R.Key) (answer : Result ℕ (AcceptRefused R.Key)) (l m : Ledger R.Key R.Value O) → Kept (answer_by R.Key.cmp (R.machine _rules.now)) O.puts l → Accepts O.puts client request answer l m → Kept (answer_by R.Key.cmp (R.machine _rules.now)) O.puts m }
+    ensures edits { (client : ℕ) (change : ChangeView) (answer : Result ℕ EditRefused) (l m : Ledger R.Key R.Value O) → Kept (answer_by R.Key.cmp (R.machine _rules.now)) O.puts l → Edits client change answer l m → Kept (answer_by R.Key.cmp (R.machine _rules.now)) O.puts m }
+    ensures starts { (answer : Option ℕ) (l m : Ledger R.Key R.Value O) → Kept (answer_by R.Key.cmp (R.machine _rules.now)) O.puts l → Starts answer l m → Kept (answer_by R.Key.cmp (R.machine _rules.now)) O.puts m }
+    ensures looks { (run : ℕ) (answer : Result (Move (WorkView R R.Key R.Part R.Value)) LookFault) (l m : Ledger R.Key R.Value O) → Kept (answer_by R.Key.cmp (R.machine _rules.now)) O.puts l → Looks R.Key.cmp (R.machine _rules.now) _rules.now run answer l m → Kept (answer_by R.Key.cmp (R.machine _rules.now)) O.puts m }
+    ensures gives { (run : ℕ) (done : DoneView R R.Key R.Part R.Value) (answer : Result (Move (WorkView R R.Key R.Part R.Value)) (GiveRefused (DoneView R R.Key R.Part R.Value))) (l m : Ledger R.Key R.Value O) → Kept (answer_by R.Key.cmp (R.machine _rules.now)) O.puts l → Gives run done answer l m → Kept (answer_by R.Key.cmp (R.machine _rules.now)) O.puts m }
+    ensures starves { (run : ℕ) (answer : Bool) (l m : Ledger R.Key R.Value O) → Kept (answer_by R.Key.cmp (R.machine _rules.now)) O.puts l → Starves run answer l m → Kept (answer_by R.Key.cmp (R.machine _rules.now)) O.puts m }
+    ensures releases { (client : ℕ) (answer : Released) (l m : Ledger R.Key R.Value O) → Kept (answer_by R.Key.cmp (R.machine _rules.now)) O.puts l → Releases O.puts O.takes O.was_full client answer l m → Kept (answer_by R.Key.cmp (R.machine _rules.now)) O.puts m }
+    ensures closes { (client : ℕ) (answer : Option O) (l m : Ledger R.Key R.Value O) → Kept (answer_by R.Key.cmp (R.machine _rules.now)) O.puts l → Closes client answer l m → Kept (answer_by R.Key.cmp (R.machine _rules.now)) O.puts m }
+    ensures takes { (client : ℕ) (answer : Result Bool AllocError) (l m : Ledger R.Key R.Value O) → Kept (answer_by R.Key.cmp (R.machine _rules.now)) O.puts l → TakesOut O.puts O.takes client answer l m → Kept (answer_by R.Key.cmp (R.machine _rules.now)) O.puts m }
+{}
+
+/// Each move leaves a client that is closed as it was, with the same outbox: after the close of a
+/// client nothing enters its outbox.
+pub fn closed_for_good<R: Rules, O: Outbox<R::Key, R::Value>>(_rules: &R)
+    ensures opens { (c : ℕ) (outbox : O) (answer : Result ℕ (OpenRefused O)) (l m : Ledger R.Key R.Value O) (shut : IsClosed l c) → Opens outbox answer l m → (after : IsClosed m c) × (after.client.outbox ≡ shut.client.outbox) }
+    ensures accepts { (c : ℕ) (client : ℕ) (request : Request R.Key) (answer : Result ℕ (AcceptRefused R.Key)) (l m : Ledger R.Key R.Value O) (shut : IsClosed l c) → Accepts O.puts client request answer l m → (after : IsClosed m c) × (after.client.outbox ≡ shut.client.outbox) }
+    ensures edits { (c : ℕ) (client : ℕ) (change : ChangeView) (answer : Result ℕ EditRefused) (l m : Ledger R.Key R.Value O) (shut : IsClosed l c) → Edits client change answer l m → (after : IsClosed m c) × (after.client.outbox ≡ shut.client.outbox) }
+    ensures starts { (c : ℕ) (answer : Option ℕ) (l m : Ledger R.Key R.Value O) (shut : IsClosed l c) → Starts answer l m → (after : IsClosed m c) × (after.client.outbox ≡ shut.client.outbox) }
+    ensures looks { (c : ℕ) (run : ℕ) (answer : Result (Move (WorkView R R.Key R.Part R.Value)) LookFault) (l m : Ledger R.Key R.Value O) (shut : IsClosed l c) → Looks R.Key.cmp (R.machine _rules.now) _rules.now run answer l m → (after : IsClosed m c) × (after.client.outbox ≡ shut.client.outbox) }
+    ensures gives { (c : ℕ) (run : ℕ) (done : DoneView R R.Key R.Part R.Value) (answer : Result (Move (WorkView R R.Key R.Part R.Value)) (GiveRefused (DoneView R R.Key R.Part R.Value))) (l m : Ledger R.Key R.Value O) (shut : IsClosed l c) → Gives run done answer l m → (after : IsClosed m c) × (after.client.outbox ≡ shut.client.outbox) }
+    ensures starves { (c : ℕ) (run : ℕ) (answer : Bool) (l m : Ledger R.Key R.Value O) (shut : IsClosed l c) → Starves run answer l m → (after : IsClosed m c) × (after.client.outbox ≡ shut.client.outbox) }
+    ensures releases { (c : ℕ) (client : ℕ) (answer : Released) (l m : Ledger R.Key R.Value O) (shut : IsClosed l c) → Releases O.puts O.takes O.was_full client answer l m → (after : IsClosed m c) × (after.client.outbox ≡ shut.client.outbox) }
+    ensures closes { (c : ℕ) (client : ℕ) (answer : Option O) (l m : Ledger R.Key R.Value O) (shut : IsClosed l c) → Closes client answer l m → (after : IsClosed m c) × (after.client.outbox ≡ shut.client.outbox) }
+    ensures takes { (c : ℕ) (client : ℕ) (answer : Result Bool AllocError) (l m : Ledger R.Key R.Value O) (shut : IsClosed l c) → TakesOut O.puts O.takes client answer l m → (after : IsClosed m c) × (after.client.outbox ≡ shut.client.outbox) }
+{}

@@ -1,0 +1,59 @@
+//! The core of the server: clients, the runs of their requests, and the replies, in order.
+//!
+//! The core is a machine of calls. Clients post requests and edits; workers start runs and take
+//! their steps; replies leave in the order of the requests of a client. No call waits. What a call
+//! may answer, and what it changes, is a relation on the ledger (`specs/Moves`): the sources at each
+//! revision, and of each client its requests, each in one place. `Calls` is a core by its
+//! contracts.
+//!
+//! Definitions: `specs/Ledger` (the world: clients, requests and their places), `specs/Moves` (one
+//! relation for each call), `specs/RightReply` (when a reply is right), `specs/Outboxes`,
+//! `specs/Kept` (what holds of each ledger that is reached), `specs/Works` (work that is out).
+//! Modules: `ids`, `label` and `request` (what clients post), `outcome` and `reply`, `fault` (why a
+//! call is refused), `moves` (what runs and releases come to), `outbox` (where replies go), `work`
+//! (a rule that is to be carried out), `calls` (the contracts of a core), `laws` (what each move
+//! keeps).
+#![tactic(auto)]
+
+mod accepting;
+mod calls;
+mod cores;
+mod fault;
+mod frames;
+mod ids;
+mod in_lanes;
+mod label;
+mod lane;
+mod laws;
+mod limits;
+mod list_outbox;
+mod moves;
+mod opening;
+mod outbox;
+mod outcome;
+mod releasing;
+mod reply;
+mod request;
+mod rising;
+mod run;
+mod running;
+mod starting;
+mod work;
+
+pub use calls::{Calls, TakingCalls};
+pub use cores::Core;
+pub use fault::{
+    AcceptFault, AcceptRefused, EditFault, EditRefused, GiveFault, GiveRefused, LookFault, Memory,
+    OpenFault, OpenRefused,
+};
+pub use ids::{ClientId, Number, RunId};
+pub use label::Label;
+pub use laws::{closed_for_good, moves_keep};
+pub use limits::{MAX_CLIENTS, WINDOW};
+pub use list_outbox::ListOutbox;
+pub use moves::{Move, Released};
+pub use outbox::{Outbox, PutFault, Taking};
+pub use outcome::Outcome;
+pub use reply::Reply;
+pub use request::{Change, Request, Want, copy_change, copy_request};
+pub use work::{Done, Work};

@@ -1,0 +1,88 @@
+//! An outbox that is a list of limited room.
+ghost use Rattle.std.specs.Prelude.{◌≡◌, ◌≤◌, [], length, IfOk};
+
+use crate::fault::Memory;
+use crate::outbox::{Outbox, PutFault, Taking};
+use crate::reply::Reply;
+use std::alloc::Global;
+use std::marker::Model;
+
+/// An outbox that is a list, with room for a number of replies that were not taken. Its room is
+/// allocated from the start, so it refuses a reply only where it is full.
+#[derive(Drop)]
+pub struct ListOutbox<K, V> {
+    replies: Vec<Reply<K, V>>,
+    taken: usize,
+    room: usize,
+}
+
+impl<K, V> Model for ListOutbox<K, V> {
+    ghost use Rattle.pq_core.specs.Outboxes.{Listed};
+    ghost use Rattle.std.specs.Prelude.{length, vec_capacity};
+    ghost use Rattle.pq_core.specs.aux.Rooms.{HasRoom};
+
+    ghost Value = { Listed K V };
+
+    ghost view = { λ o. record { replies = o.replies.items; taken = o.taken; room = o.room } };
+
+    ghost invariant = { λ o. HasRoom (length o.replies.items) o.taken o.room (vec_capacity o.replies) };
+}
+
+impl<K: Drop, V: Drop> ListOutbox<K, V> {
+    /// An outbox without replies, with room for `room` replies that were not taken.
+    pub fn new(alloc: Global, room: usize) -> Result<Self, Memory>
+        ensures { IfOk result (λ o. o ≡ record { replies = []; taken = 0; room = room }) }
+    {
+        let mut replies = Vec::new(alloc);
+        replies.reserve(room)?;
+        Ok(ListOutbox {
+            replies,
+            taken: 0,
+            room,
+        })
+    }
+
+    /// The replies that were put, and the count of those that were taken.
+    pub fn into_parts(self) -> (Vec<Reply<K, V>>, usize)
+        ensures { (result.0.items ≡ self.replies) × (result.1 ≡ self.taken) × (result.1 ≤ length result.0.items) }
+    {
+        let ListOutbox { replies, taken, .. } = self;
+        (replies, taken)
+    }
+}
+
+impl<K: Drop, V: Drop> Outbox<K, V> for ListOutbox<K, V> {
+    ghost use Rattle.std.specs.Prelude.{◌≡◌, ◌++◌, ◌∷◌, [], OnOk, OnErr, IfErr};
+    ghost use Rattle.pq_core.specs.Outboxes.{handed_back, IsFull, taken_front, HasNoRoom};
+
+    ghost puts = { λ o. o.replies };
+
+    ghost takes = { taken_front };
+
+    ghost was_full = { HasNoRoom };
+
+    fn put(&mut self, reply: Reply<K, V>) -> Result<(), PutFault<K, V>>
+        ensures put { OnOk result (self.new.replies ≡ self.old.replies ++ reply ∷ []) }
+        ensures refused { OnErr result (self.new.replies ≡ self.old.replies) }
+        ensures takes { taken_front self.new ≡ taken_front self.old }
+        ensures full { IfErr result (λ fault. IsFull fault → HasNoRoom self.new) }
+        ensures back { IfErr result (λ fault. handed_back fault ≡ reply) }
+    {
+        if self.replies.len() - self.taken >= self.room {
+            return Err(PutFault::Full(reply));
+        }
+        self.replies.push_reserved(reply);
+        Ok(())
+    }
+}
+
+impl<K: Drop, V: Drop> Taking<K, V> for ListOutbox<K, V> {
+    fn take(&mut self) -> Result<bool, Memory> {
+        if self.taken >= self.replies.len() {
+            return Ok(false);
+        }
+        self.replies.reserve(self.room)?;
+        self.taken += 1;
+        Ok(true)
+    }
+}

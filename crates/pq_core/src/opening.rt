@@ -1,0 +1,49 @@
+//! Calls of clients: opening, posting requests, editing.
+ghost use Rattle.std.specs.Prelude.{◌≡◌, ◌≤◌, ◌<◌, ◌+◌, ◌^◌, [], ◌∷◌, ◌++◌, IfOk, IfErr, IfSome, IfNone, OnOk, OnErr, length, Some, None, true, false};
+ghost use Rattle.pq_core.specs.Ledger.{Ledger};
+ghost use Rattle.pq_core.specs.Moves.{Reaches, Opens, Accepts, Edits};
+ghost use Rattle.pq_core.specs.Cores.{StandsFor};
+
+use crate::cores::Core;
+use crate::fault::{AcceptFault, AcceptRefused, EditFault, EditRefused, OpenFault, OpenRefused};
+use crate::ids::{ClientId, Number};
+use crate::lane::Lane;
+use crate::limits::MAX_CLIENTS;
+use crate::outbox::Outbox;
+use crate::request::{Change, Request};
+use pq_inputs::Revision;
+use pq_rules::Rules;
+use std::alloc::Global;
+
+impl<R: Rules, O: Outbox<R::Key, R::Value> + Drop> Core<R, O> {
+    /// Opens a client, whose replies go to `outbox`.
+    ///
+    /// # Errors
+    ///
+    /// `TooManyClients` where `MAX_CLIENTS` clients are open or their numbers are used up, else
+    /// `Memory`.
+    pub fn open_client(&mut self, alloc: Global, outbox: O) -> Result<ClientId, OpenRefused<O>>
+        requires { O.puts outbox ≡ [] }
+        ensures rules { self.new.rules ≡ self.old.rules }
+        ensures moved { (l : Ledger R.Key R.Value O) → StandsFor R.Key.cmp (R.machine self.old.rules) O.puts self.old l
+            → Reaches (Opens outbox result) l (StandsFor R.Key.cmp (R.machine self.old.rules) O.puts self.new) }
+    {
+        if self.opened >= MAX_CLIENTS {
+            let fault = OpenFault::TooManyClients;
+            return Err(OpenRefused { fault, outbox });
+        }
+        if self.clients == u64::MAX {
+            let fault = OpenFault::TooManyClients;
+            return Err(OpenRefused { fault, outbox });
+        }
+        if self.lanes.reserve(1).is_err() {
+            let fault = OpenFault::Memory;
+            return Err(OpenRefused { fault, outbox });
+        }
+        let client = self.clients;
+        self.lanes.push_reserved(client, Lane::new(alloc, outbox));
+        self.opened += 1;
+        self.clients += 1;
+        Ok(ClientId::new(client))
+    }
+}

@@ -1,0 +1,49 @@
+//! Where the replies to a client go.
+ghost use Rattle.std.specs.Prelude.{◌≡◌, ◌++◌, ◌∷◌, List, [], true, false, length, OnOk, OnErr, IfOk, IfErr};
+ghost use Rattle.pq_core.specs.Replies.{ReplyView};
+ghost use Rattle.pq_core.specs.Outboxes.{handed_back, IsFull, TakesNext};
+
+use crate::fault::Memory;
+use crate::reply::Reply;
+
+/// Why a reply did not enter an outbox. The reply comes back.
+#[derive(Drop)]
+pub enum PutFault<K, V> {
+    /// The outbox is full.
+    Full(Reply<K, V>),
+    /// The end that takes the replies is gone.
+    Gone(Reply<K, V>),
+}
+
+/// Where the replies to a client go, in order.
+pub trait Outbox<K, V> {
+    /// The replies that entered it, in order.
+    ghost puts: { Self → List (ReplyView K V) };
+
+    /// Those of them that its owner took out. It is empty where another end takes them.
+    ghost takes: { Self → List (ReplyView K V) };
+
+    /// Whether the outbox was found full, as it knows itself.
+    ghost was_full: { Self → Type 0 };
+
+    /// Puts `reply` after those put before. Its number is their count. A refusal leaves the replies
+    /// as they were.
+    fn put(&mut self, reply: Reply<K, V>) -> Result<(), PutFault<K, V>>
+        requires { reply.number ≡ length (puts self.old) }
+        ensures put { OnOk result (puts self.new ≡ puts self.old ++ reply ∷ []) }
+        ensures refused { OnErr result (puts self.new ≡ puts self.old) }
+        ensures takes { takes self.new ≡ takes self.old }
+        ensures full { IfErr result (λ fault. IsFull fault → was_full self.new) }
+        ensures back { IfErr result (λ fault. handed_back fault ≡ reply) };
+}
+
+/// An outbox out of which its owner takes replies.
+pub trait Taking<K, V>: Outbox<K, V> {
+    /// Takes the first reply that was put and not taken. Returns whether there was one. After an
+    /// allocation failure nothing has changed.
+    fn take(&mut self) -> Result<bool, Memory>
+        ensures puts { Self.puts self.new ≡ Self.puts self.old }
+        ensures taken { IfOk result (λ there. there ≡ true → TakesNext (Self.puts self.old) (Self.takes self.old) (Self.takes self.new)) }
+        ensures none { IfOk result (λ there. there ≡ false → (length (Self.puts self.old) ≡ length (Self.takes self.old)) × (self.new ≡ self.old)) }
+        ensures refused { OnErr result (self.new ≡ self.old) };
+}

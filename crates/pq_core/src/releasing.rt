@@ -1,0 +1,108 @@
+//! Replies that leave, clients that close, and rest.
+ghost use Rattle.std.specs.Prelude.{◌≡◌, ◌↔◌, IsTrue, Some, None, true};
+ghost use Rattle.pq_rules.specs.Relations.{In};
+ghost use Rattle.pq_core.specs.Ledger.{Ledger};
+ghost use Rattle.pq_core.specs.Moves.{Reaches, Releases, Closes, TakesOut, IsAtRest};
+ghost use Rattle.pq_core.specs.Cores.{StandsFor};
+ghost use Rattle.pq_core.specs.aux.Resting.{HasWaiting, HasReadyLane};
+
+use crate::cores::Core;
+use crate::fault::Memory;
+use crate::ids::ClientId;
+use crate::in_lanes::{release_in, take_in};
+use crate::lane::Lane;
+use crate::moves::Released;
+use crate::outbox::{Outbox, Taking};
+use crate::rising::Rising;
+use pq_rules::Rules;
+use std::collections::VecDeque;
+
+/// Whether a request of the queue waits.
+fn has_waiting<K: Drop, V: Drop, O: Drop>(
+    waiting: &VecDeque<(u64, u64)>,
+    lanes: &Rising<Lane<K, V, O>>,
+) -> bool
+    ensures { IsTrue result ↔ HasWaiting waiting.now.items lanes.now }
+{
+    for i in 0..waiting.len() {
+        let (client, number) = waiting[i];
+        if let Some(lane) = lanes.get(client) {
+            if lane.is_waiting(number) {
+                return true;
+            }
+        }
+    }
+    false
+}
+
+/// Whether the next reply to an open client is ready, and its last release was not refused.
+fn has_ready<K: Drop, V: Drop, O: Drop>(lanes: &Rising<Lane<K, V, O>>) -> bool
+    ensures { IsTrue result ↔ HasReadyLane lanes.now }
+{
+    let places = lanes.places();
+    for i in 0..places.len() {
+        if let Some(lane) = &places[i].value {
+            if lane.is_ready() && !lane.is_refused() {
+                return true;
+            }
+        }
+    }
+    false
+}
+
+impl<R: Rules, O: Outbox<R::Key, R::Value> + Drop> Core<R, O> {
+    /// Puts the next reply to `client` into its outbox, if it is ready. It takes no memory.
+    pub fn release(&mut self, client: ClientId) -> Released
+        ensures rules { self.new.rules ≡ self.old.rules }
+        ensures moved { (l : Ledger R.Key R.Value O) → StandsFor R.Key.cmp (R.machine self.old.rules) O.puts self.old l
+            → Reaches (Releases O.puts O.takes O.was_full client result) l (StandsFor R.Key.cmp (R.machine self.old.rules) O.puts self.new) }
+    {
+        let seat = client.number();
+        release_in(&mut self.lanes, seat)
+    }
+
+    /// Closes `client`. Returns its outbox the first time. Replies that are ready and requests that
+    /// wait are dropped. It takes no memory.
+    pub fn close_client(&mut self, client: ClientId) -> Option<O>
+        ensures rules { self.new.rules ≡ self.old.rules }
+        ensures moved { (l : Ledger R.Key R.Value O) → StandsFor R.Key.cmp (R.machine self.old.rules) O.puts self.old l
+            → Reaches (Closes client result) l (StandsFor R.Key.cmp (R.machine self.old.rules) O.puts self.new) }
+    {
+        let seat = client.number();
+        match self.lanes.take(seat) {
+            Some(lane) => {
+                self.opened -= 1;
+                return Some(lane.into_outbox());
+            }
+            None => return None,
+        }
+    }
+
+    /// Whether nothing is to be done: no request waits, no run exists, and no open client's next
+    /// reply is ready unless its last `release` answered `Full` or `Gone`. It looks at each open
+    /// client.
+    pub fn is_at_rest(&self) -> bool
+        ensures { (l : Ledger R.Key R.Value O) → StandsFor R.Key.cmp (R.machine self.now.rules) O.puts self.now l → (IsTrue result ↔ IsAtRest O.puts l) }
+    {
+        if has_waiting(&self.waiting, &self.lanes) {
+            return false;
+        }
+        if !self.runs.is_empty() {
+            return false;
+        }
+        !has_ready(&self.lanes)
+    }
+}
+
+impl<R: Rules, O: Taking<R::Key, R::Value> + Drop> Core<R, O> {
+    /// Takes the first reply that was put to the open `client` and not taken. Returns whether there
+    /// was one.
+    pub fn take(&mut self, client: ClientId) -> Result<bool, Memory>
+        ensures rules { self.new.rules ≡ self.old.rules }
+        ensures moved { (l : Ledger R.Key R.Value O) → StandsFor R.Key.cmp (R.machine self.old.rules) O.puts self.old l
+            → Reaches (TakesOut O.puts O.takes client result) l (StandsFor R.Key.cmp (R.machine self.old.rules) O.puts self.new) }
+    {
+        let seat = client.number();
+        take_in(&mut self.lanes, seat)
+    }
+}

@@ -1,0 +1,217 @@
+//! Steps and ends of runs.
+//!
+//! A run that was overtaken is stopped before anything else, so that a want of memory never hides
+//! it.
+ghost use Rattle.std.specs.Prelude.{◌≡◌, ◌≤◌, ◌<◌, ◌+◌, ◌⊎◌, ◌↔◌, length, ℕ, IsTrue, IfSome, IfNone, IfOk, Some, None};
+ghost use Rattle.pq_core.specs.Replies.{IsFair};
+ghost use Rattle.pq_core.specs.Ledger.{Ledger};
+ghost use Rattle.pq_core.specs.Moves.{Reaches, Looks, Gives, Starves, IsMade, IsRequestOf};
+ghost use Rattle.pq_core.specs.Cores.{StandsFor, HasCause};
+ghost use Rattle.pq_core.specs.aux.Rising.{found, IsAbove};
+ghost use Rattle.pq_core.specs.aux.Changes.{IsSetAt, IsSameMap};
+ghost use Rattle.pq_core.specs.aux.Lanes.{LaneView, with_owed};
+ghost use Rattle.pq_core.specs.declared.lane.Owed.TheVariants.{Ready as OwedReady};
+ghost use Rattle.pq_core.specs.declared.outcome.Outcome.TheVariants.{Cancelled, Starved, Answered};
+
+use crate::cores::Core;
+use crate::fault::{GiveFault, GiveRefused, LookFault};
+use crate::ids::{ClientId, Number, RunId};
+use crate::in_lanes::finish_in;
+use crate::lane::Lane;
+use crate::moves::Move;
+use crate::outbox::Outbox;
+use crate::outcome::Outcome;
+use crate::reply::Reply;
+use crate::rising::Rising;
+use crate::run::{Looked, Run};
+use crate::work::{Done, Work};
+use pq_inputs::Revision;
+use pq_memo::look_is_right;
+use pq_rules::Rules;
+use std::alloc::Global;
+
+/// Whether `run` was overtaken: an edit was accepted since its start, or its client was closed.
+fn is_overtaken<R: Rules, O: Drop>(
+    lanes: &Rising<Lane<R::Key, R::Value, O>>,
+    run: &Run<R>,
+    now: Revision,
+) -> bool
+    ensures { IsTrue result ↔ ((run.now.started < now) ⊎ (found lanes.now.items run.now.client ≡ None)) }
+{
+    if run.started < now {
+        return true;
+    }
+    lanes.get(run.client).is_none()
+}
+
+/// Makes the reply of `outcome` to the request of `run`, which is over, if its client is open.
+fn end_run<R: Rules, O: Drop>(
+    lanes: &mut Rising<Lane<R::Key, R::Value, O>>,
+    run: Run<R>,
+    revision: Revision,
+    outcome: Outcome<R::Key, R::Value>,
+)
+    requires fair { IsFair revision outcome }
+    requires within { (lane : LaneView R.Key R.Value O) → found lanes.old.items run.client ≡ Some lane → (lane.put ≤ run.number) × (run.number < lane.put + length lane.owed) }
+    ensures open { (lane : LaneView R.Key R.Value O) → found lanes.old.items run.client ≡ Some lane
+        → IsSetAt lanes.old lanes.new run.client (Some (with_owed lane run.number (OwedReady (record { client = run.client; number = run.number; request = run.request; revision = revision; outcome = outcome })))) }
+    ensures closed { found lanes.old.items run.client ≡ None → IsSameMap lanes.old lanes.new }
+    ensures above { (m : ℕ) → IsAbove m lanes.old.items → IsAbove m lanes.new.items }
+{
+    let client = run.client;
+    let number = run.number;
+    let reply = Reply::new(
+        ClientId::new(client),
+        Number::new(number),
+        run.request,
+        revision,
+        outcome,
+    );
+    finish_in(lanes, client, number, reply);
+}
+
+/// Ends `run`, which was overtaken. It is cancelled at the revision `seen`, if its client is open.
+fn stop_run<R: Rules, O: Drop>(
+    lanes: &mut Rising<Lane<R::Key, R::Value, O>>,
+    run: Run<R>,
+    seen: Revision,
+)
+    requires overtaken { (run.started < seen) ⊎ (found lanes.old.items run.client ≡ None) }
+    requires within { (lane : LaneView R.Key R.Value O) → found lanes.old.items run.client ≡ Some lane → (lane.put ≤ run.number) × (run.number < lane.put + length lane.owed) }
+    ensures open { (lane : LaneView R.Key R.Value O) → found lanes.old.items run.client ≡ Some lane
+        → IsSetAt lanes.old lanes.new run.client (Some (with_owed lane run.number (OwedReady (record { client = run.client; number = run.number; request = run.request; revision = seen; outcome = Cancelled run.started seen })))) }
+    ensures closed { found lanes.old.items run.client ≡ None → IsSameMap lanes.old lanes.new }
+    ensures above { (m : ℕ) → IsAbove m lanes.old.items → IsAbove m lanes.new.items }
+{
+    let started = run.started;
+    if started < seen {
+        end_run(lanes, run, seen, Outcome::Cancelled { started, seen });
+        return;
+    }
+}
+
+impl<R: Rules, O: Outbox<R::Key, R::Value> + Drop> Core<R, O> {
+    /// The client and the number of the request of `run`, if it exists.
+    pub fn request_of(&self, run: RunId) -> Option<(ClientId, Number)>
+        ensures { (l : Ledger R.Key R.Value O) → StandsFor R.Key.cmp (R.machine self.now.rules) O.puts self.now l → IsRequestOf l run result }
+    {
+        match self.runs.get(run.number()) {
+            Some(run) => return Some((ClientId::new(run.client), Number::new(run.number))),
+            None => return None,
+        }
+    }
+
+    /// Takes one step of `run`.
+    ///
+    /// # Errors
+    ///
+    /// `NoRun`, `Memory`, in this order.
+    pub fn look(&mut self, alloc: Global, run: RunId) -> Result<Move<Work<R>>, LookFault>
+        ensures rules { self.new.rules ≡ self.old.rules }
+        ensures moved { (l : Ledger R.Key R.Value O) → StandsFor R.Key.cmp (R.machine self.old.rules) O.puts self.old l
+            → Reaches (Looks R.Key.cmp (R.machine self.old.rules) self.old.rules run result) l (StandsFor R.Key.cmp (R.machine self.old.rules) O.puts self.new) }
+        ensures cause { IfOk result (HasCause R.Key.cmp (R.machine self.old.rules) self.old) }
+    {
+        look_is_right(&self.memos);
+        let id = run.number();
+        let now = self.inputs.now();
+        match self.runs.take(id) {
+            None => return Err(LookFault::NoRun),
+            Some(taken) => {
+                let mut run = taken;
+                if is_overtaken(&self.lanes, &run, now) {
+                    stop_run(&mut self.lanes, run, now);
+                    return Ok(Move::Stopped);
+                }
+                if run.is_out() {
+                    self.runs.put_back(id, run);
+                    return Ok(Move::Blocked(RunId::new(id)));
+                }
+                match run.look(alloc, RunId::new(id), &mut self.memos, &self.inputs) {
+                    Ok(Looked::Carry(work)) => {
+                        self.runs.put_back(id, run);
+                        return Ok(Move::Carry(work));
+                    }
+                    Ok(Looked::Stepped) => {
+                        self.runs.put_back(id, run);
+                        return Ok(Move::Stepped);
+                    }
+                    Ok(Looked::Answered(answer)) => {
+                        end_run(&mut self.lanes, run, now, Outcome::Answered(answer));
+                        return Ok(Move::Answered);
+                    }
+                    Err(_) => {
+                        self.runs.put_back(id, run);
+                        return Err(LookFault::Memory);
+                    }
+                }
+            }
+        }
+    }
+
+    /// Takes the result of the work of `run`. A result that was started at the revision now is one
+    /// of the core's rules at the sources now.
+    ///
+    /// # Errors
+    ///
+    /// `NotThisRun`, `Memory`, in this order. The result comes back.
+    pub fn give(
+        &mut self,
+        alloc: Global,
+        run: RunId,
+        done: Done<R>,
+    ) -> Result<Move<Work<R>>, GiveRefused<Done<R>>>
+        requires { IsMade self.old.rules self.old.inputs done }
+        ensures rules { self.new.rules ≡ self.old.rules }
+        ensures moved { (l : Ledger R.Key R.Value O) → StandsFor R.Key.cmp (R.machine self.old.rules) O.puts self.old l
+            → Reaches (Gives run done result) l (StandsFor R.Key.cmp (R.machine self.old.rules) O.puts self.new) }
+    {
+        let id = run.number();
+        let now = self.inputs.now();
+        match self.runs.take(id) {
+            None => {
+                let fault = GiveFault::NotThisRun;
+                return Err(GiveRefused { fault, done });
+            }
+            Some(taken) => {
+                let mut run = taken;
+                if !run.fits(self.memos.rules(), RunId::new(id), &done) {
+                    self.runs.put_back(id, run);
+                    let fault = GiveFault::NotThisRun;
+                    return Err(GiveRefused { fault, done });
+                }
+                if is_overtaken(&self.lanes, &run, now) {
+                    stop_run(&mut self.lanes, run, now);
+                    return Ok(Move::Stopped);
+                }
+                match run.give(alloc, &mut self.memos, &self.inputs, done) {
+                    Ok(()) => {
+                        self.runs.put_back(id, run);
+                        return Ok(Move::Stepped);
+                    }
+                    Err(done) => {
+                        self.runs.put_back(id, run);
+                        let fault = GiveFault::Memory;
+                        return Err(GiveRefused { fault, done });
+                    }
+                }
+            }
+        }
+    }
+
+    /// Ends `run` because an allocation failed. Returns whether it was a run. It takes no memory.
+    pub fn starve(&mut self, run: RunId) -> bool
+        ensures rules { self.new.rules ≡ self.old.rules }
+        ensures moved { (l : Ledger R.Key R.Value O) → StandsFor R.Key.cmp (R.machine self.old.rules) O.puts self.old l
+            → Reaches (Starves run result) l (StandsFor R.Key.cmp (R.machine self.old.rules) O.puts self.new) }
+    {
+        let now = self.inputs.now();
+        match self.runs.take(run.number()) {
+            Some(run) => {
+                end_run(&mut self.lanes, run, now, Outcome::Starved);
+                return true;
+            }
+            None => return false,
+        }
+    }
+}

@@ -1,0 +1,5 @@
+pub mod Aligning
+pub mod Running
+pub mod Leading
+pub mod Carrying
+pub mod Finishing

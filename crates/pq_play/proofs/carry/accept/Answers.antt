@@ -1,0 +1,18 @@
+use Rattle.std.proofs.Common.{subst, ℕ}
+use Rattle.std.specs.Prelude.{Result, Ok}
+use Rattle.std.proofs.lemmas.Result.{on_ok_weaker}
+use Rattle.pq_core.specs.Moves.{Reaches, Accepts}
+use Rattle.pq_core.specs.declared.request.Request.{Request}
+use Rattle.pq_core.specs.declared.fault.AcceptRefused.{AcceptRefused}
+use Rattle.pq_play.specs.World.{replies_of}
+use Rattle.pq_play.specs.aux.Running.{done_of}
+use Rattle.pq_play.proofs.Carrying.{carried_accepted}
+use Rattle.pq_play.proofs.carry.accept.Goals as goal
+
+pub returns-in-Ok : goal.returns-in-Ok
+returns-in-Ok g c = on_ok_weaker c.keep_request.result (λ kept w s.
+    carried_accepted g.R.Key.Ord.cmp (g.R.Rules.machine c.args.rules.now) c.args.rules.now (g.C.Calls.rules c.args.core.now) (g.C.Calls.rules c.accept-answer.new.self) (g.C.Calls.stands c.args.core.now) (g.C.Calls.stands c.accept-answer.new.self) w c.args.sheet.now.seats.items (done_of c.args.sheet.now.dones) s c.accept-answer.ensures.rules
+    c.args.client c.args.request.now c.in-Ok._number c.keep_request.new.seats.items
+    (subst (λ (x : Request g.row.R-Key.Denot). Reaches (Accepts replies_of c.args.client x (Ok c.in-Ok._number)) w.ledger (g.C.Calls.stands c.accept-answer.new.self)) c.in_ok-given.ensures
+    (subst (λ (x : Result ℕ (AcceptRefused g.row.R-Key.Denot)). Reaches (Accepts replies_of c.args.client c.in_ok-given.given x) w.ledger (g.C.Calls.stands c.accept-answer.new.self)) c.in-Ok.is (c.accept-answer.ensures.moved w.ledger s.stands)))
+    kept) c.keep_request.ensures

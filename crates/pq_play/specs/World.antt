@@ -1,0 +1,20 @@
+-- The world that events are played in: the ledger of a core, and what its clients have taken.
+use Rattle.std.specs.Prelude.{List, []}
+use Rattle.pq_inputs.specs.Sources.{Table}
+use Rattle.pq_core.specs.Replies.{ReplyView}
+use Rattle.pq_core.specs.Outboxes.{Listed}
+use Rattle.pq_core.specs.Ledger.{Ledger, unused}
+
+-- `World K V` is the ledger of a core whose outboxes are lists, and of each client, by its number,
+-- the replies that it has taken, in order
+pub record World (K V : Type 0) : Type 0 where
+  pub ledger : Ledger K V (Listed K V)
+  pub taken : List (List (ReplyView K V))
+
+-- `beginning inputs` is the world of a core that was made with `inputs`: no client was opened
+abbrev pub beginning : {K V : Type 0} → Table → World K V
+beginning inputs = record { ledger = unused inputs; taken = [] }
+
+-- `replies_of o` is the replies that were put into the outbox `o`
+abbrev pub replies_of : {K V : Type 0} → Listed K V → List (ReplyView K V)
+replies_of o = o.replies

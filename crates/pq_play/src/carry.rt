@@ -1,0 +1,245 @@
+//! One event: the call of a core, and what is kept of it.
+ghost use Rattle.std.specs.Prelude.{◌≡◌, IfOk};
+ghost use Rattle.pq_core.specs.Ledger.{Ledger};
+ghost use Rattle.pq_core.specs.Outboxes.{Listed};
+ghost use Rattle.pq_play.specs.World.{World};
+ghost use Rattle.pq_play.specs.aux.Running.{done_of};
+ghost use Rattle.pq_play.specs.aux.Playing.{Stood, Carries};
+ghost use Rattle.pq_play.specs.declared.event.Event.TheVariants.{Open, Accept, Edit, Start, Step, Give, Starve, Release, Take, Close};
+
+use crate::answered::{accept_answered, edit_answered, look_answered, open_answered};
+use crate::dones::{Dones, keep_move, take_done};
+use crate::event::Event;
+use crate::seat::{Seat, keep_outbox, keep_request, take_left};
+use pq_core::{
+    Calls, Change, ClientId, ListOutbox, Memory, Request, RunId, TakingCalls, copy_change,
+    copy_request,
+};
+use pq_rules::Rules;
+use std::alloc::Global;
+
+/// What is kept while events are played: of each client its requests, and its outbox after its
+/// close; of each run whose work is out the result.
+#[derive(Drop)]
+pub(crate) struct Sheet<R: Rules> {
+    pub(crate) seats: Vec<Seat<R::Key, R::Value>>,
+    pub(crate) dones: Dones<R>,
+}
+
+/// Opens a client with an outbox for `room` replies.
+fn open<R: Rules, C: TakingCalls<R, ListOutbox<R::Key, R::Value>>>(
+    alloc: Global,
+    rules: &R,
+    core: &mut C,
+    sheet: &mut Sheet<R>,
+    room: usize,
+) -> Result<(), Memory>
+    ensures { IfOk result (λ _. Carries R.Key.cmp (R.machine rules.now) rules.now Open (C.rules core.old) (C.stands core.old) sheet.old.seats.items (done_of sheet.old.dones) (C.rules core.new) (C.stands core.new) sheet.new.seats.items (done_of sheet.new.dones)) }
+{
+    let outbox = ListOutbox::new(alloc, room)?;
+    let answer = core.open_client(alloc, outbox);
+    if !open_answered(&answer) {
+        return Err(Memory);
+    }
+    match answer {
+        Ok(_client) => {
+            sheet.seats.push(Seat::new(alloc))?;
+            return Ok(());
+        }
+        Err(_refused) => return Ok(()),
+    }
+}
+
+/// Posts a copy of `request`, and keeps another where it is accepted.
+fn accept<R: Rules, C: TakingCalls<R, ListOutbox<R::Key, R::Value>>>(
+    alloc: Global,
+    rules: &R,
+    core: &mut C,
+    sheet: &mut Sheet<R>,
+    client: ClientId,
+    request: &Request<R::Key>,
+) -> Result<(), Memory>
+    requires { (w : World R.Key R.Value) × Stood R.Key.cmp (R.machine rules.now) rules.now (C.rules core.old) (C.stands core.old) w sheet.old.seats.items (done_of sheet.old.dones) }
+    ensures { IfOk result (λ _. Carries R.Key.cmp (R.machine rules.now) rules.now (Accept client request.now) (C.rules core.old) (C.stands core.old) sheet.old.seats.items (done_of sheet.old.dones) (C.rules core.new) (C.stands core.new) sheet.new.seats.items (done_of sheet.new.dones)) }
+{
+    let given = copy_request(alloc, rules, request)?;
+    let answer = core.accept(alloc, client, given);
+    if !accept_answered(&answer) {
+        return Err(Memory);
+    }
+    match answer {
+        Ok(_number) => return keep_request(alloc, rules, &mut sheet.seats, client, request),
+        Err(_refused) => return Ok(()),
+    }
+}
+
+/// Makes a copy of `change`.
+fn edit<R: Rules, C: TakingCalls<R, ListOutbox<R::Key, R::Value>>>(
+    rules: &R,
+    core: &mut C,
+    sheet: &mut Sheet<R>,
+    client: ClientId,
+    change: &Change,
+) -> Result<(), Memory>
+    ensures { IfOk result (λ _. Carries R.Key.cmp (R.machine rules.now) rules.now (Edit client change.now) (C.rules core.old) (C.stands core.old) sheet.old.seats.items (done_of sheet.old.dones) (C.rules core.new) (C.stands core.new) sheet.new.seats.items (done_of sheet.new.dones)) }
+{
+    let given = copy_change(change)?;
+    let answer = core.edit(client, given);
+    if !edit_answered(&answer) {
+        return Err(Memory);
+    }
+    Ok(())
+}
+
+/// Starts a request that waits.
+fn start<R: Rules, C: TakingCalls<R, ListOutbox<R::Key, R::Value>>>(
+    rules: &R,
+    core: &mut C,
+    sheet: &mut Sheet<R>,
+)
+    ensures { Carries R.Key.cmp (R.machine rules.now) rules.now Start (C.rules core.old) (C.stands core.old) sheet.old.seats.items (done_of sheet.old.dones) (C.rules core.new) (C.stands core.new) sheet.new.seats.items (done_of sheet.new.dones) }
+{
+    let _run = core.start();
+}
+
+/// Takes a step of `run`. Work that it hands out is carried out, and its result is kept.
+fn step<R: Rules, C: TakingCalls<R, ListOutbox<R::Key, R::Value>>>(
+    alloc: Global,
+    rules: &R,
+    core: &mut C,
+    sheet: &mut Sheet<R>,
+    run: RunId,
+) -> Result<(), Memory>
+    ensures { IfOk result (λ _. Carries R.Key.cmp (R.machine rules.now) rules.now (Step run) (C.rules core.old) (C.stands core.old) sheet.old.seats.items (done_of sheet.old.dones) (C.rules core.new) (C.stands core.new) sheet.new.seats.items (done_of sheet.new.dones)) }
+{
+    let answer = core.look(alloc, run);
+    if !look_answered(&answer) {
+        return Err(Memory);
+    }
+    match answer {
+        Ok(step) => return keep_move(alloc, &mut sheet.dones, run, step),
+        Err(_fault) => return Ok(()),
+    }
+}
+
+/// Gives the result that is kept for `run`, if there is one. It is that of the work that is out, so
+/// only an allocation can fail.
+fn give<R: Rules, C: TakingCalls<R, ListOutbox<R::Key, R::Value>>>(
+    alloc: Global,
+    rules: &R,
+    core: &mut C,
+    sheet: &mut Sheet<R>,
+    run: RunId,
+) -> Result<(), Memory>
+    requires tables { (k : C) (l : Ledger R.Key R.Value (Listed R.Key R.Value)) → C.stands k l → l.inputs ≡ C.table k }
+    requires stood { (w : World R.Key R.Value) × Stood R.Key.cmp (R.machine rules.now) rules.now (C.rules core.old) (C.stands core.old) w sheet.old.seats.items (done_of sheet.old.dones) }
+    ensures { IfOk result (λ _. Carries R.Key.cmp (R.machine rules.now) rules.now (Give run) (C.rules core.old) (C.stands core.old) sheet.old.seats.items (done_of sheet.old.dones) (C.rules core.new) (C.stands core.new) sheet.new.seats.items (done_of sheet.new.dones)) }
+{
+    match take_done(&mut sheet.dones, run) {
+        Some(done) => match core.give(alloc, run, done) {
+            Ok(_step) => return Ok(()),
+            Err(_refused) => return Err(Memory),
+        },
+        None => return Ok(()),
+    }
+}
+
+/// Starves `run`. Of a run that is over nothing is kept.
+fn starve<R: Rules, C: TakingCalls<R, ListOutbox<R::Key, R::Value>>>(
+    rules: &R,
+    core: &mut C,
+    sheet: &mut Sheet<R>,
+    run: RunId,
+)
+    ensures { Carries R.Key.cmp (R.machine rules.now) rules.now (Starve run) (C.rules core.old) (C.stands core.old) sheet.old.seats.items (done_of sheet.old.dones) (C.rules core.new) (C.stands core.new) sheet.new.seats.items (done_of sheet.new.dones) }
+{
+    let _was_run = core.starve(run);
+    let _done = take_done(&mut sheet.dones, run);
+}
+
+/// Puts the next reply to `client` into its outbox.
+fn release<R: Rules, C: TakingCalls<R, ListOutbox<R::Key, R::Value>>>(
+    rules: &R,
+    core: &mut C,
+    sheet: &mut Sheet<R>,
+    client: ClientId,
+)
+    ensures { Carries R.Key.cmp (R.machine rules.now) rules.now (Release client) (C.rules core.old) (C.stands core.old) sheet.old.seats.items (done_of sheet.old.dones) (C.rules core.new) (C.stands core.new) sheet.new.seats.items (done_of sheet.new.dones) }
+{
+    let _released = core.release(client);
+}
+
+/// Takes the next reply to `client`: out of its outbox in the core, or out of the one that is kept.
+fn take<R: Rules, C: TakingCalls<R, ListOutbox<R::Key, R::Value>>>(
+    rules: &R,
+    core: &mut C,
+    sheet: &mut Sheet<R>,
+    client: ClientId,
+) -> Result<(), Memory>
+    ensures { IfOk result (λ _. Carries R.Key.cmp (R.machine rules.now) rules.now (Take client) (C.rules core.old) (C.stands core.old) sheet.old.seats.items (done_of sheet.old.dones) (C.rules core.new) (C.stands core.new) sheet.new.seats.items (done_of sheet.new.dones)) }
+{
+    let out = core.take(client)?;
+    if out {
+        return Ok(());
+    }
+    let left = take_left(&mut sheet.seats, client)?;
+    if left {
+        return Ok(());
+    }
+    Ok(())
+}
+
+/// Closes `client`, and keeps its outbox.
+pub(crate) fn close<R: Rules, C: TakingCalls<R, ListOutbox<R::Key, R::Value>>>(
+    rules: &R,
+    core: &mut C,
+    sheet: &mut Sheet<R>,
+    client: ClientId,
+)
+    requires { (w : World R.Key R.Value) × Stood R.Key.cmp (R.machine rules.now) rules.now (C.rules core.old) (C.stands core.old) w sheet.old.seats.items (done_of sheet.old.dones) }
+    ensures { Carries R.Key.cmp (R.machine rules.now) rules.now (Close client) (C.rules core.old) (C.stands core.old) sheet.old.seats.items (done_of sheet.old.dones) (C.rules core.new) (C.stands core.new) sheet.new.seats.items (done_of sheet.new.dones) }
+{
+    match core.close_client(client) {
+        Some(outbox) => keep_outbox(&mut sheet.seats, client, outbox),
+        None => {}
+    }
+}
+
+/// Carries one event out.
+pub(crate) fn carry<R: Rules, C: TakingCalls<R, ListOutbox<R::Key, R::Value>>>(
+    alloc: Global,
+    rules: &R,
+    core: &mut C,
+    sheet: &mut Sheet<R>,
+    room: usize,
+    event: &Event<R::Key>,
+) -> Result<(), Memory>
+    requires tables { (k : C) (l : Ledger R.Key R.Value (Listed R.Key R.Value)) → C.stands k l → l.inputs ≡ C.table k }
+    requires stood { (w : World R.Key R.Value) × Stood R.Key.cmp (R.machine rules.now) rules.now (C.rules core.old) (C.stands core.old) w sheet.old.seats.items (done_of sheet.old.dones) }
+    ensures { IfOk result (λ _. Carries R.Key.cmp (R.machine rules.now) rules.now event.now (C.rules core.old) (C.stands core.old) sheet.old.seats.items (done_of sheet.old.dones) (C.rules core.new) (C.stands core.new) sheet.new.seats.items (done_of sheet.new.dones)) }
+{
+    match event {
+        Event::Open => open(alloc, rules, core, sheet, room),
+        Event::Accept(client, request) => accept(alloc, rules, core, sheet, *client, request),
+        Event::Edit(client, change) => edit(rules, core, sheet, *client, change),
+        Event::Start => {
+            start(rules, core, sheet);
+            Ok(())
+        }
+        Event::Step(run) => step(alloc, rules, core, sheet, *run),
+        Event::Give(run) => give(alloc, rules, core, sheet, *run),
+        Event::Starve(run) => {
+            starve(rules, core, sheet, *run);
+            Ok(())
+        }
+        Event::Release(client) => {
+            release(rules, core, sheet, *client);
+            Ok(())
+        }
+        Event::Take(client) => take(rules, core, sheet, *client),
+        Event::Close(client) => {
+            close(rules, core, sheet, *client);
+            Ok(())
+        }
+    }
+}
