@@ -10,7 +10,7 @@ use super::rules::{key_of, shown_answer, shown_key};
 use super::support::{check_row_count, check_text};
 use pq_inputs::{Durability, Inputs};
 use pq_memo::{Carried, Demanded, Engine, Why};
-use pq_rules::{Memory, Sums, SumsKey, SumsValue, from_scratch};
+use pq_rules::{Memory, Rules, Sums, SumsKey, SumsValue, from_scratch};
 use std::alloc::Global;
 use std::cell::Cell;
 use std::process::Abort;
@@ -26,8 +26,8 @@ fn durability_of(word: &str) -> Durability {
 }
 
 /// Sets a file.
-fn set(
-    engine: &mut Engine<Counted<'_>>,
+fn set<R: Rules<Key = SumsKey, Value = SumsValue>>(
+    engine: &mut Engine<R>,
     name: &str,
     text: Option<String>,
     durability: Durability,
@@ -39,7 +39,11 @@ fn set(
 }
 
 /// Makes the edit of `line`.
-fn edit(alloc: Global, engine: &mut Engine<Counted<'_>>, line: &str) -> Result<(), Fail> {
+fn edit<R: Rules<Key = SumsKey, Value = SumsValue>>(
+    alloc: Global,
+    engine: &mut Engine<R>,
+    line: &str,
+) -> Result<(), Fail> {
     let (durability, file) = line.split_once(" ").unwrap_or((line, ""));
     let durability = durability_of(durability);
     match file.split_once("=") {
@@ -83,9 +87,9 @@ fn shown_demanded(
 }
 
 /// Demands `key`, and checks that as many rules are carried as started.
-fn demand(
+fn demand<R: Rules<Key = SumsKey, Value = SumsValue>>(
     rt: &(impl Abort + AllocGlobal),
-    engine: &mut Engine<Counted<'_>>,
+    engine: &mut Engine<R>,
     starts: &Cell<u32>,
     key: &SumsKey,
     script: &str,
@@ -111,9 +115,9 @@ fn check_answer(
 }
 
 /// Checks that no rule is started for `key` when nothing changed.
-fn check_again(
+fn check_again<R: Rules<Key = SumsKey, Value = SumsValue>>(
     rt: &(impl Abort + AllocGlobal),
-    engine: &mut Engine<Counted<'_>>,
+    engine: &mut Engine<R>,
     starts: &Cell<u32>,
     key: &SumsKey,
     script: &str,
@@ -124,9 +128,9 @@ fn check_again(
 }
 
 /// Checks a demand, and returns it as text.
-fn check_demand(
+fn check_demand<R: Rules<Key = SumsKey, Value = SumsValue>>(
     rt: &(impl Abort + AllocGlobal),
-    engine: &mut Engine<Counted<'_>>,
+    engine: &mut Engine<R>,
     starts: &Cell<u32>,
     asked: &str,
     script: &str,
@@ -140,9 +144,9 @@ fn check_demand(
 }
 
 /// Checks what the demand of `line` answers and carries, where the line says what is wanted.
-fn check_line(
+fn check_line<R: Rules<Key = SumsKey, Value = SumsValue>>(
     rt: &(impl Abort + AllocGlobal),
-    engine: &mut Engine<Counted<'_>>,
+    engine: &mut Engine<R>,
     starts: &Cell<u32>,
     line: &str,
     script: &str,
@@ -159,19 +163,29 @@ fn check_line(
     Ok(())
 }
 
-/// Runs a script, each of its demands checked.
-fn check_script(rt: &(impl Abort + AllocGlobal), script: &str) -> Result<(), Fail> {
-    let starts = Cell::new(0);
+/// Runs a script with `rules`, which count in `starts`, each of its demands checked.
+fn check_script_by<R: Rules<Key = SumsKey, Value = SumsValue>>(
+    rt: &(impl Abort + AllocGlobal),
+    rules: R,
+    starts: &Cell<u32>,
+    script: &str,
+) -> Result<(), Fail> {
     let inputs = Inputs::new(rt.alloc())?;
-    let mut engine = Engine::new(rt.alloc(), Counted { starts: &starts }, inputs);
+    let mut engine = Engine::new(rt.alloc(), rules, inputs);
     for line in script.lines() {
         if line.starts_with("Sum ") || line.starts_with("Total ") {
-            check_line(rt, &mut engine, &starts, line, script)?;
+            check_line(rt, &mut engine, starts, line, script)?;
         } else {
             edit(rt.alloc(), &mut engine, line)?;
         }
     }
     Ok(())
+}
+
+/// Runs a script, each of its demands checked.
+fn check_script(rt: &(impl Abort + AllocGlobal), script: &str) -> Result<(), Fail> {
+    let starts = Cell::new(0);
+    check_script_by(rt, Counted { starts: &starts }, &starts, script)
 }
 
 /// Runs the script `rows` of `count` lines.
