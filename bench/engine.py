@@ -13,7 +13,6 @@ it are the factors of first demands to compilations from scratch, without the se
 
 usage: bench/engine.py [--runs N] [--count] [--program PATH] [--only WORD]
 """
-import argparse
 import subprocess
 import sys
 import tempfile
@@ -231,12 +230,7 @@ class Side(memos.Side):
 
 
 def main():
-    words = argparse.ArgumentParser()
-    words.add_argument("--runs", type=int, default=5)
-    words.add_argument("--count", action="store_true", help="count instructions")
-    words.add_argument("--program", help="the program, built before")
-    words.add_argument("--only", default="", help="a word of the titles of the cases to run")
-    words = words.parse_args()
+    words = memos.options(5)
     cases = [case + SIZES for case in CASES if words.only in case[0]]
     with tempfile.TemporaryDirectory() as folder:
         program = words.program or parts.built_from(folder, "engine", CRATES, USES)

@@ -266,13 +266,18 @@ def printed(cases, found, count):
         print("| %s | %d, %d | %.1f | %.1f | %.2f | %d |" % (title, n, more, small, large, large / small, starts))
 
 
-def main():
+def options(runs):
+    """The words of the command line; `runs` is the usual number of runs."""
     words = argparse.ArgumentParser()
-    words.add_argument("--runs", type=int, default=7)
+    words.add_argument("--runs", type=int, default=runs)
     words.add_argument("--count", action="store_true", help="count instructions")
     words.add_argument("--program", help="the program, built before")
     words.add_argument("--only", default="", help="a word of the titles of the cases to run")
-    words = words.parse_args()
+    return words.parse_args()
+
+
+def main():
+    words = options(7)
     cases = [case for case in CASES if words.only in case[0]]
     with tempfile.TemporaryDirectory() as folder:
         found = measured(words.program or built(folder), 1 if words.count else words.runs, cases, words.count)
