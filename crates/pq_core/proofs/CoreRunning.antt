@@ -23,7 +23,7 @@ use Rattle.pq_core.specs.Replies.{ReplyView}
 use Rattle.pq_core.specs.Ledger.{Out, Running, Ready, Client, Ledger, with_client, with_entry, moved_to}
 use Rattle.pq_core.specs.RightReply.{answer_by}
 use Rattle.pq_core.specs.Kept.{Kept, IsDemand}
-use Rattle.pq_core.specs.Works.{DoneView, WorkView}
+use Rattle.pq_core.specs.Works.{DoneView, WorkView, HasWhy}
 use Rattle.pq_rules.specs.declared.turn.Answer.{Answer}
 use Rattle.pq_core.specs.Moves.{Reaches, RunAt, Runs, NoneRuns, IsOvertaken, IsCurrent, GoesOn, IsOf, LooksFor, Gives, out_of, Stops, ended, ended_entry, place_ended, reply_at, with_out}
 use Rattle.pq_core.specs.Cores.{Held, fields_of, run_seen as seen_of, StandsOf}
@@ -439,6 +439,11 @@ pub why_cause : {K P V : Type 0} (order : K → K → Ordering) (m : Machine K P
 why_cause order m inputs Has k Fresh fresh changed ring w = fresh w
 why_cause order m inputs Has k (Changed q) fresh changed ring w = changed q w
 why_cause order m inputs Has k Ring fresh changed ring w = ring w
+
+-- each cause in one sense is one in another
+pub why_then : {K : Type 0} (A B : Why K → Type 0) (front : List K) (why : Option (Why K)) → HasWhy A front why → ((w : Why K) → A w → B w) → HasWhy B front why
+why_then A B front None h f = h
+why_then A B front (Some w) h f = (h.0, f w h.1)
 
 -- what ended as `after` ended as `run`
 pub ended_as : {K P V O : Type 0} (b a : Held K P V O) (run after : RunView K P) (revision : ℕ) (outcome : Outcome K V) → IsSameRun run after

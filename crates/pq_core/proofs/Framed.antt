@@ -1,5 +1,5 @@
 -- The frames of a run, when some are pushed, popped and cut, and the round that they close.
-use Rattle.std.proofs.Common.{◌≡◌, ℕ, zero, suc, ◌-◌, ◌<◌, ◌≤◌, List, [], ◌∷◌, ◌++◌, length, take, drop, get_or, Option, None, refl, sym, ◌∙◌, ap, subst, inl, inr, arith}
+use Rattle.std.proofs.Common.{◌≡◌, ◌≢◌, ℕ, zero, suc, ◌-◌, ◌<◌, ◌≤◌, List, [], ◌∷◌, ◌++◌, length, take, drop, get_or, Option, None, refl, sym, ◌∙◌, ap, subst, inl, inr, arith}
 use Rattle.std.specs.declared.cmp.Ordering.{Ordering}
 use Rattle.std.proofs.lemmas.List.{take_all, length-drop}
 use Rattle.pq_inputs.specs.declared.durability.Durability.{Durability}
@@ -18,6 +18,7 @@ use Rattle.pq_memo.specs.Table.{HasIn}
 use Rattle.pq_memo.specs.Writes.{RingWritten, ring_keys}
 use Rattle.pq_memo.specs.Frames.{Sits, IsFrame, IsSameStage, Awaits, RoundOf, IsWaitRound, frame_keys}
 use Rattle.pq_memo.specs.Demand.{Differ}
+use Rattle.pq_memo.specs.Steps.{HasRead}
 use Rattle.pq_memo.proofs.Demanding.{differ}
 use Rattle.pq_memo.proofs.RoundBegun.{distinct_of}
 use Rattle.pq_memo.proofs.Stacked.{keys_append, awaits_frame}
@@ -27,6 +28,15 @@ use Rattle.pq_core.specs.declared.frames.Top.{Top}
 use Rattle.pq_core.specs.declared.frames.Top.TheVariants.{Empty, At, Away}
 use Rattle.pq_core.specs.aux.Runs.{Renewed, CanGoOn, WaitsFor, first_key, WaitsUp, KeptBelow, FramesKept, IsLowered, out_at}
 use Rattle.pq_core.proofs.Renewed.{renewed_wrote}
+
+not_empty : {K : Type 0} (front : List K) (k : K) → front ++ k ∷ [] ≢ []
+not_empty [] k e = absurd (cc)
+not_empty (f ∷ front) k e = absurd (cc)
+
+-- a rule that goes on has read a key
+pub has_read : {K P : Type 0} (stage : Stage K P) (reads : List K) → HasRead stage reads → reads ≢ []
+has_read (Walking place) reads h e = absurd h
+has_read (Waiting part asked front) reads h e = not_empty front.items asked (sym h ∙ e)
 
 differ_front : {K : Type 0} (xs ys : List K) → Differ (xs ++ ys) → Differ xs
 differ_front xs ys d = differ xs (distinct_front xs ys (distinct_of (xs ++ ys) d))

@@ -1,6 +1,6 @@
 -- What contracts see of a core: its rule set, the places of its memos, its inputs, and what it
 -- keeps of clients and runs.
-use Rattle.std.specs.Prelude.{ℕ, ◌≡◌, ◌≤◌, List, length, Option, Some, IfSome}
+use Rattle.std.specs.Prelude.{ℕ, ◌≡◌, ◌≤◌, List, length, Option, Some}
 use Rattle.std.specs.Option.{option_map}
 use Rattle.std.specs.declared.cmp.Ordering.{Ordering}
 use Rattle.pq_inputs.specs.Sources.{Table}
@@ -8,7 +8,7 @@ use Rattle.pq_rules.specs.Turns.{Machine}
 use Rattle.pq_memo.specs.Sound.{Memo}
 use Rattle.pq_memo.specs.Table.{memo_at, HasIn, KeptOver}
 use Rattle.pq_memo.specs.Cause.{IsCause}
-use Rattle.pq_core.specs.Works.{WorkView}
+use Rattle.pq_core.specs.Works.{WorkView, IsWorkOf, HasWhy}
 use Rattle.pq_core.specs.declared.moves.Move.{Move}
 use Rattle.pq_core.specs.declared.moves.Move.TheVariants.{Carry, Blocked, Stepped, Answered, Stopped}
 use Rattle.pq_core.specs.Replies.{ReplyView}
@@ -90,11 +90,20 @@ pub record IsWhole {R K P V O : Type 0} (order : K → K → Ordering) (m : Mach
       → RunKept order m core.inputs (memo_at order core.places) run
   pub ledger : (l : Ledger K V O) × StandsOf order m puts (held core) l
 
--- `HasCause order m core move` is that `move`, if it hands out a rule to be started, names a cause
--- that the table of `core` gives
+-- `HandsOut core run move` is that `move`, if it hands work out, hands out work for `run`, of the
+-- rules of `core` and over its sources
+abbrev pub HandsOut : {R K P V O : Type 0} → CoreView R K P V O → ℕ → Move (WorkView R K P V) → Type 0
+HandsOut core run (Carry work) = IsWorkOf core.rules run core.inputs.revision core.inputs.files work
+HandsOut core run (Blocked other) = Unit {0}
+HandsOut core run Stepped = Unit {0}
+HandsOut core run Answered = Unit {0}
+HandsOut core run Stopped = Unit {0}
+
+-- `HasCause order m core move` is that `move`, if it hands out a rule to be started, and only then,
+-- names a cause, which the table of `core` gives
 abbrev pub HasCause : {R K P V O : Type 0} → (K → K → Ordering) → Machine K P V → CoreView R K P V O → Move (WorkView R K P V) → Type 0
 HasCause order m core (Carry work) =
-    IfSome work.why (λ why. IsCause order m core.inputs.history core.inputs.revision (HasIn (memo_at order core.places)) work.done.key why)
+    HasWhy (IsCause order m core.inputs.history core.inputs.revision (HasIn (memo_at order core.places)) work.done.key) work.done.front work.why
 HasCause order m core (Blocked other) = Unit {0}
 HasCause order m core Stepped = Unit {0}
 HasCause order m core Answered = Unit {0}

@@ -127,6 +127,12 @@ changed inputs change = record {
   history = inputs.history ++ with_file inputs.files change.file (file_of change) ∷ [];
 }
 
+-- `inputs_after inputs change answer` is `inputs` after an edit that answered so: `change` is made
+-- unless it was refused
+abbrev pub inputs_after : {A B : Type 0} → Table → ChangeView → Result A B → Table
+inputs_after inputs change (Ok revision) = changed inputs change
+inputs_after inputs change (Err refused) = inputs
+
 -- `InputRefusal first fault` is that `fault` is the reason `first`, or an allocation failure where
 -- there is no reason
 abbrev pub InputRefusal : Option InputFault → InputFault → Type 0

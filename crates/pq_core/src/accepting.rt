@@ -3,7 +3,7 @@ ghost use Rattle.std.specs.Prelude.{◌≡◌, ◌≤◌, ◌<◌, ◌+◌, ◌^
 ghost use Rattle.std.specs.VecDeque.{deque_capacity};
 ghost use Rattle.pq_core.specs.Kept.{IsDemand};
 ghost use Rattle.pq_core.specs.Ledger.{Ledger};
-ghost use Rattle.pq_core.specs.Moves.{Reaches, Accepts, Edits, window};
+ghost use Rattle.pq_core.specs.Moves.{Reaches, Accepts, Edits, inputs_after, window};
 ghost use Rattle.pq_core.specs.Cores.{StandsFor};
 ghost use Rattle.pq_core.specs.aux.Rising.{found};
 ghost use Rattle.pq_core.specs.aux.Changes.{IsSameMap};
@@ -82,6 +82,7 @@ impl<R: Rules, O: Outbox<R::Key, R::Value> + Drop> Core<R, O> {
         request: Request<R::Key>,
     ) -> Result<Number, AcceptRefused<R::Key>>
         ensures rules { self.new.rules ≡ self.old.rules }
+        ensures inputs { self.new.inputs ≡ self.old.inputs }
         ensures moved { (l : Ledger R.Key R.Value O) → StandsFor R.Key.cmp (R.machine self.old.rules) O.puts self.old l
             → Reaches (Accepts O.puts client request result) l (StandsFor R.Key.cmp (R.machine self.old.rules) O.puts self.new) }
     {
@@ -131,6 +132,7 @@ impl<R: Rules, O: Outbox<R::Key, R::Value> + Drop> Core<R, O> {
     /// `NoClient`, `Closed`, and those of `Inputs::set`, in this order. The change comes back.
     pub fn edit(&mut self, client: ClientId, change: Change) -> Result<Revision, EditRefused>
         ensures rules { self.new.rules ≡ self.old.rules }
+        ensures inputs { self.new.inputs ≡ inputs_after self.old.inputs change result }
         ensures moved { (l : Ledger R.Key R.Value O) → StandsFor R.Key.cmp (R.machine self.old.rules) O.puts self.old l
             → Reaches (Edits client change result) l (StandsFor R.Key.cmp (R.machine self.old.rules) O.puts self.new) }
     {

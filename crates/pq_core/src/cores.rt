@@ -67,4 +67,11 @@ impl<R: Rules, O: Outbox<R::Key, R::Value> + Drop> Core<R, O> {
             started: 0,
         }
     }
+
+    /// The inputs: the sources at each revision.
+    pub fn inputs(&self) -> &Inputs
+        ensures { result.now ≡ self.now.inputs }
+    {
+        &self.inputs
+    }
 }

@@ -4,7 +4,7 @@
 //! key of the one above. Other runs write memos of the same keys, so the key of a frame may be up
 //! to date before its turn comes: then the frame leaves. A step costs what one step of a frame
 //! costs, or, where it closes a round, time and memory linear in its keys and their reads.
-ghost use Rattle.std.specs.Prelude.{◌≡◌, ◌<◌, [], length, drop, None, HoldsAt, IfOk, IfErr, IfSome, IfNone, OnOk, OnErr};
+ghost use Rattle.std.specs.Prelude.{◌≡◌, ◌≢◌, ◌<◌, [], length, drop, None, HoldsAt, IfOk, IfErr, IfSome, IfNone, OnOk, OnErr};
 ghost use Rattle.pq_rules.specs.Relations.{Each};
 ghost use Rattle.pq_memo.specs.declared.frame.Frame.{Frame};
 ghost use Rattle.pq_memo.specs.Look.{IsUpToDate};
@@ -295,6 +295,7 @@ impl<R: Rules> Frames<R> {
         requires below { KeptBelow R.Key.cmp (R.machine memos.now.rules) inputs.now (memo_at R.Key.cmp memos.now.places) self.old.stack key }
         requires copied { copy ≡ key }
         requires came { Came R.Key.cmp (R.machine memos.now.rules) inputs.now.history inputs.now.revision (HasIn (memo_at R.Key.cmp memos.now.places)) key ((R.machine memos.now.rules).advance part answer) reads.items }
+        requires read { reads.items ≢ [] }
         ensures frames_kept { FramesKept R.Key.cmp (R.machine memos.now.rules) inputs.now (memo_at R.Key.cmp memos.now.places) self.new.stack self.new.top }
         ensures handed { HandedOut (R.machine memos.now.rules) memos.now.rules inputs.now (memo_at R.Key.cmp memos.now.places) id self.new.top result }
     {

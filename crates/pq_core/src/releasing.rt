@@ -54,6 +54,7 @@ impl<R: Rules, O: Outbox<R::Key, R::Value> + Drop> Core<R, O> {
     /// Puts the next reply to `client` into its outbox, if it is ready. It takes no memory.
     pub fn release(&mut self, client: ClientId) -> Released
         ensures rules { self.new.rules ≡ self.old.rules }
+        ensures inputs { self.new.inputs ≡ self.old.inputs }
         ensures moved { (l : Ledger R.Key R.Value O) → StandsFor R.Key.cmp (R.machine self.old.rules) O.puts self.old l
             → Reaches (Releases O.puts O.takes O.was_full client result) l (StandsFor R.Key.cmp (R.machine self.old.rules) O.puts self.new) }
     {
@@ -65,6 +66,7 @@ impl<R: Rules, O: Outbox<R::Key, R::Value> + Drop> Core<R, O> {
     /// wait are dropped. It takes no memory.
     pub fn close_client(&mut self, client: ClientId) -> Option<O>
         ensures rules { self.new.rules ≡ self.old.rules }
+        ensures inputs { self.new.inputs ≡ self.old.inputs }
         ensures moved { (l : Ledger R.Key R.Value O) → StandsFor R.Key.cmp (R.machine self.old.rules) O.puts self.old l
             → Reaches (Closes client result) l (StandsFor R.Key.cmp (R.machine self.old.rules) O.puts self.new) }
     {
@@ -99,6 +101,7 @@ impl<R: Rules, O: Taking<R::Key, R::Value> + Drop> Core<R, O> {
     /// was one.
     pub fn take(&mut self, client: ClientId) -> Result<bool, Memory>
         ensures rules { self.new.rules ≡ self.old.rules }
+        ensures inputs { self.new.inputs ≡ self.old.inputs }
         ensures moved { (l : Ledger R.Key R.Value O) → StandsFor R.Key.cmp (R.machine self.old.rules) O.puts self.old l
             → Reaches (TakesOut O.puts O.takes client result) l (StandsFor R.Key.cmp (R.machine self.old.rules) O.puts self.new) }
     {

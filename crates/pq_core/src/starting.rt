@@ -50,6 +50,7 @@ impl<R: Rules, O: Outbox<R::Key, R::Value> + Drop> Core<R, O> {
     /// where no request waits or the numbers of runs are used up. It takes no memory.
     pub fn start(&mut self) -> Option<RunId>
         ensures rules { self.new.rules ≡ self.old.rules }
+        ensures inputs { self.new.inputs ≡ self.old.inputs }
         ensures moved { (l : Ledger R.Key R.Value O) → StandsFor R.Key.cmp (R.machine self.old.rules) O.puts self.old l
             → Reaches (Starts result) l (StandsFor R.Key.cmp (R.machine self.old.rules) O.puts self.new) }
     {

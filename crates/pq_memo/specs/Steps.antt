@@ -1,5 +1,5 @@
 -- What one step of a frame does. The names are those of `specs/Sound`.
-use Rattle.std.specs.Prelude.{ℕ, ◌≡◌, ◌⊎◌, List, Option}
+use Rattle.std.specs.Prelude.{ℕ, ◌≡◌, ◌⊎◌, List, [], ◌∷◌, ◌++◌, Option}
 use Rattle.std.specs.declared.cmp.Ordering.{Ordering}
 use Rattle.pq_inputs.specs.Sources.{Sources, Table}
 use Rattle.pq_rules.specs.declared.turn.Answer.{Answer}
@@ -34,6 +34,12 @@ abbrev pub HasPart : {K P : Type 0} → Stage K P → P → Type 0
 HasPart (Walking i) part = ⊥
 HasPart (Waiting other asked reads) part = other ≡ part
 
+-- `HasRead stage reads` is that the rule waits at `stage`, and that `reads` are its reads before and
+-- the key that it asks for
+abbrev pub HasRead : {K P : Type 0} → Stage K P → List K → Type 0
+HasRead (Walking i) reads = ⊥
+HasRead (Waiting part asked front) reads = reads ≡ front.items ++ asked ∷ []
+
 -- `IsWalking stage` is that the key's frame walks at `stage`
 abbrev pub IsWalking : {K P : Type 0} → Stage K P → Type 0
 IsWalking (Walking i) = Unit {0}
@@ -62,3 +68,4 @@ IsStep order m inputs before after k stage (Starts key why) =
 IsStep order m inputs before after k stage (GoesOn key part answer reads) =
     IsSameTable (memo_at order before) (memo_at order after) × (key ≡ k) × HasPart stage part
     × Came order m inputs.history inputs.revision (HasIn (memo_at order before)) k (m.advance part answer) reads.items
+    × HasRead stage reads.items

@@ -10,7 +10,7 @@ use Rattle.pq_core.specs.Works.{DoneView, WorkView}
 use Rattle.pq_core.specs.Outboxes.{Listed, taken_front, HasNoRoom, TakesNext}
 use Rattle.pq_core.specs.Ledger.{Ledger}
 use Rattle.pq_core.specs.RightReply.{answer_by}
-use Rattle.pq_core.specs.Moves.{Reaches, Opens, Accepts, Edits, Starts, Looks, Gives, Starves, Releases, Closes, TakesOut}
+use Rattle.pq_core.specs.Moves.{Reaches, Opens, Accepts, Edits, Starts, Looks, Gives, Starves, Releases, Closes, TakesOut, IsMade}
 use Rattle.pq_core.specs.declared.request.Request.{Request}
 use Rattle.pq_core.specs.declared.fault.OpenRefused.{OpenRefused}
 use Rattle.pq_core.specs.declared.fault.EditRefused.{EditRefused}
@@ -18,7 +18,7 @@ use Rattle.pq_core.specs.declared.moves.Move.{Move}
 use Rattle.pq_core.specs.declared.moves.Released.{Released}
 use Rattle.pq_core.proofs.Lists.{get_within, get_there, same_or_other}
 use Rattle.pq_play.specs.World.{World, replies_of}
-use Rattle.pq_play.specs.Steps.{Steps, OpenAnswered, EditAnswered}
+use Rattle.pq_play.specs.Steps.{Steps, OpenAnswered, EditAnswered, empty_list}
 use Rattle.pq_play.specs.aux.Seats.{SeatView, free_seat, with_request, with_left, Seated, Aligned, SetsSeat, SeatLeaves, TakesLeft, LeavesNone}
 use Rattle.pq_play.specs.aux.Running.{OutOf, IsPut, IsSame, KeepsMove}
 use Rattle.pq_play.specs.aux.Playing.{Stood, Carried}
@@ -34,12 +34,12 @@ some_one x y e = cc
 none_some : {A : Type 0} (x : A) → None ≡ Some x → ⊥
 none_some x e = cc
 
-module _ {R K P V : Type 0} (order : K → K → Ordering) (machine : Machine K P V) (rules own after_own : R) (Stands After : Ledger K V (Listed K V) → Type 0) (w : World K V) (seats : List (SeatView K V)) (dones : ℕ → Option (DoneView R K P V)) (s : Stood order machine rules own Stands w seats dones) (same_rules : after_own ≡ own) where
+module _ {R K P V : Type 0} (room : ℕ) (order : K → K → Ordering) (machine : Machine K P V) (rules own after_own : R) (Stands After : Ledger K V (Listed K V) → Type 0) (w : World K V) (seats : List (SeatView K V)) (dones : ℕ → Option (DoneView R K P V)) (s : Stood order machine rules own Stands w seats dones) (same_rules : after_own ≡ own) where
   ran : Ran rules w.ledger dones
   ran = (s.fits.runs, s.fits.outs)
 
   carried : (event : Event K) (m : Ledger K V (Listed K V)) (taken : List (List (ReplyView K V))) (after_seats : List (SeatView K V)) (after_dones : ℕ → Option (DoneView R K P V)) → After m
-      → Steps order machine rules event w (record { ledger = m; taken = taken }) → Aligned m.clients taken after_seats → Ran rules m after_dones → Carried order machine rules event w after_own After after_seats after_dones
+      → Steps room order machine rules event w (record { ledger = m; taken = taken }) → Aligned m.clients taken after_seats → Ran rules m after_dones → Carried room order machine rules event w after_own After after_seats after_dones
   carried event m taken after_seats after_dones stands steps aligned ran_after = record {
     v = record { ledger = m; taken = taken };
     own_same = same_rules ∙ s.own_same;
@@ -48,54 +48,57 @@ module _ {R K P V : Type 0} (order : K → K → Ordering) (machine : Machine K 
     fits = record { aligned = aligned; runs = ran_after.0; outs = ran_after.1 };
   }
 
-  pub carried_opened : (outbox : Listed K V) (n : ℕ) (after_seats : List (SeatView K V)) → replies_of outbox ≡ [] → taken_front outbox ≡ [] → Reaches (Opens outbox (Ok n)) w.ledger After → after_seats ≡ seats ++ free_seat ∷ []
-      → Carried order machine rules Open w after_own After after_seats dones
-  carried_opened outbox n after_seats none untaken r e =
-      carried Open r.0 (w.taken ++ [] ∷ []) after_seats dones r.2 (outbox, none, Ok n, tt, r.1, refl)
-      (subst (λ (ys : List (SeatView K V)). Aligned r.0.clients (w.taken ++ [] ∷ []) ys) (sym e) (aligned_opens outbox n w.taken seats w.ledger r.0 untaken r.1 s.fits.aligned))
-      (ran_same rules w.ledger r.0 dones dones (runs_opens outbox (Ok n) w.ledger r.0 r.1) (λ q. refl) ran)
+  pub given_made : (run : ℕ) (done : DoneView R K P V) → Some done ≡ dones run → IsMade rules w.ledger.inputs done
+  given_made run done e = made_of rules w.ledger run done s.kept.inputs (subst (OutOf rules w.ledger run) (sym e) (s.fits.outs run))
 
-  pub carried_not_opened : (outbox : Listed K V) (refused : OpenRefused (Listed K V)) → replies_of outbox ≡ [] → OpenAnswered (Err refused) → Reaches (Opens outbox (Err refused)) w.ledger After
-      → Carried order machine rules Open w after_own After seats dones
-  carried_not_opened outbox refused none answered r =
-      carried Open r.0 w.taken seats dones r.2 (outbox, none, Err refused, answered, r.1, refl)
+  pub carried_opened : (n : ℕ) (after_seats : List (SeatView K V)) → Reaches (Opens (empty_list room) (Ok n)) w.ledger After → after_seats ≡ seats ++ free_seat ∷ []
+      → Carried room order machine rules Open w after_own After after_seats dones
+  carried_opened n after_seats r e =
+      carried Open r.0 (w.taken ++ [] ∷ []) after_seats dones r.2 (Ok n, tt, r.1, refl)
+      (subst (λ (ys : List (SeatView K V)). Aligned r.0.clients (w.taken ++ [] ∷ []) ys) (sym e) (aligned_opens (empty_list room) n w.taken seats w.ledger r.0 refl r.1 s.fits.aligned))
+      (ran_same rules w.ledger r.0 dones dones (runs_opens (empty_list room) (Ok n) w.ledger r.0 r.1) (λ q. refl) ran)
+
+  pub carried_not_opened : (refused : OpenRefused (Listed K V)) → OpenAnswered (Err refused) → Reaches (Opens (empty_list room) (Err refused)) w.ledger After
+      → Carried room order machine rules Open w after_own After seats dones
+  carried_not_opened refused answered r =
+      carried Open r.0 w.taken seats dones r.2 (Err refused, answered, r.1, refl)
       (subst (λ (x : Ledger K V (Listed K V)). Aligned x.clients w.taken seats) (sym r.1.2) s.fits.aligned)
       (ran_same rules w.ledger r.0 dones dones (same_as w.ledger r.0 r.1.2) (λ q. refl) ran)
 
   pub carried_accepted : (c : ℕ) (request : Request K) (n : ℕ) (after_seats : List (SeatView K V)) → Reaches (Accepts replies_of c request (Ok n)) w.ledger After → SetsSeat seats after_seats c (λ seat. with_request seat request)
-      → Carried order machine rules (Accept c request) w after_own After after_seats dones
+      → Carried room order machine rules (Accept c request) w after_own After after_seats dones
   carried_accepted c request n after_seats r k =
       carried (Accept c request) r.0 w.taken after_seats dones r.2 (Ok n, tt, r.1, refl)
       (subst (λ (ys : List (SeatView K V)). Aligned r.0.clients w.taken ys) (sym k.set_so) (aligned_accepts w.taken seats c request n w.ledger r.0 k.seat k.here r.1 s.fits.aligned))
       (ran_same rules w.ledger r.0 dones dones (runs_accepts replies_of c request (Ok n) w.ledger r.0 r.1) (λ q. refl) ran)
 
-  pub carried_edit : (c : ℕ) (change : ChangeView) (answer : Result ℕ EditRefused) → EditAnswered answer → Reaches (Edits c change answer) w.ledger After → Carried order machine rules (Edit c change) w after_own After seats dones
+  pub carried_edit : (c : ℕ) (change : ChangeView) (answer : Result ℕ EditRefused) → EditAnswered answer → Reaches (Edits c change answer) w.ledger After → Carried room order machine rules (Edit c change) w after_own After seats dones
   carried_edit c change answer answered r =
       carried (Edit c change) r.0 w.taken seats dones r.2 (answer, answered, r.1, refl)
       (aligned_edits w.taken seats c change answer w.ledger r.0 r.1 s.fits.aligned)
       (ran_same rules w.ledger r.0 dones dones (runs_edits c change answer w.ledger r.0 r.1) (λ q. refl) ran)
 
-  pub carried_start : (answer : Option ℕ) → Reaches (Starts answer) w.ledger After → Carried order machine rules Start w after_own After seats dones
+  pub carried_start : (answer : Option ℕ) → Reaches (Starts answer) w.ledger After → Carried room order machine rules Start w after_own After seats dones
   carried_start answer r =
       carried Start r.0 w.taken seats dones r.2 (answer, r.1, refl)
       (aligned_starts w.taken seats answer w.ledger r.0 r.1 s.fits.aligned)
       (ran_starts rules answer w.ledger r.0 dones r.1 ran)
 
-  pub carried_release : (c : ℕ) (answer : Released) → Reaches (Releases replies_of taken_front HasNoRoom c answer) w.ledger After → Carried order machine rules (Release c) w after_own After seats dones
+  pub carried_release : (c : ℕ) (answer : Released) → Reaches (Releases replies_of taken_front HasNoRoom c answer) w.ledger After → Carried room order machine rules (Release c) w after_own After seats dones
   carried_release c answer r =
       carried (Release c) r.0 w.taken seats dones r.2 (answer, r.1, refl)
       (aligned_releases w.taken seats c answer w.ledger r.0 r.1 s.fits.aligned)
       (ran_same rules w.ledger r.0 dones dones (runs_releases replies_of taken_front HasNoRoom c answer w.ledger r.0 r.1) (λ q. refl) ran)
 
   pub carried_step : (run : ℕ) (move : Move (WorkView R K P V)) (after_dones : ℕ → Option (DoneView R K P V)) → Reaches (Looks order machine rules run (Ok move)) w.ledger After → KeepsMove run move dones after_dones
-      → Carried order machine rules (Step run) w after_own After seats after_dones
+      → Carried room order machine rules (Step run) w after_own After seats after_dones
   carried_step run move after_dones r k =
       carried (Step run) r.0 w.taken seats after_dones r.2 (Ok move, tt, r.1, refl)
       (aligned_looks w.taken seats (answer_by order machine) rules run (Ok move) w.ledger r.0 r.1 s.fits.aligned)
       (ran_looks rules (answer_by order machine) run move w.ledger r.0 dones after_dones s.kept.inputs r.1 k ran)
 
   pub carried_given : (run : ℕ) (done : DoneView R K P V) (move : Move (WorkView R K P V)) (after_dones : ℕ → Option (DoneView R K P V)) → Some done ≡ dones run → IsPut dones after_dones run None → Reaches (Gives run done (Ok move)) w.ledger After
-      → Carried order machine rules (Give run) w after_own After seats after_dones
+      → Carried room order machine rules (Give run) w after_own After seats after_dones
   carried_given run done move after_dones e p r =
       let kept : OutOf rules w.ledger run (Some done) = subst (OutOf rules w.ledger run) (sym e) (s.fits.outs run) in
       let at = given_of rules w.ledger run done kept in
@@ -114,14 +117,14 @@ module _ {R K P V : Type 0} (order : K → K → Ordering) (machine : Machine K 
       (ran_gives rules run done move w.ledger r.0 dones after_dones r.1 p ran)
 
   pub carried_starve : (run : ℕ) (answer : Bool) (after_dones : ℕ → Option (DoneView R K P V)) → IsPut dones after_dones run None → Reaches (Starves run answer) w.ledger After
-      → Carried order machine rules (Starve run) w after_own After seats after_dones
+      → Carried room order machine rules (Starve run) w after_own After seats after_dones
   carried_starve run answer after_dones p r =
       carried (Starve run) r.0 w.taken seats after_dones r.2 (answer, r.1, refl)
       (aligned_starves w.taken seats run answer w.ledger r.0 r.1 s.fits.aligned)
       (ran_starves rules run answer w.ledger r.0 dones after_dones r.1 p ran)
 
   -- a take out of an open client's outbox, out of one that is kept, and none
-  pub carried_take : (c : ℕ) → Reaches (TakesOut {A = AllocError} replies_of taken_front c (Ok true)) w.ledger After → Carried order machine rules (Take c) w after_own After seats dones
+  pub carried_take : (c : ℕ) → Reaches (TakesOut {A = AllocError} replies_of taken_front c (Ok true)) w.ledger After → Carried room order machine rules (Take c) w after_own After seats dones
   carried_take c r =
       let o = r.1 in
       let client = o.0 in
@@ -147,7 +150,7 @@ module _ {R K P V : Type 0} (order : K → K → Ordering) (machine : Machine K 
       not_both b e f = cc
 
   pub carried_left : (c : ℕ) (after_seats : List (SeatView K V)) → Reaches (TakesOut {A = AllocError} replies_of taken_front c (Ok false)) w.ledger After → TakesLeft seats after_seats c
-      → Carried order machine rules (Take c) w after_own After after_seats dones
+      → Carried room order machine rules (Take c) w after_own After after_seats dones
   carried_left c after_seats r o =
       let a = s.fits.aligned in
       let t = o.takes in
@@ -183,7 +186,7 @@ module _ {R K P V : Type 0} (order : K → K → Ordering) (machine : Machine K 
       not_both b e f = cc
 
   pub carried_none : (c : ℕ) (after_seats : List (SeatView K V)) → Reaches (TakesOut {A = AllocError} replies_of taken_front c (Ok false)) w.ledger After → LeavesNone seats after_seats c
-      → Carried order machine rules (Take c) w after_own After after_seats dones
+      → Carried room order machine rules (Take c) w after_own After after_seats dones
   carried_none c after_seats r o =
       let a = s.fits.aligned in
       carried (Take c) r.0 w.taken after_seats dones r.2
@@ -208,14 +211,14 @@ module _ {R K P V : Type 0} (order : K → K → Ordering) (machine : Machine K 
       (ran_same rules w.ledger r.0 dones dones (same_as w.ledger r.0 r.1.1) (λ q. refl) ran)
 
   pub carried_closed : (c : ℕ) (o : Listed K V) (after_seats : List (SeatView K V)) → Reaches (Closes c (Some o)) w.ledger After → SetsSeat seats after_seats c (λ seat. with_left seat o)
-      → Carried order machine rules (Close c) w after_own After after_seats dones
+      → Carried room order machine rules (Close c) w after_own After after_seats dones
   carried_closed c o after_seats r k =
       carried (Close c) r.0 w.taken after_seats dones r.2 (Some o, r.1, refl)
       (subst (λ (ys : List (SeatView K V)). Aligned r.0.clients w.taken ys) (sym k.set_so) (aligned_closes w.taken seats c o w.ledger r.0 k.seat k.here r.1 s.fits.aligned))
       (ran_same rules w.ledger r.0 dones dones (runs_closes c (Some o) w.ledger r.0 r.1) (λ q. refl) ran)
 
-module _ {R K P V : Type 0} (order : K → K → Ordering) (machine : Machine K P V) (rules own : R) (Stands : Ledger K V (Listed K V) → Type 0) (w : World K V) (seats : List (SeatView K V)) (dones : ℕ → Option (DoneView R K P V)) (s : Stood order machine rules own Stands w seats dones) where
-  pub carried_not_given : (run : ℕ) (after_dones : ℕ → Option (DoneView R K P V)) → None ≡ dones run → IsPut dones after_dones run None → Carried order machine rules (Give run) w own Stands seats after_dones
+module _ {R K P V : Type 0} (room : ℕ) (order : K → K → Ordering) (machine : Machine K P V) (rules own : R) (Stands : Ledger K V (Listed K V) → Type 0) (w : World K V) (seats : List (SeatView K V)) (dones : ℕ → Option (DoneView R K P V)) (s : Stood order machine rules own Stands w seats dones) where
+  pub carried_not_given : (run : ℕ) (after_dones : ℕ → Option (DoneView R K P V)) → None ≡ dones run → IsPut dones after_dones run None → Carried room order machine rules (Give run) w own Stands seats after_dones
   carried_not_given run after_dones e p =
       let none : OutOf {P = P} rules w.ledger run None = subst (OutOf rules w.ledger run) (sym e) (s.fits.outs run) in
       let same : IsSame dones after_dones = λ q. elim (same_or_other q run) [

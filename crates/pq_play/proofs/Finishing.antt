@@ -38,24 +38,24 @@ map_id : {A : Type 0} (xs : List A) → map (λ x. x) xs ≡ xs
 map_id [] = refl
 map_id (x ∷ xs) = ap (λ zs. x ∷ zs) (map_id xs)
 
-module _ {R K P V : Type 0} (order : K → K → Ordering) (machine : Machine K P V) (rules : R) where
+module _ {R K P V : Type 0} (room : ℕ) (order : K → K → Ordering) (machine : Machine K P V) (rules : R) where
   -- one more event of a list
   pub playing_next : (events : List (Event K)) (i : ℕ) (event : Event K) (start : World K V) (own after_own : R) (Stands After : Ledger K V (Listed K V) → Type 0) (seats after_seats : List (SeatView K V)) (dones after_dones : ℕ → Option (DoneView R K P V))
       → i < length events → event ≡ get_or events i event
-      → Playing order machine rules events (drop i events) start own Stands seats dones → Carries order machine rules event own Stands seats dones after_own After after_seats after_dones
-      → Playing order machine rules events (drop (i + 1) events) start after_own After after_seats after_dones
+      → Playing room order machine rules events (drop i events) start own Stands seats dones → Carries room order machine rules event own Stands seats dones after_own After after_seats after_dones
+      → Playing room order machine rules events (drop (i + 1) events) start after_own After after_seats after_dones
   playing_next events i event start own after_own Stands After seats after_seats dones after_dones lt is p f =
       let cut : drop i events ≡ event ∷ drop (i + 1) events =
       drop-cons events i event lt ∙ ap (λ n. get_or events i event ∷ drop n events) (sym (add-one i)) ∙ ap (λ (x : Event K). x ∷ drop (i + 1) events) (sym is) in
-      playing_on order machine rules events event (drop (i + 1) events) start own after_own Stands After seats after_seats dones after_dones
-      (subst (λ (xs : List (Event K)). Playing order machine rules events xs start own Stands seats dones) cut p) f
+      playing_on room order machine rules events event (drop (i + 1) events) start own after_own Stands After seats after_seats dones after_dones
+      (subst (λ (xs : List (Event K)). Playing room order machine rules events xs start own Stands seats dones) cut p) f
 
   -- no event is left
   pub led_all : (events : List (Event K)) (i : ℕ) (start : World K V) (own : R) (Stands : Ledger K V (Listed K V) → Type 0) (seats : List (SeatView K V)) (dones : ℕ → Option (DoneView R K P V)) → length events ≤ i
-      → Playing order machine rules events (drop i events) start own Stands seats dones → Led order machine rules events start own Stands seats dones
+      → Playing room order machine rules events (drop i events) start own Stands seats dones → Led room order machine rules events start own Stands seats dones
   led_all events i start own Stands seats dones past p = record {
     v = p.w;
-    led = p.goes_on p.w (subst (λ (xs : List (Event K)). LeadsTo order machine rules xs p.w p.w) (sym (drop_all i events past)) refl);
+    led = p.goes_on p.w (subst (λ (xs : List (Event K)). LeadsTo room order machine rules xs p.w p.w) (sym (drop_all i events past)) refl);
     stood = p.stood;
   }
 
@@ -91,16 +91,16 @@ module _ {R K P V : Type 0} (order : K → K → Ordering) (machine : Machine K 
 
   -- one more client is closed
   pub closing_next : (w : World K V) (n id : ℕ) (own after_own : R) (Stands After : Ledger K V (Listed K V) → Type 0) (seats after_seats : List (SeatView K V)) (dones after_dones : ℕ → Option (DoneView R K P V))
-      → id ≡ n → Closing order machine rules w own Stands seats dones n → Carries order machine rules (Close id) own Stands seats dones after_own After after_seats after_dones
+      → id ≡ n → Closing order machine rules w own Stands seats dones n → Carries room order machine rules (Close id) own Stands seats dones after_own After after_seats after_dones
       → Closing order machine rules w after_own After after_seats after_dones (n + 1)
   closing_next w n id own after_own Stands After seats after_seats dones after_dones e p g =
-      let f = subst (λ (x : ℕ). Carries order machine rules (Close x) own Stands seats dones after_own After after_seats after_dones) e g in
+      let f = subst (λ (x : ℕ). Carries room order machine rules (Close x) own Stands seats dones after_own After after_seats after_dones) e g in
       let d = f p.v p.stood in
       let s = d.steps in
       let same : map accepted_of d.v.ledger.clients ≡ map accepted_of p.v.ledger.clients = closes_accepted n s.0 p.v.ledger d.v.ledger s.1 in
       record {
         v = d.v;
-        stood = stood_after order machine rules (Close n) p.v own after_own Stands After seats after_seats dones after_dones p.stood d;
+        stood = stood_after room order machine rules (Close n) p.v own after_own Stands After seats after_seats dones after_dones p.stood d;
         taken_same = s.2 ∙ p.taken_same;
         accepted_same = same ∙ p.accepted_same;
         shut = λ c client below h. elim (same_or_other c n) [
@@ -109,7 +109,7 @@ module _ {R K P V : Type 0} (order : K → K → Ordering) (machine : Machine K 
               let long : length d.v.ledger.clients ≡ length p.v.ledger.clients = as_long d.v.ledger.clients p.v.ledger.clients same in
               let within : c < length d.v.ledger.clients = get_within d.v.ledger.clients c client h in
               let was = get_there p.v.ledger.clients c (omega arith) in
-              let later = (closed_steps order machine rules (Close n) p.v d.v s c (record { client = was.0; here = was.1; closed = p.shut c was.0 (omega arith) was.1 })).0 in
+              let later = (closed_steps room order machine rules (Close n) p.v d.v s c (record { client = was.0; here = was.1; closed = p.shut c was.0 (omega arith) was.1 })).0 in
               ap (λ (x : Client K V (Listed K V)). x.is_open) (some_one client later.client (sym h ∙ later.here)) ∙ later.closed
         ];
       }

@@ -15,9 +15,9 @@ use Rattle.pq_core.specs.Kept.{PlaceKept, InputsKept, Kept}
 use Rattle.pq_core.proofs.Lists.{get_within, get_there}
 use Rattle.pq_core.proofs.Keeping.{kept_opens, kept_accepts, kept_edits, kept_starts, kept_looks, kept_gives, kept_starves, kept_releases, kept_closes, kept_takes}
 use Rattle.pq_core.proofs.Closing.{shut_opens, shut_accepts, shut_edits, shut_starts, shut_looks, shut_gives, shut_starves, shut_releases, shut_closes, shut_takes}
-use Rattle.pq_play.specs.World.{World, beginning, replies_of}
+use Rattle.pq_play.specs.World.{World, no_files, beginning, replies_of}
 use Rattle.pq_play.specs.Headline.{Headline, LeavesClosed}
-use Rattle.pq_play.specs.Steps.{Steps, LeadsTo}
+use Rattle.pq_play.specs.Steps.{Steps, LeadsTo, empty_list}
 use Rattle.pq_play.specs.aux.Seats.{SeatView, Seated, Aligned}
 use Rattle.pq_play.specs.aux.Running.{Run, run_at, OutOf}
 use Rattle.pq_play.specs.aux.Playing.{Stood, Carried, Carries, Playing}
@@ -94,9 +94,9 @@ module _ {K V : Type 0} where
   ledger_of : (w v : World K V) → v ≡ w → v.ledger ≡ w.ledger
   ledger_of w v e = ap (λ (x : World K V). x.ledger) e
 
-module _ {R K P V : Type 0} (order : K → K → Ordering) (machine : Machine K P V) (rules : R) where
-  kept_steps : (event : Event K) (w v : World K V) → Steps order machine rules event w v → Kept (answer_by order machine) replies_of w.ledger → Kept (answer_by order machine) replies_of v.ledger
-  kept_steps Open w v s k = kept_opens (answer_by order machine) replies_of s.0 s.2 w.ledger v.ledger s.1 k s.4
+module _ {R K P V : Type 0} (room : ℕ) (order : K → K → Ordering) (machine : Machine K P V) (rules : R) where
+  kept_steps : (event : Event K) (w v : World K V) → Steps room order machine rules event w v → Kept (answer_by order machine) replies_of w.ledger → Kept (answer_by order machine) replies_of v.ledger
+  kept_steps Open w v s k = kept_opens (answer_by order machine) replies_of (empty_list room) s.0 w.ledger v.ledger refl k s.2
   kept_steps (Accept c request) w v s k = kept_accepts (answer_by order machine) replies_of c request s.0 w.ledger v.ledger k s.2
   kept_steps (Edit c change) w v s k = kept_edits (answer_by order machine) replies_of c change s.0 w.ledger v.ledger k s.2
   kept_steps Start w v s k = kept_starts (answer_by order machine) replies_of s.0 w.ledger v.ledger k s.1
@@ -116,8 +116,8 @@ module _ {R K P V : Type 0} (order : K → K → Ordering) (machine : Machine K 
   ]
   kept_steps (Close c) w v s k = kept_closes (answer_by order machine) replies_of c s.0 w.ledger v.ledger k s.1
 
-  pub closed_steps : (event : Event K) (w v : World K V) → Steps order machine rules event w v → LeavesClosed w.ledger v.ledger
-  closed_steps Open w v s = λ d shut. shut_opens d s.0 s.2 w.ledger v.ledger shut s.4
+  pub closed_steps : (event : Event K) (w v : World K V) → Steps room order machine rules event w v → LeavesClosed w.ledger v.ledger
+  closed_steps Open w v s = λ d shut. shut_opens d (empty_list room) s.0 w.ledger v.ledger shut s.2
   closed_steps (Accept c request) w v s = λ d shut. shut_accepts replies_of d c request s.0 w.ledger v.ledger shut s.2
   closed_steps (Edit c change) w v s = λ d shut. shut_edits d c change s.0 w.ledger v.ledger shut s.2
   closed_steps Start w v s = λ d shut. shut_starts d s.0 w.ledger v.ledger shut s.1
@@ -139,7 +139,7 @@ module _ {R K P V : Type 0} (order : K → K → Ordering) (machine : Machine K 
 
   -- the world after an event is one for which the core stands
   pub stood_after : (event : Event K) (w : World K V) (own after_own : R) (Stands After : Ledger K V (Listed K V) → Type 0) (seats after_seats : List (SeatView K V)) (dones after_dones : ℕ → Option (DoneView R K P V))
-      → Stood order machine rules own Stands w seats dones → (d : Carried order machine rules event w after_own After after_seats after_dones) → Stood order machine rules after_own After d.v after_seats after_dones
+      → Stood order machine rules own Stands w seats dones → (d : Carried room order machine rules event w after_own After after_seats after_dones) → Stood order machine rules after_own After d.v after_seats after_dones
   stood_after event w own after_own Stands After seats after_seats dones after_dones s d = record {
     own_same = d.own_same;
     stands = d.stands;
@@ -149,8 +149,8 @@ module _ {R K P V : Type 0} (order : K → K → Ordering) (machine : Machine K 
 
   -- one more event
   pub playing_on : (events : List (Event K)) (event : Event K) (rest : List (Event K)) (start : World K V) (own after_own : R) (Stands After : Ledger K V (Listed K V) → Type 0) (seats after_seats : List (SeatView K V)) (dones after_dones : ℕ → Option (DoneView R K P V))
-      → Playing order machine rules events (event ∷ rest) start own Stands seats dones → Carries order machine rules event own Stands seats dones after_own After after_seats after_dones
-      → Playing order machine rules events rest start after_own After after_seats after_dones
+      → Playing room order machine rules events (event ∷ rest) start own Stands seats dones → Carries room order machine rules event own Stands seats dones after_own After after_seats after_dones
+      → Playing room order machine rules events rest start after_own After after_seats after_dones
   playing_on events event rest start own after_own Stands After seats after_seats dones after_dones p f =
       let d = f p.w p.stood in
       let after = stood_after event p.w own after_own Stands After seats after_seats dones after_dones p.stood d in
@@ -164,12 +164,12 @@ module _ {R K P V : Type 0} (order : K → K → Ordering) (machine : Machine K 
   no_run c n a h = none_is a h
 
   -- a core that was just made
-  pub stood_start : (own : R) (Stands : Ledger K V (Listed K V) → Type 0) (inputs : Table) (seats : List (SeatView K V)) (dones : ℕ → Option (DoneView R K P V)) → own ≡ rules → Stands (unused inputs)
-      → InputsKept inputs → seats ≡ [] → ((r : ℕ) → dones r ≡ None) → Stood order machine rules own Stands (beginning inputs) seats dones
-  stood_start own Stands inputs seats dones same stands k e none = record {
+  pub stood_start : (own : R) (Stands : Ledger K V (Listed K V) → Type 0) (seats : List (SeatView K V)) (dones : ℕ → Option (DoneView R K P V)) → own ≡ rules → Stands (unused no_files)
+      → seats ≡ [] → ((r : ℕ) → dones r ≡ None) → Stood order machine rules own Stands beginning seats dones
+  stood_start own Stands seats dones same stands e none = record {
     own_same = same;
     stands = stands;
-    kept = record { inputs = k; clients = λ c client h. absurd (none_is client h) };
+    kept = record { inputs = record { counted = refl; latest = refl }; clients = λ c client h. absurd (none_is client h) };
     fits = record {
       aligned = record {
         counted = refl;
@@ -177,11 +177,11 @@ module _ {R K P V : Type 0} (order : K → K → Ordering) (machine : Machine K 
         each = λ c client tk seat h i j. absurd (none_is client h);
       };
       runs = record { below = λ c n a h. absurd (no_run c n a h); once = λ c n d i a b h g same_number. absurd (no_run c n a h) };
-      outs = λ r. subst (OutOf rules (unused inputs) r) (sym (none r)) (λ c n a h number. absurd (no_run c n a h));
+      outs = λ r. subst (OutOf rules (unused no_files) r) (sym (none r)) (λ c n a h number. absurd (no_run c n a h));
     };
   }
 
-  pub leads_closed : (events : List (Event K)) (w v : World K V) → LeadsTo order machine rules events w v → LeavesClosed w.ledger v.ledger
+  pub leads_closed : (events : List (Event K)) (w v : World K V) → LeadsTo room order machine rules events w v → LeavesClosed w.ledger v.ledger
   leads_closed [] w v e = closed_as w.ledger v.ledger (ledger_of w v e)
   leads_closed (event ∷ events) w v s = λ c shut.
       let first = s.3 c shut in

@@ -72,6 +72,10 @@ LookAnswered (Err fault) = fault ≡ NoRun
 
 -- ---- what the clients take
 
+-- `empty_list room` is an outbox into which nothing was put, with room for `room` replies
+abbrev pub empty_list : {K V : Type 0} → ℕ → Listed K V
+empty_list room = record { replies = []; taken = 0; room = room }
+
 -- `taken_opened taken answer` is what the clients have taken after a client was to be opened
 abbrev pub taken_opened : {T O : Type 0} → List (List T) → Result ℕ (OpenRefused O) → List (List T)
 taken_opened taken (Ok c) = taken ++ [] ∷ []
@@ -118,31 +122,32 @@ pub record GivesNone {K V : Type 0} (run : ℕ) (w v : World K V) : Type 0 where
 
 -- ---- steps
 
--- `Steps order machine rules event w v` is that `event` leads from `w` to `v`: the call is made,
--- and it does not answer that an allocation failed
-abbrev pub Steps : {R K P V : Type 0} → (K → K → Ordering) → Machine K P V → R → Event K → World K V → World K V → Type 0
-Steps {R} {K} {P} {V} order machine rules Open w v =
-    (outbox : Listed K V) × (replies_of outbox ≡ []) × (answer : Result ℕ (OpenRefused (Listed K V))) × OpenAnswered answer
-    × Opens outbox answer w.ledger v.ledger × (v.taken ≡ taken_opened w.taken answer)
-Steps {R} {K} {P} {V} order machine rules (Accept c request) w v =
+-- `Steps room order machine rules event w v` is that `event` leads from `w` to `v`: the call is
+-- made, and it does not answer that an allocation failed. A client is opened with an outbox for
+-- `room` replies
+abbrev pub Steps : {R K P V : Type 0} → ℕ → (K → K → Ordering) → Machine K P V → R → Event K → World K V → World K V → Type 0
+Steps {R} {K} {P} {V} room order machine rules Open w v =
+    (answer : Result ℕ (OpenRefused (Listed K V))) × OpenAnswered answer × Opens (empty_list room) answer w.ledger v.ledger
+    × (v.taken ≡ taken_opened w.taken answer)
+Steps {R} {K} {P} {V} room order machine rules (Accept c request) w v =
     (answer : Result ℕ (AcceptRefused K)) × AcceptAnswered answer × Accepts replies_of c request answer w.ledger v.ledger × (v.taken ≡ w.taken)
-Steps order machine rules (Edit c change) w v =
+Steps room order machine rules (Edit c change) w v =
     (answer : Result ℕ EditRefused) × EditAnswered answer × Edits c change answer w.ledger v.ledger × (v.taken ≡ w.taken)
-Steps order machine rules Start w v = (answer : Option ℕ) × Starts answer w.ledger v.ledger × (v.taken ≡ w.taken)
-Steps {R} {K} {P} {V} order machine rules (Step run) w v =
+Steps room order machine rules Start w v = (answer : Option ℕ) × Starts answer w.ledger v.ledger × (v.taken ≡ w.taken)
+Steps {R} {K} {P} {V} room order machine rules (Step run) w v =
     (answer : Result (Move (WorkView R K P V)) LookFault) × LookAnswered answer × Looks order machine rules run answer w.ledger v.ledger × (v.taken ≡ w.taken)
-Steps {R} {K} {P} {V} order machine rules (Give run) w v = GivesOne P rules run w v ⊎ GivesNone run w v
-Steps order machine rules (Starve run) w v = (answer : Bool) × Starves run answer w.ledger v.ledger × (v.taken ≡ w.taken)
-Steps order machine rules (Release c) w v =
+Steps {R} {K} {P} {V} room order machine rules (Give run) w v = GivesOne P rules run w v ⊎ GivesNone run w v
+Steps room order machine rules (Starve run) w v = (answer : Bool) × Starves run answer w.ledger v.ledger × (v.taken ≡ w.taken)
+Steps room order machine rules (Release c) w v =
     (answer : Released) × Releases replies_of taken_front HasNoRoom c answer w.ledger v.ledger × (v.taken ≡ w.taken)
-Steps order machine rules (Take c) w v = TakesOne c w v ⊎ TakesNone c w v
-Steps {R} {K} {P} {V} order machine rules (Close c) w v =
+Steps room order machine rules (Take c) w v = TakesOne c w v ⊎ TakesNone c w v
+Steps {R} {K} {P} {V} room order machine rules (Close c) w v =
     (answer : Option (Listed K V)) × Closes c answer w.ledger v.ledger × (v.taken ≡ w.taken)
 
--- `LeadsTo order machine rules events w v` is that `events` lead from `w` to `v`, one step each.
--- After each event the headline holds, and each client that was closed before it has the same
+-- `LeadsTo room order machine rules events w v` is that `events` lead from `w` to `v`, one step
+-- each. After each event the headline holds, and each client that was closed before it has the same
 -- outbox
-abbrev pub LeadsTo : {R K P V : Type 0} → (K → K → Ordering) → Machine K P V → R → List (Event K) → World K V → World K V → Type 0
-LeadsTo order machine rules [] w v = v ≡ w
-LeadsTo {R} {K} {P} {V} order machine rules (event ∷ events) w v =
-    (u : World K V) × Steps order machine rules event w u × Headline (answer_by order machine) u × LeavesClosed w.ledger u.ledger × LeadsTo order machine rules events u v
+abbrev pub LeadsTo : {R K P V : Type 0} → ℕ → (K → K → Ordering) → Machine K P V → R → List (Event K) → World K V → World K V → Type 0
+LeadsTo room order machine rules [] w v = v ≡ w
+LeadsTo {R} {K} {P} {V} room order machine rules (event ∷ events) w v =
+    (u : World K V) × Steps room order machine rules event w u × Headline (answer_by order machine) u × LeavesClosed w.ledger u.ledger × LeadsTo room order machine rules events u v

@@ -1,5 +1,5 @@
 -- The world that events are played in: the ledger of a core, and what its clients have taken.
-use Rattle.std.specs.Prelude.{List, []}
+use Rattle.std.specs.Prelude.{List, [], ◌∷◌}
 use Rattle.pq_inputs.specs.Sources.{Table}
 use Rattle.pq_core.specs.Replies.{ReplyView}
 use Rattle.pq_core.specs.Outboxes.{Listed}
@@ -11,9 +11,13 @@ pub record World (K V : Type 0) : Type 0 where
   pub ledger : Ledger K V (Listed K V)
   pub taken : List (List (ReplyView K V))
 
--- `beginning inputs` is the world of a core that was made with `inputs`: no client was opened
-abbrev pub beginning : {K V : Type 0} → Table → World K V
-beginning inputs = record { ledger = unused inputs; taken = [] }
+-- `no_files` is the inputs at revision 0, when no file was set
+abbrev pub no_files : Table
+no_files = record { files = []; revision = 0; history = [] ∷ [] }
+
+-- `beginning` is the world of a fresh core: no file was set, and no client was opened
+abbrev pub beginning : {K V : Type 0} → World K V
+beginning = record { ledger = unused no_files; taken = [] }
 
 -- `replies_of o` is the replies that were put into the outbox `o`
 abbrev pub replies_of : {K V : Type 0} → Listed K V → List (ReplyView K V)

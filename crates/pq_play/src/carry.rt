@@ -1,8 +1,7 @@
 //! One event: the call of a core, and what is kept of it.
-ghost use Rattle.std.specs.Prelude.{◌≡◌, IfOk};
-ghost use Rattle.pq_core.specs.Ledger.{Ledger};
-ghost use Rattle.pq_core.specs.Outboxes.{Listed};
-ghost use Rattle.pq_play.specs.World.{World};
+ghost use Rattle.std.specs.Prelude.{ℕ, IfOk};
+ghost use Rattle.pq_core.specs.Cores.{StandsFor};
+ghost use Rattle.pq_play.specs.World.{World, replies_of};
 ghost use Rattle.pq_play.specs.aux.Running.{done_of};
 ghost use Rattle.pq_play.specs.aux.Playing.{Stood, Carries};
 ghost use Rattle.pq_play.specs.declared.event.Event.TheVariants.{Open, Accept, Edit, Start, Step, Give, Starve, Release, Take, Close};
@@ -12,8 +11,7 @@ use crate::dones::{Dones, keep_move, take_done};
 use crate::event::Event;
 use crate::seat::{Seat, keep_outbox, keep_request, take_left};
 use pq_core::{
-    Calls, Change, ClientId, ListOutbox, Memory, Request, RunId, TakingCalls, copy_change,
-    copy_request,
+    Change, ClientId, Core, ListOutbox, Memory, Request, RunId, copy_change, copy_request,
 };
 use pq_rules::Rules;
 use std::alloc::Global;
@@ -27,14 +25,14 @@ pub(crate) struct Sheet<R: Rules> {
 }
 
 /// Opens a client with an outbox for `room` replies.
-fn open<R: Rules, C: TakingCalls<R, ListOutbox<R::Key, R::Value>>>(
+fn open<R: Rules>(
     alloc: Global,
     rules: &R,
-    core: &mut C,
+    core: &mut Core<R, ListOutbox<R::Key, R::Value>>,
     sheet: &mut Sheet<R>,
     room: usize,
 ) -> Result<(), Memory>
-    ensures { IfOk result (λ _. Carries R.Key.cmp (R.machine rules.now) rules.now Open (C.rules core.old) (C.stands core.old) sheet.old.seats.items (done_of sheet.old.dones) (C.rules core.new) (C.stands core.new) sheet.new.seats.items (done_of sheet.new.dones)) }
+    ensures { IfOk result (λ _. Carries room R.Key.cmp (R.machine rules.now) rules.now Open core.old.rules (StandsFor R.Key.cmp (R.machine rules.now) replies_of core.old) sheet.old.seats.items (done_of sheet.old.dones) core.new.rules (StandsFor R.Key.cmp (R.machine rules.now) replies_of core.new) sheet.new.seats.items (done_of sheet.new.dones)) }
 {
     let outbox = ListOutbox::new(alloc, room)?;
     let answer = core.open_client(alloc, outbox);
@@ -51,19 +49,19 @@ fn open<R: Rules, C: TakingCalls<R, ListOutbox<R::Key, R::Value>>>(
 }
 
 /// Posts a copy of `request`, and keeps another where it is accepted.
-fn accept<R: Rules, C: TakingCalls<R, ListOutbox<R::Key, R::Value>>>(
+fn accept<R: Rules>(
     alloc: Global,
     rules: &R,
-    core: &mut C,
+    core: &mut Core<R, ListOutbox<R::Key, R::Value>>,
     sheet: &mut Sheet<R>,
     client: ClientId,
     request: &Request<R::Key>,
 ) -> Result<(), Memory>
-    requires { (w : World R.Key R.Value) × Stood R.Key.cmp (R.machine rules.now) rules.now (C.rules core.old) (C.stands core.old) w sheet.old.seats.items (done_of sheet.old.dones) }
-    ensures { IfOk result (λ _. Carries R.Key.cmp (R.machine rules.now) rules.now (Accept client request.now) (C.rules core.old) (C.stands core.old) sheet.old.seats.items (done_of sheet.old.dones) (C.rules core.new) (C.stands core.new) sheet.new.seats.items (done_of sheet.new.dones)) }
+    requires { (w : World R.Key R.Value) × Stood R.Key.cmp (R.machine rules.now) rules.now core.old.rules (StandsFor R.Key.cmp (R.machine rules.now) replies_of core.old) w sheet.old.seats.items (done_of sheet.old.dones) }
+    ensures { IfOk result (λ _. (room : ℕ) → Carries room R.Key.cmp (R.machine rules.now) rules.now (Accept client request.now) core.old.rules (StandsFor R.Key.cmp (R.machine rules.now) replies_of core.old) sheet.old.seats.items (done_of sheet.old.dones) core.new.rules (StandsFor R.Key.cmp (R.machine rules.now) replies_of core.new) sheet.new.seats.items (done_of sheet.new.dones)) }
 {
     let given = copy_request(alloc, rules, request)?;
-    let answer = core.accept(alloc, client, given);
+    let answer = core.accept(client, given);
     if !accept_answered(&answer) {
         return Err(Memory);
     }
@@ -74,14 +72,14 @@ fn accept<R: Rules, C: TakingCalls<R, ListOutbox<R::Key, R::Value>>>(
 }
 
 /// Makes a copy of `change`.
-fn edit<R: Rules, C: TakingCalls<R, ListOutbox<R::Key, R::Value>>>(
+fn edit<R: Rules>(
     rules: &R,
-    core: &mut C,
+    core: &mut Core<R, ListOutbox<R::Key, R::Value>>,
     sheet: &mut Sheet<R>,
     client: ClientId,
     change: &Change,
 ) -> Result<(), Memory>
-    ensures { IfOk result (λ _. Carries R.Key.cmp (R.machine rules.now) rules.now (Edit client change.now) (C.rules core.old) (C.stands core.old) sheet.old.seats.items (done_of sheet.old.dones) (C.rules core.new) (C.stands core.new) sheet.new.seats.items (done_of sheet.new.dones)) }
+    ensures { IfOk result (λ _. (room : ℕ) → Carries room R.Key.cmp (R.machine rules.now) rules.now (Edit client change.now) core.old.rules (StandsFor R.Key.cmp (R.machine rules.now) replies_of core.old) sheet.old.seats.items (done_of sheet.old.dones) core.new.rules (StandsFor R.Key.cmp (R.machine rules.now) replies_of core.new) sheet.new.seats.items (done_of sheet.new.dones)) }
 {
     let given = copy_change(change)?;
     let answer = core.edit(client, given);
@@ -92,25 +90,25 @@ fn edit<R: Rules, C: TakingCalls<R, ListOutbox<R::Key, R::Value>>>(
 }
 
 /// Starts a request that waits.
-fn start<R: Rules, C: TakingCalls<R, ListOutbox<R::Key, R::Value>>>(
+fn start<R: Rules>(
     rules: &R,
-    core: &mut C,
+    core: &mut Core<R, ListOutbox<R::Key, R::Value>>,
     sheet: &mut Sheet<R>,
 )
-    ensures { Carries R.Key.cmp (R.machine rules.now) rules.now Start (C.rules core.old) (C.stands core.old) sheet.old.seats.items (done_of sheet.old.dones) (C.rules core.new) (C.stands core.new) sheet.new.seats.items (done_of sheet.new.dones) }
+    ensures { (room : ℕ) → Carries room R.Key.cmp (R.machine rules.now) rules.now Start core.old.rules (StandsFor R.Key.cmp (R.machine rules.now) replies_of core.old) sheet.old.seats.items (done_of sheet.old.dones) core.new.rules (StandsFor R.Key.cmp (R.machine rules.now) replies_of core.new) sheet.new.seats.items (done_of sheet.new.dones) }
 {
     let _run = core.start();
 }
 
 /// Takes a step of `run`. Work that it hands out is carried out, and its result is kept.
-fn step<R: Rules, C: TakingCalls<R, ListOutbox<R::Key, R::Value>>>(
+fn step<R: Rules>(
     alloc: Global,
     rules: &R,
-    core: &mut C,
+    core: &mut Core<R, ListOutbox<R::Key, R::Value>>,
     sheet: &mut Sheet<R>,
     run: RunId,
 ) -> Result<(), Memory>
-    ensures { IfOk result (λ _. Carries R.Key.cmp (R.machine rules.now) rules.now (Step run) (C.rules core.old) (C.stands core.old) sheet.old.seats.items (done_of sheet.old.dones) (C.rules core.new) (C.stands core.new) sheet.new.seats.items (done_of sheet.new.dones)) }
+    ensures { IfOk result (λ _. (room : ℕ) → Carries room R.Key.cmp (R.machine rules.now) rules.now (Step run) core.old.rules (StandsFor R.Key.cmp (R.machine rules.now) replies_of core.old) sheet.old.seats.items (done_of sheet.old.dones) core.new.rules (StandsFor R.Key.cmp (R.machine rules.now) replies_of core.new) sheet.new.seats.items (done_of sheet.new.dones)) }
 {
     let answer = core.look(alloc, run);
     if !look_answered(&answer) {
@@ -124,16 +122,15 @@ fn step<R: Rules, C: TakingCalls<R, ListOutbox<R::Key, R::Value>>>(
 
 /// Gives the result that is kept for `run`, if there is one. It is that of the work that is out, so
 /// only an allocation can fail.
-fn give<R: Rules, C: TakingCalls<R, ListOutbox<R::Key, R::Value>>>(
+fn give<R: Rules>(
     alloc: Global,
     rules: &R,
-    core: &mut C,
+    core: &mut Core<R, ListOutbox<R::Key, R::Value>>,
     sheet: &mut Sheet<R>,
     run: RunId,
 ) -> Result<(), Memory>
-    requires tables { (k : C) (l : Ledger R.Key R.Value (Listed R.Key R.Value)) → C.stands k l → l.inputs ≡ C.table k }
-    requires stood { (w : World R.Key R.Value) × Stood R.Key.cmp (R.machine rules.now) rules.now (C.rules core.old) (C.stands core.old) w sheet.old.seats.items (done_of sheet.old.dones) }
-    ensures { IfOk result (λ _. Carries R.Key.cmp (R.machine rules.now) rules.now (Give run) (C.rules core.old) (C.stands core.old) sheet.old.seats.items (done_of sheet.old.dones) (C.rules core.new) (C.stands core.new) sheet.new.seats.items (done_of sheet.new.dones)) }
+    requires { (w : World R.Key R.Value) × Stood R.Key.cmp (R.machine rules.now) rules.now core.old.rules (StandsFor R.Key.cmp (R.machine rules.now) replies_of core.old) w sheet.old.seats.items (done_of sheet.old.dones) }
+    ensures { IfOk result (λ _. (room : ℕ) → Carries room R.Key.cmp (R.machine rules.now) rules.now (Give run) core.old.rules (StandsFor R.Key.cmp (R.machine rules.now) replies_of core.old) sheet.old.seats.items (done_of sheet.old.dones) core.new.rules (StandsFor R.Key.cmp (R.machine rules.now) replies_of core.new) sheet.new.seats.items (done_of sheet.new.dones)) }
 {
     match take_done(&mut sheet.dones, run) {
         Some(done) => match core.give(alloc, run, done) {
@@ -145,38 +142,38 @@ fn give<R: Rules, C: TakingCalls<R, ListOutbox<R::Key, R::Value>>>(
 }
 
 /// Starves `run`. Of a run that is over nothing is kept.
-fn starve<R: Rules, C: TakingCalls<R, ListOutbox<R::Key, R::Value>>>(
+fn starve<R: Rules>(
     rules: &R,
-    core: &mut C,
+    core: &mut Core<R, ListOutbox<R::Key, R::Value>>,
     sheet: &mut Sheet<R>,
     run: RunId,
 )
-    ensures { Carries R.Key.cmp (R.machine rules.now) rules.now (Starve run) (C.rules core.old) (C.stands core.old) sheet.old.seats.items (done_of sheet.old.dones) (C.rules core.new) (C.stands core.new) sheet.new.seats.items (done_of sheet.new.dones) }
+    ensures { (room : ℕ) → Carries room R.Key.cmp (R.machine rules.now) rules.now (Starve run) core.old.rules (StandsFor R.Key.cmp (R.machine rules.now) replies_of core.old) sheet.old.seats.items (done_of sheet.old.dones) core.new.rules (StandsFor R.Key.cmp (R.machine rules.now) replies_of core.new) sheet.new.seats.items (done_of sheet.new.dones) }
 {
     let _was_run = core.starve(run);
     let _done = take_done(&mut sheet.dones, run);
 }
 
 /// Puts the next reply to `client` into its outbox.
-fn release<R: Rules, C: TakingCalls<R, ListOutbox<R::Key, R::Value>>>(
+fn release<R: Rules>(
     rules: &R,
-    core: &mut C,
+    core: &mut Core<R, ListOutbox<R::Key, R::Value>>,
     sheet: &mut Sheet<R>,
     client: ClientId,
 )
-    ensures { Carries R.Key.cmp (R.machine rules.now) rules.now (Release client) (C.rules core.old) (C.stands core.old) sheet.old.seats.items (done_of sheet.old.dones) (C.rules core.new) (C.stands core.new) sheet.new.seats.items (done_of sheet.new.dones) }
+    ensures { (room : ℕ) → Carries room R.Key.cmp (R.machine rules.now) rules.now (Release client) core.old.rules (StandsFor R.Key.cmp (R.machine rules.now) replies_of core.old) sheet.old.seats.items (done_of sheet.old.dones) core.new.rules (StandsFor R.Key.cmp (R.machine rules.now) replies_of core.new) sheet.new.seats.items (done_of sheet.new.dones) }
 {
     let _released = core.release(client);
 }
 
 /// Takes the next reply to `client`: out of its outbox in the core, or out of the one that is kept.
-fn take<R: Rules, C: TakingCalls<R, ListOutbox<R::Key, R::Value>>>(
+fn take<R: Rules>(
     rules: &R,
-    core: &mut C,
+    core: &mut Core<R, ListOutbox<R::Key, R::Value>>,
     sheet: &mut Sheet<R>,
     client: ClientId,
 ) -> Result<(), Memory>
-    ensures { IfOk result (λ _. Carries R.Key.cmp (R.machine rules.now) rules.now (Take client) (C.rules core.old) (C.stands core.old) sheet.old.seats.items (done_of sheet.old.dones) (C.rules core.new) (C.stands core.new) sheet.new.seats.items (done_of sheet.new.dones)) }
+    ensures { IfOk result (λ _. (room : ℕ) → Carries room R.Key.cmp (R.machine rules.now) rules.now (Take client) core.old.rules (StandsFor R.Key.cmp (R.machine rules.now) replies_of core.old) sheet.old.seats.items (done_of sheet.old.dones) core.new.rules (StandsFor R.Key.cmp (R.machine rules.now) replies_of core.new) sheet.new.seats.items (done_of sheet.new.dones)) }
 {
     let out = core.take(client)?;
     if out {
@@ -190,14 +187,14 @@ fn take<R: Rules, C: TakingCalls<R, ListOutbox<R::Key, R::Value>>>(
 }
 
 /// Closes `client`, and keeps its outbox.
-pub(crate) fn close<R: Rules, C: TakingCalls<R, ListOutbox<R::Key, R::Value>>>(
+pub(crate) fn close<R: Rules>(
     rules: &R,
-    core: &mut C,
+    core: &mut Core<R, ListOutbox<R::Key, R::Value>>,
     sheet: &mut Sheet<R>,
     client: ClientId,
 )
-    requires { (w : World R.Key R.Value) × Stood R.Key.cmp (R.machine rules.now) rules.now (C.rules core.old) (C.stands core.old) w sheet.old.seats.items (done_of sheet.old.dones) }
-    ensures { Carries R.Key.cmp (R.machine rules.now) rules.now (Close client) (C.rules core.old) (C.stands core.old) sheet.old.seats.items (done_of sheet.old.dones) (C.rules core.new) (C.stands core.new) sheet.new.seats.items (done_of sheet.new.dones) }
+    requires { (w : World R.Key R.Value) × Stood R.Key.cmp (R.machine rules.now) rules.now core.old.rules (StandsFor R.Key.cmp (R.machine rules.now) replies_of core.old) w sheet.old.seats.items (done_of sheet.old.dones) }
+    ensures { (room : ℕ) → Carries room R.Key.cmp (R.machine rules.now) rules.now (Close client) core.old.rules (StandsFor R.Key.cmp (R.machine rules.now) replies_of core.old) sheet.old.seats.items (done_of sheet.old.dones) core.new.rules (StandsFor R.Key.cmp (R.machine rules.now) replies_of core.new) sheet.new.seats.items (done_of sheet.new.dones) }
 {
     match core.close_client(client) {
         Some(outbox) => keep_outbox(&mut sheet.seats, client, outbox),
@@ -206,17 +203,16 @@ pub(crate) fn close<R: Rules, C: TakingCalls<R, ListOutbox<R::Key, R::Value>>>(
 }
 
 /// Carries one event out.
-pub(crate) fn carry<R: Rules, C: TakingCalls<R, ListOutbox<R::Key, R::Value>>>(
+pub(crate) fn carry<R: Rules>(
     alloc: Global,
     rules: &R,
-    core: &mut C,
+    core: &mut Core<R, ListOutbox<R::Key, R::Value>>,
     sheet: &mut Sheet<R>,
     room: usize,
     event: &Event<R::Key>,
 ) -> Result<(), Memory>
-    requires tables { (k : C) (l : Ledger R.Key R.Value (Listed R.Key R.Value)) → C.stands k l → l.inputs ≡ C.table k }
-    requires stood { (w : World R.Key R.Value) × Stood R.Key.cmp (R.machine rules.now) rules.now (C.rules core.old) (C.stands core.old) w sheet.old.seats.items (done_of sheet.old.dones) }
-    ensures { IfOk result (λ _. Carries R.Key.cmp (R.machine rules.now) rules.now event.now (C.rules core.old) (C.stands core.old) sheet.old.seats.items (done_of sheet.old.dones) (C.rules core.new) (C.stands core.new) sheet.new.seats.items (done_of sheet.new.dones)) }
+    requires { (w : World R.Key R.Value) × Stood R.Key.cmp (R.machine rules.now) rules.now core.old.rules (StandsFor R.Key.cmp (R.machine rules.now) replies_of core.old) w sheet.old.seats.items (done_of sheet.old.dones) }
+    ensures { IfOk result (λ _. Carries room R.Key.cmp (R.machine rules.now) rules.now event.now core.old.rules (StandsFor R.Key.cmp (R.machine rules.now) replies_of core.old) sheet.old.seats.items (done_of sheet.old.dones) core.new.rules (StandsFor R.Key.cmp (R.machine rules.now) replies_of core.new) sheet.new.seats.items (done_of sheet.new.dones)) }
 {
     match event {
         Event::Open => open(alloc, rules, core, sheet, room),

@@ -1,6 +1,6 @@
 //! A core under a list of events, and the headline of the server.
 //!
-//! `play_on` carries a list of events out on a core: clients are opened and closed, post requests
+//! `play` carries a list of events out on a fresh core: clients are opened and closed, post requests
 //! and edits, and take replies; runs start, take steps and are given the results of their work. Its
 //! contract says that the events lead, one step each, from the beginning to a world whose accepted
 //! requests and taken replies are those that it answers, and that the headline holds after each.
@@ -23,5 +23,5 @@ mod seat;
 
 pub use event::Event;
 pub use laws::closed_along;
-pub use play::play_on;
+pub use play::play;
 pub use played::Played;

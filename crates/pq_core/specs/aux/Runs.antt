@@ -20,7 +20,7 @@ use Rattle.pq_memo.specs.Frames.{Came, IsFrame, Awaits, frame_keys}
 use Rattle.pq_memo.specs.Steps.{IsWhy}
 use Rattle.pq_memo.specs.Demand.{Differ, IsVerified}
 use Rattle.pq_core.specs.Ledger.{Out}
-use Rattle.pq_core.specs.Works.{WorkView}
+use Rattle.pq_core.specs.Works.{WorkView, HasWhy}
 use Rattle.pq_core.specs.Moves.{out_of}
 use Rattle.pq_core.specs.declared.request.Request.{Request}
 use Rattle.pq_core.specs.declared.request.Want.TheVariants.{Demand}
@@ -127,7 +127,7 @@ pub record HandedOut {R K P V : Type 0} (m : Machine K P V) (rules : R) (inputs 
   pub started : work.done.started ≡ inputs.revision
   pub files : work.done.files ≡ inputs.files
   pub out : out_at top ≡ Some (out_of work.done)
-  pub why : IfSome work.why (λ why. IsWhy m inputs.history inputs.revision (HasIn table) work.done.key why)
+  pub why : HasWhy (IsWhy m inputs.history inputs.revision (HasIn table) work.done.key) work.done.front work.why
 
 -- `HasAdvanced m rules inputs table run top work` is that a step handed out `work`, or none
 abbrev pub HasAdvanced : {R K P V : Type 0} → Machine K P V → R → Table → (K → Option (Memo K V)) → ℕ → Top K P → Option (WorkView R K P V) → Type 0

@@ -28,33 +28,33 @@ pub record Stood {R K P V : Type 0} (order : K → K → Ordering) (machine : Ma
   pub kept : Kept (answer_by order machine) replies_of w.ledger
   pub fits : Fits rules w seats dones
 
--- `Carried order machine rules event w own Stands seats dones` is that `event` was carried out in
+-- `Carried room order machine rules event w own Stands seats dones` is that `event` was carried out in
 -- `w`
-pub record Carried {R K P V : Type 0} (order : K → K → Ordering) (machine : Machine K P V) (rules : R) (event : Event K) (w : World K V) (own : R) (Stands : Ledger K V (Listed K V) → Type 0) (seats : List (SeatView K V)) (dones : ℕ → Option (DoneView R K P V)) : Type 0 where
+pub record Carried {R K P V : Type 0} (room : ℕ) (order : K → K → Ordering) (machine : Machine K P V) (rules : R) (event : Event K) (w : World K V) (own : R) (Stands : Ledger K V (Listed K V) → Type 0) (seats : List (SeatView K V)) (dones : ℕ → Option (DoneView R K P V)) : Type 0 where
   pub v : World K V
   pub own_same : own ≡ rules
   pub stands : Stands v.ledger
-  pub steps : Steps order machine rules event w v
+  pub steps : Steps room order machine rules event w v
   pub fits : Fits rules v seats dones
 
--- `Carries order machine rules event own Stands seats dones after_own After after_seats
+-- `Carries room order machine rules event own Stands seats dones after_own After after_seats
 -- after_dones` is that `event` is carried out in each world of the core
-abbrev pub Carries : {R K P V : Type 0} → (K → K → Ordering) → Machine K P V → R → Event K → R → (Ledger K V (Listed K V) → Type 0) → List (SeatView K V) → (ℕ → Option (DoneView R K P V)) → R → (Ledger K V (Listed K V) → Type 0) → List (SeatView K V) → (ℕ → Option (DoneView R K P V)) → Type 0
-Carries {R} {K} {P} {V} order machine rules event own Stands seats dones after_own After after_seats after_dones =
-    (w : World K V) → Stood order machine rules own Stands w seats dones → Carried order machine rules event w after_own After after_seats after_dones
+abbrev pub Carries : {R K P V : Type 0} → ℕ → (K → K → Ordering) → Machine K P V → R → Event K → R → (Ledger K V (Listed K V) → Type 0) → List (SeatView K V) → (ℕ → Option (DoneView R K P V)) → R → (Ledger K V (Listed K V) → Type 0) → List (SeatView K V) → (ℕ → Option (DoneView R K P V)) → Type 0
+Carries {R} {K} {P} {V} room order machine rules event own Stands seats dones after_own After after_seats after_dones =
+    (w : World K V) → Stood order machine rules own Stands w seats dones → Carried room order machine rules event w after_own After after_seats after_dones
 
--- `Playing order machine rules events rest start own Stands seats dones` is that `events` led from
+-- `Playing room order machine rules events rest start own Stands seats dones` is that `events` led from
 -- `start` to a world of the core; `rest` leads on from there
-pub record Playing {R K P V : Type 0} (order : K → K → Ordering) (machine : Machine K P V) (rules : R) (events rest : List (Event K)) (start : World K V) (own : R) (Stands : Ledger K V (Listed K V) → Type 0) (seats : List (SeatView K V)) (dones : ℕ → Option (DoneView R K P V)) : Type 0 where
+pub record Playing {R K P V : Type 0} (room : ℕ) (order : K → K → Ordering) (machine : Machine K P V) (rules : R) (events rest : List (Event K)) (start : World K V) (own : R) (Stands : Ledger K V (Listed K V) → Type 0) (seats : List (SeatView K V)) (dones : ℕ → Option (DoneView R K P V)) : Type 0 where
   pub w : World K V
   pub stood : Stood order machine rules own Stands w seats dones
-  pub goes_on : (v : World K V) → LeadsTo order machine rules rest w v → LeadsTo order machine rules events start v
+  pub goes_on : (v : World K V) → LeadsTo room order machine rules rest w v → LeadsTo room order machine rules events start v
 
--- `Led order machine rules events w own Stands seats dones` is that `events` lead from `w` to a
+-- `Led room order machine rules events w own Stands seats dones` is that `events` lead from `w` to a
 -- world of the core
-pub record Led {R K P V : Type 0} (order : K → K → Ordering) (machine : Machine K P V) (rules : R) (events : List (Event K)) (w : World K V) (own : R) (Stands : Ledger K V (Listed K V) → Type 0) (seats : List (SeatView K V)) (dones : ℕ → Option (DoneView R K P V)) : Type 0 where
+pub record Led {R K P V : Type 0} (room : ℕ) (order : K → K → Ordering) (machine : Machine K P V) (rules : R) (events : List (Event K)) (w : World K V) (own : R) (Stands : Ledger K V (Listed K V) → Type 0) (seats : List (SeatView K V)) (dones : ℕ → Option (DoneView R K P V)) : Type 0 where
   pub v : World K V
-  pub led : LeadsTo order machine rules events w v
+  pub led : LeadsTo room order machine rules events w v
   pub stood : Stood order machine rules own Stands v seats dones
 
 -- `GathersAll w seats` is that the seats have the requests of the clients of `w`, and outboxes out

@@ -1,5 +1,4 @@
 use Rattle.std.proofs.Common.{rules, ◌≡◌, ℕ, ◌≤◌, ◌<◌, ◌+◌, ◌⊎◌, true, length, Some, None, refl, sym, ◌∙◌, ap, subst, inl, inr, arith}
-use Rattle.std.proofs.lemmas.Option.{IfSome_then}
 use Rattle.pq_memo.specs.Table.{memo_at, HasIn, KeptOver}
 use Rattle.pq_core.specs.aux.Rising.{found}
 use Rattle.pq_core.specs.RightReply.{answer_by}
@@ -11,7 +10,7 @@ use Rattle.pq_core.specs.declared.outcome.Outcome.TheVariants.{Cancelled, Answer
 use Rattle.pq_core.proofs.Changing.{none_taken, set_back}
 use Rattle.pq_core.proofs.CoreOpening.{unmoved}
 use Rattle.pq_core.proofs.CoreAccepting.{false_true}
-use Rattle.pq_core.proofs.CoreRunning.{run_here, no_run, run_within, run_demands, overtaken, current, end_moved, stop_moved, out_moved, back_moved, others_kept, all_kept, none_of, goes_on, look_blocked, carry_moved, answer_moved, why_cause, ended_as}
+use Rattle.pq_core.proofs.CoreRunning.{run_here, no_run, run_within, run_demands, overtaken, current, end_moved, stop_moved, out_moved, back_moved, others_kept, all_kept, none_of, goes_on, look_blocked, carry_moved, answer_moved, why_cause, why_then, ended_as}
 use Rattle.pq_core.proofs.Renewed.{renewed_same}
 use Rattle.pq_core.proofs.cores.Core.look.Goals as goal
 
@@ -175,11 +174,17 @@ returns-in-Ok-Carry-clause-moved g c =
     rw (← c.self.view_is)
     (λ l s. carry_moved g.R.Key.Ord.cmp (g.R.Rules.machine c.self.inside.memos.rules) g.O.Outbox.puts c.self.inside.memos.rules (held (record { rules = c.self.inside.memos.rules; places = c.self.inside.memos.places; inputs = c.self.inside.inputs; lanes = c.self.inside.lanes; opened = c.self.inside.opened; clients = c.self.inside.clients; waiting = c.self.inside.waiting.items; runs = c.self.inside.runs; started = c.self.inside.started })) (record { inputs = c.self.inside.inputs; lanes = c.self.inside.lanes.items; opened = c.self.inside.opened; clients = c.self.inside.clients; waiting = c.self.inside.waiting.items; runs = c.put_back-in-Ok-Carry.new.self.items; started = c.self.inside.started }) l c.args.run c.in-Some.taken c.look.new.self c.in-Ok-Carry.work (memo_at g.R.Key.Ord.cmp c.self.inside.memos.places) s here (λ o. false_true (sym c.if-is_overtaken.false ∙ c.is_overtaken.ensures.1 (rw c.now-now.ensures.now o))) (none_of (out_at c.in-Some.taken.top) (λ e. false_true (sym c.if-is_out.false ∙ c.is_out.ensures.1 e))) c.look.ensures.same (rw c.number-id.ensures at (rw c.new-in-Some.ensures at (rw c.in-Ok-Carry.field-0-is at (c.in-Ok-Carry.ensures {u = tt}).looked))) set.found (λ k. refl) (record { inputs = refl; opened = refl; clients = refl; waiting = refl; started = refl }))
 
+pub returns-in-Ok-Carry-clause-handed : goal.returns-in-Ok-Carry-clause-handed
+returns-in-Ok-Carry-clause-handed g c =
+    let handed = rw c.in-Ok-Carry.field-0-is at (c.in-Ok-Carry.ensures {u = tt}).looked in
+    rw (← c.self.view_is)
+    (record { rules_same = handed.rules_same; run_same = handed.run_same ∙ c.new.ensures ∙ c.number-id.ensures; started = handed.started; files_same = handed.files })
+
 pub returns-in-Ok-Carry-clause-cause : goal.returns-in-Ok-Carry-clause-cause
 returns-in-Ok-Carry-clause-cause g c =
     let handed = rw c.in-Ok-Carry.field-0-is at (c.in-Ok-Carry.ensures {u = tt}).looked in
     rw (← c.self.view_is)
-    (IfSome_then c.in-Ok-Carry.work.why handed.why
+    (why_then _ _ c.in-Ok-Carry.work.done.front c.in-Ok-Carry.work.why handed.why
     (λ why w. why_cause g.R.Key.Ord.cmp (g.R.Rules.machine c.self.inside.memos.rules) c.self.inside.inputs (HasIn (memo_at g.R.Key.Ord.cmp c.self.inside.memos.places)) c.in-Ok-Carry.work.done.key why
     (c.look_is_right.ensures.fresh c.self.inside.inputs c.in-Ok-Carry.work.done.key)
     (λ q. c.look_is_right.ensures.changed c.self.inside.inputs c.now-now.ensures.counted c.self.invariant.kept c.in-Ok-Carry.work.done.key q)

@@ -8,7 +8,7 @@ use Rattle.pq_memo.proofs.Advancing.{one_table, moved_to}
 use Rattle.pq_core.specs.declared.frames.Top.TheVariants.{At}
 use Rattle.pq_core.specs.aux.Runs.{Renewed, KeptBelow, HandedOut}
 use Rattle.pq_core.proofs.Renewed.{renewed_same, renewed_finished, up_waits, frames_still}
-use Rattle.pq_core.proofs.Framed.{lowered, below_as, frame_as}
+use Rattle.pq_core.proofs.Framed.{lowered, below_as, frame_as, has_read}
 use Rattle.pq_core.proofs.frames.Frames.step.Goals as goal
 
 pub returns-in_err-wait-in-Ok-Needs-clause-renewed : goal.returns-in_err-wait-in-Ok-Needs-clause-renewed
@@ -66,6 +66,11 @@ go_on-requires-clause-came g c =
     c.step.ensures.rules (one_table (memo_at g.R.Key.Ord.cmp c.args.memos.now.places) (memo_at g.R.Key.Ord.cmp c.step.new.self.places) s.0)
     (subst (λ (k : g.row.R-Key.Denot). Came g.R.Key.Ord.cmp (g.R.Rules.machine c.args.memos.now.rules) c.args.inputs.now.history c.args.inputs.now.revision (HasIn (memo_at g.R.Key.Ord.cmp c.args.memos.now.places)) k
     ((g.R.Rules.machine c.args.memos.now.rules).advance c.in-Ok-GoesOn.part c.in-Ok-GoesOn.answer) c.in-Ok-GoesOn.reads.items) (sym s.1) s.3)
+
+pub go_on-requires-clause-read : goal.go_on-requires-clause-read
+go_on-requires-clause-read g c =
+    let s = rw c.in-Ok-GoesOn.field-0-is at c.in-Ok-GoesOn.ensures.step in
+    has_read c.args.frame.stage c.in-Ok-GoesOn.reads.items s.4
 
 pub returns-in-Ok-Finished-clause-renewed : goal.returns-in-Ok-Finished-clause-renewed
 returns-in-Ok-Finished-clause-renewed g c =

@@ -17,4 +17,5 @@ returns-in-Ok-clause-step g c =
           laws.no_higher
           (subst (λ (a : Answer g.row.R-Key.Denot g.row.R-Value.Denot). Passes false (g.R.Rules.machine c.args.self.now.rules) c.args.key c.args.asked a) c.get.ensures.value (c.if-passes.ensures {u = tt}))
           c.push.new.self.items c.in-Ok.ensures.items,
+      c.in-Ok.ensures.items,
     )
