@@ -3,3 +3,4 @@ pub mod Running
 pub mod Leading
 pub mod Carrying
 pub mod Finishing
+pub mod Ruled

@@ -178,7 +178,7 @@ pub returns-in-Ok-Carry-clause-handed : goal.returns-in-Ok-Carry-clause-handed
 returns-in-Ok-Carry-clause-handed g c =
     let handed = rw c.in-Ok-Carry.field-0-is at (c.in-Ok-Carry.ensures {u = tt}).looked in
     rw (← c.self.view_is)
-    (record { rules_same = handed.rules_same; run_same = handed.run_same ∙ c.new.ensures ∙ c.number-id.ensures; started = handed.started; files_same = handed.files })
+    (record { rules_same = handed.rules_same; run_same = handed.run_same ∙ c.new-in-Some.ensures ∙ c.number-id.ensures; started = handed.started; files_same = handed.files })
 
 pub returns-in-Ok-Carry-clause-cause : goal.returns-in-Ok-Carry-clause-cause
 returns-in-Ok-Carry-clause-cause g c =
