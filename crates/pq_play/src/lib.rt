@@ -8,7 +8,7 @@
 //! Definitions: `specs/World` (the ledger, and what the clients have taken), `specs/Headline` (each
 //! reply that is taken is the right one, in order), `specs/Steps` (one relation for each event, and
 //! where a list of them leads), `specs/Results` (the lists). Modules: `event`, `played`, `carry`
-//! (one event), `seat` and `dones` (what is kept), `answered` (allocation failures), `play`,
+//! (one event), `seat` and `dones` (what is kept), `answered` (allocation failures), `run`,
 //! `laws`.
 #![tactic(auto)]
 
@@ -17,11 +17,11 @@ mod carry;
 mod dones;
 mod event;
 mod laws;
-mod play;
 mod played;
+mod run;
 mod seat;
 
 pub use event::Event;
 pub use laws::closed_along;
-pub use play::play;
 pub use played::Played;
+pub use run::play;

@@ -1,6 +1,6 @@
 use Rattle.std.proofs.Common.{◌≡◌, ◌≤◌, length, arith}
 use Rattle.pq_play.proofs.Finishing.{closing_start, closing_next, gathers}
-use Rattle.pq_play.proofs.play.close_all.Goals as goal
+use Rattle.pq_play.proofs.run.close_all.Goals as goal
 
 pub close-requires : goal.close-requires
 close-requires g c = let p = c.clients.invariant c.requires.0 c.requires.1 in (p.v, p.stood)

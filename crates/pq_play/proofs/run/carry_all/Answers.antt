@@ -1,5 +1,5 @@
 use Rattle.pq_play.proofs.Finishing.{playing_next, led_all}
-use Rattle.pq_play.proofs.play.carry_all.Goals as goal
+use Rattle.pq_play.proofs.run.carry_all.Goals as goal
 
 pub carry-requires : goal.carry-requires
 carry-requires g c = let p = c.events.invariant c.requires.0 c.requires.1 in (p.w, p.stood)
