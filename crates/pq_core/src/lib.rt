@@ -3,20 +3,19 @@
 //! The core is a machine of calls. Clients post requests and edits; workers start runs and take
 //! their steps; replies leave in the order of the requests of a client. No call waits. What a call
 //! may answer, and what it changes, is a relation on the ledger (`specs/Moves`): the sources at each
-//! revision, and of each client its requests, each in one place. `Calls` is a core by its
-//! contracts.
+//! revision, and of each client its requests, each in one place.
 //!
 //! Definitions: `specs/Ledger` (the world: clients, requests and their places), `specs/Moves` (one
 //! relation for each call), `specs/RightReply` (when a reply is right), `specs/Outboxes`,
 //! `specs/Kept` (what holds of each ledger that is reached), `specs/Works` (work that is out).
 //! Modules: `ids`, `label` and `request` (what clients post), `outcome` and `reply`, `fault` (why a
 //! call is refused), `moves` (what runs and releases come to), `outbox` (where replies go), `work`
-//! (a rule that is to be carried out), `calls` (the contracts of a core), `laws` (what each move
-//! keeps).
+//! (a rule that is to be carried out), `cores` (the core), `opening`, `accepting`, `starting`,
+//! `running` and `releasing` (its calls), `lane` and `in_lanes` (an open client), `rising` (a map from
+//! rising numbers), `run` and `frames` (how a run goes on), `laws` (what each move keeps).
 #![tactic(auto)]
 
 mod accepting;
-mod calls;
 mod cores;
 mod fault;
 mod frames;
@@ -40,7 +39,6 @@ mod running;
 mod starting;
 mod work;
 
-pub use calls::{Calls, TakingCalls};
 pub use cores::Core;
 pub use fault::{
     AcceptFault, AcceptRefused, EditFault, EditRefused, GiveFault, GiveRefused, LookFault, Memory,

@@ -2,7 +2,7 @@
 //!
 //! A run that was overtaken is stopped before anything else, so that a want of memory never hides
 //! it.
-ghost use Rattle.std.specs.Prelude.{◌≡◌, ◌≤◌, ◌<◌, ◌+◌, ◌⊎◌, ◌↔◌, length, ℕ, IsTrue, IfSome, IfNone, IfOk, Some, None};
+ghost use Rattle.std.specs.Prelude.{◌≡◌, ◌≤◌, ◌<◌, ◌+◌, ◌⊎◌, ◌↔◌, length, ℕ, IsTrue, IfSome, IfNone, IfOk, IfErr, Some, None};
 ghost use Rattle.pq_core.specs.Replies.{IsFair};
 ghost use Rattle.pq_core.specs.Ledger.{Ledger};
 ghost use Rattle.pq_core.specs.Moves.{Reaches, Looks, Gives, Starves, IsMade, IsRequestOf};
@@ -166,6 +166,7 @@ impl<R: Rules, O: Outbox<R::Key, R::Value> + Drop> Core<R, O> {
         requires { IsMade self.old.rules self.old.inputs done }
         ensures rules { self.new.rules ≡ self.old.rules }
         ensures inputs { self.new.inputs ≡ self.old.inputs }
+        ensures back { IfErr result (λ refused. refused.done ≡ done) }
         ensures moved { (l : Ledger R.Key R.Value O) → StandsFor R.Key.cmp (R.machine self.old.rules) O.puts self.old l
             → Reaches (Gives run done result) l (StandsFor R.Key.cmp (R.machine self.old.rules) O.puts self.new) }
     {
