@@ -9,6 +9,9 @@ ghost use Rattle.pq_core.specs.Ledger.{Ledger, IsClosed};
 ghost use Rattle.pq_core.specs.Moves.{Opens, Accepts, Edits, Starts, Looks, Gives, Starves, Releases, Closes, TakesOut};
 ghost use Rattle.pq_core.specs.RightReply.{answer_by};
 ghost use Rattle.pq_core.specs.Kept.{Kept};
+ghost use Rattle.pq_core.specs.Cores.{StandsFor};
+ghost use Rattle.pq_memo.specs.Sound.{Sound};
+ghost use Rattle.pq_memo.specs.Table.{memo_at, HasIn};
 ghost use Rattle.pq_core.specs.declared.request.Request.{Request};
 ghost use Rattle.pq_core.specs.declared.fault.OpenRefused.{OpenRefused};
 ghost use Rattle.pq_core.specs.declared.fault.AcceptRefused.{AcceptRefused};
@@ -18,7 +21,9 @@ ghost use Rattle.pq_core.specs.declared.fault.GiveRefused.{GiveRefused};
 ghost use Rattle.pq_core.specs.declared.moves.Move.{Move};
 ghost use Rattle.pq_core.specs.declared.moves.Released.{Released};
 
+use crate::cores::Core;
 use crate::outbox::Outbox;
+use pq_memo::kept_is_sound;
 use pq_rules::Rules;
 
 /// Each move keeps what holds of every ledger: the replies put are those to the first requests, in
@@ -50,3 +55,12 @@ pub fn closed_for_good<R: Rules, O: Outbox<R::Key, R::Value>>(_rules: &R)
     ensures closes { (c : ℕ) (client : ℕ) (answer : Option O) (l m : Ledger R.Key R.Value O) (shut : IsClosed l c) → Closes client answer l m → (after : IsClosed m c) × (after.client.outbox ≡ shut.client.outbox) }
     ensures takes { (c : ℕ) (client : ℕ) (answer : Result Bool AllocError) (l m : Ledger R.Key R.Value O) (shut : IsClosed l c) → TakesOut O.puts O.takes client answer l m → (after : IsClosed m c) × (after.client.outbox ≡ shut.client.outbox) }
 {}
+
+/// Between any two calls the table of memos is sound, as `engine_is_sound` says of an engine's. And
+/// the core stands for some ledger.
+pub fn core_is_sound<R: Rules, O: Outbox<R::Key, R::Value>>(core: &Core<R, O>)
+    ensures sound { Sound R.Key.cmp (R.machine core.now.rules) core.now.inputs.history core.now.inputs.revision (HasIn (memo_at R.Key.cmp core.now.places)) }
+    ensures stands { (l : Ledger R.Key R.Value O) × StandsFor R.Key.cmp (R.machine core.now.rules) O.puts core.now l × Kept (answer_by R.Key.cmp (R.machine core.now.rules)) O.puts l }
+{
+    kept_is_sound(&core.memos);
+}

@@ -46,7 +46,7 @@ pub use fault::{
 };
 pub use ids::{ClientId, Number, RunId};
 pub use label::Label;
-pub use laws::{closed_for_good, moves_keep};
+pub use laws::{closed_for_good, core_is_sound, moves_keep};
 pub use limits::{MAX_CLIENTS, WINDOW};
 pub use list_outbox::ListOutbox;
 pub use moves::{Move, Released};
