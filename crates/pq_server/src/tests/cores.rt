@@ -1,0 +1,348 @@
+//! pq_core: clients, runs and replies, call by call.
+//!
+//! A script has a line `CALL => ANSWER` for each call of a core over sums, which count their starts
+//! (`calls` says what the lines are). The answer ends with `; rest` where the core is at rest then.
+mod calls;
+mod limits;
+pub(crate) mod lines;
+mod sums;
+
+use super::rules::counted::Counted;
+use super::support::{check_row_count, check_text, split_row};
+use calls::{Lists, answer};
+use pq_core::Core;
+use pq_inputs::Inputs;
+use pq_rules::{Rules, SumsKey, SumsValue};
+use std::cell::Cell;
+use std::process::Abort;
+use std::test::Fail;
+
+/// Checks what the call of `line` answers, and whether the core is at rest then.
+fn check_line<R: Rules<Key = SumsKey, Value = SumsValue>>(
+    rt: &(impl Abort + AllocGlobal),
+    core: &mut Lists<R>,
+    whys: &mut u32,
+    line: &str,
+) -> Result<(), Fail> {
+    let (call, want) = split_row(rt, line, " => ");
+    let mut found = answer(rt, core, whys, call)?;
+    if core.is_at_rest() {
+        found.push_str("; rest")?;
+    }
+    check_text(rt, found.as_str(), want, line);
+    Ok(())
+}
+
+/// Runs a script with `rules`, which count in `starts`: work has a cause where a rule starts.
+fn check_script_by<R: Rules<Key = SumsKey, Value = SumsValue>>(
+    rt: &(impl Abort + AllocGlobal),
+    rules: R,
+    starts: &Cell<u32>,
+    script: &str,
+) -> Result<(), Fail> {
+    let inputs = Inputs::new(rt.alloc())?;
+    let mut core: Lists<R> = Core::new(rt.alloc(), rules, inputs);
+    let mut whys = 0u32;
+    for line in script.lines() {
+        check_line(rt, &mut core, &mut whys, line)?;
+        assert_eq!(rt; whys, starts.get(), "{line}");
+    }
+    Ok(())
+}
+
+/// Runs a script, each of its answers checked.
+fn check_script(rt: &(impl Abort + AllocGlobal), script: &str) -> Result<(), Fail> {
+    let starts = Cell::new(0);
+    check_script_by(rt, Counted { starts: &starts }, &starts, script)
+}
+
+/// Runs the script `rows` of `count` lines.
+fn check_rows(rt: &(impl Abort + AllocGlobal), count: usize, rows: &str) -> Result<(), Fail> {
+    check_row_count(rt, count, rows);
+    check_script(rt, rows)
+}
+
+// Replies leave in the order of their numbers, whichever run ends first.
+#[test]
+fn replies_in_order(rt: HostRuntime) -> Result<(), Fail> {
+    check_rows(
+        &rt,
+        17,
+        "\
+        open 4 => 0; rest\n\
+        edit 0 low a=b => 1; rest\n\
+        accept 0 7 Sum a => 0\n\
+        accept 0 8 Sum b => 1\n\
+        start => 0\n\
+        request 0 => 0 0\n\
+        start => 1\n\
+        request 1 => 0 1\n\
+        start => none\n\
+        finish 1 => Sum b fresh;answered\n\
+        request 1 => none\n\
+        release 0 => nothing\n\
+        finish 0 => Sum a fresh;answered\n\
+        release 0 => put 0\n\
+        release 0 => put 1; rest\n\
+        release 0 => nothing; rest\n\
+        close 0 => 0 7 Sum a @1 answered 2|1 8 Sum b @1 answered 1|0; rest\n\
+        ",
+    )
+}
+
+// A run that an edit overtook is cancelled. One that was not started yet is answered at the edit's
+// revision.
+#[test]
+fn cancelled_by_an_edit(rt: HostRuntime) -> Result<(), Fail> {
+    check_rows(
+        &rt,
+        17,
+        "\
+        open 4 => 0; rest\n\
+        edit 0 low a=b => 1; rest\n\
+        edit 0 low b= => 2; rest\n\
+        edit 0 low c= => 3; rest\n\
+        accept 0 7 Sum a => 0\n\
+        accept 0 8 Sum a => 1\n\
+        start => 0\n\
+        edit 0 low b=c => 4\n\
+        request 0 => 0 0\n\
+        look 0 => stopped\n\
+        look 0 => no run\n\
+        request 0 => none\n\
+        start => 1\n\
+        finish 1 => Sum a fresh;Sum b fresh;Sum c fresh;answered\n\
+        release 0 => put 0\n\
+        release 0 => put 1; rest\n\
+        close 0 => 0 7 Sum a @4 cancelled 3 4|1 8 Sum a @4 answered 3|0; rest\n\
+        ",
+    )
+}
+
+// An outbox with room for one reply, and a client that closes.
+#[test]
+fn full_and_closed(rt: HostRuntime) -> Result<(), Fail> {
+    check_rows(
+        &rt,
+        19,
+        "\
+        open 1 => 0; rest\n\
+        accept 0 7 Sum a => 0\n\
+        accept 0 8 Sum a => 1\n\
+        accept 0 9 Sum a => 2\n\
+        start => 0\n\
+        finish 0 => Sum a fresh;answered\n\
+        start => 1\n\
+        finish 1 => answered\n\
+        release 0 => put 0\n\
+        release 0 => full\n\
+        start => 2\n\
+        request 2 => 0 2\n\
+        close 0 => 0 7 Sum a @0 answered 1|0\n\
+        request 2 => 0 2\n\
+        look 2 => stopped; rest\n\
+        release 0 => nothing; rest\n\
+        close 0 => none; rest\n\
+        accept 0 7 Sum a => closed; rest\n\
+        edit 0 low a= => closed; rest\n\
+        ",
+    )
+}
+
+// A reply that a full outbox refused leaves the core at rest until it has room.
+#[test]
+fn rests_while_full(rt: HostRuntime) -> Result<(), Fail> {
+    check_rows(
+        &rt,
+        11,
+        "\
+        open 1 => 0; rest\n\
+        accept 0 none say first => 0\n\
+        accept 0 -5 say second => 1\n\
+        accept 0 last say third => 2\n\
+        release 0 => put 0\n\
+        release 0 => full; rest\n\
+        release 0 => full; rest\n\
+        take 0 => yes; rest\n\
+        take 0 => no; rest\n\
+        release 0 => put 1\n\
+        close 0 => 0 none say first @0 plain|1 -5 say second @0 plain|1; rest\n\
+        ",
+    )
+}
+
+// A run waits for its own work, takes no result of another run, and is starved once.
+#[test]
+fn starved(rt: HostRuntime) -> Result<(), Fail> {
+    check_rows(
+        &rt,
+        18,
+        "\
+        open 4 => 0; rest\n\
+        accept 0 7 Sum a => 0\n\
+        accept 0 8 Sum a => 1\n\
+        start => 0\n\
+        start => 1\n\
+        look 0 => Sum a fresh\n\
+        look 0 => blocked 0\n\
+        swap 1 0 => not this run 1\n\
+        look 0 => blocked 0\n\
+        starve 0 => yes\n\
+        starve 0 => no\n\
+        look 0 => no run\n\
+        request 0 => none\n\
+        look 1 => blocked 1\n\
+        starve 1 => yes\n\
+        release 0 => put 0\n\
+        release 0 => put 1; rest\n\
+        close 0 => 0 7 Sum a @0 starved|1 8 Sum a @0 starved|0; rest\n\
+        ",
+    )
+}
+
+// A result that is given after an edit stops its run.
+#[test]
+fn stopped_by_a_late_result(rt: HostRuntime) -> Result<(), Fail> {
+    check_rows(
+        &rt,
+        7,
+        "\
+        open 4 => 0; rest\n\
+        accept 0 7 Sum a => 0\n\
+        start => 0\n\
+        late 0 low a=b => stopped\n\
+        look 0 => no run\n\
+        release 0 => put 0; rest\n\
+        close 0 => 0 7 Sum a @1 cancelled 0 1|0; rest\n\
+        ",
+    )
+}
+
+// Calls on clients and runs that do not exist are refused and change nothing.
+#[test]
+fn strangers(rt: HostRuntime) -> Result<(), Fail> {
+    check_rows(
+        &rt,
+        15,
+        "\
+        accept 0 7 Sum a => no client; rest\n\
+        edit 0 low a=b => no client; rest\n\
+        release 0 => nothing; rest\n\
+        take 0 => no; rest\n\
+        close 0 => none; rest\n\
+        start => none; rest\n\
+        look 0 => no run; rest\n\
+        starve 0 => no; rest\n\
+        request 0 => none; rest\n\
+        open 0 => 0; rest\n\
+        accept 1 7 Sum a => no client; rest\n\
+        edit 1 low a=b => no client; rest\n\
+        release 1 => nothing; rest\n\
+        close 1 => none; rest\n\
+        now => 0; rest\n\
+        ",
+    )
+}
+
+// A fixed text is ready at the revision of its acceptance. Each client has numbers of its own, and
+// an edit of one is seen by the other.
+#[test]
+fn fixed_texts(rt: HostRuntime) -> Result<(), Fail> {
+    check_rows(
+        &rt,
+        18,
+        "\
+        open 4 => 0; rest\n\
+        open 0 => 1; rest\n\
+        edit 1 low a= => 1; rest\n\
+        accept 0 7 say hello => 0\n\
+        start => none\n\
+        accept 1 x say hello => 0\n\
+        edit 1 low a=b => 2\n\
+        accept 0 8 Sum a => 1\n\
+        accept 0 9 say bye => 2\n\
+        release 1 => full\n\
+        release 0 => put 0\n\
+        release 0 => nothing\n\
+        start => 0\n\
+        finish 0 => Sum a fresh;Sum b fresh;answered\n\
+        release 0 => put 1\n\
+        release 0 => put 2; rest\n\
+        close 0 => 0 7 say hello @1 plain|1 8 Sum a @2 answered 2|2 9 say bye @2 plain|0; rest\n\
+        close 1 => 0; rest\n\
+        ",
+    )
+}
+
+// Two runs that demand one key are both answered, one after the other or in turns.
+#[test]
+fn two_runs_of_one_key(rt: HostRuntime) -> Result<(), Fail> {
+    check_rows(
+        &rt,
+        17,
+        "\
+        open 4 => 0; rest\n\
+        open 4 => 1; rest\n\
+        edit 0 low a=b => 1; rest\n\
+        accept 0 7 Sum a => 0\n\
+        accept 1 7 Sum a => 0\n\
+        start => 0\n\
+        start => 1\n\
+        turns 0 1 => over\n\
+        edit 1 low b=c => 2\n\
+        accept 1 8 Sum a => 1\n\
+        start => 2\n\
+        finish 2 => Sum b Text b;Sum c fresh;Sum a Sum b;answered\n\
+        release 1 => put 0\n\
+        release 1 => put 1\n\
+        release 0 => put 0; rest\n\
+        close 0 => 0 7 Sum a @1 answered 2|0; rest\n\
+        close 1 => 0 7 Sum a @1 answered 2|1 8 Sum a @2 answered 3|0; rest\n\
+        ",
+    )
+}
+
+// A ring of files, found by one run.
+#[test]
+fn a_ring(rt: HostRuntime) -> Result<(), Fail> {
+    check_rows(
+        &rt,
+        11,
+        "\
+        open 4 => 0; rest\n\
+        edit 0 low a=b => 1; rest\n\
+        edit 0 low b=a => 2; rest\n\
+        accept 0 7 Sum b => 0\n\
+        accept 0 8 Total a => 1\n\
+        start => 0\n\
+        start => 1\n\
+        finish 0 => Sum b fresh;Sum a fresh;answered\n\
+        finish 1 => Total a fresh;answered\n\
+        release 0 => put 0\n\
+        close 0 => 0 7 Sum b @2 answered Sum a;Sum b;|0; rest\n\
+        ",
+    )
+}
+
+// A ring of files, which two runs enter from both sides.
+#[test]
+fn a_ring_in_turns(rt: HostRuntime) -> Result<(), Fail> {
+    check_rows(
+        &rt,
+        12,
+        "\
+        open 4 => 0; rest\n\
+        edit 0 low a=b => 1; rest\n\
+        edit 0 low b=c => 2; rest\n\
+        edit 0 low c=a => 3; rest\n\
+        accept 0 7 Sum a => 0\n\
+        accept 0 8 Sum b => 1\n\
+        start => 0\n\
+        start => 1\n\
+        turns 0 1 => over\n\
+        release 0 => put 0\n\
+        release 0 => put 1; rest\n\
+        close 0 => 0 7 Sum a @3 answered Sum a;Sum b;Sum c;|1 8 Sum b @3 answered Sum a;Sum b;Sum c;|0; rest\n\
+        ",
+    )
+}
