@@ -1,13 +1,15 @@
 -- The items of a session: what the item of a message means, and the label of the response to it.
-use Rattle.std.specs.Prelude.{◌≡◌, Bool, true, false, Option, Some, None, option_map, string_bytes}
-use Rattle.pq_frame.specs.Labels.{LabelModel, no_label, label_model}
+use Rattle.std.specs.Prelude.{◌≡◌, Bool, true, false, Option, Some, None}
+use Rattle.pq_frame.specs.Labels.{LabelModel, no_label}
 use Rattle.pq_frame.specs.Messages.{MessageModel, bad_json, invalid, ask, notice, response}
 use Rattle.pq_proto.specs.declared.key.ProtoKey.{ProtoKey}
-use Rattle.pq_session.specs.declared.state.items.Want.{Want}
-use Rattle.pq_session.specs.declared.state.items.Want.TheVariants.{Demand, Fixed}
-use Rattle.pq_session.specs.declared.state.items.Request.{Request}
+use Rattle.pq_core.specs.declared.label.Label.{Label}
+use Rattle.pq_core.specs.declared.request.Want.{Want}
+use Rattle.pq_core.specs.declared.request.Want.TheVariants.{Demand, Fixed}
+use Rattle.pq_core.specs.declared.request.Request.{Request}
 use Rattle.pq_session.specs.declared.state.items.Item.{Item}
 use Rattle.pq_session.specs.declared.state.items.Item.TheVariants.{Ask, Say, Edit, Ignore, End}
+use Rattle.pq_session.specs.Labels.{label_model}
 use Rattle.pq_session.specs.Session.{Meaning, asks, says, edits, ignores, ends}
 
 -- `reply_label message` is the label of the response to `message`, if it gets one.
@@ -22,7 +24,7 @@ reply_label response = None
 -- `want`.
 abbrev pub want_meaning : LabelModel → Want ProtoKey → Meaning
 want_meaning label (Demand key) = asks label key
-want_meaning label (Fixed text) = says (string_bytes text)
+want_meaning label (Fixed text) = says text
 
 -- `answer_meaning request` is the meaning of `request`.
 abbrev pub answer_meaning : Request ProtoKey → Meaning
@@ -32,14 +34,14 @@ answer_meaning request = want_meaning (label_model request.label) request.want
 abbrev pub item_meaning : Item ProtoKey → Meaning
 item_meaning (Ask request) = answer_meaning request
 item_meaning (Say request) = answer_meaning request
-item_meaning (Edit change) = edits change.file (record { text = option_map string_bytes change.text; durability = change.durability })
+item_meaning (Edit change) = edits change.file (record { text = change.text; durability = change.durability })
 item_meaning Ignore = ignores
 item_meaning (End status) = ends status
 
 -- `item_label item` is the label of the request in `item`, if there is one.
-abbrev pub item_label : Item ProtoKey → Option LabelModel
-item_label (Ask request) = Some (label_model request.label)
-item_label (Say request) = Some (label_model request.label)
+abbrev pub item_label : Item ProtoKey → Option Label
+item_label (Ask request) = Some request.label
+item_label (Say request) = Some request.label
 item_label (Edit change) = None
 item_label Ignore = None
 item_label (End status) = None

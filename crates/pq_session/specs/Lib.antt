@@ -1,6 +1,7 @@
 pub mod Counts
 pub mod Uri
 pub mod Session
+pub mod Labels
 pub mod Items
 pub mod Reply
 pub mod Replies

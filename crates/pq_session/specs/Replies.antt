@@ -1,16 +1,17 @@
 -- The text of the reply to a request, by its outcome and by the kind of its answer.
-use Rattle.std.specs.Prelude.{ℕ, List, string_bytes}
-use Rattle.pq_frame.specs.Labels.{LabelModel, label_model}
+use Rattle.std.specs.Prelude.{ℕ, List}
+use Rattle.pq_frame.specs.Labels.{LabelModel}
 use Rattle.pq_rules.specs.declared.turn.Answer.{Answer}
 use Rattle.pq_rules.specs.declared.turn.Answer.TheVariants.{Value, Cycle}
 use Rattle.pq_proto.specs.declared.key.ProtoKey.{ProtoKey}
 use Rattle.pq_proto.specs.declared.value.ProtoValue.{ProtoValue}
 use Rattle.pq_proto.specs.declared.value.ProtoValue.TheVariants as values
-use Rattle.pq_session.specs.declared.state.items.Want.{Want}
-use Rattle.pq_session.specs.declared.state.items.Want.TheVariants.{Demand, Fixed}
-use Rattle.pq_session.specs.declared.state.outcomes.Outcome.{Outcome}
-use Rattle.pq_session.specs.declared.state.outcomes.Outcome.TheVariants.{Answered, Plain, Cancelled, Starved}
-use Rattle.pq_session.specs.declared.state.outcomes.Reply.{Reply}
+use Rattle.pq_core.specs.declared.request.Want.{Want}
+use Rattle.pq_core.specs.declared.request.Want.TheVariants.{Demand, Fixed}
+use Rattle.pq_core.specs.declared.outcome.Outcome.{Outcome}
+use Rattle.pq_core.specs.declared.outcome.Outcome.TheVariants.{Answered, Plain, Cancelled, Starved}
+use Rattle.pq_core.specs.Replies.{ReplyView}
+use Rattle.pq_session.specs.Labels.{label_model}
 use Rattle.pq_session.specs.Reply.{null_text, out_of_memory_text, cancelled_text, diagnostics_text, symbols_text, definition_text, descriptor_text}
 
 -- `value_text root label revision value` is the text of the response of the value `value`. The URI
@@ -31,7 +32,7 @@ answer_text root label revision (Cycle ring) = null_text label
 -- `fixed_text label want` is the text of the response to a request that no query answers: its own
 -- text, and the result null for a demand, which always has another outcome.
 abbrev pub fixed_text : LabelModel → Want ProtoKey → List ℕ
-fixed_text label (Fixed text) = string_bytes text
+fixed_text label (Fixed text) = text
 fixed_text label (Demand key) = null_text label
 
 -- `outcome_text root label want revision outcome` is the text of the reply to a request that ended
@@ -43,5 +44,5 @@ outcome_text root label want revision (Cancelled started seen) = cancelled_text 
 outcome_text root label want revision Starved = out_of_memory_text label
 
 -- `reply_text root reply` is the text of `reply` in a session with the root `root`.
-abbrev pub reply_text : List ℕ → Reply ProtoKey ProtoValue → List ℕ
+abbrev pub reply_text : List ℕ → ReplyView ProtoKey ProtoValue → List ℕ
 reply_text root reply = outcome_text root (label_model reply.request.label) reply.request.want reply.revision reply.outcome

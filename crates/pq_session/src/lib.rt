@@ -30,8 +30,7 @@ pub use laws::{
 pub use protocol::answers::reply_text;
 pub use protocol::root::Root;
 pub use run::{MAX_READS, script};
-pub use state::items::{Change, Item, Request, Want};
+pub use state::items::Item;
 pub use state::notifications::UNREADABLE_PARAMETERS;
-pub use state::outcomes::{ClientId, Number, Outcome, Reply};
 pub use state::sessions::Session;
 pub use std::alloc::AllocError as Memory;

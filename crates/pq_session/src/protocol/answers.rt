@@ -1,6 +1,6 @@
 //! The texts of replies, by the outcome of the request and by the kind of its answer.
 ghost use Rattle.std.specs.Prelude.{◌≡◌, IfOk, string_bytes};
-ghost use Rattle.pq_frame.specs.Labels.{label_model};
+ghost use Rattle.pq_session.specs.Labels.{label_model};
 ghost use Rattle.pq_session.specs.Reply.{diagnostics_text as text_of_diagnostics, location_text as text_of_location};
 ghost use Rattle.pq_session.specs.Replies.{value_text as text_of_value, answer_text as text_of_answer, reply_text as text_of_reply};
 
@@ -10,10 +10,8 @@ use crate::protocol::replies::{cancelled_text, null_text, refusal_text};
 use crate::protocol::reports::print_report;
 use crate::protocol::results::{descriptor_text, print_start, result_text};
 use crate::protocol::root::Root;
-use crate::state::items::Want;
-use crate::state::outcomes::{Outcome, Reply};
 use pq_checks::Checked;
-use pq_frame::Label;
+use pq_core::{Label, Outcome, Reply, Want};
 use pq_proto::{Location, Printer, ProtoKey, ProtoValue};
 use pq_rules::Answer;
 use std::alloc::{AllocError, Global};
@@ -113,10 +111,11 @@ pub fn reply_text(
 ) -> Result<String, AllocError>
     ensures { IfOk result (λ s. string_bytes s ≡ text_of_reply root.now reply.now) }
 {
-    let label = &reply.request.label;
-    match (&reply.outcome, &reply.request.want) {
+    let request = reply.request();
+    let label = &request.label;
+    match (reply.outcome(), &request.want) {
         (Outcome::Answered(answer), _) => {
-            answer_text(alloc, root, label, reply.revision.number(), answer.get())
+            answer_text(alloc, root, label, reply.revision().number(), answer.get())
         }
         (Outcome::Plain, Want::Fixed(text)) => String::from_str(alloc, text.as_str()),
         (Outcome::Plain, Want::Demand(_)) => null_text(alloc, label),

@@ -3,11 +3,12 @@ ghost use Rattle.std.specs.Prelude.{◌≡◌, IfOk, false, string_bytes};
 ghost use Rattle.serde_json.specs.View.{view};
 ghost use Rattle.serde_json.specs.Written.{has_float};
 ghost use Rattle.serde_json.specs.Data.{null};
-ghost use Rattle.pq_frame.specs.Labels.{label_model, label_data};
+ghost use Rattle.pq_frame.specs.Labels.{label_data};
+ghost use Rattle.pq_session.specs.Labels.{label_model};
 ghost use Rattle.pq_session.specs.Reply.{error_code, error_message, error_data, cancelled_data, reply_data, initialized_data, refusal_text as text_of_refusal, cancelled_text as text_of_cancelled, initialized_text as text_of_initialized, null_text as text_of_null};
 
 use crate::protocol::refusals::Refusal;
-use pq_frame::Label;
+use pq_core::Label;
 use serde_json::{Value, json};
 use std::alloc::{AllocError, Global};
 

@@ -1,12 +1,13 @@
 //! What comes before and after the result of a response. A result is printed between the two, or
 //! was printed before: then its text is put between them, and never read again.
 ghost use Rattle.std.specs.Prelude.{◌≡◌, ◌++◌, IfOk, OnOk, string_bytes};
-ghost use Rattle.pq_frame.specs.Labels.{label_data, label_model};
+ghost use Rattle.pq_frame.specs.Labels.{label_data};
 ghost use Rattle.pq_proto.specs.aux.Printed.{tokens_of};
+ghost use Rattle.pq_session.specs.Labels.{label_model};
 ghost use Rattle.pq_session.specs.Reply.{result_start, result_text as text_of_result, descriptor_text as text_of_descriptor};
 ghost use Rattle.pq_session.specs.aux.Starts.{start_tokens};
 
-use pq_frame::Label;
+use pq_core::Label;
 use pq_proto::Printer;
 use std::alloc::{AllocError, Global};
 

@@ -1,7 +1,7 @@
 //! What a request asks for, by phase and method.
 ghost use Rattle.std.specs.Prelude.{◌≡◌, codes, option_map, IfOk, string_bytes};
 ghost use Rattle.serde_json.specs.View.{view};
-ghost use Rattle.pq_frame.specs.Labels.{label_model};
+ghost use Rattle.pq_session.specs.Labels.{label_model};
 ghost use Rattle.pq_session.specs.Reply.{refusal_text as text_of_refusal, initialized_text as text_of_initialized, null_text as text_of_null};
 ghost use Rattle.pq_session.specs.Session.{says, request_meaning, query_meaning, key_named, query_key, place_named as place_of, document_text as document_text_of, file_named as file_of_uri};
 ghost use Rattle.pq_session.specs.aux.ItemOf.{IsItemOf};
@@ -11,22 +11,20 @@ use crate::protocol::params::{document_text, place_named};
 use crate::protocol::refusals::Refusal;
 use crate::protocol::replies::{initialized_text, null_text, refusal_text};
 use crate::protocol::root::Root;
-use crate::state::items::{Item, Request, Want};
+use crate::state::items::Item;
 use crate::state::phase::Phase;
-use pq_frame::Label;
+use pq_core::{Label, Request, Want};
 use pq_names::Text;
 use pq_proto::ProtoKey;
 use serde_json::Value;
 use std::alloc::{AllocError, Global};
 
 /// The item of a request that is answered with `text`, whatever the sources are.
-fn fixed(label: Label, text: String) -> Item<ProtoKey>
-    ensures { IsItemOf (says (string_bytes text)) (Some (label_model label)) result }
+fn fixed(alloc: Global, label: Label, text: String) -> Result<Item<ProtoKey>, AllocError>
+    ensures { IfOk result (IsItemOf (says (string_bytes text)) (Some label)) }
 {
-    Item::Say(Request {
-        label,
-        want: Want::Fixed(text),
-    })
+    let want = Want::Fixed(Text::from_string(alloc, text)?);
+    Ok(Item::Say(Request { label, want }))
 }
 
 /// The item of a request, or of a body that is not a message, that is refused.
@@ -35,26 +33,26 @@ pub(crate) fn refused(
     label: Label,
     refusal: Refusal,
 ) -> Result<Item<ProtoKey>, AllocError>
-    ensures { IfOk result (IsItemOf (says (text_of_refusal (label_model label) refusal)) (Some (label_model label))) }
+    ensures { IfOk result (IsItemOf (says (text_of_refusal (label_model label) refusal)) (Some label)) }
 {
     let text = refusal_text(alloc, &label, refusal)?;
-    Ok(fixed(label, text))
+    fixed(alloc, label, text)
 }
 
 /// The item of `initialize`.
 fn initialized(alloc: Global, label: Label) -> Result<Item<ProtoKey>, AllocError>
-    ensures { IfOk result (IsItemOf (says (text_of_initialized (label_model label))) (Some (label_model label))) }
+    ensures { IfOk result (IsItemOf (says (text_of_initialized (label_model label))) (Some label)) }
 {
     let text = initialized_text(alloc, &label)?;
-    Ok(fixed(label, text))
+    fixed(alloc, label, text)
 }
 
 /// The item of `shutdown`.
 fn shut_down(alloc: Global, label: Label) -> Result<Item<ProtoKey>, AllocError>
-    ensures { IfOk result (IsItemOf (says (text_of_null (label_model label))) (Some (label_model label))) }
+    ensures { IfOk result (IsItemOf (says (text_of_null (label_model label))) (Some label)) }
 {
     let text = null_text(alloc, &label)?;
-    Ok(fixed(label, text))
+    fixed(alloc, label, text)
 }
 
 /// The name of the file of `uri`, if there is a `uri` that names one.
@@ -105,7 +103,7 @@ fn query_request(
     query: QueryMethod,
     params: Option<&Value>,
 ) -> Result<Item<ProtoKey>, AllocError>
-    ensures { IfOk result (IsItemOf (query_meaning (label_model label) (key_named root.now query (option_map (λ d. view d.now) params.entry))) (Some (label_model label))) }
+    ensures { IfOk result (IsItemOf (query_meaning (label_model label) (key_named root.now query (option_map (λ d. view d.now) params.entry))) (Some label)) }
 {
     match key_named(alloc, root, query, params)? {
         Some(key) => Ok(Item::Ask(Request {
@@ -124,7 +122,7 @@ pub(crate) fn on_request(
     method: Option<RequestMethod>,
     params: Option<&Value>,
 ) -> Result<Item<ProtoKey>, AllocError>
-    ensures { IfOk result (IsItemOf (request_meaning phase.now (label_model label) method (option_map (λ d. view d.now) params.entry)) (Some (label_model label))) }
+    ensures { IfOk result (IsItemOf (request_meaning phase.now (label_model label) method (option_map (λ d. view d.now) params.entry)) (Some label)) }
 {
     match (phase, method) {
         (Phase::Fresh, Some(RequestMethod::Initialize)) => initialized(alloc, label),

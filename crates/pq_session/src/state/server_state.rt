@@ -2,8 +2,8 @@
 //!
 //! `handle` reads a body as a message, asks the session what the message means, and carries that
 //! out: it answers a query by the engine, makes an edit, or ends the session.
-ghost use Rattle.std.specs.Prelude.{◌≡◌, IfOk, OnOk, IfErr, option_map, string_bytes, Some, None};
-ghost use Rattle.pq_frame.specs.Labels.{label_model};
+ghost use Rattle.std.specs.Prelude.{◌≡◌, IfOk, OnOk, IfErr, string_bytes, Some, None};
+ghost use Rattle.pq_session.specs.Labels.{label_model};
 ghost use Rattle.pq_inputs.specs.Sources.{File};
 ghost use Rattle.pq_proto.specs.Compile.{Compiles};
 ghost use Rattle.pq_session.specs.Session.{edits};
@@ -18,9 +18,10 @@ use crate::protocol::answers::answer_text;
 use crate::protocol::refusals::Refusal;
 use crate::protocol::replies::refusal_text;
 use crate::protocol::root::Root;
-use crate::state::items::{Change, Item, Request, Want};
+use crate::state::items::Item;
 use crate::state::sessions::Session;
-use pq_frame::{Label, Message};
+use pq_core::{Change, Label, Request, Want};
+use pq_frame::Message;
 use pq_inputs::{InputFault, Inputs};
 use pq_memo::{Demanded, Engine};
 use pq_proto::{ProtoKey, ProtoRules, ProtoValue, proto_values};
@@ -115,7 +116,7 @@ impl ServerState {
     {
         let Request { label, want } = request;
         match want {
-            Want::Fixed(text) => Ok(text),
+            Want::Fixed(text) => String::from_str(alloc, text.as_str()),
             Want::Demand(key) => match self.response(alloc, &label, &key) {
                 Ok(text) => Ok(text),
                 Err(_) => refusal_text(alloc, &label, Refusal::OutOfMemory),
@@ -125,10 +126,10 @@ impl ServerState {
 
     /// Makes an edit. A refused edit leaves the sources as they were.
     fn edit(&mut self, change: Change) -> Result<(), ScriptFault>
-        ensures ok { let file : File = record { text = option_map string_bytes change.text; durability = change.durability } in
+        ensures ok { let file : File = record { text = change.text; durability = change.durability } in
             OnOk result (RespondsTo (state_of self.old) (edits change.file file)
             silent (state_of self.new)) }
-        ensures err { let file : File = record { text = option_map string_bytes change.text; durability = change.durability } in
+        ensures err { let file : File = record { text = change.text; durability = change.durability } in
             IfErr result (λ fault. RefusesMeaning (state_of self.old) (edits change.file file)
             fault (state_of self.new)) }
     {

@@ -1,9 +1,9 @@
 //! A session with one client: its phase, and what each message asks for.
-ghost use Rattle.std.specs.Prelude.{◌≡◌, IfOk, OnOk, OnErr, option_map, unwrap_or};
-ghost use Rattle.pq_frame.specs.Messages.{message_model};
+ghost use Rattle.std.specs.Prelude.{◌≡◌, IfOk, IfSome, OnOk, OnErr, option_map, unwrap_or};
+ghost use Rattle.pq_frame.specs.Messages.{message_model, HasOneLabel};
+ghost use Rattle.pq_session.specs.Labels.{label_model, HasOneForm};
 ghost use Rattle.pq_session.specs.Session.{meaning_of, next_phase, root_in};
 ghost use Rattle.pq_session.specs.Items.{reply_label, item_meaning, item_label, HasFittingWant};
-ghost use Rattle.pq_session.specs.aux.ItemOf.{IsItemOf};
 ghost use Rattle.pq_session.specs.declared.state.phase.Phase.{Phase};
 ghost use Rattle.pq_session.specs.declared.state.phase.Phase.TheVariants.{Fresh};
 
@@ -11,10 +11,12 @@ use crate::protocol::methods::{NotificationMethod, RequestMethod};
 use crate::protocol::refusals::Refusal;
 use crate::protocol::root::Root;
 use crate::state::items::Item;
+use crate::state::labels::core_label;
 use crate::state::notifications::on_notification;
 use crate::state::phase::Phase;
 use crate::state::requests::{on_request, refused};
-use pq_frame::{Label, Message};
+use pq_core::Label;
+use pq_frame::Message;
 use pq_proto::ProtoKey;
 use std::alloc::{AllocError, Global};
 use std::marker::Model;
@@ -60,7 +62,9 @@ impl Session {
         ensures meaning { IfOk result (λ item.
             item_meaning item ≡ meaning_of self.old (message_model message)) }
         ensures label { IfOk result (λ item.
-            item_label item ≡ reply_label (message_model message)) }
+            option_map label_model (item_label item) ≡ reply_label (message_model message)) }
+        ensures one_form { HasOneLabel message → IfOk result (λ item.
+            IfSome (item_label item) HasOneForm) }
         ensures want { IfOk result HasFittingWant }
         ensures phase { OnOk result (self.new ≡ next_phase self.old (message_model message)) }
         ensures kept { OnErr result (self.new ≡ self.old) }
@@ -80,19 +84,28 @@ fn item_and_phase(
     phase: &Phase,
     message: Message,
 ) -> Result<(Item<ProtoKey>, Option<Phase>), AllocError>
-    ensures item { IfOk result (λ both. IsItemOf (meaning_of phase.now (message_model message))
-        (reply_label (message_model message)) both.0) }
+    ensures meaning { IfOk result (λ both.
+        item_meaning both.0 ≡ meaning_of phase.now (message_model message)) }
+    ensures label { IfOk result (λ both.
+        option_map label_model (item_label both.0) ≡ reply_label (message_model message)) }
+    ensures one_form { HasOneLabel message → IfOk result (λ both.
+        IfSome (item_label both.0) HasOneForm) }
+    ensures want { IfOk result (λ both. HasFittingWant both.0) }
     ensures phase { IfOk result (λ both.
         unwrap_or both.1 phase.now ≡ next_phase phase.now (message_model message)) }
 {
     match message {
         Message::BadJson => Ok((refused(alloc, Label::None, Refusal::ParseError)?, None)),
-        Message::Invalid(label) => Ok((refused(alloc, label, Refusal::InvalidRequest)?, None)),
+        Message::Invalid(label) => {
+            let label = core_label(alloc, label)?;
+            Ok((refused(alloc, label, Refusal::InvalidRequest)?, None))
+        }
         Message::Ask {
             label,
             method,
             params,
         } => {
+            let label = core_label(alloc, label)?;
             let method = RequestMethod::named(method.as_str());
             let item = on_request(alloc, phase, label, method, params.as_ref())?;
             Ok((item, phase.after(alloc, method, params.as_ref())?))

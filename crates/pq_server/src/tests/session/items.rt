@@ -3,10 +3,11 @@
 //! A row is `BODY => ITEM | ROOT`, the item of the body and the path of the root afterwards, or `-`
 //! if there is none.
 use crate::tests::support::{check_row_count, check_text, split_row};
+use pq_core::{Change, Want};
 use pq_frame::Message;
 use pq_inputs::Durability;
 use pq_proto::ProtoKey;
-use pq_session::{Change, Item, Memory, Session, Want};
+use pq_session::{Item, Memory, Session};
 use std::alloc::Global;
 use std::test::Fail;
 
@@ -44,7 +45,7 @@ fn shown_key(alloc: Global, key: &ProtoKey) -> Result<String, Memory> {
 fn shown_want(alloc: Global, want: &Want<ProtoKey>) -> Result<String, Memory> {
     match want {
         Want::Demand(key) => shown_key(alloc, key),
-        Want::Fixed(text) => text.clone(),
+        Want::Fixed(text) => String::from_str(alloc, text.as_str()),
     }
 }
 

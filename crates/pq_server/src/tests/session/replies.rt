@@ -1,14 +1,24 @@
 //! The texts of replies, by how their requests ended.
 use crate::tests::support::check_text;
-use pq_frame::Label;
+use pq_core::{ClientId, Label, Number, Reply, Request, Want};
 use pq_inputs::{Durability, Inputs, Revision};
 use pq_names::Text;
 use pq_proto::{Place, ProtoKey, ProtoValue, compile};
 use pq_rules::Shared;
-use pq_session::{ClientId, Memory, Number, Outcome, Reply, Request, Root, Want, reply_text};
+use pq_session::{Memory, Root, reply_text};
 use std::alloc::Global;
 use std::process::Abort;
 use std::test::Fail;
+
+/// The client of each reply.
+fn client() -> ClientId {
+    ClientId::new(0)
+}
+
+/// The number of each request.
+fn number() -> Number {
+    Number::new(1)
+}
 
 /// Sets `a.proto`, and returns the revision after that.
 fn set(alloc: Global, inputs: &mut Inputs) -> Result<Revision, Fail> {
@@ -20,55 +30,68 @@ fn set(alloc: Global, inputs: &mut Inputs) -> Result<Revision, Fail> {
 }
 
 /// The text of a reply to a client whose root is `/p`.
-fn shown_reply(
-    alloc: Global,
-    label: Label,
-    want: Want<ProtoKey>,
-    revision: Revision,
-    outcome: Outcome<ProtoKey, ProtoValue>,
-) -> Result<String, Memory> {
-    let reply = Reply {
-        client: ClientId(0),
-        number: Number(1),
-        request: Request { label, want },
-        revision,
-        outcome,
-    };
+fn shown_reply(alloc: Global, reply: &Reply<ProtoKey, ProtoValue>) -> Result<String, Memory> {
     let root = Root::of(alloc, Some("file:///p"))?;
-    reply_text(alloc, &root, &reply)
+    reply_text(alloc, &root, reply)
 }
 
-/// Checks the text of the reply to a request of diagnostics that ended without an answer.
-fn check_unanswered(
+/// Checks the text of a reply.
+fn check_reply(
     rt: &(impl Abort + AllocGlobal),
-    revision: Revision,
-    outcome: Outcome<ProtoKey, ProtoValue>,
+    reply: &Reply<ProtoKey, ProtoValue>,
     want: &str,
 ) -> Result<(), Memory> {
-    let key = ProtoKey::Diagnostics(Text::new(rt.alloc(), "a.proto")?);
-    let demand = Want::Demand(key);
-    let found = shown_reply(rt.alloc(), Label::Unsigned(7), demand, revision, outcome)?;
+    let found = shown_reply(rt.alloc(), reply)?;
     check_text(rt, found.as_str(), want, want);
     Ok(())
 }
 
+/// The request 7 for the diagnostics of `a.proto`.
+fn diagnostics(alloc: Global) -> Result<Request<ProtoKey>, Memory> {
+    let key = ProtoKey::Diagnostics(Text::new(alloc, "a.proto")?);
+    Ok(Request {
+        label: Label::Unsigned(7),
+        want: Want::Demand(key),
+    })
+}
+
+/// The reply to a request that was stopped. It is an error if `seen` is not after `started`.
+fn cancelled(
+    request: Request<ProtoKey>,
+    started: Revision,
+    seen: Revision,
+) -> Result<Reply<ProtoKey, ProtoValue>, Fail> {
+    if started < seen {
+        Ok(Reply::cancelled(client(), number(), request, started, seen))
+    } else {
+        Err(Fail::from("the revisions do not rise"))
+    }
+}
+
 #[test]
-fn requests_without_an_answer(rt: HostRuntime) -> Result<(), Fail> {
+fn a_cancelled_request(rt: HostRuntime) -> Result<(), Fail> {
     let mut inputs = Inputs::new(rt.alloc())?;
     set(rt.alloc(), &mut inputs)?;
     set(rt.alloc(), &mut inputs)?;
     let started = set(rt.alloc(), &mut inputs)?;
     let seen = set(rt.alloc(), &mut inputs)?;
-    check_unanswered(
+    let reply = cancelled(diagnostics(rt.alloc())?, started, seen)?;
+    check_reply(
         &rt,
-        seen,
-        Outcome::Cancelled { started, seen },
+        &reply,
         r#"{"error":{"code":-32801,"data":{"seen":4,"started":3},"message":"content modified"},"id":7,"jsonrpc":"2.0"}"#,
     )?;
-    check_unanswered(
+    Ok(())
+}
+
+#[test]
+fn a_starved_request(rt: HostRuntime) -> Result<(), Fail> {
+    let inputs = Inputs::new(rt.alloc())?;
+    let request = diagnostics(rt.alloc())?;
+    let reply = Reply::starved(client(), number(), request, inputs.now());
+    check_reply(
         &rt,
-        seen,
-        Outcome::Starved,
+        &reply,
         r#"{"error":{"code":-32603,"message":"out of memory"},"id":7,"jsonrpc":"2.0"}"#,
     )?;
     Ok(())
@@ -77,22 +100,25 @@ fn requests_without_an_answer(rt: HostRuntime) -> Result<(), Fail> {
 #[test]
 fn a_fixed_text(rt: HostRuntime) -> Result<(), Fail> {
     let inputs = Inputs::new(rt.alloc())?;
-    let want = Want::Fixed(String::from_str(rt.alloc(), "{}")?);
-    let found = shown_reply(rt.alloc(), Label::None, want, inputs.now(), Outcome::Plain)?;
-    check_text(&rt, found.as_str(), "{}", "a fixed text");
+    let want = Want::Fixed(Text::new(rt.alloc(), "{}")?);
+    let label = Label::None;
+    let request = Request { label, want };
+    let reply = Reply::plain(client(), number(), request, inputs.now());
+    check_reply(&rt, &reply, "{}")?;
     Ok(())
 }
 
-/// The text of the reply to a request with the answer of `key` at the sources.
-fn shown_answer(
+/// The reply to a request with the answer of `key` at the sources.
+fn answered(
     alloc: Global,
     inputs: &Inputs,
     label: Label,
     key: ProtoKey,
-) -> Result<String, Memory> {
+) -> Result<Reply<ProtoKey, ProtoValue>, Memory> {
     let answer = Shared::new(alloc, compile(alloc, inputs, &key)?)?;
-    let (revision, outcome) = (inputs.now(), Outcome::Answered(answer));
-    shown_reply(alloc, label, Want::Demand(key), revision, outcome)
+    let want = Want::Demand(key);
+    let request = Request { label, want };
+    Ok(Reply::answered(client(), number(), request, inputs.now(), answer))
 }
 
 /// Checks the text of the reply to a request with the answer of `key` at the sources.
@@ -103,9 +129,8 @@ fn check_answer(
     key: ProtoKey,
     want: &str,
 ) -> Result<(), Memory> {
-    let found = shown_answer(rt.alloc(), inputs, label, key)?;
-    check_text(rt, found.as_str(), want, want);
-    Ok(())
+    let reply = answered(rt.alloc(), inputs, label, key)?;
+    check_reply(rt, &reply, want)
 }
 
 #[test]
@@ -123,7 +148,7 @@ fn answers(rt: HostRuntime) -> Result<(), Fail> {
     check_answer(
         &rt,
         &inputs,
-        Label::Text(String::from_str(alloc, "x\n")?),
+        Label::Text(Text::new(alloc, "x\n")?),
         ProtoKey::Descriptor(Text::new(alloc, "b.proto")?),
         r#"{"id":"x\n","jsonrpc":"2.0","result":{"file":null,"revision":"1"}}"#,
     )?;

@@ -1,5 +1,5 @@
 use Rattle.std.proofs.Common.{◌≡◌, ◌∙◌}
-use Rattle.pq_frame.specs.Labels.{label_model}
+use Rattle.pq_session.specs.Labels.{label_model}
 use Rattle.pq_session.specs.Reply.{diagnostics_text, report_data}
 use Rattle.pq_session.proofs.PrintLemmas.{printed_reply}
 use Rattle.pq_session.proofs.protocol.answers.diagnostics_text.Goals as goal

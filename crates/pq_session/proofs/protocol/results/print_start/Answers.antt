@@ -1,7 +1,8 @@
 use Rattle.std.proofs.Common.{◌≡◌, List, [], ◌∷◌, ◌++◌}
 use Rattle.std.specs.Prelude.{codes}
 use Rattle.json.specs.Token.{Token, begin_object, key, string}
-use Rattle.pq_frame.specs.Labels.{label_data, label_model}
+use Rattle.pq_frame.specs.Labels.{label_data}
+use Rattle.pq_session.specs.Labels.{label_model}
 use Rattle.pq_proto.specs.aux.Printed.{tokens_of}
 use Rattle.pq_proto.proofs.ListSteps.{link}
 use Rattle.pq_session.proofs.protocol.results.print_start.Goals as goal

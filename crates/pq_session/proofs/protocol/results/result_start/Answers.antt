@@ -1,7 +1,7 @@
 use Rattle.std.proofs.Common.{◌≡◌, List, ◌++◌, ap, ◌∙◌}
 use Rattle.json.specs.Print.{print}
 use Rattle.json.specs.Token.{Token}
-use Rattle.pq_frame.specs.Labels.{label_model}
+use Rattle.pq_session.specs.Labels.{label_model}
 use Rattle.pq_session.specs.aux.Starts.{start_tokens}
 use Rattle.pq_session.proofs.PrintLemmas.{start_text}
 use Rattle.pq_session.proofs.protocol.results.result_start.Goals as goal

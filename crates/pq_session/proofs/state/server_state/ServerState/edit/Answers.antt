@@ -6,12 +6,14 @@ use Rattle.pq_session.proofs.state.server_state.ServerState.edit.Goals as goal
 pub returns-in-Ok-clause-ok : goal.returns-in-Ok-clause-ok
 returns-in-Ok-clause-ok c =
     let made = c.in-Ok.ensures in
-    edit_made c.args.self.now.session c.args.self.now.engine.inputs c.set.new.self.inputs c.args.change.file (record { text = option_map string_bytes c.args.change.text; durability = c.args.change.durability }) (rw c.as_str.ensures.same at made.accepted) (rw c.as_str.ensures.same at made.files) (made.revision.1 ∙ made.revision.0)
+    rw (← c.change.view_is)
+    (edit_made c.args.self.now.session c.args.self.now.engine.inputs c.set.new.self.inputs c.change.inside.file (record { text = option_map string_bytes c.change.inside.text; durability = c.change.inside.durability }) (rw c.as_str.ensures.same at made.accepted) (rw c.as_str.ensures.same at made.files) (made.revision.1 ∙ made.revision.0))
 
 pub returns : goal.returns
 returns c =
     let refused = c.in-Err.ensures in
     record {
       ok = tt;
-      err = edit_refused c.args.self.now.session c.args.self.now.engine.inputs c.set.new.self.inputs c.args.change.file (record { text = option_map string_bytes c.args.change.text; durability = c.args.change.durability }) c.in-Err.refused.fault (rw c.as_str.ensures.same at refused.fault) c.in_default.not-Memory refused.refused;
+      err = rw (← c.change.view_is)
+          (edit_refused c.args.self.now.session c.args.self.now.engine.inputs c.set.new.self.inputs c.change.inside.file (record { text = option_map string_bytes c.change.inside.text; durability = c.change.inside.durability }) c.in-Err.refused.fault (rw c.as_str.ensures.same at refused.fault) c.in_default.not-Memory refused.refused);
     }
