@@ -3,6 +3,7 @@
 //! A set of files is one text with a line `NAME: TEXT` for each file, without the statement of the
 //! syntax, or `NAME` for an absent one.
 mod links;
+mod others;
 mod random;
 mod resolution;
 mod shown;
