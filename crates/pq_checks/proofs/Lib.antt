@@ -4,6 +4,7 @@ pub mod OneOrder
 pub mod SaidAfter
 pub mod SaidOfParts
 pub mod Passes
+pub mod Elsewhere
 pub mod Taken
 pub mod Ties
 pub mod Flags

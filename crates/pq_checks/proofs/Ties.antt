@@ -13,16 +13,13 @@ use Rattle.std.proofs.lemmas.Cmp.{eq_by_cmp_equiv}
 use Rattle.std.proofs.lemmas.Slice.Eq.{bytes_eq-Decides}
 use Rattle.std.proofs.lemmas.List.Folds.{list_any-append}
 use Rattle.std.proofs.lemmas.Map.Text.{is_eq-slice_cmp}
-use Rattle.pq_schema.specs.contracts.full_name.FullNameOrd.TheImpl as order
-use Rattle.pq_schema.specs.contracts.full_name.FullNameOrd.TheImpl.Laws.{matches_eq-law}
-use Rattle.pq_schema.specs.declared.definitions.Definition.{Definition}
 use Rattle.pq_checks.specs.Faults.{same_item, has_number, is_reserved, covers}
 use Rattle.pq_checks.specs.Members.{Member, ReservedName}
 use Rattle.pq_checks.specs.Numbers.{Limits, number_in, bounds_of, is_between}
 use Rattle.pq_checks.specs.Owners.{limits_by}
 use Rattle.pq_checks.specs.aux.Cover.{is_within, is_covered}
 use Rattle.pq_checks.specs.aux.Lines.{Key, key_cmp, stair, stair_of, NameKey, name_cmp}
-use Rattle.pq_checks.specs.aux.Sets.{is_number, is_name, is_full_name}
+use Rattle.pq_checks.specs.aux.Sets.{is_number, is_name}
 use Rattle.pq_checks.specs.declared.members.Reserved.{Reserved}
 use Rattle.pq_checks.specs.declared.numbers.Bounds.{Bounds}
 
@@ -139,7 +136,3 @@ name_back k q n owner value =
     eq_then (option_cmp nat_cmp k.0 q.0) (slice_cmp nat_cmp k.1.now q.1.now)
     ∙ ap (λ c. c && is_eq (slice_cmp nat_cmp k.1.now q.1.now)) (item_back k.0 q.0 ∙ ap (λ (o : Option ℕ). same_item q.0 o) owner)
     ∙ ap (λ c. same_item q.0 n.owner && c) (text_back k.1.now q.1.now n.value value)
-
--- which full names tie with that of a definition
-pub full_name_back : (k q : List ℕ) (d : Definition) → k ≡ d.full_name → is_eq (order.ghosts.cmp k q) ≡ is_full_name q d
-full_name_back k q d is = sym (matches_eq-law k q) ∙ turned k q ∙ ap (λ n. bytes_eq q n) is

@@ -38,6 +38,9 @@ pub(crate) fn push_body_faults(
     ensures { IfOk result (λ _. faults.new.items ≡ faults.old.items
         ++ flat_map (body_line code text.now (map member_seen members.now)) (map body_seen bodies.now)) }
 {
+    if bodies.is_empty() {
+        return Ok(());
+    }
     let holders = holders(alloc, members)?;
     'each: for body in bodies {
         let holder = Some(body.number);

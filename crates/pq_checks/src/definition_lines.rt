@@ -1,23 +1,25 @@
 //! The errors of definitions: full names that are defined twice, in the file or in others that it
 //! sees.
 //!
-//! For a file with N definitions, N log N comparisons find those that are repeated. A definition at
-//! file level is looked up in its scope, which asks only the files whose package its name can be in.
+//! The names of a file's definitions are sorted already, and a walk over them finds those that are
+//! repeated. A definition at file level is looked up in its scope, which asks only the files whose
+//! package its name can be in. A file that sees no other file needs no look-up.
 ghost use Rattle.std.specs.Prelude.{◌≡◌, ◌++◌, flat_map, IfOk, [], Some};
+ghost use Rattle.std.specs.List.{list_any};
 ghost use Rattle.pq_checks.specs.Earlier.{of_each_after};
 ghost use Rattle.pq_checks.specs.Faults.{twice_faults, deepest, is_at_top, other_faults, elsewhere_faults};
 ghost use Rattle.pq_schema.specs.Others.{other_files};
-ghost use Rattle.pq_checks.specs.aux.Views.{twice_line};
+ghost use Rattle.pq_schema.specs.Repeated.{AreRepeated};
+ghost use Rattle.pq_checks.specs.aux.Views.{is_other, twice_line};
 
 use crate::Memory;
 use crate::code::Code;
 use crate::fault::Fault;
 use crate::said::{around_name, push};
 use pq_names::Text;
-use pq_schema::{Definition, DefinitionKind, Scope};
+use pq_schema::{Definition, DefinitionKind, Defs, Scope};
 use pq_syntax::Node;
 use std::alloc::Global;
-use std::collections::BTreeSet;
 
 /// Adds the error of the definition `definition` if its full name is `repeated`.
 fn push_twice(
@@ -35,21 +37,34 @@ fn push_twice(
     Ok(())
 }
 
-/// Adds an error for each of `definitions` whose full name one before it has.
-pub(crate) fn push_twice_faults(
+/// Adds an error for each of `definitions` that `repeated` tells of.
+fn push_repeated(
     alloc: Global,
     faults: &mut Vec<Fault>,
     definitions: &[Definition],
+    repeated: &[bool],
 ) -> Result<(), Memory>
+    requires { AreRepeated repeated.now definitions.now }
     ensures said { IfOk result (λ _. faults.new.items
         ≡ faults.old.items ++ of_each_after twice_faults [] definitions.now) }
 {
-    let mut seen = BTreeSet::new(alloc);
-    'definitions: for definition in definitions {
-        let is_new = seen.insert(definition.full_name.copy()?)?;
-        push_twice(alloc, faults, definition, !is_new)?;
+    'each: for i in 0..definitions.len() {
+        push_twice(alloc, faults, &definitions[i], repeated[i])?;
     }
     Ok(())
+}
+
+/// Adds an error for each of the definitions of `defs` whose full name one before it has.
+pub(crate) fn push_twice_faults(
+    alloc: Global,
+    faults: &mut Vec<Fault>,
+    defs: &Defs,
+) -> Result<(), Memory>
+    ensures said { IfOk result (λ _. faults.new.items
+        ≡ faults.old.items ++ of_each_after twice_faults [] defs.now.definitions) }
+{
+    let repeated = defs.repeated(alloc)?;
+    push_repeated(alloc, faults, defs.definitions(), &repeated)
 }
 
 /// The depth of a statement at file level that defines something of the kind `kind`, `None` where
@@ -123,6 +138,18 @@ fn push_elsewhere(
     }
 }
 
+/// Whether the file `file` sees another file by its scope `scope`.
+fn sees_another(file: &str, scope: &Scope) -> bool
+    ensures sees { result ≡ list_any (is_other file.now) scope.now.visible }
+{
+    'files: for visible in scope.visible() {
+        if visible.file.as_str() != file {
+            return true;
+        }
+    }
+    false
+}
+
 /// Adds an error for each of `definitions` at file level whose full name another file has that the
 /// file `file` with the statements `nodes` sees by its scope `scope`.
 pub(crate) fn push_elsewhere_faults(
@@ -136,6 +163,9 @@ pub(crate) fn push_elsewhere_faults(
     ensures said { IfOk result (λ _. faults.new.items ≡ faults.old.items
         ++ flat_map (elsewhere_faults (other_files file.now scope.now) nodes.now) definitions.now) }
 {
+    if !sees_another(file, scope) {
+        return Ok(());
+    }
     'definitions: for definition in definitions {
         push_elsewhere(alloc, faults, file, scope, nodes, definition)?;
     }

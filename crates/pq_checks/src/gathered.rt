@@ -222,7 +222,7 @@ fn push_definitions(
     ensures said { IfOk result (λ _. faults.new.items ≡ faults.old.items
         ++ definition_faults (surroundings_of known.now [] None) nodes.now) }
 {
-    push_twice_faults(alloc, faults, known.defs.get().definitions())?;
+    push_twice_faults(alloc, faults, known.defs.get())?;
     push_elsewhere(alloc, faults, known, nodes)
 }
 

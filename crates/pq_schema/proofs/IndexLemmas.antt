@@ -14,8 +14,8 @@ use Rattle.std.proofs.lemmas.List.Sorted.{sorted_far, ranks_by, Contains-permuta
 use Rattle.pq_schema.proofs.Cases.{either}
 use Rattle.pq_schema.proofs.Rising.{by_order, by_name_total, not_below_itself, rises}
 use Rattle.pq_schema.specs.declared.definitions.Definition.{Definition}
-use Rattle.pq_schema.specs.aux.NameParts.{name_order}
-use Rattle.pq_schema.specs.aux.NameOrder.{names_total, names_tie}
+use Rattle.pq_schema.specs.aux.NameCodes.{code_order}
+use Rattle.pq_schema.specs.aux.CodeOrder.{codes_total, codes_tie}
 use Rattle.pq_schema.specs.aux.Index.{entry_order, entries, IsIndexOf}
 
 -- ---- the entries of a list
@@ -31,7 +31,7 @@ place_from n m name (d ∷ ds) (zero, within, is) = let same : n ≡ m = ap (λ 
 place_from n m name (d ∷ ds) (suc k, within, is) = let more = place_from (suc n) m name ds (k, (omega arith), is) in omega arith
 
 -- and below `n` and their number
-place_below : (n m : ℕ) (name : List ℕ) (ds : List Definition) → Contains (entries n ds) (name, m) → m < n + length ds
+pub place_below : (n m : ℕ) (name : List ℕ) (ds : List Definition) → Contains (entries n ds) (name, m) → m < n + length ds
 unfolding entries
 place_below n m name [] (k, within, is) = absurd (omega arith)
 place_below n m name (d ∷ ds) (zero, within, is) = let same : n ≡ m = ap (λ (e : List ℕ × ℕ). e.1) is in omega arith
@@ -79,14 +79,14 @@ first_found n (suc i) name (d ∷ ds) e (suc k, within, is) first =
 
 -- ---- the order
 
-tied_same : (a b : List ℕ) → name_order a b ≡ Equal → a ≡ b
-tied_same a b tie = (bytes_decides a b).0 (names_tie a b ∙ ap is_eq tie)
+pub tied_same : (a b : List ℕ) → code_order a b ≡ Equal → a ≡ b
+tied_same a b tie = (bytes_decides a b).0 (codes_tie a b ∙ ap is_eq tie)
 
 -- ---- what is at the first entry whose name is not below a name
 
 module _ (index : List (List ℕ × ℕ)) (ds : List Definition) (x : IsIndexOf index ds) (name : List ℕ) (p : ℕ)
-    (less : (k : ℕ) → k < p → is_lt (name_order (get_or index k no_entry).0 name) ≡ true)
-    (others : (k : ℕ) → p ≤ k → k < length index → is_lt (name_order (get_or index k no_entry).0 name) ≡ false) where
+    (less : (k : ℕ) → k < p → is_lt (code_order (get_or index k no_entry).0 name) ≡ true)
+    (others : (k : ℕ) → p ≤ k → k < length index → is_lt (code_order (get_or index k no_entry).0 name) ≡ false) where
   -- an entry of the name is at `p` or later
   at_or_later : (m : ℕ) → Contains (entries 0 ds) (name, m) → (k : ℕ) × (k < length index) × (get_or index k no_entry ≡ (name, m)) × (p ≤ k)
   at_or_later m c =
@@ -96,7 +96,7 @@ module _ (index : List (List ℕ × ℕ)) (ds : List Definition) (x : IsIndexOf 
         there.1,
         is,
         elim (cases_lt there.0 p) [
-          | inl below ↦ absurd (not_below_itself name_order names_total name (subst (λ (e : List ℕ × ℕ). is_lt (name_order e.0 name) ≡ true) is (less there.0 below)))
+          | inl below ↦ absurd (not_below_itself code_order codes_total name (subst (λ (e : List ℕ × ℕ). is_lt (code_order e.0 name) ≡ true) is (less there.0 below)))
           | inr up ↦ up
         ],
       )
@@ -108,12 +108,12 @@ module _ (index : List (List ℕ × ℕ)) (ds : List Definition) (x : IsIndexOf 
       let up = k.3 in
       let within : p < length index = omega arith in
       let e = get_or index p no_entry in
-      let not_above : is_lt (name_order name e.0) ≡ false =
-      subst (λ (f : List ℕ × ℕ). is_lt (name_order f.0 e.0) ≡ false) k.2 (rises name_order names_total index x.sorted p k.0 no_entry k.3 k.1) in
-      by_order (name_order e.0 name) ⊥
+      let not_above : is_lt (code_order name e.0) ≡ false =
+      subst (λ (f : List ℕ × ℕ). is_lt (code_order f.0 e.0) ≡ false) k.2 (rises code_order codes_total index x.sorted p k.0 no_entry k.3 k.1) in
+      by_order (code_order e.0 name) ⊥
       (λ o. true≢false (sym (ap is_lt o) ∙ others p (omega arith) within))
       (λ o. free within (tied_same e.0 name o))
-      (λ o. true≢false (sym (ap is_lt (names_total.antisymm name e.0 ∙ ap ordering_reverse o)) ∙ not_above)))
+      (λ o. true≢false (sym (ap is_lt (codes_total.antisymm name e.0 ∙ ap ordering_reverse o)) ∙ not_above)))
 
   hit_there : p < length index → (get_or index p no_entry).0 ≡ name → Contains (entries 0 ds) (name, (get_or index p no_entry).1)
   hit_there within is =
@@ -126,24 +126,30 @@ module _ (index : List (List ℕ × ℕ)) (ds : List Definition) (x : IsIndexOf 
   hit_within within is =
       let below = place_below 0 (get_or index p no_entry).1 name ds (hit_there within is) in omega arith
 
+  -- no definition of the name is at a place before that of the entry
+  pub none_before : p < length index → (get_or index p no_entry).0 ≡ name → (j : ℕ) → j < (get_or index p no_entry).1
+      → Contains (entries 0 ds) (name, j) → ⊥
+  none_before within is j below c =
+      let e = get_or index p no_entry in
+      let k = at_or_later j c in
+      let up : is_lt (entry_order (get_or index k.0 no_entry) e) ≡ false =
+      sorted_far (λ (x y : List ℕ × ℕ). is_lt (entry_order x y)) (ranks_by (by_name_total code_order codes_total) (λ (f : List ℕ × ℕ). f)) index x.sorted p k.0 no_entry k.3 k.1 in
+      let up_names : is_lt (ordering_then (code_order name name) (nat_cmp j e.1)) ≡ false =
+      subst (λ (n : List ℕ). is_lt (ordering_then (code_order name n) (nat_cmp j e.1)) ≡ false) is
+      (subst (λ (f : List ℕ × ℕ). is_lt (entry_order f e) ≡ false) k.2 up) in
+      let up_places : is_lt (nat_cmp j e.1) ≡ false =
+      subst (λ (o : Ordering). is_lt (ordering_then o (nat_cmp j e.1)) ≡ false) (tied_itself codes_total name) up_names in
+      let test : nat_lt j e.1 ≡ true = grind (arith, nat_tests) in
+      let j_less : is_lt (nat_cmp j e.1) ≡ true = ap (λ b. is_lt (cond b Less (cond (nat_eq j e.1) Equal Greater))) test in
+      true≢false (sym j_less ∙ up_places)
+
   pub hit : (d : Definition) → p < length index → (get_or index p no_entry).0 ≡ name
       → find (λ (d : Definition). bytes_eq d.full_name name) ds ≡ Some (get_or ds (get_or index p no_entry).1 d)
   hit d within is =
       let e = get_or index p no_entry in
       let plus : e.1 ≡ 0 + e.1 = omega arith in
       (first_found 0 e.1 name ds d (subst (λ (m : ℕ). Contains (entries 0 ds) (name, m)) plus (hit_there within is))
-      (λ j below c.
-      let k = at_or_later j c in
-      let up : is_lt (entry_order (get_or index k.0 no_entry) e) ≡ false =
-      sorted_far (λ (x y : List ℕ × ℕ). is_lt (entry_order x y)) (ranks_by (by_name_total name_order names_total) (λ (f : List ℕ × ℕ). f)) index x.sorted p k.0 no_entry k.3 k.1 in
-      let up_names : is_lt (ordering_then (name_order name name) (nat_cmp j e.1)) ≡ false =
-      subst (λ (n : List ℕ). is_lt (ordering_then (name_order name n) (nat_cmp j e.1)) ≡ false) is
-      (subst (λ (f : List ℕ × ℕ). is_lt (entry_order f e) ≡ false) k.2 up) in
-      let up_places : is_lt (nat_cmp j e.1) ≡ false =
-      subst (λ (o : Ordering). is_lt (ordering_then o (nat_cmp j e.1)) ≡ false) (tied_itself names_total name) up_names in
-      let test : nat_lt j e.1 ≡ true = grind (arith, nat_tests) in
-      let j_less : is_lt (nat_cmp j e.1) ≡ true = ap (λ b. is_lt (cond b Less (cond (nat_eq j e.1) Equal Greater))) test in
-      true≢false (sym j_less ∙ up_places))).1
+      (λ j below c. none_before within is j (omega arith) c)).1
 
 -- ---- the loop that builds the entries
 

@@ -2,8 +2,10 @@ pub mod Cases
 pub mod EntryNames
 pub mod InPackage
 pub mod FullNames
+pub mod Codes
 pub mod Rising
 pub mod IndexLemmas
+pub mod Repeats
 pub mod Packages
 pub mod Rows
 pub mod Prefixes

@@ -4,6 +4,7 @@ pub mod References
 pub mod ScopeContents
 pub mod Resolution
 pub mod Others
+pub mod Repeated
 pub mod Missing
 pub mod Compile
 pub mod Answers

@@ -2,6 +2,8 @@
 pub mod InPackage
 pub mod NameParts
 pub mod NameOrder
+pub mod NameCodes
+pub mod CodeOrder
 pub mod Index
 pub mod SameContents
 pub mod Equal

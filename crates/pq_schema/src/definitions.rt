@@ -1,16 +1,18 @@
 //! The definitions of a file, with their full names.
 //!
 //! `Defs::of` makes the full names in one walk over the tree, and sorts them. Names of one scope
-//! share its name. `find` is a binary search.
+//! share its name. `find` is a binary search, `repeated` a walk over the sorted names.
 ghost use Rattle.std.specs.Prelude.{◌≡◌, bytes_eq, find, IfOk};
 ghost use Rattle.std.specs.Option.{option_copied};
 ghost use Rattle.pq_schema.specs.Definitions.{defs_of};
+ghost use Rattle.pq_schema.specs.Repeated.{AreRepeated};
 ghost use Rattle.pq_schema.specs.aux.InPackage.{AllBelow, dotted};
 
+use crate::coded::Coded;
 use crate::define::definitions_in;
 use crate::enclosing::Enclosing;
 use crate::full_name::{FullName, with_dot};
-use crate::index::{first_named, index_of};
+use crate::index::{first_named, index_of, repeated};
 use crate::outline::package_of;
 use crate::{Memory, Text};
 use pq_lex::Span;
@@ -62,7 +64,7 @@ pub struct Defs {
     root: Text,
     definitions: Vec<Definition>,
     /// The full names in the order of the index, each with its place in `definitions`.
-    index: Vec<(FullName, usize)>,
+    index: Vec<(Coded, usize)>,
 }
 
 impl Model for Defs {
@@ -127,6 +129,14 @@ impl Defs {
             ≡ find (λ d. bytes_eq d.full_name full_name.now) self.now.definitions }
     {
         first_named(&self.index, &self.definitions, full_name)
+    }
+
+    /// Of each definition, whether one before it has its full name, by one walk over the names in
+    /// order.
+    pub fn repeated(&self, alloc: Global) -> Result<Vec<bool>, Memory>
+        ensures repeated { IfOk result (λ v. AreRepeated v.items self.now.definitions) }
+    {
+        repeated(alloc, &self.index, &self.definitions)
     }
 }
 

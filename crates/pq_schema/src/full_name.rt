@@ -10,6 +10,7 @@ ghost use Rattle.std.specs.Cmp.Rules.{comparing};
 ghost use Rattle.std.specs.Ordering.{as_partial_cmp};
 ghost use Rattle.std.proofs.Common.{rules};
 ghost use Rattle.pq_schema.specs.aux.NameParts.{leading, name_order};
+ghost use Rattle.pq_schema.specs.aux.NameCodes.{coded, code_of};
 
 use pq_names::{Memory, Text};
 use pq_rules::Shared;
@@ -91,6 +92,13 @@ impl FullName {
             text: text.as_bytes(),
         };
         compare(self.rest(), other)
+    }
+
+    /// The code of the name, which is made of at most its last 32 bytes.
+    pub(crate) fn code(&self) -> u64
+        ensures code { result ≡ code_of self.now }
+    {
+        code_of_rest(self.rest())
     }
 
     /// The parts of the name, each with the dot after it; without bytes it has none.
@@ -227,6 +235,44 @@ fn compare(a: Rest<'_>, b: Rest<'_>) -> Ordering
             },
         }
     }
+}
+
+/// The most bytes that a code is made of.
+const CODED: usize = 32;
+
+/// The factor of a code before each byte: 2^64 over the golden ratio, odd.
+const FACTOR: u64 = 11_400_714_819_323_198_485;
+
+/// The code `code` with the byte `byte` after it.
+fn coded(code: u64, byte: u8) -> u64
+    ensures code { result ≡ coded code byte }
+{
+    code.wrapping_mul(FACTOR).wrapping_add(byte as u64)
+}
+
+/// The code of `bytes`.
+fn code_of_rest(bytes: Rest<'_>) -> u64
+    ensures code { result ≡ code_of bytes.entry }
+{
+    let mut rest = bytes;
+    let mut code = 0u64;
+    'bytes: for i in 0..CODED {
+        match rest.pop() {
+            Some(byte) => code = coded(code, byte),
+            None => return code,
+        }
+    }
+    code
+}
+
+/// The code of the name `text`.
+pub(crate) fn code_of_text(text: &str) -> u64
+    ensures code { result ≡ code_of text.now }
+{
+    code_of_rest(Rest {
+        parts: &[],
+        text: text.as_bytes(),
+    })
 }
 
 /// `name` with a dot after it.

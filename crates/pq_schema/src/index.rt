@@ -1,32 +1,37 @@
 //! The index of definitions by full name: their names in order, each with its place.
 //!
 //! It is sorted by name, then by place, so the first entry of a name is its first definition. A
-//! binary search finds that entry. Names are compared from their last bytes to their first, so
-//! names of one scope are told apart without a look at the scope. The names come from strangers;
-//! their order does not matter to either cost.
+//! binary search finds that entry, and one walk finds all names that are repeated. Names are
+//! compared by their codes first (`coded`), and names with one code from their last bytes to their
+//! first. So most names are told apart by one comparison of numbers, and names of one scope without
+//! a look at the scope. The names come from strangers; neither cost grows faster than N log N
+//! comparisons of names, whatever their codes.
 ghost use Rattle.std.specs.Prelude.{◌≡◌, ℕ, ◌<◌, ◌≤◌, true, false, length, get_or, [], find, bytes_eq, IfOk};
 ghost use Rattle.std.specs.Option.{option_copied};
-ghost use Rattle.std.specs.Ordering.{is_lt};
+ghost use Rattle.std.specs.Ordering.{is_lt, nat_cmp, ordering_then};
 ghost use Rattle.std.specs.List.Sorted.{IsSorted};
-ghost use Rattle.pq_schema.specs.aux.Index.{IsIndexOf, entry_order};
+ghost use Rattle.pq_schema.specs.aux.Index.{IsIndexOf, entry_order, group_start};
+ghost use Rattle.pq_schema.specs.aux.NameCodes.{code_of, code_order};
 ghost use Rattle.pq_schema.specs.aux.NameParts.{name_order};
+ghost use Rattle.pq_schema.specs.Repeated.{AreRepeated};
 
 use crate::Memory;
+use crate::coded::Coded;
 use crate::definitions::Definition;
-use crate::full_name::FullName;
+use crate::full_name::code_of_text;
 use std::alloc::Global;
 
 /// The index of `definitions`.
 pub(crate) fn index_of(
     alloc: Global,
     definitions: &[Definition],
-) -> Result<Vec<(FullName, usize)>, Memory>
+) -> Result<Vec<(Coded, usize)>, Memory>
     ensures { IfOk result (λ v. IsIndexOf v.items definitions.now) }
 {
     let mut index = Vec::with_capacity(alloc, definitions.len())?;
     'places: for place in 0..definitions.len() {
         let name = definitions[place].full_name.copy()?;
-        index.push((name, place))?;
+        index.push((Coded::new(name), place))?;
     }
     index.sort()?;
     Ok(index)
@@ -34,7 +39,7 @@ pub(crate) fn index_of(
 
 /// The first of `definitions` with the full name `name`.
 pub(crate) fn first_named<'a>(
-    index: &[(FullName, usize)],
+    index: &[(Coded, usize)],
     definitions: &'a [Definition],
     name: &str,
 ) -> Option<&'a Definition>
@@ -56,17 +61,52 @@ pub(crate) fn first_named<'a>(
 }
 
 /// The number of entries whose name comes before `name`.
-fn lower_bound(index: &[(FullName, usize)], name: &str) -> usize
+fn lower_bound(index: &[(Coded, usize)], name: &str) -> usize
     requires { IsSorted entry_order index.now }
     ensures within { result ≤ length index.now }
     ensures less { (k : ℕ) → k < result →
-        is_lt (name_order (get_or index.now k ([], 0)).0 name.now) ≡ true }
+        is_lt (code_order (get_or index.now k ([], 0)).0 name.now) ≡ true }
     ensures others { (k : ℕ) → result ≤ k → k < length index.now →
-        is_lt (name_order (get_or index.now k ([], 0)).0 name.now) ≡ false }
+        is_lt (code_order (get_or index.now k ([], 0)).0 name.now) ≡ false }
 {
+    let code = code_of_text(name);
     index.partition_point(
-        |entry: &(FullName, usize)| -> bool
-            ensures { result ≡ is_lt (name_order entry.now.0 name.entry.now) }
-        { entry.0.compare_to(name).is_lt() },
+        |entry: &(Coded, usize)| -> bool
+            ensures { result ≡ is_lt (ordering_then (nat_cmp (code_of entry.now.0) code) (name_order entry.now.0 name.entry.now)) }
+        { entry.0.compare_to(code, name).is_lt() },
     )
+}
+
+/// The first entry with the name of the entry `i`, where `first` is that of the entry before it.
+fn first_of(index: &[(Coded, usize)], first: usize, i: usize) -> usize
+    requires within { (first ≤ i) × (i < length index.now) }
+    ensures first { result ≡ group_start index.now first i }
+{
+    if index[first].0 == index[i].0 {
+        first
+    } else {
+        i
+    }
+}
+
+/// Of each of `definitions`, whether one before it has its full name. Entries of one name are
+/// neighbours, so one walk over `index` finds this.
+pub(crate) fn repeated(
+    alloc: Global,
+    index: &[(Coded, usize)],
+    definitions: &[Definition],
+) -> Result<Vec<bool>, Memory>
+    requires { IsIndexOf index.now definitions.now }
+    ensures repeated { IfOk result (λ v. AreRepeated v.items definitions.now) }
+{
+    let mut repeated = vec![in alloc; false; definitions.len()]?;
+    let mut first = 0;
+    'entries: for i in 0..index.len() {
+        first = first_of(index, first, i);
+        let place = index[i].1;
+        let inside = place < repeated.len();
+        prove!(inside);
+        repeated[place] = index[first].1 < place;
+    }
+    Ok(repeated)
 }

@@ -10,7 +10,7 @@
 //! compiles to; `schema_in_rules` says this of every rule set that embeds the queries.
 //!
 //! Modules: `definitions` (what a file defines), `define` (what a statement defines), `index` (the
-//! search by full name), `references`, `outline` (the package and the scopes of a file),
+//! search by full name, over `coded`), `references`, `outline` (the package and the scopes of a file),
 //! `full_name` and `enclosing` (names that share their scopes), `map_entries`; `scope` (the files
 //! that a file sees and reaches), `files` over `by_package` and `named` (the look-up of a full
 //! name, which files it asks, and the first that has it), `nesting` (the scopes around a scope), `search` (the search from scope to scope), `resolution` (its answers); `keys` (what a
@@ -19,6 +19,7 @@
 #![tactic(auto)]
 
 mod by_package;
+mod coded;
 mod collected;
 mod define;
 mod defined;

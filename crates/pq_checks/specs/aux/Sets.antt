@@ -8,7 +8,6 @@ use Rattle.std.specs.Option.{option_eq}
 use Rattle.std.specs.Ordering.{int_eq}
 use Rattle.std.specs.declared.cmp.Ordering.{Ordering}
 use Rattle.pq_syntax.specs.declared.parts.Strings.{Strings}
-use Rattle.pq_schema.specs.declared.definitions.Definition.{Definition}
 use Rattle.pq_checks.specs.Faults.{same_item}
 use Rattle.pq_checks.specs.Members.{Member, ReservedName}
 use Rattle.pq_checks.specs.Numbers.{Limits, number_in}
@@ -35,10 +34,6 @@ is_holder q m = same_item q m.holder
 -- `is_name q n` is whether `q` is the owner and the value of the reserved name `n`
 abbrev pub is_name : NameKey → ReservedName → Bool
 is_name q n = same_item q.0 n.owner && bytes_eq q.1.now n.value
-
--- `is_full_name q d` is whether `q` is the full name of the definition `d`
-abbrev pub is_full_name : List ℕ → Definition → Bool
-is_full_name q d = bytes_eq q d.full_name
 
 -- `is_import q i` is whether the import `i` has the name that `q` lends
 abbrev pub is_import : Bor (List ℕ) → Strings → Bool

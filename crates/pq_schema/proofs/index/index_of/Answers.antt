@@ -8,7 +8,7 @@ places-preserved c =
     let ds = c.args.definitions.now in
     let n = c.places.place in
     let d = c.index-definitions-place.result in
-    let named : c.in_ok-name.name ≡ (get_or ds n d).full_name = c.in_ok-name.ensures.copy in
+    let named : c.new.result ≡ (get_or ds n d).full_name = c.new.ensures.name ∙ c.in_ok-name.ensures.copy in
     let is : c.push.new.self.items ≡ c.places.index.items ++ ((get_or ds n d).full_name, n) ∷ [] =
     c.in_ok-push.ensures.items ∙ ap (λ (m : List ℕ). c.places.index.items ++ (m, n) ∷ []) named in
     entries_more ds n c.places.index.items c.push.new.self.items d c.places-test.true is c.places.invariant
