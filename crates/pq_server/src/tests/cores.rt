@@ -108,7 +108,7 @@ fn cancelled_by_an_edit(rt: HostRuntime) -> Result<(), Fail> {
         edit 0 low b=c => 4\n\
         request 0 => 0 0\n\
         look 0 => stopped\n\
-        look 0 => no run\n\
+        look 0 => no such run\n\
         request 0 => none\n\
         start => 1\n\
         finish 1 => Sum a fresh;Sum b fresh;Sum c fresh;answered\n\
@@ -143,8 +143,8 @@ fn full_and_closed(rt: HostRuntime) -> Result<(), Fail> {
         look 2 => stopped; rest\n\
         release 0 => nothing; rest\n\
         close 0 => none; rest\n\
-        accept 0 7 Sum a => closed; rest\n\
-        edit 0 low a= => closed; rest\n\
+        accept 0 7 Sum a => the client was closed; rest\n\
+        edit 0 low a= => the client was closed; rest\n\
         ",
     )
 }
@@ -176,7 +176,7 @@ fn rests_while_full(rt: HostRuntime) -> Result<(), Fail> {
 fn starved(rt: HostRuntime) -> Result<(), Fail> {
     check_rows(
         &rt,
-        18,
+        17,
         "\
         open 4 => 0; rest\n\
         accept 0 7 Sum a => 0\n\
@@ -185,17 +185,16 @@ fn starved(rt: HostRuntime) -> Result<(), Fail> {
         start => 1\n\
         look 0 => Sum a fresh\n\
         look 0 => blocked 0\n\
-        swap 1 0 => not this run 1\n\
+        swap 1 0 => the result is not that of the run's work; stepped\n\
         look 0 => blocked 0\n\
         starve 0 => yes\n\
         starve 0 => no\n\
-        look 0 => no run\n\
+        look 0 => no such run\n\
         request 0 => none\n\
-        look 1 => blocked 1\n\
-        starve 1 => yes\n\
+        finish 1 => answered\n\
         release 0 => put 0\n\
         release 0 => put 1; rest\n\
-        close 0 => 0 7 Sum a @0 starved|1 8 Sum a @0 starved|0; rest\n\
+        close 0 => 0 7 Sum a @0 starved|1 8 Sum a @0 answered 1|0; rest\n\
         ",
     )
 }
@@ -211,7 +210,7 @@ fn stopped_by_a_late_result(rt: HostRuntime) -> Result<(), Fail> {
         accept 0 7 Sum a => 0\n\
         start => 0\n\
         late 0 low a=b => stopped\n\
-        look 0 => no run\n\
+        look 0 => no such run\n\
         release 0 => put 0; rest\n\
         close 0 => 0 7 Sum a @1 cancelled 0 1|0; rest\n\
         ",
@@ -225,18 +224,18 @@ fn strangers(rt: HostRuntime) -> Result<(), Fail> {
         &rt,
         15,
         "\
-        accept 0 7 Sum a => no client; rest\n\
-        edit 0 low a=b => no client; rest\n\
+        accept 0 7 Sum a => no such client; rest\n\
+        edit 0 low a=b => no such client; rest\n\
         release 0 => nothing; rest\n\
         take 0 => no; rest\n\
         close 0 => none; rest\n\
         start => none; rest\n\
-        look 0 => no run; rest\n\
+        look 0 => no such run; rest\n\
         starve 0 => no; rest\n\
         request 0 => none; rest\n\
         open 0 => 0; rest\n\
-        accept 1 7 Sum a => no client; rest\n\
-        edit 1 low a=b => no client; rest\n\
+        accept 1 7 Sum a => no such client; rest\n\
+        edit 1 low a=b => no such client; rest\n\
         release 1 => nothing; rest\n\
         close 1 => none; rest\n\
         now => 0; rest\n\

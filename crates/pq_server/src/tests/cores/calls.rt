@@ -1,13 +1,13 @@
 //! The calls of a core, each as a line of text.
 //!
 //! - `open ROOM`, `accept CLIENT REQUEST`, `edit CLIENT CHANGE`, `release CLIENT`, `take CLIENT` and
-//!   `close CLIENT` are calls of a client. A close answers the replies that were put, and the count
-//!   of those that were taken.
-//! - `start`, `look RUN`, `starve RUN` and `request RUN` are calls of a run. The work that a look
-//!   hands out is lost.
+//!   `close CLIENT` are calls of a client. A close answers the replies that were put, and the count of
+//!   those that were taken.
+//! - `start`, `look RUN`, `starve RUN` and `request RUN` are calls of a run. The work that a look hands
+//!   out is lost.
 //! - `step RUN` carries the work out and gives its result. `finish RUN` steps until the run is over,
 //!   and `turns RUN OTHER` takes steps of both.
-//! - `swap RUN OTHER` gives the result of the work of `RUN` to `OTHER`.
+//! - `swap RUN OTHER` gives the result of the work of `RUN` to `OTHER`, and then to `RUN`.
 //! - `late RUN CHANGE` makes a change of client 0 before it gives the result of the work of `RUN`.
 //! - `now` is the revision now.
 ghost use Rattle.std.specs.Prelude.{◌≡◌, IfOk};
@@ -16,11 +16,7 @@ ghost use Rattle.pq_core.specs.Moves.{IsMade};
 use super::lines::{change_of, client_of, number_of, request_of, shown_replies};
 use crate::tests::rules::shown_key;
 use crate::tests::support::split_row;
-use pq_core::{
-    AcceptFault, ClientId, Core, Done, EditFault, GiveFault, ListOutbox, LookFault, Move, Number,
-    OpenFault, Released, RunId, Work,
-};
-use pq_inputs::InputFault;
+use pq_core::{ClientId, Core, Done, ListOutbox, Move, Number, Released, RunId, Work};
 use pq_memo::Why;
 use pq_rules::{Memory, Rules, SumsKey, SumsValue};
 use std::alloc::Global;
@@ -42,20 +38,7 @@ fn open<R: Rules<Key = SumsKey, Value = SumsValue>>(
     let outbox = ListOutbox::new(alloc, room)?;
     match core.open_client(alloc, outbox) {
         Ok(client) => format!(in alloc; "{}", client.number()),
-        Err(refused) => match refused.fault {
-            OpenFault::TooManyClients => String::from_str(alloc, "too many clients"),
-            OpenFault::Memory => Err(Memory),
-        },
-    }
-}
-
-/// Why a request was not accepted.
-fn accept_fault(fault: AcceptFault) -> &'static str {
-    match fault {
-        AcceptFault::NoClient => "no client",
-        AcceptFault::Closed => "closed",
-        AcceptFault::WindowFull => "window full",
-        AcceptFault::Memory => "memory",
+        Err(refused) => format!(in alloc; "{}", refused.fault),
     }
 }
 
@@ -70,19 +53,7 @@ fn accept<R: Rules<Key = SumsKey, Value = SumsValue>>(
     let request = request_of::<SumsKey>(rt, request)?;
     match core.accept(client, request) {
         Ok(number) => format!(in alloc; "{}", number.number()),
-        Err(refused) => String::from_str(alloc, accept_fault(refused.fault)),
-    }
-}
-
-/// Why an edit was not accepted.
-fn edit_fault(fault: EditFault) -> &'static str {
-    match fault {
-        EditFault::NoClient => "no client",
-        EditFault::Closed => "closed",
-        EditFault::Input(InputFault::TextTooLong) => "text too long",
-        EditFault::Input(InputFault::TooManyFiles) => "too many files",
-        EditFault::Input(InputFault::RevisionsUsedUp) => "revisions used up",
-        EditFault::Input(InputFault::Memory) => "memory",
+        Err(refused) => format!(in alloc; "{}", refused.fault),
     }
 }
 
@@ -97,7 +68,7 @@ fn edit<R: Rules<Key = SumsKey, Value = SumsValue>>(
     let change = change_of(rt, change)?;
     match core.edit(client, change) {
         Ok(revision) => format!(in alloc; "{}", revision.number()),
-        Err(refused) => String::from_str(alloc, edit_fault(refused.fault)),
+        Err(refused) => format!(in alloc; "{}", refused.fault),
     }
 }
 
@@ -167,16 +138,7 @@ fn look<R: Rules<Key = SumsKey, Value = SumsValue>>(
     match core.look(alloc, run) {
         Ok(Move::Carry(work)) => shown_work(alloc, &work),
         Ok(step) => shown_move(alloc, &step),
-        Err(LookFault::NoRun) => String::from_str(alloc, "no run"),
-        Err(LookFault::Memory) => Err(Memory),
-    }
-}
-
-/// Why a result was not taken.
-fn give_fault(fault: GiveFault) -> &'static str {
-    match fault {
-        GiveFault::NotThisRun => "not this run",
-        GiveFault::Memory => "memory",
+        Err(fault) => format!(in alloc; "{fault}"),
     }
 }
 
@@ -191,7 +153,7 @@ fn give<R: Rules<Key = SumsKey, Value = SumsValue>>(
 {
     match core.give(alloc, run, done) {
         Ok(step) => shown_move(alloc, &step),
-        Err(refused) => String::from_str(alloc, give_fault(refused.fault)),
+        Err(refused) => format!(in alloc; "{}", refused.fault),
     }
 }
 
@@ -238,8 +200,7 @@ fn step<R: Rules<Key = SumsKey, Value = SumsValue>>(
     match core.look(alloc, run) {
         Ok(Move::Carry(work)) => work_for(alloc, core, whys, run, work),
         Ok(step) => shown_move(alloc, &step),
-        Err(LookFault::NoRun) => String::from_str(alloc, "no run"),
-        Err(LookFault::Memory) => Err(Memory),
+        Err(fault) => format!(in alloc; "{fault}"),
     }
 }
 
@@ -256,7 +217,7 @@ fn add_start(starts: &mut String, step: &str) -> Result<(), Memory> {
 
 /// Whether a run is over after a step.
 fn is_over(step: &str) -> bool {
-    step == "answered" || step == "stopped" || step == "no run"
+    step == "answered" || step == "stopped" || step == "no such run"
 }
 
 /// Takes steps of `run` until it is over. Returns the rules that it started, and its end.
@@ -296,10 +257,11 @@ fn turns<R: Rules<Key = SumsKey, Value = SumsValue>>(
     Err(Fail::from("two runs go on and on"))
 }
 
-/// Gives a result to another run. Returns why it was refused, and whose result comes back.
-fn give_wrong<R: Rules<Key = SumsKey, Value = SumsValue>>(
+/// Gives a result to `other`, and where it is refused to `run`. Returns why, and the move.
+fn give_both<R: Rules<Key = SumsKey, Value = SumsValue>>(
     alloc: Global,
     core: &mut Lists<R>,
+    run: RunId,
     other: RunId,
     done: Done<R>,
 ) -> Result<String, Memory>
@@ -308,13 +270,14 @@ fn give_wrong<R: Rules<Key = SumsKey, Value = SumsValue>>(
     match core.give(alloc, other, done) {
         Ok(step) => shown_move(alloc, &step),
         Err(refused) => {
-            let run = refused.done.run().number();
-            format!(in alloc; "{} {run}", give_fault(refused.fault))
+            let fault = refused.fault;
+            let step = give(alloc, core, run, refused.done)?;
+            format!(in alloc; "{fault}; {}", step.as_str())
         }
     }
 }
 
-/// Gives the result of the work of `run` to `other`.
+/// Gives the result of the work of `run` to `other`, and then to `run`.
 fn swap<R: Rules<Key = SumsKey, Value = SumsValue>>(
     alloc: Global,
     core: &mut Lists<R>,
@@ -325,7 +288,7 @@ fn swap<R: Rules<Key = SumsKey, Value = SumsValue>>(
     match core.look(alloc, run) {
         Ok(Move::Carry(work)) => {
             let done = carried(alloc, whys, work)?;
-            give_wrong(alloc, core, other, done)
+            give_both(alloc, core, run, other, done)
         }
         _ => String::from_str(alloc, "no work"),
     }

@@ -27,17 +27,17 @@ fn windows(rt: HostRuntime) -> Result<(), Fail> {
     add_numbered(rt.alloc(), &mut script, "accept 0 7 Sum a", 32, "")?;
     script.push_str(
         "\
-        accept 0 7 Sum a => window full\n\
-        accept 0 7 say no => window full\n\
+        accept 0 7 Sum a => too many requests of the client are owed a reply\n\
+        accept 0 7 say no => too many requests of the client are owed a reply\n\
         accept 1 7 say yes => 0\n\
         start => 0\n\
         finish 0 => Sum a fresh;answered\n\
-        accept 0 7 Sum a => window full\n\
+        accept 0 7 Sum a => too many requests of the client are owed a reply\n\
         release 0 => put 0\n\
         accept 0 7 Sum a => 32\n\
-        accept 0 7 Sum a => window full\n\
+        accept 0 7 Sum a => too many requests of the client are owed a reply\n\
         take 0 => yes\n\
-        accept 0 7 Sum a => window full\n\
+        accept 0 7 Sum a => too many requests of the client are owed a reply\n\
         ",
     )?;
     check_script(&rt, script.as_str())
@@ -51,14 +51,14 @@ fn clients(rt: HostRuntime) -> Result<(), Fail> {
     add_numbered(rt.alloc(), &mut script, "open 1", 64, "; rest")?;
     script.push_str(
         "\
-        open 1 => too many clients; rest\n\
+        open 1 => too many clients are open; rest\n\
         close 5 => 0; rest\n\
         open 1 => 64; rest\n\
-        open 1 => too many clients; rest\n\
+        open 1 => too many clients are open; rest\n\
         close 5 => none; rest\n\
-        accept 5 7 Sum a => closed; rest\n\
+        accept 5 7 Sum a => the client was closed; rest\n\
         accept 64 7 Sum a => 0\n\
-        accept 65 7 Sum a => no client\n\
+        accept 65 7 Sum a => no such client\n\
         ",
     )?;
     check_script(&rt, script.as_str())
@@ -78,7 +78,7 @@ fn long_texts(rt: HostRuntime) -> Result<(), Fail> {
     )?;
     script.push_str(" ".repeat(rt.alloc(), 1_048_577)?.as_str())?;
     script.push_str(
-        " => text too long\n\
+        " => the edit was refused: the text is too long\n\
         now => 1\n\
         finish 0 => Sum a fresh;Sum b fresh;answered\n\
         release 0 => put 0; rest\n\

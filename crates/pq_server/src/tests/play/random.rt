@@ -24,16 +24,16 @@ fn check_list(
         model,
         script,
     };
-    check_played(rt, &case, &played, ends && room > 400, counts)
+    check_played(rt, &case, &played, ends && room > 0, counts)
 }
 
 /// Checks that each outcome was seen often.
 fn check_counts(rt: &impl Abort, counts: Counts) {
-    assert!(rt; counts.values > 400, "values: {}", counts.values);
-    assert!(rt; counts.cycles > 400, "cycles: {}", counts.cycles);
-    assert!(rt; counts.plain > 400, "plain: {}", counts.plain);
-    assert!(rt; counts.cancelled > 400, "cancelled: {}", counts.cancelled);
-    assert!(rt; counts.starved > 400, "starved: {}", counts.starved);
+    assert!(rt; counts.values > 50, "values: {}", counts.values);
+    assert!(rt; counts.cycles > 50, "cycles: {}", counts.cycles);
+    assert!(rt; counts.plain > 50, "plain: {}", counts.plain);
+    assert!(rt; counts.cancelled > 50, "cancelled: {}", counts.cancelled);
+    assert!(rt; counts.starved > 50, "starved: {}", counts.starved);
 }
 
 /// Checks 2,000 lists, which the state `state` begins. Each tenth ends.

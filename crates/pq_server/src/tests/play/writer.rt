@@ -245,7 +245,7 @@ impl Writer {
         self.runs = 0;
         self.script = String::new(alloc);
         self.add_client()?;
-        for _ in 0..self.below(4) {
+        for _ in 0..self.below(8) {
             self.add_edit(alloc)?;
         }
         for _ in 0..self.below(30).saturating_add(20) {
