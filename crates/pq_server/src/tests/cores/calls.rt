@@ -1,12 +1,12 @@
 //! The calls of a core, each as a line of text.
 //!
-//! - `open ROOM`, `accept CLIENT REQUEST`, `edit CLIENT CHANGE`, `release CLIENT`, `take CLIENT` and
-//!   `close CLIENT` are calls of a client. A close answers the replies that were put, and the count of
-//!   those that were taken.
-//! - `start`, `look RUN`, `starve RUN` and `request RUN` are calls of a run. The work that a look hands
-//!   out is lost.
-//! - `step RUN` carries the work out and gives its result. `finish RUN` steps until the run is over,
-//!   and `turns RUN OTHER` takes steps of both.
+//! - `open ROOM`, `accept CLIENT REQUEST`, `edit CLIENT CHANGE`, `release CLIENT`, `take CLIENT`
+//!   and `close CLIENT` are calls of a client. A close answers the replies that were put, and the
+//!   count of those that were taken.
+//! - `start`, `look RUN`, `starve RUN` and `request RUN` are calls of a run. The work that a look
+//!   hands out is lost.
+//! - `step RUN` carries the work out and gives its result. `finish RUN` steps until the run is
+//!   over, and `turns RUN OTHER` takes steps of both.
 //! - `swap RUN OTHER` gives the result of the work of `RUN` to `OTHER`, and then to `RUN`.
 //! - `late RUN CHANGE` makes a change of client 0 before it gives the result of the work of `RUN`.
 //! - `now` is the revision now.
