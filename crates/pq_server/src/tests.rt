@@ -4,14 +4,12 @@
 //! that calls succeed with ample memory. The crates below have no tests: a crate with tests is proved
 //! twice.
 mod compile;
-mod cores;
 mod engine;
 mod frame;
 mod inputs;
 mod lex;
 mod messages;
 mod names;
-mod play;
 mod program;
 mod rules;
 mod schema;
