@@ -2,8 +2,8 @@
 """Runs the tests of the core and of lists of events, which the gate does not run.
 
 They are texts of Rattle in plays/: a core's calls as scripts of lines, worked lists of events, and random lists that are
-compared with a plain model and with compilations from scratch. As tests of pq_server they would take the gate more than an
-hour of a processor to prove, so they stand here, and `rt try` runs them without a proof. Each `NAME.rt.txt` becomes a
+compared with a plain model and with compilations from scratch. As tests of pq_server their proofs would take the gate too
+long, so they stand here, and `rt try` runs them without a proof. Each `NAME.rt.txt` becomes a
 module of a scratch crate, beside the rules and the support of pq_server's tests, over a copy of the crates.
 
 Without --proto the lists over the rules of proto3 files are left out: they need most crates built.
