@@ -382,7 +382,7 @@ module _ {R K P V O : Type 0} (order : K → K → Ordering) (m : Machine K P V)
           rules_same = handed.rules_same;
           run_same = handed.run_same;
           started = handed.started ∙ (sym now.1 ∙ ap (λ (y : RunSeen K). y.started) x.same);
-          files = handed.files ∙ ap (λ (t : Table). t.files) (sym s.inputs);
+          files_same = handed.files ∙ ap (λ (t : Table). t.files) (sym s.inputs);
         },
         ap (with_out l r x.at) handed.out,
       ) in (

@@ -90,21 +90,25 @@ pub record IsWhole {R K P V O : Type 0} (order : K → K → Ordering) (m : Mach
       → RunKept order m core.inputs (memo_at order core.places) run
   pub ledger : (l : Ledger K V O) × StandsOf order m puts (held core) l
 
--- `HandsOut core run move` is that `move`, if it hands work out, hands out work for `run`, of the
+-- `OnCarry Says move` is that `Says` holds of the work that `move` hands out, if it hands out work
+abbrev pub OnCarry : {W : Type 0} → (W → Type 0) → Move W → Type 0
+OnCarry Says (Carry work) = Says work
+OnCarry Says (Blocked run) = Unit {0}
+OnCarry Says Stepped = Unit {0}
+OnCarry Says Answered = Unit {0}
+OnCarry Says Stopped = Unit {0}
+
+-- `HandsOut core run move` is that the work that `move` hands out, if it does, is for `run`, of the
 -- rules of `core` and over its sources
 abbrev pub HandsOut : {R K P V O : Type 0} → CoreView R K P V O → ℕ → Move (WorkView R K P V) → Type 0
-HandsOut core run (Carry work) = IsWorkOf core.rules run core.inputs.revision core.inputs.files work
-HandsOut core run (Blocked other) = Unit {0}
-HandsOut core run Stepped = Unit {0}
-HandsOut core run Answered = Unit {0}
-HandsOut core run Stopped = Unit {0}
+HandsOut core run move = OnCarry (IsWorkOf core.rules run core.inputs.revision core.inputs.files) move
 
--- `HasCause order m core move` is that `move`, if it hands out a rule to be started, and only then,
--- names a cause, which the table of `core` gives
-abbrev pub HasCause : {R K P V O : Type 0} → (K → K → Ordering) → Machine K P V → CoreView R K P V O → Move (WorkView R K P V) → Type 0
-HasCause order m core (Carry work) =
+-- `NamesCause order m core work` is that `work`, if its rule is to be started, and only then, names
+-- a cause, which the table of `core` gives
+abbrev pub NamesCause : {R K P V O : Type 0} → (K → K → Ordering) → Machine K P V → CoreView R K P V O → WorkView R K P V → Type 0
+NamesCause order m core work =
     HasWhy (IsCause order m core.inputs.history core.inputs.revision (HasIn (memo_at order core.places)) work.done.key) work.done.front work.why
-HasCause order m core (Blocked other) = Unit {0}
-HasCause order m core Stepped = Unit {0}
-HasCause order m core Answered = Unit {0}
-HasCause order m core Stopped = Unit {0}
+
+-- `HasCause order m core move` is that the work that `move` hands out, if it does, names its cause
+abbrev pub HasCause : {R K P V O : Type 0} → (K → K → Ordering) → Machine K P V → CoreView R K P V O → Move (WorkView R K P V) → Type 0
+HasCause order m core move = OnCarry (NamesCause order m core) move

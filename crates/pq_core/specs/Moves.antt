@@ -12,7 +12,7 @@ use Rattle.pq_rules.specs.declared.turn.Answer.{Answer}
 use Rattle.pq_rules.specs.Turns.{Machine}
 use Rattle.pq_core.specs.Changes.{ChangeView}
 use Rattle.pq_core.specs.Replies.{ReplyView}
-use Rattle.pq_core.specs.Works.{DoneView, WorkView}
+use Rattle.pq_core.specs.Works.{DoneView, WorkView, IsWorkOf}
 use Rattle.pq_core.specs.Outboxes.{TakesNext}
 use Rattle.pq_core.specs.Ledger.{Out, Place, Waiting, Running, Ready, Put, Dropped, Entry, Client, Ledger, IsOpen, IsClosed, IsEntry, with_client, with_entry, moved_to, opened, with_outbox, closed}
 use Rattle.pq_core.specs.RightReply.{IsValueAt, answer_by}
@@ -266,14 +266,6 @@ pub record AnswersWith {K V O : Type 0} (means : Sources → K → Answer K V �
   pub demanded : at.entry.request.want ≡ Demand key
   pub is_value : IsValueAt means l.inputs l.inputs.revision key answer
 
--- `IsHandedOut rules l run at work` is that `work` is of `run`, the run `at`, and of `rules` over
--- the sources now
-pub record IsHandedOut {R K P V O : Type 0} (rules : R) (l : Ledger K V O) (run : ℕ) (at : RunAt K V O) (work : WorkView R K P V) : Type 0 where
-  pub rules_same : work.done.rules ≡ rules
-  pub run_same : work.done.run ≡ run
-  pub started : work.done.started ≡ at.started
-  pub files : work.done.files ≡ l.inputs.files
-
 -- `out_of done` is what is kept of work that is out, whose result will be `done`
 abbrev pub out_of : {R K P V : Type 0} → DoneView R K P V → Out K
 out_of done = record { key = done.key; reads = length done.front }
@@ -283,7 +275,7 @@ out_of done = record { key = done.key; reads = length done.front }
 -- answers
 abbrev pub LooksFor : {R K P V O : Type 0} → (Sources → K → Answer K V → Type 0) → R → ℕ → Result (Move (WorkView R K P V)) LookFault → Ledger K V O → Ledger K V O → Type 0
 LooksFor {R} {K} {P} {V} {O} means rules run (Ok (Carry work)) l m =
-    (at : RunAt K V O) × GoesOn l run at × IsHandedOut rules l run at work × (m ≡ with_out l run at (Some (out_of work.done)))
+    (at : RunAt K V O) × GoesOn l run at × IsWorkOf rules run at.started l.inputs.files work × (m ≡ with_out l run at (Some (out_of work.done)))
 LooksFor {R} {K} {P} {V} {O} means rules run (Ok (Blocked other)) l m =
     (at : RunAt K V O) × Runs l run at × IsCurrent l at × ((out : Out K) × (at.out ≡ Some out)) × (other ≡ run) × (m ≡ l)
 LooksFor {R} {K} {P} {V} {O} means rules run (Ok Stepped) l m = (at : RunAt K V O) × GoesOn l run at × (m ≡ l)

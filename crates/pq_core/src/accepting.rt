@@ -1,9 +1,9 @@
 //! Accepting requests and edits of clients.
-ghost use Rattle.std.specs.Prelude.{◌≡◌, ◌≤◌, ◌<◌, ◌+◌, ◌^◌, ◌⊎◌, [], ◌∷◌, ◌++◌, IfOk, IfErr, IfSome, IfNone, OnOk, OnErr, length, Some, None, true, false, IsTrue, ◌↔◌};
+ghost use Rattle.std.specs.Prelude.{◌≡◌, ◌≤◌, ◌<◌, ◌+◌, IfErr, IfSome, IfNone, OnOk, length, Some, None, true, false, IsTrue, ◌↔◌};
 ghost use Rattle.std.specs.VecDeque.{deque_capacity};
 ghost use Rattle.pq_core.specs.Kept.{IsDemand};
 ghost use Rattle.pq_core.specs.Ledger.{Ledger};
-ghost use Rattle.pq_core.specs.Moves.{Reaches, Accepts, Edits, inputs_after, window};
+ghost use Rattle.pq_core.specs.Moves.{Reaches, Accepts, Edits, inputs_after};
 ghost use Rattle.pq_core.specs.Cores.{StandsFor};
 ghost use Rattle.pq_core.specs.aux.Rising.{found};
 ghost use Rattle.pq_core.specs.aux.Changes.{IsSameMap};
@@ -20,7 +20,6 @@ use crate::rising::Rising;
 use pq_inputs::{Revision, SetRefused};
 use pq_memo::kept_is_sound;
 use pq_rules::Rules;
-use std::alloc::Global;
 use std::collections::VecDeque;
 
 /// Makes room for one more request that waits, and for the runs of all that may wait.

@@ -7,8 +7,7 @@
 //!
 //! A run is current while no edit was accepted since its start. The invariant of a current run is
 //! that of its frames over the table of memos; it outlasts the steps of other runs.
-ghost use Rattle.std.specs.Prelude.{◌≡◌, [], ℕ};
-ghost use Rattle.pq_memo.specs.Table.{memo_at};
+ghost use Rattle.std.specs.Prelude.{◌≡◌};
 ghost use Rattle.pq_core.specs.Ledger.{unused};
 ghost use Rattle.pq_core.specs.Cores.{StandsFor};
 

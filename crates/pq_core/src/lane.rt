@@ -3,7 +3,7 @@
 //! The requests of a client are numbered from 0, and replies leave in this order. So the lane keeps
 //! the count of the replies put and a queue of the requests after those. Each call takes constant
 //! time, and only `accept` allocates.
-ghost use Rattle.std.specs.Prelude.{◌≡◌, ◌+◌, ◌<◌, ◌≤◌, ◌⊎◌, ◌^◌, ◌↔◌, ◌++◌, ◌∷◌, [], ℕ, false, length, slice_get, slice_set, Some, None, IsTrue, IfSome, IfNone, IfOk, IfErr, OnErr};
+ghost use Rattle.std.specs.Prelude.{◌≡◌, ◌+◌, ◌<◌, ◌≤◌, ◌⊎◌, ◌^◌, ◌↔◌, [], false, length, slice_get, slice_set, Some, None, IsTrue, IfSome, IfNone, IfOk, IfErr, OnErr};
 ghost use Rattle.pq_core.specs.Replies.{ReplyView};
 ghost use Rattle.pq_core.specs.Moves.{window};
 ghost use Rattle.pq_core.specs.aux.Lanes.{IsOwed, with_owed, pushed, first_owed, LetsOut, LaneReleases, LaneTakes};

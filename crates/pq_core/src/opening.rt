@@ -1,17 +1,15 @@
-//! Calls of clients: opening, posting requests, editing.
-ghost use Rattle.std.specs.Prelude.{◌≡◌, ◌≤◌, ◌<◌, ◌+◌, ◌^◌, [], ◌∷◌, ◌++◌, IfOk, IfErr, IfSome, IfNone, OnOk, OnErr, length, Some, None, true, false};
+//! Opening clients.
+ghost use Rattle.std.specs.Prelude.{◌≡◌, ◌<◌, ◌+◌, [], IfErr};
 ghost use Rattle.pq_core.specs.Ledger.{Ledger};
-ghost use Rattle.pq_core.specs.Moves.{Reaches, Opens, Accepts, Edits};
+ghost use Rattle.pq_core.specs.Moves.{Reaches, Opens};
 ghost use Rattle.pq_core.specs.Cores.{StandsFor};
 
 use crate::cores::Core;
-use crate::fault::{AcceptFault, AcceptRefused, EditFault, EditRefused, OpenFault, OpenRefused};
-use crate::ids::{ClientId, Number};
+use crate::fault::{OpenFault, OpenRefused};
+use crate::ids::ClientId;
 use crate::lane::Lane;
 use crate::limits::MAX_CLIENTS;
 use crate::outbox::Outbox;
-use crate::request::{Change, Request};
-use pq_inputs::Revision;
 use pq_rules::Rules;
 use std::alloc::Global;
 

@@ -1,6 +1,5 @@
 //! Replies that leave, clients that close, and rest.
 ghost use Rattle.std.specs.Prelude.{◌≡◌, ◌↔◌, IsTrue, Some, None, true};
-ghost use Rattle.pq_rules.specs.Relations.{In};
 ghost use Rattle.pq_core.specs.Ledger.{Ledger};
 ghost use Rattle.pq_core.specs.Moves.{Reaches, Releases, Closes, TakesOut, IsAtRest};
 ghost use Rattle.pq_core.specs.Cores.{StandsFor};

@@ -2,7 +2,7 @@
 //!
 //! A run that was overtaken is stopped before anything else, so that a want of memory never hides
 //! it.
-ghost use Rattle.std.specs.Prelude.{◌≡◌, ◌≤◌, ◌<◌, ◌+◌, ◌⊎◌, ◌↔◌, length, ℕ, IsTrue, IfSome, IfNone, IfOk, IfErr, Some, None};
+ghost use Rattle.std.specs.Prelude.{◌≡◌, ◌≤◌, ◌<◌, ◌+◌, ◌⊎◌, ◌↔◌, length, ℕ, IsTrue, IfOk, IfErr, Some, None};
 ghost use Rattle.pq_core.specs.Replies.{IsFair};
 ghost use Rattle.pq_core.specs.Ledger.{Ledger};
 ghost use Rattle.pq_core.specs.Moves.{Reaches, Looks, Gives, Starves, IsMade, IsRequestOf};

@@ -1,6 +1,5 @@
 //! Starting a run for a request that waits.
-ghost use Rattle.std.specs.Prelude.{◌≡◌, ◌≤◌, ◌<◌, ◌+◌, ◌^◌, [], ◌∷◌, ◌++◌, IfSome, IfNone, length, Some, None};
-ghost use Rattle.pq_rules.specs.Relations.{Each};
+ghost use Rattle.std.specs.Prelude.{◌≡◌, ◌<◌, ◌+◌, IfSome, IfNone, Some, None};
 ghost use Rattle.pq_core.specs.Ledger.{Ledger};
 ghost use Rattle.pq_core.specs.Moves.{Reaches, Starts};
 ghost use Rattle.pq_core.specs.Cores.{StandsFor};

@@ -3,7 +3,7 @@
 //! `Core::look` hands work out, `carry_out` runs the rule without the core, and `Core::give` takes
 //! the result. Work and result hold a copy of the rule set. Their types keep that the turn is the
 //! one that the rule takes by right answers at the sources of the start.
-ghost use Rattle.std.specs.Prelude.{◌≡◌, ℕ, length, Option, IfOk, IfErr};
+ghost use Rattle.std.specs.Prelude.{◌≡◌, length, Option, IfOk, IfErr};
 ghost use Rattle.pq_core.specs.Works.{IsDue};
 ghost use Rattle.pq_core.specs.aux.Tasks.{turn_of};
 

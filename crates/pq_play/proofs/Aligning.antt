@@ -18,13 +18,10 @@ use Rattle.pq_core.specs.declared.moves.Move.{Move}
 use Rattle.pq_core.specs.declared.moves.Move.TheVariants.{Carry, Blocked, Stepped as MoveStepped, Answered as MoveAnswered, Stopped as MoveStopped}
 use Rattle.pq_core.specs.declared.moves.Released.{Released}
 use Rattle.pq_core.specs.declared.moves.Released.TheVariants.{Put as ReleasedPut, Full as ReleasedFull, Gone as ReleasedGone, Nothing as ReleasedNothing}
-use Rattle.pq_core.proofs.Lists.{get_set, get_append, get_within, get_there, set_long, append_long}
+use Rattle.pq_core.proofs.Lists.{some_one, get_set, get_append, get_within, get_there, set_long, append_long}
 use Rattle.pq_play.specs.World.{replies_of}
 use Rattle.pq_play.specs.Results.{request_of, accepted_of}
 use Rattle.pq_play.specs.aux.Seats.{SeatView, free_seat, with_request, with_left, Seated, Aligned}
-
-some_one : {A : Type 0} (x y : A) → Some x ≡ Some y → x ≡ y
-some_one x y e = cc
 
 not_both : (b : Bool) → b ≡ true → b ≡ false → ⊥
 not_both b e f = cc

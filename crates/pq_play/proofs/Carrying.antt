@@ -16,7 +16,7 @@ use Rattle.pq_core.specs.declared.fault.OpenRefused.{OpenRefused}
 use Rattle.pq_core.specs.declared.fault.EditRefused.{EditRefused}
 use Rattle.pq_core.specs.declared.moves.Move.{Move}
 use Rattle.pq_core.specs.declared.moves.Released.{Released}
-use Rattle.pq_core.proofs.Lists.{get_within, get_there, same_or_other}
+use Rattle.pq_core.proofs.Lists.{some_one, none_some, get_within, get_there, same_or_other}
 use Rattle.pq_play.specs.World.{World, replies_of}
 use Rattle.pq_play.specs.Steps.{Steps, OpenAnswered, EditAnswered, empty_list}
 use Rattle.pq_play.specs.aux.Seats.{SeatView, free_seat, with_request, with_left, Seated, Aligned, SetsSeat, SeatLeaves, TakesLeft, LeavesNone}
@@ -27,12 +27,6 @@ use Rattle.pq_play.proofs.Running.{Ran, ran_same, ran_looks, ran_gives, ran_star
 use Rattle.pq_play.proofs.Leading.{true_or_false}
 use Rattle.pq_play.specs.declared.event.Event.{Event}
 use Rattle.pq_play.specs.declared.event.Event.TheVariants.{Open, Accept, Edit, Start, Step, Give, Starve, Release, Take, Close}
-
-some_one : {A : Type 0} (x y : A) → Some x ≡ Some y → x ≡ y
-some_one x y e = cc
-
-none_some : {A : Type 0} (x : A) → None ≡ Some x → ⊥
-none_some x e = cc
 
 module _ {R K P V : Type 0} (room : ℕ) (order : K → K → Ordering) (machine : Machine K P V) (rules own after_own : R) (Stands After : Ledger K V (Listed K V) → Type 0) (w : World K V) (seats : List (SeatView K V)) (dones : ℕ → Option (DoneView R K P V)) (s : Stood order machine rules own Stands w seats dones) (same_rules : after_own ≡ own) where
   ran : Ran rules w.ledger dones

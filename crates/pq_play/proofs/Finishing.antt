@@ -11,7 +11,7 @@ use Rattle.pq_core.specs.Works.{DoneView}
 use Rattle.pq_core.specs.Outboxes.{Listed}
 use Rattle.pq_core.specs.Ledger.{Ledger, Client, closed}
 use Rattle.pq_core.specs.Moves.{Closes}
-use Rattle.pq_core.proofs.Lists.{get_within, get_there, get_set, map_long, same_or_other}
+use Rattle.pq_core.proofs.Lists.{some_one, get_within, get_there, get_set, map_long, same_or_other}
 use Rattle.pq_play.specs.World.{World}
 use Rattle.pq_play.specs.Steps.{LeadsTo}
 use Rattle.pq_core.specs.declared.request.Request.{Request}
@@ -23,9 +23,6 @@ use Rattle.pq_play.proofs.Aligning.{map_set, closed_requests, seated_at}
 use Rattle.pq_play.proofs.Leading.{true_or_false, playing_on, stood_after, closed_steps}
 use Rattle.pq_play.specs.declared.event.Event.{Event}
 use Rattle.pq_play.specs.declared.event.Event.TheVariants.{Close}
-
-some_one : {A : Type 0} (x y : A) → Some x ≡ Some y → x ≡ y
-some_one x y e = cc
 
 map_same : {A B C : Type 0} (f : A → C) (g : B → C) (xs : List A) (ys : List B) → length xs ≡ length ys → ((i : ℕ) (x : A) (y : B) → slice_get xs i ≡ Some x → slice_get ys i ≡ Some y → f x ≡ g y) → map f xs ≡ map g ys
 map_same f g [] [] e h = refl

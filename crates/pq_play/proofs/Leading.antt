@@ -12,7 +12,7 @@ use Rattle.pq_core.specs.Outboxes.{Listed, taken_front, HasNoRoom}
 use Rattle.pq_core.specs.Ledger.{Place, Waiting, Running, Ready, Put, Dropped, Ledger, Client, Entry, IsClosed, unused}
 use Rattle.pq_core.specs.RightReply.{IsRight, IsRightFor, answer_by}
 use Rattle.pq_core.specs.Kept.{PlaceKept, InputsKept, Kept}
-use Rattle.pq_core.proofs.Lists.{get_within, get_there}
+use Rattle.pq_core.proofs.Lists.{some_one, none_some, get_within, get_there}
 use Rattle.pq_core.proofs.Keeping.{kept_opens, kept_accepts, kept_edits, kept_starts, kept_looks, kept_gives, kept_starves, kept_releases, kept_closes, kept_takes}
 use Rattle.pq_core.proofs.Closing.{shut_opens, shut_accepts, shut_edits, shut_starts, shut_looks, shut_gives, shut_starves, shut_releases, shut_closes, shut_takes}
 use Rattle.pq_play.specs.World.{World, no_files, beginning, replies_of}
@@ -28,14 +28,8 @@ pub true_or_false : (b : Bool) → (b ≡ true) ⊎ (b ≡ false)
 true_or_false true = inl refl
 true_or_false false = inr refl
 
-some_one : {A : Type 0} (x y : A) → Some x ≡ Some y → x ≡ y
-some_one x y e = cc
-
-none_is : {A : Type 0} (x : A) → None ≡ Some x → ⊥
-none_is x e = cc
-
 get_taken : {A : Type 0} (xs : List A) (n i : ℕ) (x : A) → slice_get (take n xs) i ≡ Some x → slice_get xs i ≡ Some x
-get_taken xs zero i x h = absurd (none_is x h)
+get_taken xs zero i x h = absurd (none_some x h)
 get_taken [] (suc n) i x h = h
 get_taken (a ∷ xs) (suc n) zero x h = h
 get_taken (a ∷ xs) (suc n) (suc i) x h = get_taken xs n i x h
@@ -161,7 +155,7 @@ module _ {R K P V : Type 0} (room : ℕ) (order : K → K → Ordering) (machine
       }
 
   no_run : (c n : ℕ) (a : Run K) → run_at {V = V} {O = Listed K V} [] c n ≡ Some a → ⊥
-  no_run c n a h = none_is a h
+  no_run c n a h = none_some a h
 
   -- a core that was just made
   pub stood_start : (own : R) (Stands : Ledger K V (Listed K V) → Type 0) (seats : List (SeatView K V)) (dones : ℕ → Option (DoneView R K P V)) → own ≡ rules → Stands (unused no_files)
@@ -169,12 +163,12 @@ module _ {R K P V : Type 0} (room : ℕ) (order : K → K → Ordering) (machine
   stood_start own Stands seats dones same stands e none = record {
     own_same = same;
     stands = stands;
-    kept = record { inputs = record { counted = refl; latest = refl }; clients = λ c client h. absurd (none_is client h) };
+    kept = record { inputs = record { counted = refl; latest = refl }; clients = λ c client h. absurd (none_some client h) };
     fits = record {
       aligned = record {
         counted = refl;
         places = ap (λ (xs : List (SeatView K V)). length xs) e;
-        each = λ c client tk seat h i j. absurd (none_is client h);
+        each = λ c client tk seat h i j. absurd (none_some client h);
       };
       runs = record { below = λ c n a h. absurd (no_run c n a h); once = λ c n d i a b h g same_number. absurd (no_run c n a h) };
       outs = λ r. subst (OutOf rules (unused no_files) r) (sym (none r)) (λ c n a h number. absurd (no_run c n a h));

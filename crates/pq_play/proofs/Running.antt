@@ -21,14 +21,8 @@ use Rattle.pq_core.specs.declared.moves.Move.{Move}
 use Rattle.pq_core.specs.declared.moves.Move.TheVariants.{Carry, Blocked, Stepped as MoveStepped, Answered as MoveAnswered, Stopped as MoveStopped}
 use Rattle.pq_core.specs.declared.moves.Released.{Released}
 use Rattle.pq_core.specs.declared.moves.Released.TheVariants.{Put as ReleasedPut, Full as ReleasedFull, Gone as ReleasedGone, Nothing as ReleasedNothing}
-use Rattle.pq_core.proofs.Lists.{get_longer, get_within, set_same, set_other, same_or_other}
+use Rattle.pq_core.proofs.Lists.{some_one, none_some, get_longer, get_within, set_same, set_other, same_or_other}
 use Rattle.pq_play.specs.aux.Running.{Run, run_in, run_of, run_among, run_at, RunsKept, IsKeptFor, OutOf, IsPut, IsSame, KeepsMove}
-
-some_one : {A : Type 0} (x y : A) → Some x ≡ Some y → x ≡ y
-some_one x y e = cc
-
-none_some : {A : Type 0} (x : A) → None ≡ Some x → ⊥
-none_some x e = cc
 
 same_place : (d k c n : ℕ) → ((d ≡ c) × (k ≡ n)) ⊎ (d ≡ c → k ≡ n → ⊥)
 same_place d k c n =
@@ -431,7 +425,7 @@ module _ {R K P V O : Type 0} (rules : R) where
       let h = s.2 in
       let now : work.done.started ≡ l.inputs.revision = h.started ∙ s.1.current.now in
       ran_handed l m run s.0 work.done dones after_it s.1.runs s.3 h.rules_same h.run_same h.started
-      (ap (slice_get l.inputs.history) now ∙ i.latest ∙ ap (λ (y : Sources). Some y) (sym h.files))
+      (ap (slice_get l.inputs.history) now ∙ i.latest ∙ ap (λ (y : Sources). Some y) (sym h.files_same))
       (subst (λ (y : ℕ). IsPut dones after_it y (Some work.done)) h.run_same p) x
   ran_looks means run (Blocked other) l m dones after_it i s p x = ran_same l m dones after_it (same_as l m s.5) p x
   ran_looks means run MoveStepped l m dones after_it i s p x = ran_same l m dones after_it (same_as l m s.2) p x

@@ -1,5 +1,5 @@
 //! The results of work that is out, by their runs.
-ghost use Rattle.std.specs.Prelude.{◌≡◌, IfOk, OnOk, None, Some};
+ghost use Rattle.std.specs.Prelude.{◌≡◌, OnOk, None, Some};
 ghost use Rattle.pq_play.specs.aux.Running.{done_of, IsPut, KeepsMove};
 
 use pq_core::{Done, Memory, Move, RunId, Work};

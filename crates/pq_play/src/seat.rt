@@ -1,5 +1,5 @@
 //! What is kept of a client while events are played.
-ghost use Rattle.std.specs.Prelude.{◌≡◌, ◌<◌, true, false, IfOk, IfErr, OnOk, length, slice_set, slice_get, Some};
+ghost use Rattle.std.specs.Prelude.{◌≡◌, ◌<◌, true, false, IfOk, OnOk, length, Some};
 ghost use Rattle.pq_core.specs.Outboxes.{taken_front};
 ghost use Rattle.pq_play.specs.aux.Seats.{free_seat, with_request, with_left, seat_taken, SeatTakes, SeatLeaves, SetsSeat, TakesLeft, LeavesNone};
 
