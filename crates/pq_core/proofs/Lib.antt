@@ -12,6 +12,7 @@ pub mod Keeping
 pub mod Closing
 pub mod Slots
 pub mod Writes
+pub mod Queued
 pub mod LaneMoves
 pub mod Framed
 pub mod OneTurn

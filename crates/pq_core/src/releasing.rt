@@ -1,9 +1,10 @@
 //! Replies that leave, clients that close, and rest.
-ghost use Rattle.std.specs.Prelude.{◌≡◌, ◌↔◌, IsTrue, Some, None, true};
+ghost use Rattle.std.specs.Prelude.{◌≡◌, ◌↔◌, IsTrue, Some, None, true, filter};
 ghost use Rattle.pq_core.specs.Ledger.{Ledger};
 ghost use Rattle.pq_core.specs.Moves.{Reaches, Releases, Closes, TakesOut, IsAtRest};
 ghost use Rattle.pq_core.specs.Cores.{StandsFor};
 ghost use Rattle.pq_core.specs.aux.Resting.{HasWaiting, HasReadyLane};
+ghost use Rattle.pq_core.specs.aux.Starting.{is_of_other};
 
 use crate::cores::Core;
 use crate::fault::Memory;
@@ -34,6 +35,17 @@ fn has_waiting<K: Drop, V: Drop, O: Drop>(
     false
 }
 
+/// Removes the requests of `client` from the queue.
+fn drop_queued(waiting: &mut VecDeque<(u64, u64)>, client: u64)
+    ensures { waiting.new.items ≡ filter (λ seat. is_of_other client seat) waiting.old.items }
+{
+    waiting.retain(
+        |seat: &(u64, u64)| -> bool
+            ensures { result ≡ is_of_other client seat.now }
+        { seat.0 != client },
+    );
+}
+
 /// Whether the next reply to an open client is ready, and its last release was not refused.
 fn has_ready<K: Drop, V: Drop, O: Drop>(lanes: &Rising<Lane<K, V, O>>) -> bool
     ensures { IsTrue result ↔ HasReadyLane lanes.now }
@@ -62,7 +74,8 @@ impl<R: Rules, O: Outbox<R::Key, R::Value> + Drop> Core<R, O> {
     }
 
     /// Closes `client`. Returns its outbox the first time. Replies that are ready and requests that
-    /// wait are dropped. It takes no memory.
+    /// wait are dropped. It takes no memory, and looks at each request that waits: of a client that
+    /// was closed only its runs are kept.
     pub fn close_client(&mut self, client: ClientId) -> Option<O>
         ensures rules { self.new.rules ≡ self.old.rules }
         ensures inputs { self.new.inputs ≡ self.old.inputs }
@@ -73,6 +86,7 @@ impl<R: Rules, O: Outbox<R::Key, R::Value> + Drop> Core<R, O> {
         match self.lanes.take(seat) {
             Some(lane) => {
                 self.opened -= 1;
+                drop_queued(&mut self.waiting, seat);
                 return Some(lane.into_outbox());
             }
             None => return None,

@@ -1,5 +1,5 @@
 -- Auxiliary: the first request of a queue that waits.
-use Rattle.std.specs.Prelude.{ℕ, ◌≡◌, List, [], ◌∷◌, ◌++◌, Some}
+use Rattle.std.specs.Prelude.{ℕ, ◌≡◌, List, [], ◌∷◌, ◌++◌, Some, Bool, not, eqb}
 use Rattle.pq_rules.specs.Relations.{Each}
 use Rattle.pq_core.specs.declared.request.Request.{Request}
 use Rattle.pq_core.specs.declared.starting.Next.{Next}
@@ -7,6 +7,10 @@ use Rattle.pq_core.specs.declared.lane.Owed.TheVariants.{Waiting as OwedWaiting,
 use Rattle.pq_core.specs.aux.Rising.{Slots, found}
 use Rattle.pq_core.specs.aux.Changes.{IsSetAt, IsSameMap}
 use Rattle.pq_core.specs.aux.Lanes.{LaneView, IsOwed, with_owed}
+
+-- `is_of_other c seat` is whether `seat`, a client and a number, is of another client than `c`
+abbrev pub is_of_other : ℕ → ℕ × ℕ → Bool
+is_of_other c seat = not (eqb seat.0 c)
 
 -- `IsStale lanes seat` is that the request of `seat`, a client and a number, does not wait
 abbrev pub IsStale : {K V O : Type 0} → Slots (LaneView K V O) → ℕ × ℕ → Type 0

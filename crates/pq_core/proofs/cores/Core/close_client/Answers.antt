@@ -1,5 +1,6 @@
 use Rattle.std.proofs.Common.{◌≡◌, ◌≤◌, ◌+◌, ◌-◌, ℕ, refl, sym, arith}
-use Rattle.pq_core.proofs.CoreReleasing.{some_opened, close_moved, close_none}
+use Rattle.pq_core.proofs.CoreReleasing.{some_opened, close_left, close_none}
+use Rattle.pq_core.proofs.Queued.{others_stay, no_longer}
 use Rattle.pq_core.proofs.cores.Core.close_client.Goals as goal
 
 less_one : (n : ℕ) → 1 ≤ n → n - 1 + 1 ≡ n
@@ -15,14 +16,17 @@ invariant_of-self g c =
     let w = c.self.invariant in
     let here = sym c.in-Some.ensures.value in
     let some = some_opened g.R.Key.Ord.cmp (g.R.Rules.machine c.self.inside.memos.rules) g.O.Outbox.puts _ w.ledger.0 c.number-seat.result c.in-Some.lane w.ledger.1 here in
-    let moved = close_moved g.R.Key.Ord.cmp (g.R.Rules.machine c.self.inside.memos.rules) g.O.Outbox.puts _ _ c.number-seat.result c.in-Some.lane
+    let moved = close_left g.R.Key.Ord.cmp (g.R.Rules.machine c.self.inside.memos.rules) g.O.Outbox.puts _ _ c.number-seat.result c.in-Some.lane
     c.into_outbox.result w.ledger.0 here c.take.ensures.found c.into_outbox.ensures
-    (record { inputs = refl; clients = refl; waiting = refl; runs = refl; started = refl }) (less_one c.self.inside.opened some) w.ledger.1 in
+    (record { inputs = refl; clients = refl; runs = refl; started = refl }) (less_one c.self.inside.opened some)
+    (others_stay c.number-seat.result _ _ c.drop_queued.ensures) w.ledger.1 in
+    let fewer = no_longer c.number-seat.result _ _ c.drop_queued.ensures in
+    let room = w.room in
     record {
       kept = w.kept;
       lanes_above = c.take.ensures.above c.self.inside.clients w.lanes_above;
       runs_above = w.runs_above;
-      room = w.room;
+      room = omega arith;
       current = w.current;
       ledger = (moved.0, moved.2);
     }
@@ -34,9 +38,10 @@ returns-in-Some-clause-moved g c =
     let some = some_opened g.R.Key.Ord.cmp (g.R.Rules.machine c.self.inside.memos.rules) g.O.Outbox.puts _ w.ledger.0 c.number-seat.result c.in-Some.lane w.ledger.1 here in
     rw (← c.self.view_is)
     (rw (← c.number-seat.ensures)
-    (λ l s. close_moved g.R.Key.Ord.cmp (g.R.Rules.machine c.self.inside.memos.rules) g.O.Outbox.puts _ _ c.number-seat.result c.in-Some.lane
+    (λ l s. close_left g.R.Key.Ord.cmp (g.R.Rules.machine c.self.inside.memos.rules) g.O.Outbox.puts _ _ c.number-seat.result c.in-Some.lane
     c.into_outbox.result l here c.take.ensures.found c.into_outbox.ensures
-    (record { inputs = refl; clients = refl; waiting = refl; runs = refl; started = refl }) (less_one c.self.inside.opened some) s))
+    (record { inputs = refl; clients = refl; runs = refl; started = refl }) (less_one c.self.inside.opened some)
+    (others_stay c.number-seat.result _ _ c.drop_queued.ensures) s))
 
 pub invariant_of-self-in-None : goal.invariant_of-self-in-None
 invariant_of-self-in-None g c =
