@@ -1,16 +1,15 @@
 -- The calls of a core as moves of the ledgers that it stands for: one client changes.
-use Rattle.std.proofs.Common.{◌≡◌, ◌≢◌, ℕ, zero, suc, ◌+◌, ◌-◌, ◌<◌, ◌≤◌, ◌^◌, ◌⊎◌, Bool, true, false, List, [], ◌∷◌, ◌++◌, map, length, slice_get, slice_set, Option, Some, None, refl, sym, ◌∙◌, ap, subst, inl, inr, arith}
-use Rattle.std.specs.Prelude.{Ok, Err, Result}
-use Rattle.pq_inputs.specs.Sources.{Sources, Table}
+use Rattle.std.proofs.Common.{◌≡◌, ◌≢◌, ℕ, ◌<◌, Bool, true, false, List, length, slice_get, slice_set, Option, Some, None, refl, sym, ◌∙◌, ap, subst, inl, inr, arith}
+use Rattle.pq_inputs.specs.Sources.{Sources}
 use Rattle.pq_rules.specs.declared.turn.Answer.{Answer}
 use Rattle.pq_rules.specs.Relations.{In}
-use Rattle.pq_core.proofs.Lists.{get_set, get_append, get_longer, get_last, get_within, get_there, get_map, set_long, set_same, set_other, append_long, map_long, same_or_other, some_one, none_some}
-use Rattle.pq_core.proofs.Standing.{Elsewhere, RunsThere, entry_elsewhere, client_elsewhere, client_entry, count_same, count_closed, count_opened, restand}
+use Rattle.pq_core.proofs.Lists.{get_within, get_there, set_same, set_other, same_or_other, some_one, none_some}
+use Rattle.pq_core.proofs.Standing.{Elsewhere, client_entry, count_same, restand}
 use Rattle.pq_core.specs.Replies.{ReplyView}
-use Rattle.pq_core.specs.Ledger.{Out, Place, Waiting, Running, Ready, Put, Dropped, Entry, Client, Ledger, IsOpen, IsClosed, IsEntry, with_client, with_entry, moved_to, opened, with_outbox, place_closed, entry_closed, closed}
-use Rattle.pq_core.specs.Moves.{Reaches, RunAt, Runs, NoneRuns, open_count, with_new, ended, ended_entry, place_ended, reply_at, with_out}
+use Rattle.pq_core.specs.Ledger.{Out, Place, Waiting, Running, Ready, Put, Dropped, Entry, Client, Ledger, IsOpen, IsClosed, with_client, with_entry}
+use Rattle.pq_core.specs.Moves.{RunAt, Runs, NoneRuns}
 use Rattle.pq_core.specs.Kept.{Kept}
-use Rattle.pq_core.specs.aux.Stands.{RunSeen, Fields, EntryStands, ClientStands, HasRun, Stands}
+use Rattle.pq_core.specs.aux.Stands.{RunSeen, Fields, EntryStands, Stands}
 
 -- `LaneSet f g c lane` is that `lane` is what `g` has of the client `c`, and that it has of others
 -- what `f` has

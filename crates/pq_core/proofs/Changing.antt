@@ -1,5 +1,5 @@
 -- One value of a map from numbers is taken out and put back.
-use Rattle.std.proofs.Common.{◌≡◌, ◌≢◌, ℕ, ◌+◌, ◌<◌, ◌≤◌, ◌==◌, if◌then◌else◌, Bool, true, false, List, Option, Some, None, IfNone, refl, sym, ◌∙◌, ap, subst, inl, inr, arith}
+use Rattle.std.proofs.Common.{◌≡◌, ◌≢◌, ℕ, ◌+◌, ◌<◌, ◌≤◌, ◌==◌, if◌then◌else◌, Bool, true, false, List, Option, Some, None, IfNone, refl, sym, ◌∙◌, ap, arith}
 use Rattle.std.specs.Prelude.{OnErr, OnOk, is_err, Ok, Err, Result, [], ◌∷◌}
 use Rattle.std.proofs.lemmas.Bool.{eq-eqb, eqb-true}
 use Rattle.pq_core.specs.declared.rising.Place.{Place}

@@ -1,5 +1,5 @@
 -- Accepting a request or an edit, at what a core keeps.
-use Rattle.std.proofs.Common.{◌≡◌, ◌≢◌, ℕ, ◌+◌, ◌-◌, ◌<◌, ◌≤◌, ◌^◌, ◌==◌, if◌then◌else◌, ◌⊎◌, Bool, true, false, List, [], ◌∷◌, ◌++◌, length, slice_get, Option, Some, None, refl, sym, ◌∙◌, ap, subst, inl, inr, arith}
+use Rattle.std.proofs.Common.{◌≡◌, ℕ, ◌+◌, ◌<◌, ◌≤◌, ◌==◌, if◌then◌else◌, ◌⊎◌, Bool, true, false, List, [], ◌∷◌, ◌++◌, length, Option, Some, None, refl, sym, ◌∙◌, ap, subst, inl, inr, arith}
 use Rattle.std.specs.Prelude.{Ok, Err, Result, OnOk, is_err, unwrap_or}
 use Rattle.std.specs.Option.{option_map}
 use Rattle.std.specs.declared.cmp.Ordering.{Ordering}
@@ -7,24 +7,23 @@ use Rattle.pq_inputs.specs.Sources.{Table}
 use Rattle.pq_inputs.specs.Refusal.{refusal}
 use Rattle.pq_rules.specs.Turns.{Machine}
 use Rattle.pq_rules.specs.Relations.{In}
-use Rattle.pq_core.proofs.Lists.{none_some, some_one}
+use Rattle.pq_core.proofs.Lists.{some_one}
 use Rattle.pq_core.proofs.Changing.{if_at, if_other}
-use Rattle.pq_core.proofs.Calling.{LaneSet, RunSet, SameCounts, SameFields, stands_same, open_of, closed_of, none_open, run_at}
-use Rattle.pq_core.proofs.Moving.{SameQueues, open_stands, accept_stands, edit_stands}
+use Rattle.pq_core.proofs.Calling.{open_of, closed_of, run_at}
+use Rattle.pq_core.proofs.Moving.{accept_stands, edit_stands}
 use Rattle.pq_core.proofs.Keeping.{kept_accepts, kept_edits, runs_placed}
 use Rattle.pq_core.proofs.LaneMoves.{accepted_stands}
-use Rattle.pq_core.proofs.CoreOpening.{SameMaps, same_fields, unmoved}
 use Rattle.pq_core.specs.Replies.{ReplyView}
 use Rattle.pq_core.specs.Changes.{ChangeView}
-use Rattle.pq_core.specs.Ledger.{Client, Ledger, IsOpen, IsClosed, with_client}
+use Rattle.pq_core.specs.Ledger.{Client, Ledger, with_client}
 use Rattle.pq_core.specs.RightReply.{answer_by}
 use Rattle.pq_core.specs.Kept.{IsDemand}
 use Rattle.pq_core.specs.Moves.{Reaches, Accepts, Edits, AcceptRefusal, EditRefusal, InputRefusal, window, owed, first_place, new_entry, with_new, changed}
 use Rattle.pq_core.specs.Cores.{Held, fields_of, run_seen as seen_of, StandsOf}
 use Rattle.pq_core.specs.aux.Stands.{Fields, EntryStands}
-use Rattle.pq_core.specs.aux.Rising.{Slots, found, IsAbove, SameFound}
+use Rattle.pq_core.specs.aux.Rising.{found}
 use Rattle.pq_core.specs.aux.Lanes.{LaneView, LaneStands, pushed, first_owed}
-use Rattle.pq_core.specs.aux.Accepting.{IsFullLane, MayNot, MayPost, MayNotEdit}
+use Rattle.pq_core.specs.aux.Accepting.{MayNot, MayPost, MayNotEdit}
 use Rattle.pq_core.specs.declared.request.Request.{Request}
 use Rattle.pq_core.specs.declared.request.Want.{Want}
 use Rattle.pq_core.specs.declared.request.Want.TheVariants.{Demand, Fixed}

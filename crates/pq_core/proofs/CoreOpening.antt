@@ -1,25 +1,23 @@
 -- Calls of clients, at what contracts see of a core.
-use Rattle.std.proofs.Common.{◌≡◌, ◌≢◌, ℕ, ◌+◌, ◌<◌, ◌≤◌, ◌==◌, if◌then◌else◌, ◌⊎◌, Bool, true, false, List, [], ◌∷◌, ◌++◌, length, slice_get, Option, Some, None, refl, sym, ◌∙◌, ap, subst, inl, inr, arith}
-use Rattle.std.specs.Prelude.{Ok, Err, Result}
+use Rattle.std.proofs.Common.{◌≡◌, ℕ, ◌+◌, ◌<◌, ◌==◌, if◌then◌else◌, false, List, [], ◌∷◌, ◌++◌, length, slice_get, Some, None, refl, sym, ◌∙◌, ap, subst}
+use Rattle.std.specs.Prelude.{Ok, Err}
 use Rattle.std.specs.Option.{option_map}
 use Rattle.std.specs.declared.cmp.Ordering.{Ordering}
-use Rattle.pq_inputs.specs.Sources.{Table}
 use Rattle.pq_rules.specs.Turns.{Machine}
-use Rattle.pq_rules.specs.Relations.{In}
 use Rattle.pq_core.proofs.Lists.{none_some}
 use Rattle.pq_core.proofs.Changing.{if_at, if_other}
-use Rattle.pq_core.proofs.Calling.{LaneSet, RunSet, SameCounts, SameFields, stands_same, open_of, closed_of, none_open}
-use Rattle.pq_core.proofs.Moving.{SameQueues, open_stands, accept_stands, edit_stands}
-use Rattle.pq_core.proofs.Keeping.{kept_opens, kept_accepts, kept_edits}
+use Rattle.pq_core.proofs.Calling.{SameFields, stands_same}
+use Rattle.pq_core.proofs.Moving.{open_stands}
+use Rattle.pq_core.proofs.Keeping.{kept_opens}
 use Rattle.pq_core.specs.Replies.{ReplyView}
 use Rattle.pq_core.specs.Ledger.{Ledger, opened, unused}
 use Rattle.pq_core.specs.RightReply.{answer_by}
 use Rattle.pq_core.specs.Moves.{Reaches, Opens, open_count, max_clients}
 use Rattle.pq_core.specs.Cores.{Held, fields_of, run_seen, StandsOf}
 use Rattle.pq_core.specs.declared.rising.Place.{Place}
-use Rattle.pq_core.specs.aux.Rising.{Slots, found, IsAbove, SameFound}
+use Rattle.pq_core.specs.aux.Rising.{found}
 use Rattle.pq_core.specs.aux.Lanes.{LaneView, LaneStands}
-use Rattle.pq_core.specs.declared.fault.OpenFault.TheVariants.{TooManyClients, Memory as OpenMemory}
+use Rattle.pq_core.specs.declared.fault.OpenFault.TheVariants.{Memory as OpenMemory}
 
 -- `SameMaps b a` is that `a` keeps of clients and runs what `b` keeps
 pub record SameMaps {K P V O : Type 0} (b a : Held K P V O) : Type 0 where

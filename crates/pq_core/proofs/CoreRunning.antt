@@ -1,6 +1,6 @@
 -- Steps and ends of runs, at what a core keeps.
-use Rattle.std.proofs.Common.{◌≡◌, ◌≢◌, ℕ, ◌+◌, ◌-◌, ◌<◌, ◌≤◌, ◌^◌, ◌==◌, if◌then◌else◌, ◌⊎◌, Bool, true, false, List, [], ◌∷◌, ◌++◌, length, slice_get, Option, Some, None, refl, sym, ◌∙◌, ap, subst, inl, inr, arith}
-use Rattle.std.specs.Prelude.{Ok, Err, Result, IsSome}
+use Rattle.std.proofs.Common.{◌≡◌, ◌≢◌, ℕ, ◌+◌, ◌<◌, ◌≤◌, ◌==◌, if◌then◌else◌, ◌⊎◌, Bool, true, false, List, length, Option, Some, None, refl, sym, ◌∙◌, ap, subst, inl, inr, arith}
+use Rattle.std.specs.Prelude.{Ok, IsSome}
 use Rattle.std.specs.Option.{option_map}
 use Rattle.std.specs.declared.cmp.Ordering.{Ordering}
 use Rattle.pq_inputs.specs.Sources.{Table}
@@ -14,22 +14,22 @@ use Rattle.pq_memo.specs.declared.look.Why.TheVariants.{Fresh, Changed, Ring}
 use Rattle.std.proofs.lemmas.Bool.{eqb-true}
 use Rattle.pq_core.proofs.Lists.{none_some, some_one}
 use Rattle.pq_core.proofs.Changing.{if_at, if_other}
-use Rattle.pq_core.proofs.Calling.{LaneSet, RunSet, SameCounts, SameFields, stands_same, open_of, closed_of, none_open, run_seen, none_runs, run_at, lane_open, lane_shut}
+use Rattle.pq_core.proofs.Calling.{stands_same, run_seen, none_runs, run_at, lane_open, lane_shut}
 use Rattle.pq_core.proofs.Ending.{end_stands, out_stands}
 use Rattle.pq_core.proofs.Keeping.{runs_placed, kept_looks, kept_gives}
 use Rattle.pq_core.proofs.LaneMoves.{running_within, finished_stands, out_changed_stands}
 use Rattle.pq_core.proofs.Renewed.{runs_kept}
 use Rattle.pq_core.specs.Replies.{ReplyView}
-use Rattle.pq_core.specs.Ledger.{Out, Running, Ready, Client, Ledger, with_client, with_entry, moved_to}
+use Rattle.pq_core.specs.Ledger.{Out, Ledger, with_entry}
 use Rattle.pq_core.specs.RightReply.{answer_by}
 use Rattle.pq_core.specs.Kept.{Kept, IsDemand}
 use Rattle.pq_core.specs.Works.{DoneView, WorkView, HasWhy}
 use Rattle.pq_rules.specs.declared.turn.Answer.{Answer}
 use Rattle.pq_core.specs.Moves.{Reaches, RunAt, Runs, NoneRuns, IsOvertaken, IsCurrent, GoesOn, IsOf, LooksFor, Gives, out_of, Stops, ended, ended_entry, place_ended, reply_at, with_out}
 use Rattle.pq_core.specs.Cores.{Held, fields_of, run_seen as seen_of, StandsOf}
-use Rattle.pq_core.specs.aux.Stands.{RunSeen, Fields}
+use Rattle.pq_core.specs.aux.Stands.{RunSeen}
 use Rattle.pq_core.specs.declared.rising.Place.{Place}
-use Rattle.pq_core.specs.aux.Rising.{Slots, found}
+use Rattle.pq_core.specs.aux.Rising.{found}
 use Rattle.pq_core.specs.aux.Runs.{RunView, RunKept, Renewed, IsSameRun, HandedOut, IsAnswer, out_at}
 use Rattle.pq_core.specs.aux.Lanes.{LaneView, LaneStands, with_owed}
 use Rattle.pq_core.specs.declared.lane.Owed.TheVariants.{Ready as OwedReady}

@@ -1,16 +1,15 @@
 -- The calls of a core as moves of the ledgers that it stands for: steps and ends of runs,
 -- releases, closes, takes, rest.
-use Rattle.std.proofs.Common.{◌≡◌, ◌≢◌, ℕ, zero, suc, ◌+◌, ◌-◌, ◌<◌, ◌≤◌, ◌^◌, ◌⊎◌, Bool, true, false, List, [], ◌∷◌, ◌++◌, map, length, slice_get, slice_set, Option, Some, None, refl, sym, ◌∙◌, ap, subst, inl, inr, arith}
-use Rattle.pq_inputs.specs.Sources.{Sources, Table}
+use Rattle.std.proofs.Common.{◌≡◌, ◌≢◌, ℕ, zero, suc, ◌+◌, ◌<◌, ◌⊎◌, Bool, true, false, List, [], ◌∷◌, map, length, slice_get, slice_set, Option, Some, None, refl, sym, ◌∙◌, ap, subst, inl, inr, arith}
+use Rattle.pq_inputs.specs.Sources.{Sources}
 use Rattle.pq_rules.specs.declared.turn.Answer.{Answer}
-use Rattle.pq_rules.specs.Relations.{In}
-use Rattle.pq_core.proofs.Lists.{get_set, get_append, get_longer, get_last, get_within, get_there, get_map, set_long, set_same, set_other, append_long, map_long, same_or_other, some_one, none_some}
-use Rattle.pq_core.proofs.Standing.{Elsewhere, RunsThere, entry_elsewhere, client_elsewhere, client_entry, count_same, count_closed, count_opened, restand}
-use Rattle.pq_core.proofs.Calling.{LaneSet, RunSet, SameCounts, SameFields, stands_same, open_of, closed_of, none_open, run_seen, none_runs, run_at, lane_open, lane_shut, run_entry, placed}
+use Rattle.pq_core.proofs.Lists.{get_set, get_within, get_map, set_long, set_same, set_other, same_or_other, some_one, none_some}
+use Rattle.pq_core.proofs.Standing.{entry_elsewhere, client_elsewhere, count_same, count_closed, restand}
+use Rattle.pq_core.proofs.Calling.{LaneSet, RunSet, SameCounts, run_entry, placed}
 use Rattle.pq_core.proofs.Moving.{SameQueues, elsewhere_lane, none_there, waiting_place}
 use Rattle.pq_core.specs.Replies.{ReplyView}
-use Rattle.pq_core.specs.Ledger.{Out, Place, Waiting, Running, Ready, Put, Dropped, Entry, Client, Ledger, IsOpen, IsClosed, IsEntry, with_client, with_entry, moved_to, opened, with_outbox, place_closed, entry_closed, closed}
-use Rattle.pq_core.specs.Moves.{Reaches, RunAt, Runs, NoneRuns, Waits, NoneWaits, HasReady, NextReady, IsReady, IsAtRest, open_count, ended, ended_entry, place_ended, reply_at, with_out}
+use Rattle.pq_core.specs.Ledger.{Out, Place, Waiting, Running, Ready, Put, Dropped, Entry, Client, Ledger, IsOpen, with_client, with_entry, moved_to, with_outbox, place_closed, entry_closed, closed}
+use Rattle.pq_core.specs.Moves.{RunAt, Runs, open_count, ended, ended_entry, place_ended, reply_at, with_out}
 use Rattle.pq_core.specs.Kept.{Kept}
 use Rattle.pq_core.specs.aux.Stands.{RunSeen, Fields, EntryStands, ClientStands, HasRun, Stands}
 use Rattle.pq_core.specs.declared.outcome.Outcome.{Outcome}

@@ -1,23 +1,19 @@
 -- The calls of a core as moves of the ledgers that it stands for: opening, accepting, editing,
 -- starting.
-use Rattle.std.proofs.Common.{◌≡◌, ◌≢◌, ℕ, zero, suc, ◌+◌, ◌-◌, ◌<◌, ◌≤◌, ◌^◌, ◌⊎◌, Bool, true, false, List, [], ◌∷◌, ◌++◌, map, length, slice_get, slice_set, Option, Some, None, refl, sym, ◌∙◌, ap, subst, inl, inr, arith}
-use Rattle.std.specs.Prelude.{Ok, Err, Result}
+use Rattle.std.proofs.Common.{◌≡◌, ◌≢◌, ℕ, ◌+◌, ◌<◌, ◌⊎◌, true, false, List, [], ◌∷◌, ◌++◌, length, slice_get, slice_set, Option, Some, None, refl, sym, ◌∙◌, ap, subst, inl, inr, arith}
 use Rattle.pq_inputs.specs.Sources.{Sources, Table}
-use Rattle.pq_inputs.specs.Refusal.{refusal}
 use Rattle.pq_rules.specs.declared.turn.Answer.{Answer}
 use Rattle.pq_rules.specs.Relations.{In}
-use Rattle.pq_core.proofs.Lists.{get_set, get_append, get_longer, get_last, get_within, get_there, get_map, set_long, set_same, set_other, append_long, map_long, same_or_other, some_one, none_some}
-use Rattle.pq_core.proofs.Standing.{Elsewhere, RunsThere, entry_elsewhere, client_elsewhere, client_entry, count_same, count_closed, count_opened, restand}
-use Rattle.pq_core.proofs.Calling.{LaneSet, RunSet, SameCounts, SameFields, stands_same, open_of, closed_of, none_open, run_seen, none_runs, run_at, lane_open, lane_shut, run_entry, placed}
+use Rattle.pq_core.proofs.Lists.{get_append, get_longer, get_within, set_same, set_other, append_long, same_or_other, some_one, none_some}
+use Rattle.pq_core.proofs.Standing.{Elsewhere, RunsThere, entry_elsewhere, client_elsewhere, client_entry, count_same, count_opened, restand}
+use Rattle.pq_core.proofs.Calling.{LaneSet, RunSet, SameCounts, SameFields, stands_same, placed}
 use Rattle.pq_core.specs.Replies.{ReplyView}
 use Rattle.pq_core.specs.Changes.{ChangeView}
-use Rattle.pq_core.specs.Ledger.{Out, Place, Waiting, Running, Ready, Put, Dropped, Entry, Client, Ledger, IsOpen, IsClosed, IsEntry, with_client, with_entry, moved_to, opened, with_outbox, place_closed, entry_closed, closed}
-use Rattle.pq_core.specs.Moves.{Reaches, RunAt, Runs, NoneRuns, Waits, NoneWaits, Opens, Accepts, Edits, Starts, IsRequestOf, open_count, max_clients, window, owed, first_place, new_entry, with_new, changed, started_at, ended, ended_entry, place_ended, reply_at, with_out}
+use Rattle.pq_core.specs.Ledger.{Out, Place, Waiting, Running, Ready, Put, Dropped, Entry, Client, Ledger, IsOpen, with_client, with_entry, moved_to, opened}
+use Rattle.pq_core.specs.Moves.{Waits, NoneWaits, open_count, first_place, new_entry, with_new, changed, started_at}
 use Rattle.pq_core.specs.Kept.{Kept}
-use Rattle.pq_core.specs.aux.Stands.{RunSeen, Fields, EntryStands, ClientStands, HasRun, Stands}
+use Rattle.pq_core.specs.aux.Stands.{RunSeen, Fields, EntryStands, ClientStands, Stands}
 use Rattle.pq_core.specs.declared.request.Request.{Request}
-use Rattle.pq_core.specs.declared.request.Want.{Want}
-use Rattle.pq_core.specs.declared.request.Want.TheVariants.{Demand, Fixed}
 
 -- `SameQueues f g` is that `f` and `g` have the same requests that may wait and the same runs
 pub record SameQueues {K L : Type 0} (f g : Fields K L) : Type 0 where

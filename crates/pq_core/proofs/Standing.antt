@@ -1,12 +1,12 @@
 -- What a core stands for after a change of one client of the ledger.
-use Rattle.std.proofs.Common.{◌≡◌, ◌≢◌, ℕ, zero, suc, ◌+◌, ◌-◌, ◌<◌, ◌≤◌, ◌⊎◌, Bool, true, false, List, [], ◌∷◌, ◌++◌, map, length, slice_get, slice_set, Option, Some, None, refl, sym, ◌∙◌, ap, subst, inl, inr, arith}
-use Rattle.pq_inputs.specs.Sources.{Sources, Table}
+use Rattle.std.proofs.Common.{◌≡◌, ◌≢◌, ℕ, zero, suc, ◌+◌, ◌<◌, ◌≤◌, Bool, true, false, List, [], ◌∷◌, ◌++◌, length, slice_get, slice_set, Some, None, sym, ◌∙◌, ap, subst, inl, inr, arith}
+use Rattle.pq_inputs.specs.Sources.{Sources}
 use Rattle.pq_rules.specs.declared.turn.Answer.{Answer}
 use Rattle.pq_rules.specs.Relations.{In}
-use Rattle.pq_core.proofs.Lists.{get_set, get_append, get_longer, get_last, get_within, get_map, set_long, set_same, set_other, append_long, map_long, same_or_other, some_one}
+use Rattle.pq_core.proofs.Lists.{get_set, get_within, set_long, set_same, set_other, same_or_other, some_one}
 use Rattle.pq_core.specs.Replies.{ReplyView}
-use Rattle.pq_core.specs.Ledger.{Out, Place, Waiting, Running, Ready, Put, Dropped, Entry, Client, Ledger, with_client, with_entry, moved_to, opened, with_outbox, place_closed, entry_closed, closed}
-use Rattle.pq_core.specs.Moves.{open_count, one_if, with_new}
+use Rattle.pq_core.specs.Ledger.{Place, Waiting, Running, Ready, Put, Dropped, Entry, Client, Ledger, with_entry, opened}
+use Rattle.pq_core.specs.Moves.{open_count, one_if}
 use Rattle.pq_core.specs.Kept.{Kept}
 use Rattle.pq_core.specs.aux.Stands.{RunSeen, Fields, EntryStands, ClientStands, HasRun, Stands}
 

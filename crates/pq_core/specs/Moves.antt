@@ -2,7 +2,7 @@
 -- which ledger is reached. Each relation goes by cases on the answer. A refusal names its
 -- condition; `Memory` comes only where none of the other refusals holds. Every refusal leaves the
 -- ledger as it was and hands back what was handed in.
-use Rattle.std.specs.Prelude.{ℕ, ◌≡◌, ◌+◌, ◌-◌, ◌<◌, ◌≤◌, ◌^◌, ◌⊎◌, ◌↔◌, Bool, true, false, List, [], ◌∷◌, ◌++◌, length, slice_get, slice_set, Option, Some, None, Ok, Err, Result}
+use Rattle.std.specs.Prelude.{ℕ, ◌≡◌, ◌+◌, ◌-◌, ◌<◌, ◌≤◌, ◌^◌, ◌⊎◌, Bool, true, false, List, [], ◌∷◌, ◌++◌, length, slice_get, slice_set, Option, Some, None, Ok, Err, Result}
 use Rattle.std.specs.declared.cmp.Ordering.{Ordering}
 use Rattle.pq_inputs.specs.Sources.{File, Sources, Table, with_file}
 use Rattle.pq_inputs.specs.Refusal.{refusal}

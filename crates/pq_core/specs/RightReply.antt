@@ -1,6 +1,6 @@
 -- A right reply: it names its client, its number and the request that was accepted under that
 -- number, and its outcome is true.
-use Rattle.std.specs.Prelude.{ℕ, ◌≡◌, ◌<◌, ◌≤◌, Bool, true, false, List, slice_get, Option, Some, None}
+use Rattle.std.specs.Prelude.{ℕ, ◌≡◌, ◌<◌, ◌≤◌, Bool, true, slice_get, Some}
 use Rattle.pq_inputs.specs.Sources.{Sources, Table}
 use Rattle.std.specs.declared.cmp.Ordering.{Ordering}
 use Rattle.pq_rules.specs.declared.turn.Answer.{Answer}

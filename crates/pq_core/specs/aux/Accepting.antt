@@ -1,5 +1,5 @@
 -- Auxiliary: why a client may not post.
-use Rattle.std.specs.Prelude.{ℕ, ◌≡◌, ◌≤◌, ◌<◌, ◌+◌, ◌^◌, ◌⊎◌, length, Option, Some, None}
+use Rattle.std.specs.Prelude.{ℕ, ◌≡◌, ◌≤◌, ◌<◌, ◌+◌, ◌^◌, ◌⊎◌, length, Some, None}
 use Rattle.pq_core.specs.Moves.{window}
 use Rattle.pq_core.specs.Cores.{Held}
 use Rattle.pq_core.specs.aux.Rising.{found}

@@ -1,4 +1,4 @@
-use Rattle.std.proofs.Common.{rules, ◌≡◌, ℕ, IfOk, OnErr, Option, Some, None, refl, sym, ◌∙◌, ap, subst}
+use Rattle.std.proofs.Common.{sym}
 use Rattle.std.proofs.lemmas.Result.{IfOk-weaker}
 use Rattle.pq_core.proofs.Changing.{set_back, same_back, err_after}
 use Rattle.pq_core.proofs.in_lanes.accept_in.Goals as goal

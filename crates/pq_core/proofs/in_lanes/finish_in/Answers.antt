@@ -1,6 +1,4 @@
-use Rattle.std.proofs.Common.{rules, ◌≡◌, ◌≤◌, ◌<◌, sym}
-use Rattle.pq_core.proofs.Changing.{set_back}
-use Rattle.pq_core.proofs.Lists.{some_one}
+use Rattle.std.proofs.Common.{sym}
 use Rattle.pq_core.proofs.in_lanes.finish_in.Goals as goal
 
 pub finish-requires-clause-past : goal.finish-requires-clause-past

@@ -1,9 +1,8 @@
-use Rattle.std.proofs.Common.{rules, ◌≡◌, ℕ, IfSome, IfNone, Option, Some, None, refl, sym, ◌∙◌, ap, subst}
+use Rattle.std.proofs.Common.{sym, ◌∙◌, subst}
 use Rattle.std.proofs.lemmas.Option.{IfSome_then}
 use Rattle.pq_core.proofs.Changing.{set_back, same_back, none_after}
 use Rattle.pq_core.proofs.Lists.{some_one}
 use Rattle.pq_core.specs.aux.Lanes.{LaneView, IsOwed}
-use Rattle.pq_core.specs.declared.request.Request.{Request}
 use Rattle.pq_core.specs.declared.lane.Owed.TheVariants.{Waiting as OwedWaiting}
 use Rattle.pq_core.proofs.in_lanes.start_in.Goals as goal
 

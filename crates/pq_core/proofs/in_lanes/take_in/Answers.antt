@@ -1,4 +1,4 @@
-use Rattle.std.proofs.Common.{rules, ◌≡◌, ◌≤◌, ◌<◌, sym, subst, ◌∙◌}
+use Rattle.std.proofs.Common.{subst, ◌∙◌}
 use Rattle.pq_core.proofs.Changing.{set_back}
 use Rattle.pq_core.proofs.Lists.{some_one}
 use Rattle.pq_core.specs.aux.Lanes.{LaneView, LaneTakes}

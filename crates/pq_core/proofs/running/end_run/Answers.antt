@@ -1,4 +1,3 @@
-use Rattle.std.proofs.Common.{rules, ◌≡◌, ℕ, ◌≤◌, ◌<◌, refl, sym, ◌∙◌, ap, subst}
 use Rattle.pq_core.proofs.running.end_run.Goals as goal
 
 pub finish_in-requires : goal.finish_in-requires

@@ -1,11 +1,7 @@
-use Rattle.std.proofs.Common.{rules, IsTrue, ◌≡◌, ◌≤◌, ◌<◌, ◌+◌, ℕ, ◌∷◌, ◌++◌, [], List, length, Some, refl, sym, ◌∙◌, ap, subst, inl, inr, arith}
-use Rattle.pq_core.specs.Cores.{CoreView, StandsFor, held}
-use Rattle.pq_core.specs.Moves.{window}
+use Rattle.std.proofs.Common.{◌≡◌, ◌≤◌, ◌∷◌, ◌++◌, [], length, refl, sym, ◌∙◌, subst, inl, inr, arith}
+use Rattle.pq_core.specs.Cores.{CoreView, held}
 use Rattle.pq_core.specs.aux.Accepting.{MayNot, MayPost}
-use Rattle.pq_core.specs.aux.Rising.{found}
-use Rattle.pq_core.specs.aux.Lanes.{LaneView}
-use Rattle.pq_core.specs.declared.fault.AcceptFault.TheVariants.{Memory}
-use Rattle.pq_core.proofs.CoreOpening.{SameMaps, unmoved}
+use Rattle.pq_core.proofs.CoreOpening.{unmoved}
 use Rattle.pq_core.proofs.CoreAccepting.{accept_refusal_so, may_post, accept_moved, queue_room, not_full, false_true}
 use Rattle.pq_core.proofs.cores.Core.accept.Goals as goal
 

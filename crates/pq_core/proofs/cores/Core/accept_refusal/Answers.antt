@@ -1,4 +1,4 @@
-use Rattle.std.proofs.Common.{rules, ◌≡◌, IsTrue, refl, sym, ◌∙◌, subst}
+use Rattle.std.proofs.Common.{sym, ◌∙◌}
 use Rattle.pq_core.proofs.CoreAccepting.{false_true}
 use Rattle.pq_core.proofs.cores.Core.accept_refusal.Goals as goal
 

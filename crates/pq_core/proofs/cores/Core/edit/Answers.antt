@@ -1,8 +1,7 @@
-use Rattle.std.proofs.Common.{rules, ◌≡◌, ◌+◌, ℕ, refl, sym, ◌∙◌, subst, ap, Some, arith}
+use Rattle.std.proofs.Common.{◌≡◌, refl, sym, ◌∙◌, subst, ap, Some, arith}
 use Rattle.std.specs.Option.{option_map}
 use Rattle.std.specs.Prelude.{string_bytes}
 use Rattle.pq_core.specs.Cores.{CoreView, held}
-use Rattle.pq_core.specs.Changes.{ChangeView}
 use Rattle.pq_core.specs.aux.Accepting.{MayNotEdit}
 use Rattle.pq_core.specs.aux.Rising.{found}
 use Rattle.pq_core.specs.aux.Lanes.{LaneView}

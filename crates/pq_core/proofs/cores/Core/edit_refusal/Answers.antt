@@ -1,4 +1,4 @@
-use Rattle.std.proofs.Common.{rules, ◌≡◌, refl, sym}
+use Rattle.std.proofs.Common.{sym}
 use Rattle.pq_core.proofs.cores.Core.edit_refusal.Goals as goal
 
 pub returns-in-Some-clause-may : goal.returns-in-Some-clause-may

@@ -1,15 +1,13 @@
-use Rattle.std.proofs.Common.{rules, ◌≡◌, ℕ, ◌≤◌, ◌<◌, ◌+◌, ◌⊎◌, true, length, Some, None, refl, sym, ◌∙◌, ap, subst, inl, inr, arith}
-use Rattle.pq_memo.specs.Table.{memo_at, KeptOver}
-use Rattle.pq_core.specs.RightReply.{answer_by}
+use Rattle.std.proofs.Common.{◌≡◌, ◌≤◌, length, Some, refl, sym, ◌∙◌, subst, arith}
+use Rattle.pq_memo.specs.Table.{memo_at}
 use Rattle.pq_core.specs.Cores.{CoreView, held}
-use Rattle.pq_core.specs.Moves.{RunAt, IsMade, IsOf, GoesOn, ended, with_out, out_of}
-use Rattle.pq_core.specs.aux.Runs.{RunView, RunKept, out_at}
-use Rattle.pq_core.specs.aux.Stands.{RunSeen}
-use Rattle.pq_core.specs.declared.outcome.Outcome.TheVariants.{Cancelled, Answered}
+use Rattle.pq_core.specs.Moves.{IsMade, ended, out_of}
+use Rattle.pq_core.specs.aux.Runs.{out_at}
+use Rattle.pq_core.specs.declared.outcome.Outcome.TheVariants.{Cancelled}
 use Rattle.pq_core.proofs.Changing.{none_taken, set_back}
 use Rattle.pq_core.proofs.CoreOpening.{unmoved}
 use Rattle.pq_core.proofs.CoreAccepting.{false_true}
-use Rattle.pq_core.proofs.CoreRunning.{run_here, no_run, run_within, run_demands, overtaken, current, end_moved, stop_moved, out_moved, back_moved, others_kept, all_kept, not_fitting, give_stopped, give_moved, give_refused}
+use Rattle.pq_core.proofs.CoreRunning.{run_here, no_run, run_within, current, stop_moved, back_moved, others_kept, all_kept, not_fitting, give_stopped, give_moved, give_refused}
 use Rattle.pq_core.proofs.Renewed.{renewed_same}
 use Rattle.pq_core.proofs.cores.Core.give.Goals as goal
 

@@ -1,16 +1,14 @@
-use Rattle.std.proofs.Common.{rules, ◌≡◌, ℕ, ◌≤◌, ◌<◌, ◌+◌, ◌⊎◌, true, length, Some, None, refl, sym, ◌∙◌, ap, subst, inl, inr, arith}
-use Rattle.pq_memo.specs.Table.{memo_at, HasIn, KeptOver}
+use Rattle.std.proofs.Common.{ℕ, ◌≤◌, ◌<◌, ◌+◌, length, refl, sym, ◌∙◌, ap, subst, arith}
+use Rattle.pq_memo.specs.Table.{memo_at, HasIn}
 use Rattle.pq_core.specs.aux.Rising.{found}
-use Rattle.pq_core.specs.RightReply.{answer_by}
-use Rattle.pq_core.specs.Cores.{CoreView, held}
-use Rattle.pq_core.specs.Moves.{RunAt, IsMade, IsOf, GoesOn, ended, with_out, out_of}
-use Rattle.pq_core.specs.aux.Runs.{RunView, RunKept, out_at}
-use Rattle.pq_core.specs.aux.Stands.{RunSeen}
+use Rattle.pq_core.specs.Cores.{held}
+use Rattle.pq_core.specs.Moves.{ended}
+use Rattle.pq_core.specs.aux.Runs.{out_at}
 use Rattle.pq_core.specs.declared.outcome.Outcome.TheVariants.{Cancelled, Answered}
 use Rattle.pq_core.proofs.Changing.{none_taken, set_back}
 use Rattle.pq_core.proofs.CoreOpening.{unmoved}
 use Rattle.pq_core.proofs.CoreAccepting.{false_true}
-use Rattle.pq_core.proofs.CoreRunning.{run_here, no_run, run_within, run_demands, overtaken, current, end_moved, stop_moved, out_moved, back_moved, others_kept, all_kept, none_of, goes_on, look_blocked, carry_moved, answer_moved, why_cause, why_then, ended_as}
+use Rattle.pq_core.proofs.CoreRunning.{run_here, no_run, run_within, run_demands, current, stop_moved, back_moved, others_kept, all_kept, none_of, goes_on, look_blocked, carry_moved, answer_moved, why_cause, why_then, ended_as}
 use Rattle.pq_core.proofs.Renewed.{renewed_same}
 use Rattle.pq_core.proofs.cores.Core.look.Goals as goal
 

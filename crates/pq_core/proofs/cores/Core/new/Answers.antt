@@ -1,7 +1,6 @@
-use Rattle.std.proofs.Common.{rules, ◌≡◌, ℕ, ◌≤◌, ◌<◌, refl, sym, ◌∙◌, ap, subst, Some, None, length, arith}
+use Rattle.std.proofs.Common.{refl, sym, ◌∙◌, arith}
 use Rattle.pq_core.proofs.Lists.{none_some}
 use Rattle.pq_core.proofs.CoreOpening.{new_stands}
-use Rattle.pq_core.specs.Cores.{held}
 use Rattle.pq_core.specs.Ledger.{unused}
 use Rattle.pq_core.proofs.cores.Core.new.Goals as goal
 

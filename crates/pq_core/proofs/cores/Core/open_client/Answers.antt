@@ -1,4 +1,4 @@
-use Rattle.std.proofs.Common.{rules, ◌≡◌, ◌≤◌, ◌<◌, ◌+◌, refl, sym, ◌∙◌, ap, subst, arith}
+use Rattle.std.proofs.Common.{◌+◌, refl, arith}
 use Rattle.pq_core.proofs.Changing.{pushed_at, room_made, above_next}
 use Rattle.pq_core.proofs.CoreOpening.{open_moved, open_refused, unmoved, new_lane}
 use Rattle.pq_core.proofs.cores.Core.open_client.Goals as goal

@@ -1,4 +1,4 @@
-use Rattle.std.proofs.Common.{rules, ◌≡◌, ℕ, refl, sym, ◌∙◌, ap, subst}
+use Rattle.std.proofs.Common.{sym, ◌∙◌, ap}
 use Rattle.pq_core.specs.aux.Stands.{RunSeen}
 use Rattle.pq_core.specs.aux.Runs.{RunView}
 use Rattle.pq_core.proofs.CoreRunning.{run_here, no_run}
