@@ -27,8 +27,8 @@ KEPT = dict(os.environ, MALLOC_TRIM_THRESHOLD_="1000000000", MALLOC_MMAP_THRESHO
 PARTS = {"lexing": ["pq_lex"], "parsing": ["pq_lex", "pq_names", "pq_syntax"]}
 
 
-def built_from(folder, name, crates, uses):
-    """The program of the text NAME.rt.txt, built in the folder over copies of the crates, of which it uses some."""
+def built_from(folder, name, crates, uses, text=None):
+    """The program of the text NAME.rt.txt, or of another text, built in the folder over copies of the crates, of which it uses some."""
     os.makedirs(folder, exist_ok=True)
     with open(os.path.join(folder, "crates.txt"), "w") as lines:
         for crate in crates:
@@ -39,7 +39,7 @@ def built_from(folder, name, crates, uses):
         lines.write("%s: %s\n" % (name, uses))
     home = os.path.join(folder, "crates", name)
     os.makedirs(os.path.join(home, "src"))
-    shutil.copy(os.path.join(HERE, name + ".rt.txt"), os.path.join(home, "src", "main.rt"))
+    shutil.copy(os.path.join(HERE, text or name + ".rt.txt"), os.path.join(home, "src", "main.rt"))
     done = subprocess.run(["rt", "run", "--", "1"], cwd=home, input=b"", capture_output=True)
     program = os.path.join(home, "out", name)
     if not os.path.exists(program):
