@@ -4,12 +4,14 @@
 //! that calls succeed with ample memory. The crates below have no tests: a crate with tests is proved
 //! twice.
 mod compile;
+mod cores;
 mod engine;
 mod frame;
 mod inputs;
 mod lex;
 mod messages;
 mod names;
+mod plays;
 mod program;
 mod rules;
 mod schema;

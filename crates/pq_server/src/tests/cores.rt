@@ -1,15 +1,20 @@
 //! pq_core: clients, runs and replies, call by call.
 //!
 //! A script has a line `CALL => ANSWER` for each call of a core over sums, which count their starts
-//! (`calls` says what the lines are). The answer ends with `; rest` where the core is at rest then.
+//! (`answers` says what the lines are). The answer ends with `; rest` where the core is at rest then.
+mod answers;
 mod calls;
 mod limits;
 pub(crate) mod lines;
+mod post;
+mod shown;
 mod sums;
 
 use super::rules::counted::Counted;
 use super::support::{check_row_count, check_text, split_row};
-use calls::{Lists, answer};
+use answers::answer;
+use calls::Calls;
+use post::Post;
 use pq_core::Core;
 use pq_inputs::Inputs;
 use pq_rules::{Rules, SumsKey, SumsValue};
@@ -17,37 +22,51 @@ use std::cell::Cell;
 use std::process::Abort;
 use std::test::Fail;
 
-/// Checks what the call of `line` answers, and whether the core is at rest then.
-fn check_line<R: Rules<Key = SumsKey, Value = SumsValue>>(
+/// Checks what the call of `line` answers, and whether the core is at rest then. Returns how many
+/// rules were started.
+fn check_line<C: Calls>(
     rt: &(impl Abort + AllocGlobal),
-    core: &mut Lists<R>,
-    whys: &mut u32,
+    core: &mut C,
     line: &str,
-) -> Result<(), Fail> {
+) -> Result<usize, Fail> {
     let (call, want) = split_row(rt, line, " => ");
-    let mut found = answer(rt, core, whys, call)?;
-    if core.is_at_rest() {
+    let mut log = String::new(rt.alloc());
+    let mut found = answer(rt, core, &mut log, call)?;
+    if core.rests() {
         found.push_str("; rest")?;
     }
     check_text(rt, found.as_str(), want, line);
+    Ok(log.as_str().matches(';').count())
+}
+
+/// Runs a script on `core`, whose rules count in `starts`: work has a cause where a rule starts.
+fn check_lines<C: Calls>(
+    rt: &(impl Abort + AllocGlobal),
+    core: &mut C,
+    starts: &Cell<u32>,
+    script: &str,
+) -> Result<(), Fail> {
+    let mut started = 0usize;
+    for line in script.lines() {
+        started = started.saturating_add(check_line(rt, core, line)?);
+        assert_eq!(rt; started, starts.get() as usize, "{line}");
+    }
     Ok(())
 }
 
-/// Runs a script with `rules`, which count in `starts`: work has a cause where a rule starts.
+/// Runs a script with `rules`, which count in `starts`.
 fn check_script_by<R: Rules<Key = SumsKey, Value = SumsValue>>(
     rt: &(impl Abort + AllocGlobal),
     rules: R,
     starts: &Cell<u32>,
     script: &str,
-) -> Result<(), Fail> {
+) -> Result<(), Fail>
+where
+    Core<R, Post>: Calls,
+{
     let inputs = Inputs::new(rt.alloc())?;
-    let mut core: Lists<R> = Core::new(rt.alloc(), rules, inputs);
-    let mut whys = 0u32;
-    for line in script.lines() {
-        check_line(rt, &mut core, &mut whys, line)?;
-        assert_eq!(rt; whys, starts.get(), "{line}");
-    }
-    Ok(())
+    let mut core: Core<R, Post> = Core::new(rt.alloc(), rules, inputs);
+    check_lines(rt, &mut core, starts, script)
 }
 
 /// Runs a script, each of its answers checked.
@@ -167,6 +186,66 @@ fn rests_while_full(rt: HostRuntime) -> Result<(), Fail> {
         take 0 => no; rest\n\
         release 0 => put 1\n\
         close 0 => 0 none say first @0 plain|1 -5 say second @0 plain|1; rest\n\
+        ",
+    )
+}
+
+// A reply to a client whose taking end is gone is not put, and the core is at rest then.
+#[test]
+fn rests_while_gone(rt: HostRuntime) -> Result<(), Fail> {
+    check_rows(
+        &rt,
+        12,
+        "\
+        mute 1 => 0; rest\n\
+        accept 0 7 say first => 0\n\
+        accept 0 8 Sum a => 1\n\
+        release 0 => put 0\n\
+        release 0 => nothing\n\
+        start => 0\n\
+        finish 0 => Sum a fresh;answered\n\
+        release 0 => gone; rest\n\
+        take 0 => yes; rest\n\
+        accept 0 9 say third => 2; rest\n\
+        release 0 => gone; rest\n\
+        close 0 => 0 7 say first @0 plain|1; rest\n\
+        ",
+    )
+}
+
+// The request that waited longest is started first, whichever client posted it. One of a client
+// that was closed is passed over.
+#[test]
+fn started_in_order(rt: HostRuntime) -> Result<(), Fail> {
+    check_rows(
+        &rt,
+        25,
+        "\
+        open 4 => 0; rest\n\
+        open 4 => 1; rest\n\
+        open 4 => 2; rest\n\
+        accept 0 7 Sum a => 0\n\
+        accept 2 7 Sum d => 0\n\
+        accept 1 7 Sum b => 0\n\
+        accept 1 8 say hello => 1\n\
+        accept 0 8 Sum c => 1\n\
+        close 2 => 0\n\
+        start => 0\n\
+        start => 1\n\
+        start => 2\n\
+        start => none\n\
+        request 0 => 0 0\n\
+        request 1 => 1 0\n\
+        request 2 => 0 1\n\
+        finish 2 => Sum c fresh;answered\n\
+        finish 1 => Sum b fresh;answered\n\
+        finish 0 => Sum a fresh;answered\n\
+        release 0 => put 0\n\
+        release 0 => put 1\n\
+        release 1 => put 0\n\
+        release 1 => put 1; rest\n\
+        close 0 => 0 7 Sum a @0 answered 1|1 8 Sum c @0 answered 1|0; rest\n\
+        close 1 => 0 7 Sum b @0 answered 1|1 8 say hello @0 plain|0; rest\n\
         ",
     )
 }
