@@ -16,7 +16,7 @@ use super::cores::lines::{
 use super::support::{check_text, split_row};
 use pq_core::{Request, RunId};
 use pq_play::{Event, Played, play};
-use pq_rules::{Memory, Sums, SumsKey};
+use pq_rules::{Memory, Sums, SumsKey, SumsValue};
 use std::alloc::Global;
 use std::process::Abort;
 use std::test::Fail;
@@ -114,15 +114,24 @@ fn shown_played<K: Sample>(alloc: Global, played: &Played<K, K::Value>) -> Resul
     Ok(all)
 }
 
-/// Plays the events of `script` over sums, with outboxes for `room` replies.
+/// What the events of `script` give over sums, with outboxes for `room` replies.
+fn played_of(
+    rt: &(impl Abort + AllocGlobal),
+    room: usize,
+    script: &str,
+) -> Result<Played<SumsKey, SumsValue>, Memory> {
+    let events = events_of::<SumsKey>(rt, script)?;
+    play(rt.alloc(), Sums, room, events.as_slice())
+}
+
+/// Checks what the events of `script` give over sums, with outboxes for `room` replies.
 fn check_play(
     rt: &(impl Abort + AllocGlobal),
     room: usize,
     script: &str,
     want: &str,
 ) -> Result<(), Fail> {
-    let events = events_of::<SumsKey>(rt, script)?;
-    let played = play(rt.alloc(), Sums, room, events.as_slice())?;
+    let played = played_of(rt, room, script)?;
     let found = shown_played::<SumsKey>(rt.alloc(), &played)?;
     check_text(rt, found.as_str(), want, script);
     Ok(())

@@ -80,7 +80,7 @@ fn client_answer<C: Calls>(
         "accept" => core.accepted(alloc, client, request_of::<SumsKey>(rt, rest)?),
         "edit" => core.edited(alloc, client, change_of(rt, rest)?),
         "release" => shown_released(alloc, core.released(client)),
-        "take" => yes_or_no(alloc, core.taken(client)?),
+        "take" => String::from_str(alloc, yes_or_no(core.taken(client)?)),
         _ => core.closed(alloc, client),
     }
 }
@@ -94,7 +94,7 @@ fn run_answer<C: Calls>(
 ) -> Result<String, Memory> {
     match call {
         "look" => core.looked(alloc, run),
-        "starve" => yes_or_no(alloc, core.starved(run)),
+        "starve" => String::from_str(alloc, yes_or_no(core.starved(run))),
         _ => core.owner(alloc, run),
     }
 }

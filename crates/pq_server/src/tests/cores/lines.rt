@@ -97,12 +97,22 @@ pub(crate) fn change_of(rt: &(impl Abort + AllocGlobal), text: &str) -> Result<C
     })
 }
 
+/// An unsigned number.
+fn unsigned_text(alloc: Global, number: u64) -> Result<String, Memory> {
+    format!(in alloc; "{number}")
+}
+
+/// A negative number.
+fn negative_text(alloc: Global, number: i64) -> Result<String, Memory> {
+    format!(in alloc; "{number}")
+}
+
 /// A label as a line writes it.
 fn shown_label(alloc: Global, label: &Label) -> Result<String, Memory> {
     match label {
         Label::None => String::from_str(alloc, "none"),
-        Label::Unsigned(number) => format!(in alloc; "{number}"),
-        Label::Negative(number) => format!(in alloc; "{number}"),
+        Label::Unsigned(number) => unsigned_text(alloc, *number),
+        Label::Negative(number) => negative_text(alloc, *number),
         Label::Text(text) => String::from_str(alloc, text.as_str()),
     }
 }
@@ -111,7 +121,7 @@ fn shown_label(alloc: Global, label: &Label) -> Result<String, Memory> {
 fn shown_want<K: Sample>(alloc: Global, want: &Want<K>) -> Result<String, Memory> {
     match want {
         Want::Demand(key) => key.shown(alloc),
-        Want::Fixed(text) => format!(in alloc; "say {}", text.as_str()),
+        Want::Fixed(text) => named(alloc, "say", text.as_str()),
     }
 }
 
@@ -122,7 +132,17 @@ pub(crate) fn shown_request<K: Sample>(
 ) -> Result<String, Memory> {
     let label = shown_label(alloc, &request.label)?;
     let want = shown_want(alloc, &request.want)?;
-    format!(in alloc; "{} {}", label.as_str(), want.as_str())
+    named(alloc, label.as_str(), want.as_str())
+}
+
+/// A cancellation.
+fn cancelled_text(alloc: Global, started: u64, seen: u64) -> Result<String, Memory> {
+    format!(in alloc; "cancelled {started} {seen}")
+}
+
+/// `name`, and then a text.
+fn named(alloc: Global, name: &str, text: &str) -> Result<String, Memory> {
+    format!(in alloc; "{name} {text}")
 }
 
 /// How a request ended: `answered ANSWER`, `plain`, `cancelled STARTED SEEN` or `starved`.
@@ -133,11 +153,11 @@ fn shown_outcome<K: Sample>(
     match outcome {
         Outcome::Answered(answer) => {
             let answer = K::shown_answer(alloc, answer.get())?;
-            format!(in alloc; "answered {}", answer.as_str())
+            named(alloc, "answered", answer.as_str())
         }
         Outcome::Plain => String::from_str(alloc, "plain"),
         Outcome::Cancelled { started, seen } => {
-            format!(in alloc; "cancelled {} {}", started.number(), seen.number())
+            cancelled_text(alloc, started.number(), seen.number())
         }
         Outcome::Starved => String::from_str(alloc, "starved"),
     }

@@ -44,14 +44,27 @@ pub(super) fn shown_edited(
     }
 }
 
+/// `name`, and then a number.
+fn numbered(alloc: Global, name: &str, number: u64) -> Result<String, Memory> {
+    format!(in alloc; "{name} {number}")
+}
+
+/// What a release came to, but for the number of the reply.
+fn release_word(released: Released) -> &'static str {
+    match released {
+        Released::Put(_) => "put",
+        Released::Full => "full",
+        Released::Gone => "gone",
+        Released::Nothing => "nothing",
+    }
+}
+
 /// A release.
 pub(super) fn shown_released(alloc: Global, released: Released) -> Result<String, Memory> {
-    match released {
-        Released::Put(number) => format!(in alloc; "put {}", number.number()),
-        Released::Full => String::from_str(alloc, "full"),
-        Released::Gone => String::from_str(alloc, "gone"),
-        Released::Nothing => String::from_str(alloc, "nothing"),
+    if let Released::Put(number) = released {
+        return numbered(alloc, "put", number.number());
     }
+    String::from_str(alloc, release_word(released))
 }
 
 /// The outbox of a client that was closed, or `none`.
@@ -74,13 +87,18 @@ pub(super) fn shown_run(alloc: Global, run: Option<RunId>) -> Result<String, Mem
     }
 }
 
+/// Two numbers.
+fn two_numbers(alloc: Global, first: u64, second: u64) -> Result<String, Memory> {
+    format!(in alloc; "{first} {second}")
+}
+
 /// The request of a run as `CLIENT NUMBER`, or `none`.
 pub(super) fn shown_owner(
     alloc: Global,
     owner: Option<(ClientId, Number)>,
 ) -> Result<String, Memory> {
     match owner {
-        Some((client, number)) => { format!(in alloc; "{} {}", client.number(), number.number()) }
+        Some((client, number)) => two_numbers(alloc, client.number(), number.number()),
         None => String::from_str(alloc, "none"),
     }
 }
@@ -118,6 +136,17 @@ pub(super) fn add_start<R: Rules<Key = SumsKey, Value = SumsValue>>(
     Ok(())
 }
 
+/// What a step came to, but for its work or run.
+fn move_word<W>(step: &Move<W>) -> &'static str {
+    match step {
+        Move::Carry(_) => "carry",
+        Move::Blocked(_) => "blocked",
+        Move::Stepped => "stepped",
+        Move::Answered => "answered",
+        Move::Stopped => "stopped",
+    }
+}
+
 /// What a step came to. Work is as [`shown_work`] shows it.
 fn shown_move<R: Rules<Key = SumsKey, Value = SumsValue>>(
     alloc: Global,
@@ -125,10 +154,8 @@ fn shown_move<R: Rules<Key = SumsKey, Value = SumsValue>>(
 ) -> Result<String, Memory> {
     match step {
         Move::Carry(work) => shown_work(alloc, work),
-        Move::Blocked(run) => format!(in alloc; "blocked {}", run.number()),
-        Move::Stepped => String::from_str(alloc, "stepped"),
-        Move::Answered => String::from_str(alloc, "answered"),
-        Move::Stopped => String::from_str(alloc, "stopped"),
+        Move::Blocked(run) => numbered(alloc, "blocked", run.number()),
+        _ => String::from_str(alloc, move_word(step)),
     }
 }
 
@@ -165,9 +192,6 @@ pub(super) fn shown_again<R: Rules<Key = SumsKey, Value = SumsValue>>(
 }
 
 /// `yes` or `no`.
-pub(super) fn yes_or_no(alloc: Global, holds: bool) -> Result<String, Memory> {
-    if holds {
-        return String::from_str(alloc, "yes");
-    }
-    String::from_str(alloc, "no")
+pub(super) fn yes_or_no(holds: bool) -> &'static str {
+    if holds { "yes" } else { "no" }
 }

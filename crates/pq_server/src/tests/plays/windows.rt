@@ -1,8 +1,8 @@
 //! Windows of clients, and the number of clients.
-use super::{check_play, events_of};
+use super::{check_play, played_of};
 use crate::tests::support::Random;
-use pq_play::{Played, play};
-use pq_rules::{Memory, Sums, SumsKey, SumsValue};
+use pq_play::Played;
+use pq_rules::{Memory, SumsKey, SumsValue};
 use std::alloc::Global;
 use std::process::Abort;
 use std::test::Fail;
@@ -101,7 +101,16 @@ impl Lane {
     }
 }
 
-/// Checks a list of 300 events of one client. Returns whether a request was refused.
+/// Adds 300 events of one client, and makes them.
+fn add_events(lane: &mut Lane, script: &mut String, random: &mut Random) -> Result<(), Memory> {
+    let all = random.below(12).saturating_add(4);
+    for _ in 0..300u32 {
+        lane.add_event(script, random, 3, all)?;
+    }
+    Ok(())
+}
+
+/// Checks a list of 300 events of one client.
 fn check_list(
     rt: &(impl Abort + AllocGlobal),
     random: &mut Random,
@@ -114,12 +123,8 @@ fn check_list(
         taken: 0,
     };
     let mut script = String::from_str(rt.alloc(), "open\n")?;
-    let all = random.below(12).saturating_add(4);
-    for _ in 0..300u32 {
-        lane.add_event(&mut script, random, 3, all)?;
-    }
-    let events = events_of::<SumsKey>(rt, script.as_str())?;
-    let played = play(rt.alloc(), Sums, room, events.as_slice())?;
+    add_events(&mut lane, &mut script, random)?;
+    let played = played_of(rt, room, script.as_str())?;
     lane.check(rt, &played, script.as_str());
     Ok(())
 }
