@@ -160,6 +160,11 @@ fn request_at<K: Sample>(alloc: Global, case: &Case<K>, place: usize) -> Result<
     }
 }
 
+/// Checks that `found` is `want`.
+pub(super) fn check_count(rt: &impl Abort, found: usize, want: usize, script: &str) {
+    assert_eq!(rt; found, want, "{script}");
+}
+
 /// Checks the reply `number` of a client, whose request was `ask`.
 fn check_reply<K: Sample>(
     rt: &(impl Abort + AllocGlobal),
@@ -169,12 +174,8 @@ fn check_reply<K: Sample>(
     reply: &Reply<K, K::Value>,
 ) -> Result<(), Fail> {
     let alloc = rt.alloc();
-    assert_eq!(rt;
-        reply.client().number(),
-        ask.client,
-        "{}",
-        case.script.as_str()
-    );
+    let client = reply.client().number() as usize;
+    check_count(rt, client, ask.client as usize, case.script.as_str());
     let request = request_at(alloc, case, ask.event)?;
     let end = right_end(alloc, case, ask, reply)?;
     let want = format!(in alloc; "{number} {} {}", request.as_str(), end.as_str())?;
@@ -201,7 +202,7 @@ fn check_accepted<K: Sample>(
     asks: &[Ask],
     accepted: &[Request<K>],
 ) -> Result<(), Memory> {
-    assert_eq!(rt; accepted.len(), asks.len(), "{}", case.script.as_str());
+    check_count(rt, accepted.len(), asks.len(), case.script.as_str());
     for (ask, request) in asks.iter().zip(accepted) {
         let want = request_at(rt.alloc(), case, ask.event)?;
         let found = shown_request(rt.alloc(), request)?;
@@ -228,6 +229,28 @@ fn check_taken<K: Sample>(
     Ok(())
 }
 
+/// Checks what was played of `client`, and counts the outcomes. Where it `ends`, it has taken all.
+fn check_client<K: Sample>(
+    rt: &(impl Abort + AllocGlobal),
+    case: &Case<K>,
+    client: usize,
+    played: &Played<K, K::Value>,
+    ends: bool,
+    counts: &mut Counts,
+) -> Result<(), Fail> {
+    let asks = asks_of(rt.alloc(), &case.model, client)?;
+    if let Some(accepted) = played.accepted.get(client) {
+        check_accepted(rt, case, asks.as_slice(), accepted.as_slice())?;
+    }
+    if let Some(taken) = played.taken.get(client) {
+        check_taken(rt, case, asks.as_slice(), taken.as_slice(), counts)?;
+        if ends {
+            check_count(rt, taken.len(), asks.len(), case.script.as_str());
+        }
+    }
+    Ok(())
+}
+
 /// Checks what was played of the list `case`, and counts the outcomes. Where the list `ends`, each
 /// open client has taken all.
 pub(super) fn check_played<K: Sample>(
@@ -237,35 +260,14 @@ pub(super) fn check_played<K: Sample>(
     ends: bool,
     counts: &mut Counts,
 ) -> Result<(), Fail> {
-    let model = &case.model;
-    assert_eq!(rt;
-        played.revision.number() as usize,
-        model.edits.len(),
-        "{}",
-        case.script.as_str()
-    );
-    assert_eq!(rt;
-        played.accepted.len(),
-        model.open.len(),
-        "{}",
-        case.script.as_str()
-    );
-    assert_eq!(rt;
-        played.taken.len(),
-        model.open.len(),
-        "{}",
-        case.script.as_str()
-    );
-    for (client, open) in model.open.iter().enumerate() {
-        let asks = asks_of(rt.alloc(), model, client)?;
-        if let Some(accepted) = played.accepted.get(client) {
-            check_accepted(rt, case, asks.as_slice(), accepted.as_slice())?;
-        }
-        if let Some(taken) = played.taken.get(client) {
-            check_taken(rt, case, asks.as_slice(), taken.as_slice(), counts)?;
-            let all = !ends || !*open || taken.len() == asks.len();
-            assert!(rt; all, "{}", case.script.as_str());
-        }
+    let script = case.script.as_str();
+    let edits = case.model.edits.len();
+    let clients = case.model.open.len();
+    check_count(rt, played.revision.number() as usize, edits, script);
+    check_count(rt, played.accepted.len(), clients, script);
+    check_count(rt, played.taken.len(), clients, script);
+    for (client, open) in case.model.open.iter().enumerate() {
+        check_client(rt, case, client, played, ends && *open, counts)?;
     }
     Ok(())
 }

@@ -1,4 +1,5 @@
 //! Windows of clients, and the number of clients.
+use super::checks::check_count;
 use super::{check_play, played_of};
 use crate::tests::support::Random;
 use pq_play::Played;
@@ -93,10 +94,10 @@ impl Lane {
     /// Checks what was played.
     fn check(&self, rt: &impl Abort, played: &Played<SumsKey, SumsValue>, script: &str) {
         for requests in &played.accepted {
-            assert_eq!(rt; requests.len(), self.accepted, "{script}");
+            check_count(rt, requests.len(), self.accepted, script);
         }
         for replies in &played.taken {
-            assert_eq!(rt; replies.len(), self.taken, "{script}");
+            check_count(rt, replies.len(), self.taken, script);
         }
     }
 }
