@@ -6,15 +6,13 @@
 mod random;
 
 use super::rules::counted::Counted;
-use super::rules::{key_of, shown_answer, shown_key};
-use super::support::{check_row_count, check_text};
+use super::rules::{add_answer, add_key, add_sum, key_of};
+use super::support::{Page, check_number, check_page, check_pages, check_row_count, check_that};
 use pq_inputs::{Durability, Inputs};
 use pq_memo::{Carried, Demanded, Engine, Why};
-use pq_rules::{Memory, Rules, Sums, SumsKey, SumsValue, from_scratch};
-use std::alloc::Global;
+use pq_rules::{Rules, SumsKey, SumsValue};
 use std::cell::Cell;
 use std::process::Abort;
-use std::test::Fail;
 
 /// The durability that a word names.
 fn durability_of(word: &str) -> Durability {
@@ -27,63 +25,52 @@ fn durability_of(word: &str) -> Durability {
 
 /// Sets a file.
 fn set<R: Rules<Key = SumsKey, Value = SumsValue>>(
+    rt: &impl Abort,
     engine: &mut Engine<R>,
     name: &str,
     text: Option<String>,
     durability: Durability,
-) -> Result<(), Fail> {
-    match engine.set(name, text, durability) {
-        Ok(_revision) => Ok(()),
-        Err(_refused) => Err(Fail::from("a file was not set")),
-    }
+) {
+    let is_set = engine.set(name, text, durability).is_ok();
+    check_that(rt, is_set, name);
 }
 
 /// Makes the edit of `line`.
 fn edit<R: Rules<Key = SumsKey, Value = SumsValue>>(
-    alloc: Global,
+    rt: &(impl Abort + AllocGlobal),
     engine: &mut Engine<R>,
     line: &str,
-) -> Result<(), Fail> {
+) {
     let (durability, file) = line.split_once(" ").unwrap_or((line, ""));
     let durability = durability_of(durability);
     match file.split_once("=") {
         Some((name, text)) => {
-            let text = String::from_str(alloc, text)?;
-            set(engine, name, Some(text), durability)
+            let text = String::from_str(rt.alloc(), text).expect(rt, "memory");
+            set(rt, engine, name, Some(text), durability);
         }
-        None => set(engine, file, None, durability),
+        None => set(rt, engine, file, None, durability),
     }
 }
 
-/// Why a rule was started: `fresh`, `ring`, or the read that changed.
-fn shown_why(alloc: Global, why: &Why<SumsKey>) -> Result<String, Memory> {
+/// Writes why a rule was started: `fresh`, `ring`, or the read that changed.
+fn add_why(page: &mut Page, why: &Why<SumsKey>) {
     match why {
-        Why::Fresh => String::from_str(alloc, "fresh"),
-        Why::Changed(key) => shown_key(alloc, key),
-        Why::Ring => String::from_str(alloc, "ring"),
+        Why::Fresh => page.add("fresh"),
+        Why::Changed(key) => add_key(page, key),
+        Why::Ring => page.add("ring"),
     }
 }
 
-/// A rule that was started, as `KEY REVISION WHY;`.
-fn shown_start(alloc: Global, start: &Carried<SumsKey>) -> Result<String, Memory> {
-    let key = shown_key(alloc, &start.key)?;
-    let why = shown_why(alloc, &start.why)?;
-    let revision = start.revision.number();
-    format!(in alloc; "{} {revision} {};", key.as_str(), why.as_str())
-}
-
-/// An answer, and the rules that were started for it, as `ANSWER | CARRIED`.
-fn shown_demanded(
-    alloc: Global,
-    answer: &str,
-    carried: &[Carried<SumsKey>],
-) -> Result<String, Memory> {
-    let mut all = String::from_str(alloc, answer)?;
-    all.push_str(" | ")?;
+/// Writes the rules that were started, each as `KEY REVISION WHY;`.
+fn add_carried(page: &mut Page, carried: &[Carried<SumsKey>]) {
     for start in carried {
-        all.push_str(shown_start(alloc, start)?.as_str())?;
+        add_key(page, &start.key);
+        page.add(" ");
+        page.wide(start.revision.number());
+        page.add(" ");
+        add_why(page, &start.why);
+        page.add(";");
     }
-    Ok(all)
 }
 
 /// Demands `key`, and checks that as many rules are carried as started.
@@ -93,11 +80,11 @@ fn demand<R: Rules<Key = SumsKey, Value = SumsValue>>(
     starts: &Cell<u32>,
     key: &SumsKey,
     script: &str,
-) -> Result<Demanded<SumsKey, SumsValue>, Memory> {
+) -> Demanded<SumsKey, SumsValue> {
     starts.set(0);
-    let demanded = engine.demand(rt.alloc(), key)?;
-    assert_eq!(rt; demanded.carried.len(), starts.get() as usize, "{script}");
-    Ok(demanded)
+    let demanded = engine.demand(rt.alloc(), key).expect(rt, "memory");
+    check_number(rt, demanded.carried.len(), starts.get() as usize, script);
+    demanded
 }
 
 /// Checks that `found` is the answer of `key` from scratch.
@@ -105,13 +92,12 @@ fn check_answer(
     rt: &(impl Abort + AllocGlobal),
     inputs: &Inputs,
     key: &SumsKey,
-    found: &str,
+    found: &Page,
     script: &str,
-) -> Result<(), Memory> {
-    let answer = from_scratch(rt.alloc(), &Sums, inputs, key)?;
-    let want = shown_answer(rt.alloc(), &answer)?;
-    check_text(rt, found, want.as_str(), script);
-    Ok(())
+) {
+    let mut want = Page::new(rt.alloc());
+    add_sum(&mut want, inputs, key);
+    check_pages(rt, found, &want, script);
 }
 
 /// Checks that no rule is started for `key` when nothing changed.
@@ -121,26 +107,28 @@ fn check_again<R: Rules<Key = SumsKey, Value = SumsValue>>(
     starts: &Cell<u32>,
     key: &SumsKey,
     script: &str,
-) -> Result<(), Memory> {
-    let demanded = demand(rt, engine, starts, key, script)?;
-    assert!(rt; demanded.carried.is_empty(), "{script}");
-    Ok(())
+) {
+    let demanded = demand(rt, engine, starts, key, script);
+    check_that(rt, demanded.carried.is_empty(), script);
 }
 
-/// Checks a demand, and returns it as text.
+/// Checks a demand, and returns it as text: `ANSWER | CARRIED`.
 fn check_demand<R: Rules<Key = SumsKey, Value = SumsValue>>(
     rt: &(impl Abort + AllocGlobal),
     engine: &mut Engine<R>,
     starts: &Cell<u32>,
     asked: &str,
     script: &str,
-) -> Result<String, Memory> {
-    let key = key_of(rt, asked)?;
-    let demanded = demand(rt, engine, starts, &key, script)?;
-    let answer = shown_answer(rt.alloc(), demanded.answer.get())?;
-    check_answer(rt, engine.inputs(), &key, answer.as_str(), script)?;
-    check_again(rt, engine, starts, &key, script)?;
-    shown_demanded(rt.alloc(), answer.as_str(), demanded.carried.as_slice())
+) -> Page {
+    let key = key_of(rt, asked);
+    let demanded = demand(rt, engine, starts, &key, script);
+    let mut page = Page::new(rt.alloc());
+    add_answer(&mut page, demanded.answer.get());
+    check_answer(rt, engine.inputs(), &key, &page, script);
+    check_again(rt, engine, starts, &key, script);
+    page.add(" | ");
+    add_carried(&mut page, demanded.carried.as_slice());
+    page
 }
 
 /// Checks what the demand of `line` answers and carries, where the line says what is wanted.
@@ -150,17 +138,12 @@ fn check_line<R: Rules<Key = SumsKey, Value = SumsValue>>(
     starts: &Cell<u32>,
     line: &str,
     script: &str,
-) -> Result<(), Memory> {
-    match line.split_once(" => ") {
-        Some((asked, want)) => {
-            let found = check_demand(rt, engine, starts, asked, script)?;
-            check_text(rt, found.as_str(), want, line);
-        }
-        None => {
-            check_demand(rt, engine, starts, line, script)?;
-        }
+) {
+    let (asked, want) = line.split_once(" => ").unwrap_or((line, ""));
+    let found = check_demand(rt, engine, starts, asked, script);
+    if asked.len() < line.len() {
+        check_page(rt, &found, want, line);
     }
-    Ok(())
 }
 
 /// Runs a script with `rules`, which count in `starts`, each of its demands checked.
@@ -169,34 +152,33 @@ fn check_script_by<R: Rules<Key = SumsKey, Value = SumsValue>>(
     rules: R,
     starts: &Cell<u32>,
     script: &str,
-) -> Result<(), Fail> {
-    let inputs = Inputs::new(rt.alloc())?;
+) {
+    let inputs = Inputs::new(rt.alloc()).expect(rt, "memory");
     let mut engine = Engine::new(rt.alloc(), rules, inputs);
     for line in script.lines() {
         if line.starts_with("Sum ") || line.starts_with("Total ") {
-            check_line(rt, &mut engine, starts, line, script)?;
+            check_line(rt, &mut engine, starts, line, script);
         } else {
-            edit(rt.alloc(), &mut engine, line)?;
+            edit(rt, &mut engine, line);
         }
     }
-    Ok(())
 }
 
 /// Runs a script, each of its demands checked.
-fn check_script(rt: &(impl Abort + AllocGlobal), script: &str) -> Result<(), Fail> {
+fn check_script(rt: &(impl Abort + AllocGlobal), script: &str) {
     let starts = Cell::new(0);
-    check_script_by(rt, Counted { starts: &starts }, &starts, script)
+    check_script_by(rt, Counted { starts: &starts }, &starts, script);
 }
 
 /// Runs the script `rows` of `count` lines.
-fn check_rows(rt: &(impl Abort + AllocGlobal), count: usize, rows: &str) -> Result<(), Fail> {
+fn check_rows(rt: &(impl Abort + AllocGlobal), count: usize, rows: &str) {
     check_row_count(rt, count, rows);
-    check_script(rt, rows)
+    check_script(rt, rows);
 }
 
 // Durability confirms a ring of files that are set more rarely than the one that changed.
 #[test]
-fn durable_rings(rt: HostRuntime) -> Result<(), Fail> {
+fn durable_rings(rt: HostRuntime) {
     check_rows(
         &rt,
         5,
@@ -207,12 +189,12 @@ fn durable_rings(rt: HostRuntime) -> Result<(), Fail> {
         low d=x\n\
         Sum a => Sum a;Sum b; | \n\
         ",
-    )
+    );
 }
 
 // Each rule of another ring starts again. A ring that closes again is met from its last edge.
 #[test]
-fn rings_cut_and_closed(rt: HostRuntime) -> Result<(), Fail> {
+fn rings_cut_and_closed(rt: HostRuntime) {
     check_rows(
         &rt,
         12,
@@ -230,12 +212,12 @@ fn rings_cut_and_closed(rt: HostRuntime) -> Result<(), Fail> {
         Total a => 0 | Sum b 5 Text b;Total a 5 Sum a;\n\
         Sum a => Sum a;Sum b; | \n\
         ",
-    )
+    );
 }
 
 // A rule that started again with the same value starts no rule that read it.
 #[test]
-fn backdates(rt: HostRuntime) -> Result<(), Fail> {
+fn backdates(rt: HostRuntime) {
     check_rows(
         &rt,
         7,
@@ -248,12 +230,12 @@ fn backdates(rt: HostRuntime) -> Result<(), Fail> {
         low c=e\n\
         Sum a => 5 | Sum c 4 Text c;Sum e 4 fresh;Sum b 4 Sum c;Sum a 4 Sum b;\n\
         ",
-    )
+    );
 }
 
 // A text that is set again changes nothing, but another durability does.
 #[test]
-fn durabilities(rt: HostRuntime) -> Result<(), Fail> {
+fn durabilities(rt: HostRuntime) {
     check_rows(
         &rt,
         11,
@@ -270,5 +252,5 @@ fn durabilities(rt: HostRuntime) -> Result<(), Fail> {
         medium lib=\n\
         Sum a => 3 | Sum lib 6 Text lib;\n\
         ",
-    )
+    );
 }

@@ -1,9 +1,7 @@
 //! pq_lex: tokens and errors with their spans, values of tokens, lines and columns.
-use super::support::{check_row_count, check_text, lexical_name, shown_span, split_row};
-use pq_lex::{Kind, Lexed, LineIndex, Memory, Position, Token, integer_value, lex, text_value};
-use std::alloc::Global;
+use super::support::{Page, check_page, check_table, check_that, lexical_name};
+use pq_lex::{Kind, Lexed, LineIndex, Position, Token, integer_value, lex, text_value};
 use std::process::Abort;
-use std::test::Fail;
 
 /// The name of a sort of tokens.
 fn kind_name(kind: Kind) -> &'static str {
@@ -16,102 +14,132 @@ fn kind_name(kind: Kind) -> &'static str {
     }
 }
 
-/// A token as `KIND START-END`.
-fn shown_token(alloc: Global, token: &Token) -> Result<String, Memory> {
-    let place = shown_span(alloc, token.span)?;
-    format!(in alloc; "{} {place}", kind_name(token.kind))
+/// Writes a token as `KIND START-END`.
+fn add_token(page: &mut Page, token: &Token) {
+    page.add(kind_name(token.kind));
+    page.add(" ");
+    page.span(token.span);
 }
 
-/// The tokens of `text`, each with a semicolon after it, and its error.
-fn shown_tokens(alloc: Global, lexed: &Lexed) -> Result<String, Memory> {
-    let mut all = String::new(alloc);
-    for token in &lexed.tokens {
-        all.push_str(shown_token(alloc, token)?.as_str())?;
-        all.push(';')?;
+/// Writes the error as `CODE START-END`, or nothing.
+fn add_error(page: &mut Page, lexed: &Lexed) {
+    if let Some((span, code)) = lexed.fault {
+        page.add(lexical_name(code));
+        page.add(" ");
+        page.span(span);
     }
-    all.push_str(shown_error(alloc, lexed)?.as_str())?;
-    Ok(all)
 }
 
-/// The error as `CODE START-END`, or an empty text.
-fn shown_error(alloc: Global, lexed: &Lexed) -> Result<String, Memory> {
-    match lexed.fault {
-        None => Ok(String::new(alloc)),
-        Some((span, code)) => {
-            let place = shown_span(alloc, span)?;
-            format!(in alloc; "{} {place}", lexical_name(code))
+/// Writes the tokens, each with a semicolon after it, and the error.
+fn add_tokens(page: &mut Page, lexed: &Lexed) {
+    for token in &lexed.tokens {
+        add_token(page, token);
+        page.add(";");
+    }
+    add_error(page, lexed);
+}
+
+/// Writes the tokens of `text`, each with a semicolon after it, and its error.
+fn show_tokens(page: &mut Page, text: &str) {
+    match lex(page.alloc, text) {
+        Ok(lexed) => add_tokens(page, &lexed),
+        Err(_) => page.cut(),
+    }
+}
+
+/// Checks that the tokens and the error of `text` are `want`.
+fn check_tokens(rt: &(impl Abort + AllocGlobal), text: &str, want: &str) {
+    let mut page = Page::new(rt.alloc());
+    show_tokens(&mut page, text);
+    check_page(rt, &page, want, text);
+}
+
+/// Writes the first token.
+fn add_first(page: &mut Page, lexed: &Lexed) {
+    if let Some(token) = lexed.tokens.first() {
+        add_token(page, token);
+    }
+}
+
+/// Writes the first token of `text`.
+fn show_first(page: &mut Page, text: &str) {
+    match lex(page.alloc, text) {
+        Ok(lexed) => add_first(page, &lexed),
+        Err(_) => page.cut(),
+    }
+}
+
+/// Writes the number of tokens, and the error.
+fn add_count(page: &mut Page, lexed: &Lexed) {
+    page.number(lexed.tokens.len());
+    page.add(" ");
+    add_error(page, lexed);
+}
+
+/// Writes the number of tokens of `text`, and its error.
+fn show_error(page: &mut Page, text: &str) {
+    match lex(page.alloc, text) {
+        Ok(lexed) => add_count(page, &lexed),
+        Err(_) => page.cut(),
+    }
+}
+
+/// Checks the number of tokens of `text`, and its error, against `want`.
+fn check_error(rt: &(impl Abort + AllocGlobal), text: &str, want: &str) {
+    let mut page = Page::new(rt.alloc());
+    show_error(&mut page, text);
+    check_page(rt, &page, want, text);
+}
+
+/// Writes the value of a token of `text` as an integer, `none` past 64 bits.
+fn add_integer(page: &mut Page, text: &str, token: &Token) {
+    match integer_value(text, token) {
+        Some(value) => page.wide(value),
+        None => page.add("none"),
+    }
+}
+
+/// Writes the value of the only token as an integer, or how many tokens there are.
+fn add_only(page: &mut Page, text: &str, lexed: &Lexed) {
+    match lexed.tokens.as_slice() {
+        [token] => add_integer(page, text, token),
+        tokens => {
+            page.number(tokens.len());
+            page.add(" tokens");
         }
     }
 }
 
-/// Checks that the first token of `text` is `want`.
-fn check_first(rt: &(impl Abort + AllocGlobal), text: &str, want: &str) -> Result<(), Fail> {
-    let alloc = rt.alloc();
-    let lexed = lex(alloc, text)?;
-    let found = match lexed.tokens.first() {
-        Some(token) => shown_token(alloc, token)?,
-        None => String::new(alloc),
-    };
-    check_text(rt, found.as_str(), want, text);
-    Ok(())
-}
-
-/// Checks that the tokens and the error of `text` are `want`.
-fn check_tokens(rt: &(impl Abort + AllocGlobal), text: &str, want: &str) -> Result<(), Fail> {
-    let lexed = lex(rt.alloc(), text)?;
-    let found = shown_tokens(rt.alloc(), &lexed)?;
-    check_text(rt, found.as_str(), want, text);
-    Ok(())
-}
-
-/// The number of tokens, and the error.
-fn shown_count(alloc: Global, lexed: &Lexed) -> Result<String, Memory> {
-    let error = shown_error(alloc, lexed)?;
-    format!(in alloc; "{} {error}", lexed.tokens.len())
-}
-
-/// Checks the number of tokens of `text`, and its error, against `want`.
-fn check_error(rt: &(impl Abort + AllocGlobal), text: &str, want: &str) -> Result<(), Fail> {
-    let lexed = lex(rt.alloc(), text)?;
-    let found = shown_count(rt.alloc(), &lexed)?;
-    check_text(rt, found.as_str(), want, text);
-    Ok(())
-}
-
-/// The value of the first token of `text` as an integer, `none` past 64 bits.
-fn shown_integer(alloc: Global, text: &str, lexed: &Lexed) -> Result<String, Memory> {
-    let value = match lexed.tokens.first() {
-        Some(token) => integer_value(text, token),
-        None => None,
-    };
-    match value {
-        Some(value) => format!(in alloc; "{value}"),
-        None => String::from_str(alloc, "none"),
+/// Writes the value of `text`, which is one token, as an integer, `none` past 64 bits.
+///
+/// Another token has no value as an integer.
+fn show_integer(page: &mut Page, text: &str) {
+    match lex(page.alloc, text) {
+        Ok(lexed) => add_only(page, text, &lexed),
+        Err(_) => page.cut(),
     }
 }
 
-/// Checks that `text` is one integer token whose value is `want`, `none` past 64 bits.
-///
-/// Another token has no value as an integer.
-fn check_integer(rt: &(impl Abort + AllocGlobal), text: &str, want: &str) -> Result<(), Fail> {
-    let lexed = lex(rt.alloc(), text)?;
-    assert_eq!(rt; lexed.tokens.len(), 1, "{text}");
-    let found = shown_integer(rt.alloc(), text, &lexed)?;
-    check_text(rt, found.as_str(), want, text);
-    Ok(())
+/// Whether there is one token and no error, and the token of `text` has as a string the value
+/// `want`.
+fn has_value(rt: &(impl Abort + AllocGlobal), text: &str, lexed: &Lexed, want: &[u8]) -> bool {
+    match lexed.tokens.as_slice() {
+        [token] => {
+            let value = text_value(rt.alloc(), text, token).expect(rt, "memory");
+            lexed.fault.is_none() && value.as_slice() == want
+        }
+        _ => false,
+    }
 }
 
 /// Checks that `text` is one token whose value as a string is `want`.
-fn check_string(rt: &(impl Abort + AllocGlobal), text: &str, want: &[u8]) -> Result<(), Fail> {
-    let lexed = lex(rt.alloc(), text)?;
-    assert!(rt; lexed.fault.is_none() && lexed.tokens.len() == 1, "{text}");
-    let value = text_value(rt.alloc(), text, &lexed.tokens[0])?;
-    assert!(rt; value.as_slice() == want, "{text}");
-    Ok(())
+fn check_string(rt: &(impl Abort + AllocGlobal), text: &str, want: &[u8]) {
+    let lexed = lex(rt.alloc(), text).expect(rt, "memory");
+    check_that(rt, has_value(rt, text, &lexed, want), text);
 }
 
 #[test]
-fn single_tokens(rt: HostRuntime) -> Result<(), Fail> {
+fn single_tokens(rt: HostRuntime) {
     let rows = "\
         _a9  => Identifier 0-3\n\
         0x1F; => Integer 0-4\n\
@@ -126,29 +154,24 @@ fn single_tokens(rt: HostRuntime) -> Result<(), Fail> {
         / => Symbol 0-1\n\
         . => Symbol 0-1\n\
         ";
-    check_row_count(&rt, 12, rows);
-    for row in rows.lines() {
-        let (text, want) = split_row(&rt, row, " => ");
-        check_first(&rt, text, want)?;
-    }
-    check_first(&rt, " \t//x\n/**//***/a", "Identifier 15-16")
+    check_table(&rt, 12, rows, show_first);
+    check_tokens(&rt, " \t//x\n/**//***/a", "Identifier 15-16;");
 }
 
 #[test]
-fn whole_texts(rt: HostRuntime) -> Result<(), Fail> {
+fn whole_texts(rt: HostRuntime) {
     check_tokens(
         &rt,
         "a=0x1F;",
         "Identifier 0-1;Symbol 1-2;Integer 2-6;Symbol 6-7;",
-    )?;
+    );
     for text in ["", "\u{feff}", "//x", "/**/", " \n", "/*/*/"] {
-        check_tokens(&rt, text, "")?;
+        check_tokens(&rt, text, "");
     }
-    Ok(())
 }
 
 #[test]
-fn errors(rt: HostRuntime) -> Result<(), Fail> {
+fn errors(rt: HostRuntime) {
     let rows = "\
         /*/ => 0 UnclosedComment 0-2\n\
         a /* b => 1 UnclosedComment 2-4\n\
@@ -179,18 +202,14 @@ fn errors(rt: HostRuntime) -> Result<(), Fail> {
         a\u{feff} => 1 OtherCharacter 1-4\n\
         a\0 => 1 OtherCharacter 1-2\n\
         ";
-    check_row_count(&rt, 28, rows);
-    for row in rows.lines() {
-        let (text, want) = split_row(&rt, row, " => ");
-        check_error(&rt, text, want)?;
-    }
-    check_error(&rt, "a 'b\nc'", "1 UnclosedString 2-3")?;
-    check_error(&rt, "'\\q\n", "0 BadEscape 1-2")?;
-    check_error(&rt, "a 'b\\\n'", "1 BadEscape 4-5")
+    check_table(&rt, 28, rows, show_error);
+    check_error(&rt, "a 'b\nc'", "1 UnclosedString 2-3");
+    check_error(&rt, "'\\q\n", "0 BadEscape 1-2");
+    check_error(&rt, "a 'b\\\n'", "1 BadEscape 4-5");
 }
 
 #[test]
-fn integers(rt: HostRuntime) -> Result<(), Fail> {
+fn integers(rt: HostRuntime) {
     let rows = "\
         0x1F => 31\n\
         0Xff => 255\n\
@@ -203,29 +222,24 @@ fn integers(rt: HostRuntime) -> Result<(), Fail> {
         0x10000000000000000 => none\n\
         1e2 => none\n\
         ";
-    check_row_count(&rt, 10, rows);
-    for row in rows.lines() {
-        let (text, want) = split_row(&rt, row, " => ");
-        check_integer(&rt, text, want)?;
-    }
-    Ok(())
+    check_table(&rt, 10, rows, show_integer);
 }
 
 // A token that is not a string has an empty value.
 #[test]
-fn strings(rt: HostRuntime) -> Result<(), Fail> {
+fn strings(rt: HostRuntime) {
     check_string(
         &rt,
         "'a\\a\\b\\f\\n\\r\\t\\v\\\\\\'\\\"z'",
         b"a\x07\x08\x0c\n\r\t\x0b\\'\"z",
-    )?;
-    check_string(&rt, "'\\x41\\X4g\\x5'", b"A\x04g\x05")?;
-    check_string(&rt, "'\\101\\1018\\7\\377'", b"AA8\x07\xff")?;
-    check_string(&rt, "'\\u00e9'", b"\xc3\xa9")?;
-    check_string(&rt, "'\\ud83d\\ude00'", b"\xf0\x9f\x98\x80")?;
-    check_string(&rt, "'\\U0001F600\\u20ac'", b"\xf0\x9f\x98\x80\xe2\x82\xac")?;
-    check_string(&rt, "''", b"")?;
-    check_string(&rt, "a", b"")
+    );
+    check_string(&rt, "'\\x41\\X4g\\x5'", b"A\x04g\x05");
+    check_string(&rt, "'\\101\\1018\\7\\377'", b"AA8\x07\xff");
+    check_string(&rt, "'\\u00e9'", b"\xc3\xa9");
+    check_string(&rt, "'\\ud83d\\ude00'", b"\xf0\x9f\x98\x80");
+    check_string(&rt, "'\\U0001F600\\u20ac'", b"\xf0\x9f\x98\x80\xe2\x82\xac");
+    check_string(&rt, "''", b"");
+    check_string(&rt, "a", b"");
 }
 
 /// Checks that the offset `offset` of the index's text is at `line` and `character`.
@@ -236,10 +250,8 @@ fn check_position(
     line: usize,
     character: usize,
 ) {
-    assert!(rt;
-        index.position(offset) == Position { line, character },
-        "offset {offset}"
-    );
+    let found = index.position(offset);
+    check_that(rt, found == Position { line, character }, "a position");
 }
 
 /// Checks that `line` and `character` are the offset `want` of the index's text.
@@ -251,16 +263,15 @@ fn check_offset(
     want: Option<usize>,
 ) {
     let found = index.offset(Position { line, character });
-    assert_eq!(rt; found, want, "{line}:{character}");
+    check_that(rt, found == want, "an offset");
 }
 
 #[test]
-fn positions(rt: HostRuntime) -> Result<(), Fail> {
-    let index = LineIndex::new(rt.alloc(), "a\u{1f600}b\rc")?;
+fn positions(rt: HostRuntime) {
+    let index = LineIndex::new(rt.alloc(), "a\u{1f600}b\rc").expect(&rt, "memory");
     check_position(&rt, &index, 5, 0, 3);
     check_position(&rt, &index, 7, 1, 0);
     check_offset(&rt, &index, 0, 2, Some(1));
     check_offset(&rt, &index, 0, 99, Some(6));
     check_offset(&rt, &index, 2, 0, None);
-    Ok(())
 }

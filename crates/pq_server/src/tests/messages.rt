@@ -1,70 +1,94 @@
 //! pq_frame: messages of each kind, and bodies that are none.
-use super::support::{check_row_count, check_text, split_row};
-use pq_frame::{Label, Memory, Message, equal_labels};
+use super::support::{Page, check_page, check_row_count, check_that, split_row};
+use pq_frame::{Label, Message, equal_labels};
 use serde_json::Value;
-use std::alloc::Global;
 use std::process::Abort;
-use std::test::Fail;
 
-/// A label: `none`, a number, or a text between quotes.
-fn shown_label(alloc: Global, label: &Label) -> Result<String, Memory> {
+/// Writes a label: `none`, a number, or a text between quotes.
+fn add_label(page: &mut Page, label: &Label) {
     match label {
-        Label::None => String::from_str(alloc, "none"),
-        Label::Unsigned(number) => format!(in alloc; "+{number}"),
-        Label::Negative(number) => format!(in alloc; "{number}"),
-        Label::Text(text) => format!(in alloc; "'{}'", text.as_str()),
+        Label::None => page.add("none"),
+        Label::Unsigned(number) => {
+            page.add("+");
+            page.wide(*number);
+        }
+        Label::Negative(number) => page.signed(*number),
+        Label::Text(text) => {
+            page.add("'");
+            page.add(text.as_str());
+            page.add("'");
+        }
     }
 }
 
-/// Parameters as JSON, `-` if there are none.
-fn shown_params(alloc: Global, params: Option<&Value>) -> Result<String, Memory> {
+/// Writes a value as JSON.
+fn add_value(page: &mut Page, value: &Value) {
+    match format!(in page.alloc; "{value}") {
+        Ok(text) => page.add(text.as_str()),
+        Err(_) => page.cut(),
+    }
+}
+
+/// Writes parameters as JSON, `-` if there are none.
+fn add_params(page: &mut Page, params: Option<&Value>) {
     match params {
-        None => String::from_str(alloc, "-"),
-        Some(value) => format!(in alloc; "{value}"),
+        None => page.add("-"),
+        Some(value) => add_value(page, value),
     }
 }
 
-/// A message: its kind, its label, its method and its parameters.
-fn shown_message(alloc: Global, message: &Message) -> Result<String, Memory> {
+/// Writes a message: its kind, its label, its method and its parameters.
+fn add_message(page: &mut Page, message: &Message) {
     match message {
-        Message::BadJson => String::from_str(alloc, "bad JSON"),
-        Message::Response => String::from_str(alloc, "response"),
+        Message::BadJson => page.add("bad JSON"),
+        Message::Response => page.add("response"),
         Message::Invalid(label) => {
-            let label = shown_label(alloc, label)?;
-            format!(in alloc; "invalid {label}")
+            page.add("invalid ");
+            add_label(page, label);
         }
         Message::Ask {
             label,
             method,
             params,
         } => {
-            let label = shown_label(alloc, label)?;
-            let params = shown_params(alloc, params.as_ref())?;
-            format!(in alloc; "request {label} {} {params}", method.as_str())
+            page.add("request ");
+            add_label(page, label);
+            page.add(" ");
+            page.add(method.as_str());
+            page.add(" ");
+            add_params(page, params.as_ref());
         }
         Message::Notice { method, params } => {
-            let params = shown_params(alloc, params.as_ref())?;
-            format!(in alloc; "notification {} {params}", method.as_str())
+            page.add("notification ");
+            page.add(method.as_str());
+            page.add(" ");
+            add_params(page, params.as_ref());
         }
+    }
+}
+
+/// Writes what `body` is read as.
+fn show_body(page: &mut Page, body: &[u8]) {
+    match Message::read(page.alloc, body) {
+        Ok(message) => add_message(page, &message),
+        Err(_) => page.cut(),
     }
 }
 
 /// Checks that `body` is read as `want`.
-fn check_message(rt: &(impl Abort + AllocGlobal), body: &[u8], want: &str) -> Result<(), Fail> {
-    let message = Message::read(rt.alloc(), body)?;
-    let found = shown_message(rt.alloc(), &message)?;
-    check_text(rt, found.as_str(), want, want);
-    Ok(())
+fn check_message(rt: &(impl Abort + AllocGlobal), body: &[u8], want: &str) {
+    let mut page = Page::new(rt.alloc());
+    show_body(&mut page, body);
+    check_page(rt, &page, want, want);
 }
 
 /// Checks the `count` rows `BODY => MESSAGE`.
-fn check_messages(rt: &(impl Abort + AllocGlobal), count: usize, rows: &str) -> Result<(), Fail> {
+fn check_messages(rt: &(impl Abort + AllocGlobal), count: usize, rows: &str) {
     check_row_count(rt, count, rows);
     for row in rows.lines() {
         let (body, want) = split_row(rt, row, " => ");
-        check_message(rt, body.as_bytes(), want)?;
+        check_message(rt, body.as_bytes(), want);
     }
-    Ok(())
 }
 
 const KINDS: &str = r#"{"id":7,"jsonrpc":"2.0","method":"m","params":[true]} => request +7 m [true]
@@ -95,62 +119,65 @@ const MEMBERS: &str = r#"{"id":7,"jsonrpc":"2.0","method":"m","params":null} => 
 {"id":7,"jsonrpc":"2.0","method":"m","params":1e999} => bad JSON"#;
 
 #[test]
-fn each_body_is_read(rt: HostRuntime) -> Result<(), Fail> {
-    check_messages(&rt, 6, KINDS)?;
-    check_messages(&rt, 8, LABELS)?;
-    check_messages(&rt, 5, INVALID)?;
-    check_messages(&rt, 4, MEMBERS)
+fn each_body_is_read(rt: HostRuntime) {
+    check_messages(&rt, 6, KINDS);
+    check_messages(&rt, 8, LABELS);
+    check_messages(&rt, 5, INVALID);
+    check_messages(&rt, 4, MEMBERS);
 }
 
 /// Checks that `depth` arrays, each in the one before, are read as `want`.
-fn check_nested(rt: &(impl Abort + AllocGlobal), depth: usize, want: &str) -> Result<(), Fail> {
-    let mut body = "[".repeat(rt.alloc(), depth)?;
-    body.push_str("]".repeat(rt.alloc(), depth)?.as_str())?;
-    check_message(rt, body.as_bytes(), want)
+fn check_nested(rt: &(impl Abort + AllocGlobal), depth: usize, want: &str) {
+    let mut body = Page::new(rt.alloc());
+    body.repeat("[", depth);
+    body.repeat("]", depth);
+    check_message(rt, body.text(rt).as_bytes(), want);
 }
 
 #[test]
-fn arrays_nest_127_deep(rt: HostRuntime) -> Result<(), Fail> {
-    check_nested(&rt, 127, "invalid none")?;
-    check_nested(&rt, 128, "bad JSON")
+fn arrays_nest_127_deep(rt: HostRuntime) {
+    check_nested(&rt, 127, "invalid none");
+    check_nested(&rt, 128, "bad JSON");
 }
 
 #[test]
-fn a_body_is_utf_8(rt: HostRuntime) -> Result<(), Fail> {
-    check_message(&rt, b"\"\xff\"", "bad JSON")
+fn a_body_is_utf_8(rt: HostRuntime) {
+    check_message(&rt, b"\"\xff\"", "bad JSON");
 }
 
-/// Checks that `label` equals its copy, and the label numbered `own` of `labels` alone.
-fn check_label(
-    rt: &(impl Abort + AllocGlobal),
-    labels: &[Label],
-    own: usize,
-    label: &Label,
-) -> Result<(), Fail> {
+/// Checks that `label` equals the label numbered `own` of `labels` alone.
+fn check_label(rt: &impl Abort, labels: &[Label], own: usize, label: &Label) {
     for (i, other) in labels.iter().enumerate() {
-        assert_eq!(rt;
-            equal_labels(label, other),
-            i == own,
-            "labels {own} and {i}"
-        );
+        check_that(rt, equal_labels(label, other) == (i == own), "labels");
     }
-    assert!(rt; label.clone()? == *label, "label {own}");
-    Ok(())
+}
+
+/// Checks that `label` equals its copy.
+fn check_copy(rt: &impl Abort, label: &Label) {
+    let copy = label.clone().expect(rt, "memory");
+    check_that(rt, copy == *label, "a copy");
+}
+
+/// Checks that each of `labels` equals its copy, and no other of them.
+fn check_labels(rt: &impl Abort, labels: &[Label]) {
+    for (own, label) in labels.iter().enumerate() {
+        check_label(rt, labels, own, label);
+        check_copy(rt, label);
+    }
 }
 
 #[test]
-fn labels_are_compared(rt: HostRuntime) -> Result<(), Fail> {
+fn labels_are_compared(rt: HostRuntime) {
     let alloc = rt.alloc();
+    let empty = String::from_str(alloc, "").expect(&rt, "memory");
+    let digit = String::from_str(alloc, "1").expect(&rt, "memory");
     let labels = [
         Label::None,
         Label::Unsigned(0),
         Label::Unsigned(1),
         Label::Negative(-1),
-        Label::Text(String::from_str(alloc, "")?),
-        Label::Text(String::from_str(alloc, "1")?),
+        Label::Text(empty),
+        Label::Text(digit),
     ];
-    for (own, label) in labels.iter().enumerate() {
-        check_label(&rt, &labels, own, label)?;
-    }
-    Ok(())
+    check_labels(&rt, &labels);
 }

@@ -1,108 +1,122 @@
 //! pq_rules: answers of sums from scratch, cycles among them.
 pub(super) mod counted;
 
-use super::support::{check_row_count, check_text, split_row};
+use super::support::{Page, check_page, check_row_count, check_that, split_row};
 use pq_inputs::{Durability, Inputs};
 use pq_rules::{Answer, Memory, Ring, Sums, SumsKey, SumsValue, Text, from_scratch};
 use std::alloc::Global;
 use std::process::Abort;
-use std::test::Fail;
-
-/// Sets each file of `files`, a line `NAME=TEXT` or, for an absent one, `NAME` for each.
-fn inputs_of(alloc: Global, files: &str) -> Result<Inputs, Fail> {
-    let mut inputs = Inputs::new(alloc)?;
-    for line in files.lines() {
-        match line.split_once("=") {
-            Some((name, text)) => set(&mut inputs, name, Some(String::from_str(alloc, text)?))?,
-            None => set(&mut inputs, line, None)?,
-        }
-    }
-    Ok(inputs)
-}
 
 /// Sets a file.
-fn set(inputs: &mut Inputs, name: &str, text: Option<String>) -> Result<(), Fail> {
-    match inputs.set(name, text, Durability::Low) {
-        Ok(_revision) => Ok(()),
-        Err(_refused) => Err(Fail::from("a file was not set")),
+fn set(rt: &impl Abort, inputs: &mut Inputs, name: &str, text: Option<String>) {
+    let is_set = inputs.set(name, text, Durability::Low).is_ok();
+    check_that(rt, is_set, name);
+}
+
+/// Sets the file of a line `NAME=TEXT` or, for an absent one, `NAME`.
+fn set_line(rt: &(impl Abort + AllocGlobal), inputs: &mut Inputs, line: &str) {
+    match line.split_once("=") {
+        Some((name, text)) => {
+            let text = String::from_str(rt.alloc(), text).expect(rt, "memory");
+            set(rt, inputs, name, Some(text));
+        }
+        None => set(rt, inputs, line, None),
     }
+}
+
+/// Sets each file of `files`, a line `NAME=TEXT` or, for an absent one, `NAME` for each.
+fn inputs_of(rt: &(impl Abort + AllocGlobal), files: &str) -> Inputs {
+    let mut inputs = Inputs::new(rt.alloc()).expect(rt, "memory");
+    for line in files.lines() {
+        set_line(rt, &mut inputs, line);
+    }
+    inputs
 }
 
 /// The key that `asked` writes as `Text NAME`, `Sum NAME` or `Total NAME`.
-pub(super) fn key_of(rt: &(impl Abort + AllocGlobal), asked: &str) -> Result<SumsKey, Memory> {
+pub(super) fn key_of(rt: &(impl Abort + AllocGlobal), asked: &str) -> SumsKey {
     let (query, name) = split_row(rt, asked, " ");
-    let name = Text::new(rt.alloc(), name)?;
+    let name = Text::new(rt.alloc(), name).expect(rt, "memory");
     match query {
-        "Text" => Ok(SumsKey::Input(name)),
-        "Sum" => Ok(SumsKey::Sum(name)),
-        _ => Ok(SumsKey::Total(name)),
+        "Text" => SumsKey::Input(name),
+        "Sum" => SumsKey::Sum(name),
+        _ => SumsKey::Total(name),
     }
 }
 
-/// A key as [`key_of`] reads it.
-pub(super) fn shown_key(alloc: Global, key: &SumsKey) -> Result<String, Memory> {
+/// The query of a key, with a blank after it, and its file.
+fn query_and_file(key: &SumsKey) -> (&'static str, &str) {
     match key {
-        SumsKey::Input(name) => format!(in alloc; "Text {}", name.as_str()),
-        SumsKey::Sum(name) => format!(in alloc; "Sum {}", name.as_str()),
-        SumsKey::Total(name) => format!(in alloc; "Total {}", name.as_str()),
+        SumsKey::Input(name) => ("Text ", name.as_str()),
+        SumsKey::Sum(name) => ("Sum ", name.as_str()),
+        SumsKey::Total(name) => ("Total ", name.as_str()),
     }
 }
 
-/// The keys of a cycle, each with a semicolon after it.
-fn shown_ring(alloc: Global, ring: &Ring<SumsKey>) -> Result<String, Memory> {
-    let mut all = String::new(alloc);
+/// Writes a key as [`key_of`] reads it.
+pub(super) fn add_key(page: &mut Page, key: &SumsKey) {
+    let (query, file) = query_and_file(key);
+    page.add(query);
+    page.add(file);
+}
+
+/// Writes the keys of a cycle, each with a semicolon after it.
+fn add_ring(page: &mut Page, ring: &Ring<SumsKey>) {
     for key in ring.keys() {
-        all.push_str(shown_key(alloc, key)?.as_str())?;
-        all.push(';')?;
+        add_key(page, key);
+        page.add(";");
     }
-    Ok(all)
 }
 
-/// An answer: a number, a text between quotes, `absent`, or the keys of a cycle.
-pub(super) fn shown_answer(
-    alloc: Global,
-    answer: &Answer<SumsKey, SumsValue>,
-) -> Result<String, Memory> {
+/// Writes a value: a number, a text between quotes, or `absent`.
+fn add_value(page: &mut Page, value: &SumsValue) {
+    match value {
+        SumsValue::Number(number) => page.wide(u64::from(*number)),
+        SumsValue::Source(Some(text)) => {
+            page.add("'");
+            page.add(text.as_str());
+            page.add("'");
+        }
+        SumsValue::Source(None) => page.add("absent"),
+    }
+}
+
+/// Writes an answer: a value, or the keys of a cycle.
+pub(super) fn add_answer(page: &mut Page, answer: &Answer<SumsKey, SumsValue>) {
     match answer {
-        Answer::Value(SumsValue::Number(number)) => format!(in alloc; "{number}"),
-        Answer::Value(SumsValue::Source(Some(text))) => format!(in alloc; "'{}'", text.as_str()),
-        Answer::Value(SumsValue::Source(None)) => String::from_str(alloc, "absent"),
-        Answer::Cycle(ring) => shown_ring(alloc, ring),
+        Answer::Value(value) => add_value(page, value),
+        Answer::Cycle(ring) => add_ring(page, ring),
+    }
+}
+
+/// Writes the answer of `key` from scratch.
+pub(super) fn add_sum(page: &mut Page, inputs: &Inputs, key: &SumsKey) {
+    match from_scratch(page.alloc, &Sums, inputs, key) {
+        Ok(answer) => add_answer(page, &answer),
+        Err(_) => page.cut(),
     }
 }
 
 /// Checks that the answer of `asked` is `want`.
-fn check_answer(
-    rt: &(impl Abort + AllocGlobal),
-    inputs: &Inputs,
-    asked: &str,
-    want: &str,
-) -> Result<(), Fail> {
-    let key = key_of(rt, asked)?;
-    let answer = from_scratch(rt.alloc(), &Sums, inputs, &key)?;
-    let found = shown_answer(rt.alloc(), &answer)?;
-    check_text(rt, found.as_str(), want, asked);
-    Ok(())
+fn check_answer(rt: &(impl Abort + AllocGlobal), inputs: &Inputs, asked: &str, want: &str) {
+    let key = key_of(rt, asked);
+    let mut page = Page::new(rt.alloc());
+    add_sum(&mut page, inputs, &key);
+    check_page(rt, &page, want, asked);
 }
 
 /// Checks the `count` rows `KEY => ANSWER` over `files`.
-fn check_answers(
-    rt: &(impl Abort + AllocGlobal),
-    files: &str,
-    count: usize,
-    rows: &str,
-) -> Result<(), Fail> {
+fn check_answers(rt: &(impl Abort + AllocGlobal), files: &str, count: usize, rows: &str) {
     check_row_count(rt, count, rows);
-    let inputs = inputs_of(rt.alloc(), files)?;
+    let inputs = inputs_of(rt, files);
     for row in rows.lines() {
         let (asked, want) = split_row(rt, row, " => ");
-        check_answer(rt, &inputs, asked, want)?;
+        check_answer(rt, &inputs, asked, want);
     }
-    Ok(())
 }
 
 #[test]
-fn adds(rt: HostRuntime) -> Result<(), Fail> {
+fn adds(rt: HostRuntime) {
     check_answers(
         &rt,
         "a=b c\nb=c\nc=\n",
@@ -114,33 +128,33 @@ fn adds(rt: HostRuntime) -> Result<(), Fail> {
         Total a => 4\n\
         Sum never => 1\n\
         ",
-    )
+    );
 }
 
 /// Checks that the sum of the only file, as `file` writes it, is `want`.
-fn check_sum(rt: &(impl Abort + AllocGlobal), file: &str, want: &str) -> Result<(), Fail> {
-    let inputs = inputs_of(rt.alloc(), file)?;
-    check_answer(rt, &inputs, "Sum a", want)
+fn check_sum(rt: &(impl Abort + AllocGlobal), file: &str, want: &str) {
+    let inputs = inputs_of(rt, file);
+    check_answer(rt, &inputs, "Sum a", want);
 }
 
 #[test]
-fn passes_over_empty_pieces(rt: HostRuntime) -> Result<(), Fail> {
-    check_sum(&rt, "a", "1")?;
-    check_sum(&rt, "a=", "1")?;
-    check_sum(&rt, "a= ", "1")?;
-    check_sum(&rt, "a=b  c", "3")?;
-    check_sum(&rt, "a= b", "2")?;
-    check_sum(&rt, "a=b ", "2")?;
-    check_sum(&rt, "a=b b", "3")
+fn passes_over_empty_pieces(rt: HostRuntime) {
+    check_sum(&rt, "a", "1");
+    check_sum(&rt, "a=", "1");
+    check_sum(&rt, "a= ", "1");
+    check_sum(&rt, "a=b  c", "3");
+    check_sum(&rt, "a= b", "2");
+    check_sum(&rt, "a=b ", "2");
+    check_sum(&rt, "a=b b", "3");
 }
 
 #[test]
-fn absent_differs_from_empty(rt: HostRuntime) -> Result<(), Fail> {
-    check_answers(&rt, "a\nb=\n", 2, "Text a => absent\nText b => ''\n")
+fn absent_differs_from_empty(rt: HostRuntime) {
+    check_answers(&rt, "a\nb=\n", 2, "Text a => absent\nText b => ''\n");
 }
 
 #[test]
-fn meets_a_ring(rt: HostRuntime) -> Result<(), Fail> {
+fn meets_a_ring(rt: HostRuntime) {
     check_answers(
         &rt,
         "a=b c\nb=c\nc=a\nd=e b\ne=\n",
@@ -155,35 +169,37 @@ fn meets_a_ring(rt: HostRuntime) -> Result<(), Fail> {
         Sum e => 1\n\
         Total e => 1\n\
         ",
-    )?;
-    check_answers(&rt, "a=a\n", 1, "Sum a => Sum a;\n")
+    );
+    check_answers(&rt, "a=a\n", 1, "Sum a => Sum a;\n");
 }
 
-/// Files `n1000` to `n1999`, each naming the next and the last the first.
-fn ring_files(alloc: Global) -> Result<String, Memory> {
-    let mut files = String::new(alloc);
-    for i in 0u32..1_000 {
-        let file = format!(in alloc; "n{}=n{}\n", 1_000 + i, 1_000 + (i + 1) % 1_000)?;
-        files.push_str(file.as_str())?;
+/// Writes files `n1000` to `n1999`, each naming the next and the last the first.
+fn add_ring_files(files: &mut Page) {
+    for i in 0..1_000usize {
+        files.add("n");
+        files.number(1_000 + i);
+        files.add("=n");
+        files.number(1_000 + (i + 1) % 1_000);
+        files.add("\n");
     }
-    Ok(files)
 }
 
-/// The keys of the ring of those files, from the least on.
-fn ring_keys(alloc: Global) -> Result<String, Memory> {
-    let mut keys = String::new(alloc);
-    for i in 1_000u32..2_000 {
-        let key = format!(in alloc; "Sum n{i};")?;
-        keys.push_str(key.as_str())?;
+/// Writes the keys of the ring of those files, from the least on.
+fn add_ring_keys(keys: &mut Page) {
+    for i in 1_000..2_000usize {
+        keys.add("Sum n");
+        keys.number(i);
+        keys.add(";");
     }
-    Ok(keys)
 }
 
 // The ring of 1,000 keys is met in its middle.
 #[test]
-fn meets_a_long_ring(rt: HostRuntime) -> Result<(), Fail> {
-    let files = ring_files(rt.alloc())?;
-    let inputs = inputs_of(rt.alloc(), files.as_str())?;
-    let keys = ring_keys(rt.alloc())?;
-    check_answer(&rt, &inputs, "Sum n1500", keys.as_str())
+fn meets_a_long_ring(rt: HostRuntime) {
+    let mut files = Page::new(rt.alloc());
+    add_ring_files(&mut files);
+    let mut keys = Page::new(rt.alloc());
+    add_ring_keys(&mut keys);
+    let inputs = inputs_of(&rt, files.text(&rt));
+    check_answer(&rt, &inputs, "Sum n1500", keys.text(&rt));
 }

@@ -4,6 +4,7 @@
 //! of rows, and it grows faster than the test: loops, formatting and assertions have functions of
 //! their own here.
 use pq_frame::{Memory, frame};
+use pq_inputs::{Durability, Inputs};
 use pq_lex::{Code, Span};
 use std::alloc::Global;
 use std::process::Abort;
@@ -21,6 +22,171 @@ pub(super) fn split_row<'a>(rt: &impl Abort, row: &'a str, separator: &str) -> (
 /// Checks that `found` is `want`; `row` names the row.
 pub(super) fn check_text(rt: &impl Abort, found: &str, want: &str, row: &str) {
     assert_eq!(rt; found, want, "{row}");
+}
+
+/// A text that is written piece by piece.
+///
+/// Pieces have no result, so what writes one has no `?`, and its proof is short. A page for which
+/// memory ran out is cut, and has no text to compare.
+#[derive(Drop)]
+pub(super) struct Page {
+    pub(super) alloc: Global,
+    text: String,
+    is_cut: bool,
+}
+
+impl Page {
+    /// An empty page.
+    pub(super) fn new(alloc: Global) -> Page {
+        Page {
+            alloc,
+            text: String::new(alloc),
+            is_cut: false,
+        }
+    }
+
+    /// Notes that memory ran out.
+    pub(super) fn cut(&mut self) {
+        self.is_cut = true;
+    }
+
+    /// Writes `piece`.
+    pub(super) fn add(&mut self, piece: &str) {
+        if self.text.push_str(piece).is_err() {
+            self.is_cut = true;
+        }
+    }
+
+    /// Writes a number.
+    pub(super) fn number(&mut self, number: usize) {
+        match format!(in self.alloc; "{number}") {
+            Ok(digits) => self.add(digits.as_str()),
+            Err(_) => self.cut(),
+        }
+    }
+
+    /// Writes a number with its sign.
+    pub(super) fn signed(&mut self, number: i64) {
+        match format!(in self.alloc; "{number}") {
+            Ok(digits) => self.add(digits.as_str()),
+            Err(_) => self.cut(),
+        }
+    }
+
+    /// Writes a number of 64 bits.
+    pub(super) fn wide(&mut self, number: u64) {
+        match format!(in self.alloc; "{number}") {
+            Ok(digits) => self.add(digits.as_str()),
+            Err(_) => self.cut(),
+        }
+    }
+
+    /// Writes `bytes`, with a mark for what is not UTF-8.
+    pub(super) fn bytes(&mut self, bytes: &[u8]) {
+        match String::from_utf8_lossy(self.alloc, bytes) {
+            Ok(text) => self.add(text.as_str()),
+            Err(_) => self.cut(),
+        }
+    }
+
+    /// Writes `piece` `count` times.
+    pub(super) fn repeat(&mut self, piece: &str, count: usize) {
+        for _ in 0..count {
+            self.add(piece);
+        }
+    }
+
+    /// What `other` has, on which this page rests: it is cut if `other` is.
+    pub(super) fn rest_on<'a>(&mut self, other: &'a Page) -> &'a str {
+        if other.is_cut {
+            self.is_cut = true;
+        }
+        other.text.as_str()
+    }
+
+    /// Writes `span` as `START-END`.
+    pub(super) fn span(&mut self, span: Span) {
+        self.number(span.start);
+        self.add("-");
+        self.number(span.end);
+    }
+
+    /// How many bytes are written.
+    pub(super) fn len(&self) -> usize {
+        self.text.len()
+    }
+
+    /// What is written. The page may not be cut.
+    pub(super) fn text(&self, rt: &impl Abort) -> &str {
+        assert!(rt; !self.is_cut, "out of memory");
+        self.text.as_str()
+    }
+}
+
+/// Checks that a page has the text `want`; `row` names the row.
+pub(super) fn check_page(rt: &impl Abort, found: &Page, want: &str, row: &str) {
+    check_text(rt, found.text(rt), want, row);
+}
+
+/// Checks that two pages have one text; `row` names the row.
+pub(super) fn check_pages(rt: &impl Abort, found: &Page, want: &Page, row: &str) {
+    check_text(rt, found.text(rt), want.text(rt), row);
+}
+
+/// A page with the text of three pieces.
+pub(super) fn page_of(alloc: Global, first: &str, second: &str, third: &str) -> Page {
+    let mut page = Page::new(alloc);
+    page.add(first);
+    page.add(second);
+    page.add(third);
+    page
+}
+
+/// Checks that `holds` is true; `row` names the row.
+pub(super) fn check_that(rt: &impl Abort, holds: bool, row: &str) {
+    assert!(rt; holds, "{row}");
+}
+
+/// Checks that the number `found` is `want`; `row` names the row.
+pub(super) fn check_number(rt: &impl Abort, found: usize, want: usize, row: &str) {
+    assert_eq!(rt; found, want, "{row}");
+}
+
+/// Checks the `count` rows `ASKED => WANT`: `show` writes what it finds for `ASKED`.
+pub(super) fn check_table(
+    rt: &(impl Abort + AllocGlobal),
+    count: usize,
+    rows: &str,
+    show: fn(&mut Page, &str),
+)
+    requires { IsAlwaysCallable show }
+{
+    check_row_count(rt, count, rows);
+    for row in rows.lines() {
+        let (asked, want) = split_row(rt, row, " => ");
+        let mut page = Page::new(rt.alloc());
+        show(&mut page, asked);
+        check_page(rt, &page, want, row);
+    }
+}
+
+/// `before` and then `text`.
+pub(super) fn joined(alloc: Global, before: &str, text: &str) -> Result<String, Memory> {
+    let mut whole = String::from_str(alloc, before)?;
+    whole.push_str(text)?;
+    Ok(whole)
+}
+
+/// Sets the file `name` to `text` with the durability Low.
+pub(super) fn set_text(
+    rt: &impl Abort,
+    inputs: &mut Inputs,
+    name: &str,
+    text: Result<String, Memory>,
+) {
+    let text = text.expect(rt, "memory");
+    let is_set = inputs.set(name, Some(text), Durability::Low).is_ok();
+    check_that(rt, is_set, name);
 }
 
 /// `span` as `START-END`.

@@ -1,14 +1,11 @@
 //! A rule set that counts the rules that it starts: each key's rule is started once.
 ghost use Rattle.std.specs.Prelude.{◌≡◌};
 
-use super::{inputs_of, shown_answer};
-use crate::tests::support::check_text;
-use pq_rules::{
-    Answer, Memory, Rules, Sums, SumsKey, SumsPart, SumsValue, Text, Turn, from_scratch,
-};
+use super::{add_answer, inputs_of, key_of};
+use crate::tests::support::{Page, check_number, check_page};
+use pq_rules::{Answer, Memory, Rules, Sums, SumsKey, SumsPart, SumsValue, Turn, from_scratch};
 use std::alloc::Global;
 use std::cell::Cell;
-use std::test::Fail;
 
 /// The sums, each start counted.
 #[derive(Clone, Copy)]
@@ -80,31 +77,42 @@ impl<'a> Rules for Counted<'a> {
     }
 }
 
-/// Forty layers of two files, `l` and `r` with the layer's number, and a file `top`.
+/// Writes the files `l` and `r` of a layer, each naming both files of the layer before it.
+fn add_layer(files: &mut Page, layer: usize) {
+    for side in ["l", "r"] {
+        files.add(side);
+        files.number(layer);
+        files.add("=l");
+        files.number(layer.wrapping_sub(1));
+        files.add(" r");
+        files.number(layer.wrapping_sub(1));
+        files.add("\n");
+    }
+}
+
+/// Writes forty layers of two files, `l` and `r` with the layer's number, and a file `top`.
 ///
 /// Each file names both files of the layer before it, and `top` those of the last layer.
-fn diamond_files(alloc: Global) -> Result<String, Memory> {
-    let mut files = String::from_str(alloc, "l0=\nr0=\n")?;
-    for i in 1u32..40 {
-        let next = i - 1;
-        let layer = format!(in alloc; "l{i}=l{next} r{next}\nr{i}=l{next} r{next}\n")?;
-        files.push_str(layer.as_str())?;
+fn add_diamond(files: &mut Page) {
+    files.add("l0=\nr0=\n");
+    for layer in 1..40usize {
+        add_layer(files, layer);
     }
-    files.push_str("top=l39 r39\n")?;
-    Ok(files)
+    files.add("top=l39 r39\n");
 }
 
 // Evaluated path by path, the diamond would start 2 ^ 40 rules. A sum stops at 1,000,000.
 #[test]
-fn starts_each_rule_once(rt: HostRuntime) -> Result<(), Fail> {
-    let alloc = rt.alloc();
-    let files = diamond_files(alloc)?;
-    let inputs = inputs_of(alloc, files.as_str())?;
+fn starts_each_rule_once(rt: HostRuntime) {
+    let mut files = Page::new(rt.alloc());
+    add_diamond(&mut files);
+    let inputs = inputs_of(&rt, files.text(&rt));
     let starts = Cell::new(0);
-    let key = SumsKey::Sum(Text::new(alloc, "top")?);
-    let answer = from_scratch(alloc, &Counted { starts: &starts }, &inputs, &key)?;
-    let found = shown_answer(alloc, &answer)?;
-    check_text(&rt, found.as_str(), "1000000", "top");
-    assert_eq!(rt; starts.get(), 81);
-    Ok(())
+    let key = key_of(&rt, "Sum top");
+    let rules = Counted { starts: &starts };
+    let answer = from_scratch(rt.alloc(), &rules, &inputs, &key).expect(&rt, "memory");
+    let mut page = Page::new(rt.alloc());
+    add_answer(&mut page, &answer);
+    check_page(&rt, &page, "1000000", "top");
+    check_number(&rt, starts.get() as usize, 81, "starts");
 }
