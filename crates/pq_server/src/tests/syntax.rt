@@ -9,12 +9,10 @@ mod places;
 mod shown;
 mod trees;
 
-use super::support::{check_text, lexical_name, shown_span};
+use super::support::{Page, check_page, lexical_name};
 use pq_lex::Span;
-use pq_syntax::{Code, Memory, Parsed, parse};
-use std::alloc::Global;
+use pq_syntax::{Code, Parsed, parse};
 use std::process::Abort;
-use std::test::Fail;
 
 /// The name of a syntax error.
 fn code_name(code: Code) -> &'static str {
@@ -27,69 +25,109 @@ fn code_name(code: Code) -> &'static str {
     }
 }
 
-/// The error of `text`, or `None` if it has a tree.
-fn parse_error(alloc: Global, text: &str) -> Result<Option<(Span, Code)>, Memory> {
-    match parse(alloc, text)? {
-        Parsed::Tree(_) => Ok(None),
-        Parsed::Fault { span, code } => Ok(Some((span, code))),
+/// Writes the error `code` at `span` as `NAME START-END`.
+fn add_code(page: &mut Page, code: Code, span: Span) {
+    page.add(code_name(code));
+    page.add(" ");
+    page.span(span);
+}
+
+/// Writes the error of what was parsed as `NAME START-END`, or `none` if there is a tree.
+fn add_fault(page: &mut Page, parsed: &Parsed) {
+    match parsed {
+        Parsed::Tree(_) => page.add("none"),
+        Parsed::Fault { span, code } => add_code(page, *code, *span),
     }
 }
 
-/// The error `code` at `span` as `NAME START-END`.
-fn shown_code(alloc: Global, code: Code, span: Span) -> Result<String, Memory> {
-    let place = shown_span(alloc, span)?;
-    format!(in alloc; "{} {place}", code_name(code))
-}
-
-/// The error of `text` as `NAME START-END`, or `none` if it has a tree.
-fn shown_error(alloc: Global, text: &str) -> Result<String, Memory> {
-    match parse_error(alloc, text)? {
-        None => String::from_str(alloc, "none"),
-        Some((span, code)) => shown_code(alloc, code, span),
+/// Writes the error of `text` as `NAME START-END`, or `none` if it has a tree.
+fn add_error(page: &mut Page, text: &str) {
+    match parse(page.alloc, text) {
+        Ok(parsed) => add_fault(page, &parsed),
+        Err(_) => page.cut(),
     }
 }
 
-/// A syntax line and `tokens`, the one numbered `changed` replaced by `other`, with their spans.
-fn with_change(
-    alloc: Global,
-    tokens: &str,
-    changed: usize,
-    other: &str,
-) -> Result<(String, Vec<Span>), Memory> {
-    let mut text = String::from_str(alloc, "syntax = 'proto3';")?;
-    let mut spans = Vec::new(alloc);
-    for (i, token) in tokens.split_whitespace().enumerate() {
-        text.push_str(" ")?;
-        let start = text.len();
-        text.push_str(if i == changed { other } else { token })?;
-        let end = text.len();
-        spans.push(Span { start, end })?;
-    }
-    Ok((text, spans))
+/// Tokens after a syntax line, and their spans.
+#[derive(Drop)]
+struct Tokens {
+    text: Page,
+    spans: Vec<Span>,
 }
 
-/// The outcome of parsing `tokens` with the one numbered `changed` replaced by `other`.
+impl Tokens {
+    /// Adds a token.
+    fn add(&mut self, token: &str) {
+        self.text.add(" ");
+        let start = self.text.len();
+        self.text.add(token);
+        let end = self.text.len();
+        if self.spans.push(Span { start, end }).is_err() {
+            self.text.cut();
+        }
+    }
+
+    /// Adds `tokens`, the one numbered `changed` replaced by `other`.
+    fn add_all(&mut self, tokens: &str, changed: usize, other: &str) {
+        self.text.add("syntax = 'proto3';");
+        for (i, token) in tokens.split_whitespace().enumerate() {
+            self.add(if i == changed { other } else { token });
+        }
+    }
+}
+
+/// Writes the number of the token at `span`, or the error there if it is no token.
+fn add_number(page: &mut Page, spans: &[Span], span: Span) {
+    for (i, one) in spans.iter().enumerate() {
+        if *one == span {
+            page.number(i);
+            return;
+        }
+    }
+    add_code(page, Code::UnexpectedToken, span);
+}
+
+/// Writes the error `code` at `span` of a text of `len` bytes with tokens at `spans`.
+fn add_place(page: &mut Page, len: usize, spans: &[Span], code: Code, span: Span) {
+    match code {
+        Code::UnexpectedEnd if span.start == len && span.end == len => page.add("end"),
+        Code::UnexpectedToken => add_number(page, spans, span),
+        _ => add_code(page, code, span),
+    }
+}
+
+/// Writes the outcome `parsed` of a text of `len` bytes with tokens at `spans`.
+fn add_parsed(page: &mut Page, len: usize, spans: &[Span], parsed: &Parsed) {
+    match parsed {
+        Parsed::Tree(_) => page.add("ok"),
+        Parsed::Fault { span, code } => add_place(page, len, spans, *code, *span),
+    }
+}
+
+/// Writes the outcome of parsing `tokens`.
+fn add_outcome_of(page: &mut Page, tokens: &Tokens) {
+    let text = page.rest_on(&tokens.text);
+    match parse(page.alloc, text) {
+        Ok(parsed) => add_parsed(page, text.len(), &tokens.spans, &parsed),
+        Err(_) => page.cut(),
+    }
+}
+
+/// Writes the outcome of parsing `tokens` with the one numbered `changed` replaced by `other`.
 ///
 /// It is `ok`, `end` for an unexpected end, or the number of the unexpected token.
-fn outcome(alloc: Global, tokens: &str, changed: usize, other: &str) -> Result<String, Memory> {
-    let (text, spans) = with_change(alloc, tokens, changed, other)?;
-    let len = text.len();
-    match parse_error(alloc, text.as_str())? {
-        None => String::from_str(alloc, "ok"),
-        Some((span, Code::UnexpectedEnd)) if span.start == len && span.end == len => {
-            String::from_str(alloc, "end")
-        }
-        Some((span, Code::UnexpectedToken)) => match spans.iter().position(|s| *s == span) {
-            Some(i) => format!(in alloc; "{i}"),
-            None => shown_code(alloc, Code::UnexpectedToken, span),
-        },
-        Some((span, code)) => shown_code(alloc, code, span),
-    }
+fn add_outcome(page: &mut Page, tokens: &str, changed: usize, other: &str) {
+    let mut all = Tokens {
+        text: Page::new(page.alloc),
+        spans: Vec::new(page.alloc),
+    };
+    all.add_all(tokens, changed, other);
+    add_outcome_of(page, &all);
 }
 
 /// Checks that `text` has a tree; `row` names the text.
-fn check_parses(rt: &(impl Abort + AllocGlobal), text: &str, row: &str) -> Result<(), Fail> {
-    let found = shown_error(rt.alloc(), text)?;
-    check_text(rt, found.as_str(), "none", row);
-    Ok(())
+fn check_parses(rt: &(impl Abort + AllocGlobal), text: &str, row: &str) {
+    let mut page = Page::new(rt.alloc());
+    add_error(&mut page, text);
+    check_page(rt, &page, "none", row);
 }

@@ -1,42 +1,49 @@
 //! Texts without statements, and the values of constants, numbers and strings.
 use super::shown::check_tree;
-use crate::tests::support::{check_row_count, split_row};
+use crate::tests::support::{Page, check_row_count, check_that, split_row};
 use pq_syntax::{Node, Parsed, Statement, parse};
 use std::process::Abort;
-use std::test::Fail;
 
 #[test]
-fn no_statements(rt: HostRuntime) -> Result<(), Fail> {
-    check_tree(&rt, "syntax = 'proto3';", "")?;
-    check_tree(&rt, "syntax='proto3';; ;/**/;//", "")?;
-    check_tree(&rt, "\u{feff}syntax=\"\\x70roto3\";\n", "")
+fn no_statements(rt: HostRuntime) {
+    check_tree(&rt, "syntax = 'proto3';", "");
+    check_tree(&rt, "syntax='proto3';; ;/**/;//", "");
+    check_tree(&rt, "\u{feff}syntax=\"\\x70roto3\";\n", "");
 }
 
 /// Checks that the constant `written` is read as `want`, its kind and text.
 ///
 /// `syntax='proto3';` has 16 bytes, and the constant starts at offset 25.
-fn check_constant(rt: &(impl Abort + AllocGlobal), written: &str, want: &str) -> Result<(), Fail> {
-    let alloc = rt.alloc();
-    let mut text = format!(in alloc; "syntax='proto3';option a={written}")?;
+fn check_constant(rt: &(impl Abort + AllocGlobal), written: &str, want: &str) {
+    let mut text = Page::new(rt.alloc());
+    text.add("syntax='proto3';option a=");
+    text.add(written);
     let end = text.len();
-    text.push_str(";")?;
-    let last = text.len();
-    let want = format!(in alloc; "0 16-{last} option a 23-24 = {want} 25-{end} in 23-{end}\n")?;
-    check_tree(rt, text.as_str(), want.as_str())
+    text.add(";");
+    let mut tree = Page::new(rt.alloc());
+    tree.add("0 16-");
+    tree.number(text.len());
+    tree.add(" option a 23-24 = ");
+    tree.add(want);
+    tree.add(" 25-");
+    tree.number(end);
+    tree.add(" in 23-");
+    tree.number(end);
+    tree.add("\n");
+    check_tree(rt, text.text(rt), tree.text(rt));
 }
 
 /// Checks the `count` rows `WRITTEN => KIND TEXT` by [`check_constant`].
-fn check_constants(rt: &(impl Abort + AllocGlobal), count: usize, rows: &str) -> Result<(), Fail> {
+fn check_constants(rt: &(impl Abort + AllocGlobal), count: usize, rows: &str) {
     check_row_count(rt, count, rows);
     for row in rows.lines() {
         let (written, want) = split_row(rt, row, " => ");
-        check_constant(rt, written, want)?;
+        check_constant(rt, written, want);
     }
-    Ok(())
 }
 
 #[test]
-fn constants(rt: HostRuntime) -> Result<(), Fail> {
+fn constants(rt: HostRuntime) {
     check_constants(
         &rt,
         23,
@@ -65,41 +72,45 @@ fn constants(rt: HostRuntime) -> Result<(), Fail> {
         's'  \"t\\n\"/**/'\u{e9}' => text 's' \"t\\n\" '\u{e9}'\n\
         {} => aggregate { }\n\
         ",
-    )?;
+    );
     check_constant(
         &rt,
         "{ x:[1,(-2.)]//c\n{y:'z'\"w\"}<a>;=+option}",
         "aggregate { x : [ 1 , ( - 2. ) ] { y : 'z' \"w\" } < a > ; = + option }",
-    )
+    );
 }
 
 /// Checks that a field whose number is `written` has the number `value`.
-fn check_number(rt: &(impl Abort + AllocGlobal), written: &str, value: &str) -> Result<(), Fail> {
-    let alloc = rt.alloc();
-    let mut text = format!(in alloc; "syntax='proto3';message M{{int32 x={written}")?;
+fn check_number(rt: &(impl Abort + AllocGlobal), written: &str, value: &str) {
+    let mut text = Page::new(rt.alloc());
+    text.add("syntax='proto3';message M{int32 x=");
+    text.add(written);
     let end = text.len();
-    text.push_str(";")?;
-    let field = text.len();
-    text.push_str("}")?;
-    let last = text.len();
-    let want = format!(in alloc;
-        "0 16-{last} message M 24-25\n1 26-{field} field int32 26-31 x 32-33 = {value} 34-{end}\n"
-    )?;
-    check_tree(rt, text.as_str(), want.as_str())
+    text.add(";}");
+    let mut tree = Page::new(rt.alloc());
+    tree.add("0 16-");
+    tree.number(end.wrapping_add(2));
+    tree.add(" message M 24-25\n1 26-");
+    tree.number(end.wrapping_add(1));
+    tree.add(" field int32 26-31 x 32-33 = ");
+    tree.add(value);
+    tree.add(" 34-");
+    tree.number(end);
+    tree.add("\n");
+    check_tree(rt, text.text(rt), tree.text(rt));
 }
 
 /// Checks the `count` rows `WRITTEN => VALUE` by [`check_number`].
-fn check_numbers(rt: &(impl Abort + AllocGlobal), count: usize, rows: &str) -> Result<(), Fail> {
+fn check_numbers(rt: &(impl Abort + AllocGlobal), count: usize, rows: &str) {
     check_row_count(rt, count, rows);
     for row in rows.lines() {
         let (written, value) = split_row(rt, row, " => ");
-        check_number(rt, written, value)?;
+        check_number(rt, written, value);
     }
-    Ok(())
 }
 
 #[test]
-fn numbers(rt: HostRuntime) -> Result<(), Fail> {
+fn numbers(rt: HostRuntime) {
     check_numbers(
         &rt,
         11,
@@ -116,7 +127,7 @@ fn numbers(rt: HostRuntime) -> Result<(), Fail> {
         0xFFFFFFFFFFFFFFFF => 18446744073709551615\n\
         0x10000000000000000 => none\n\
         ",
-    )
+    );
 }
 
 /// Whether the first of `nodes` imports the file named by `bytes`.
@@ -130,14 +141,18 @@ fn is_import_of(nodes: &[Node], bytes: &[u8]) -> bool {
     }
 }
 
-#[test]
-fn strings_that_are_not_utf_8(rt: HostRuntime) -> Result<(), Fail> {
-    let text = "syntax='proto3';import '\\377\\0' \"\\xC3\" '\u{e9}\\u00e9';";
-    match parse(rt.alloc(), text)? {
-        Parsed::Tree(file) => {
-            assert!(rt; is_import_of(file.as_slice(), b"\xff\x00\xc3\xc3\xa9\xc3\xa9"));
-        }
-        Parsed::Fault { .. } => assert!(rt; false),
+/// Whether the tree of what was parsed begins with an import of the file named by `bytes`.
+fn imports(parsed: &Parsed, bytes: &[u8]) -> bool {
+    match parsed {
+        Parsed::Tree(file) => is_import_of(file.as_slice(), bytes),
+        Parsed::Fault { .. } => false,
     }
-    Ok(())
+}
+
+#[test]
+fn strings_that_are_not_utf_8(rt: HostRuntime) {
+    let text = "syntax='proto3';import '\\377\\0' \"\\xC3\" '\u{e9}\\u00e9';";
+    let parsed = parse(rt.alloc(), text).expect(&rt, "memory");
+    let found = imports(&parsed, b"\xff\x00\xc3\xc3\xa9\xc3\xa9");
+    check_that(&rt, found, text);
 }

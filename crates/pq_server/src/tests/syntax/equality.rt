@@ -1,52 +1,43 @@
 //! Texts with equal trees, and pairs that differ in one detail.
-use crate::tests::support::{check_row_count, split_row};
-use pq_syntax::{Memory, Parsed, parse};
-use std::alloc::Global;
+use crate::tests::support::{check_row_count, check_that, page_of, split_row};
+use pq_syntax::{Parsed, parse};
 use std::process::Abort;
-use std::test::Fail;
 
-/// Whether `one` and `other`, each after a syntax line, have equal trees; `None` if one has none.
-fn equal(alloc: Global, one: &str, other: &str) -> Result<Option<bool>, Memory> {
-    let one = format!(in alloc; "syntax = 'proto3'; {one}")?;
-    let other = format!(in alloc; "syntax = 'proto3'; {other}")?;
-    match (parse(alloc, one.as_str())?, parse(alloc, other.as_str())?) {
-        (Parsed::Tree(one), Parsed::Tree(other)) => Ok(Some(one == other)),
-        _ => Ok(None),
+/// Whether two outcomes are trees that are equal exactly if `want`.
+fn are_trees(one: &Parsed, other: &Parsed, want: bool) -> bool {
+    match (one, other) {
+        (Parsed::Tree(one), Parsed::Tree(other)) => (one == other) == want,
+        _ => false,
     }
+}
+
+/// The outcome of parsing `text` after a syntax line.
+fn parsed(rt: &(impl Abort + AllocGlobal), text: &str) -> Parsed {
+    let whole = page_of(rt.alloc(), "syntax = 'proto3'; ", text, "");
+    parse(rt.alloc(), whole.text(rt)).expect(rt, "memory")
 }
 
 /// Checks that `one` and `other` have trees that are equal exactly if `want`.
-fn check_pair(
-    rt: &(impl Abort + AllocGlobal),
-    one: &str,
-    other: &str,
-    want: bool,
-) -> Result<(), Fail> {
-    let found = equal(rt.alloc(), one, other)?;
-    assert_eq!(rt; found, Some(want), "{one} {other}");
-    Ok(())
+fn check_pair(rt: &(impl Abort + AllocGlobal), one: &str, other: &str, want: bool, row: &str) {
+    let first = parsed(rt, one);
+    let second = parsed(rt, other);
+    check_that(rt, are_trees(&first, &second, want), row);
 }
 
 /// Checks the `count` rows `ONE|OTHER` by [`check_pair`], and that each text's tree equals itself.
-fn check_pairs(
-    rt: &(impl Abort + AllocGlobal),
-    want: bool,
-    count: usize,
-    rows: &str,
-) -> Result<(), Fail> {
+fn check_pairs(rt: &(impl Abort + AllocGlobal), want: bool, count: usize, rows: &str) {
     check_row_count(rt, count, rows);
     for row in rows.lines() {
         let (one, other) = split_row(rt, row, "|");
-        check_pair(rt, one, one, true)?;
-        check_pair(rt, other, other, true)?;
-        check_pair(rt, one, other, want)?;
+        check_pair(rt, one, one, true, row);
+        check_pair(rt, other, other, true, row);
+        check_pair(rt, one, other, want, row);
     }
-    Ok(())
 }
 
 // Each pair differs in one detail of the tree, and in a span only where the span is that detail.
 #[test]
-fn other_trees(rt: HostRuntime) -> Result<(), Fail> {
+fn other_trees(rt: HostRuntime) {
     check_pairs(
         &rt,
         false,
@@ -97,11 +88,11 @@ fn other_trees(rt: HostRuntime) -> Result<(), Fail> {
         service S{rpc A(B)returns(       C);}|service S{rpc A(B)returns(stream C);}\n\
         extend A{}|extend B{}\n\
         ",
-    )
+    );
 }
 
 #[test]
-fn equal_trees(rt: HostRuntime) -> Result<(), Fail> {
+fn equal_trees(rt: HostRuntime) {
     check_pairs(
         &rt,
         true,
@@ -116,5 +107,5 @@ fn equal_trees(rt: HostRuntime) -> Result<(), Fail> {
         extend A{b}|extend A{c}\n\
         message M{A x=1;;}|message M{A x=1; }\n\
         ",
-    )
+    );
 }

@@ -1,137 +1,128 @@
 //! Statements with a token replaced, removed or last; errors of the syntax line and of tokens.
-use super::{check_parses, code_name, outcome, shown_error};
-use crate::tests::support::{check_row_count, check_text, split_row};
-use pq_syntax::{Code, Memory};
-use std::alloc::Global;
+use super::{add_error, add_outcome, check_parses, code_name};
+use crate::tests::support::{Page, check_page, check_row_count, page_of, split_row};
+use pq_syntax::Code;
 use std::process::Abort;
-use std::test::Fail;
 
-/// The outcomes of parsing `tokens` with each in turn replaced by `other`.
-fn outcomes(alloc: Global, tokens: &str, other: &str) -> Result<String, Memory> {
-    let mut all = String::new(alloc);
+/// Writes the outcomes of parsing `tokens` with each in turn replaced by `other`.
+fn add_outcomes(page: &mut Page, tokens: &str, other: &str) {
     for (i, _) in tokens.split_whitespace().enumerate() {
-        let one = outcome(alloc, tokens, i, other)?;
-        all.push_str(if i == 0 { "" } else { " " })?;
-        all.push_str(one.as_str())?;
+        page.add(if i == 0 { "" } else { " " });
+        add_outcome(page, tokens, i, other);
     }
-    Ok(all)
 }
 
-/// The numbers of `tokens`, from 0.
-fn counted(alloc: Global, tokens: &str) -> Result<String, Memory> {
-    let mut all = String::new(alloc);
+/// Writes the numbers of `tokens`, from 0.
+fn add_counted(page: &mut Page, tokens: &str) {
     for (i, _) in tokens.split_whitespace().enumerate() {
-        let one = format!(in alloc; "{i}")?;
-        all.push_str(if i == 0 { "" } else { " " })?;
-        all.push_str(one.as_str())?;
+        page.add(if i == 0 { "" } else { " " });
+        page.number(i);
     }
-    Ok(all)
 }
 
-/// The number of the last of `tokens`, after which there is no error.
-fn last(alloc: Global, tokens: &str) -> Result<String, Memory> {
-    let last = tokens.split_whitespace().count().saturating_sub(1);
-    format!(in alloc; "{last} none")
+/// Writes the error of `text` as `NUMBER ERROR`, if it is not an unexpected end at its end.
+fn add_end(page: &mut Page, number: usize, text: &Page) {
+    let mut found = Page::new(page.alloc);
+    add_error(&mut found, page.rest_on(text));
+    let mut end = page_of(page.alloc, "UnexpectedEnd ", "", "");
+    end.number(text.len());
+    end.add("-");
+    end.number(text.len());
+    let end = page.rest_on(&end);
+    let found = page.rest_on(&found);
+    if found != end {
+        page.number(number);
+        page.add(" ");
+        page.add(found);
+    }
 }
 
-/// The outcomes of ending the text after each of `tokens`, other than an unexpected end there.
-fn ends(alloc: Global, tokens: &str) -> Result<String, Memory> {
-    let mut text = String::from_str(alloc, "syntax = 'proto3';")?;
-    let mut all = String::new(alloc);
+/// Writes the outcomes of ending the text after each of `tokens`, other than an unexpected end.
+fn add_ends(page: &mut Page, tokens: &str) {
+    let mut text = page_of(page.alloc, "syntax = 'proto3';", "", "");
     for (i, token) in tokens.split_whitespace().enumerate() {
-        text.push_str(" ")?;
-        text.push_str(token)?;
-        let end = text.len();
-        let found = shown_error(alloc, text.as_str())?;
-        let at_end = format!(in alloc; "UnexpectedEnd {end}-{end}")?;
-        if found.as_str() != at_end.as_str() {
-            let one = format!(in alloc; "{i} {found}")?;
-            all.push_str(one.as_str())?;
-        }
+        text.add(" ");
+        text.add(token);
+        add_end(page, i, &text);
     }
-    Ok(all)
+}
+
+/// Checks the outcomes of ending `tokens` after each: they end unexpectedly after any but the last.
+fn check_ends(rt: &(impl Abort + AllocGlobal), tokens: &str) {
+    let mut found = Page::new(rt.alloc());
+    add_ends(&mut found, tokens);
+    let mut last = Page::new(rt.alloc());
+    last.number(tokens.split_whitespace().count().saturating_sub(1));
+    last.add(" none");
+    check_page(rt, &found, last.text(rt), tokens);
+}
+
+/// Checks the outcomes of `tokens` with each in turn replaced by `other`.
+fn check_replaced(rt: &(impl Abort + AllocGlobal), tokens: &str, other: &str, want: &str) {
+    let mut found = Page::new(rt.alloc());
+    add_outcomes(&mut found, tokens, other);
+    check_page(rt, &found, want, tokens);
 }
 
 /// Checks the outcomes of `tokens` with a colon for each, and with each removed.
 ///
 /// Cut short after any token but the last, they end unexpectedly.
-fn check_outcomes(
-    rt: &(impl Abort + AllocGlobal),
-    tokens: &str,
-    replaced: &str,
-    left_out: &str,
-) -> Result<(), Fail> {
-    let alloc = rt.alloc();
-    let found = outcomes(alloc, tokens, ":")?;
-    check_text(rt, found.as_str(), replaced, tokens);
-    let found = outcomes(alloc, tokens, "")?;
-    check_text(rt, found.as_str(), left_out, tokens);
-    let found = ends(alloc, tokens)?;
-    let last = last(alloc, tokens)?;
-    check_text(rt, found.as_str(), last.as_str(), tokens);
-    Ok(())
+fn check_outcomes(rt: &(impl Abort + AllocGlobal), tokens: &str, replaced: &str, left_out: &str) {
+    check_replaced(rt, tokens, ":", replaced);
+    check_replaced(rt, tokens, "", left_out);
+    check_ends(rt, tokens);
 }
 
-/// Checks the `count` rows `TOKENS => REMOVED` by [`check_outcomes`]; a colon is always an error.
-fn check_all_outcomes(
-    rt: &(impl Abort + AllocGlobal),
-    count: usize,
-    rows: &str,
-) -> Result<(), Fail> {
+/// Checks the row `TOKENS => REMOVED` by [`check_outcomes`]; a colon is always an error.
+fn check_row(rt: &(impl Abort + AllocGlobal), tokens: &str, left_out: &str) {
+    let mut numbers = Page::new(rt.alloc());
+    add_counted(&mut numbers, tokens);
+    check_outcomes(rt, tokens, numbers.text(rt), left_out);
+}
+
+/// Checks the `count` rows `TOKENS => REMOVED` by [`check_row`].
+fn check_all_outcomes(rt: &(impl Abort + AllocGlobal), count: usize, rows: &str) {
     check_row_count(rt, count, rows);
     for row in rows.lines() {
         let (tokens, left_out) = split_row(rt, row, " => ");
-        let numbers = counted(rt.alloc(), tokens)?;
-        check_outcomes(rt, tokens, numbers.as_str(), left_out)?;
+        check_row(rt, tokens, left_out);
     }
-    Ok(())
 }
 
 /// Checks that `text` has the error `code` at `place`, as `START-END`.
-fn check_error(
-    rt: &(impl Abort + AllocGlobal),
-    code: Code,
-    text: &str,
-    place: &str,
-) -> Result<(), Fail> {
-    let found = shown_error(rt.alloc(), text)?;
-    let want = format!(in rt.alloc(); "{} {place}", code_name(code))?;
-    check_text(rt, found.as_str(), want.as_str(), text);
-    Ok(())
+fn check_error(rt: &(impl Abort + AllocGlobal), code: Code, text: &str, place: &str) {
+    let want = page_of(rt.alloc(), code_name(code), " ", place);
+    let mut found = Page::new(rt.alloc());
+    add_error(&mut found, text);
+    check_page(rt, &found, want.text(rt), text);
 }
 
 /// Checks the `count` rows `TEXT => START-END` by [`check_error`].
-fn check_errors(
-    rt: &(impl Abort + AllocGlobal),
-    code: Code,
-    count: usize,
-    rows: &str,
-) -> Result<(), Fail> {
+fn check_errors(rt: &(impl Abort + AllocGlobal), code: Code, count: usize, rows: &str) {
     check_row_count(rt, count, rows);
     for row in rows.lines() {
         let (text, place) = split_row(rt, row, " => ");
-        check_error(rt, code, text, place)?;
+        check_error(rt, code, text, place);
     }
-    Ok(())
 }
 
 #[test]
-fn a_value_without_a_number(rt: HostRuntime) -> Result<(), Fail> {
+fn a_value_without_a_number(rt: HostRuntime) {
     check_error(
         &rt,
         Code::UnexpectedToken,
         "syntax = \"proto3\"; enum E { A; }",
         "29-30",
-    )?;
+    );
     let whole = "syntax = \"proto3\"; enum E { A = 0; }";
-    check_parses(&rt, whole, whole)?;
-    check_error(&rt, Code::OnlyProto3, "", "0-0")
+    check_parses(&rt, whole, whole);
+    check_error(&rt, Code::OnlyProto3, "", "0-0");
 }
 
 // The grammar has a colon only between brackets that are skipped. After the tokens come the
 // outcomes with each in turn removed: the number of the unexpected token, `end`, or `ok`.
 #[test]
-fn each_token(rt: HostRuntime) -> Result<(), Fail> {
+fn each_token(rt: HostRuntime) {
     check_all_outcomes(
         &rt,
         20,
@@ -163,40 +154,40 @@ fn each_token(rt: HostRuntime) -> Result<(), Fail> {
         service S { rpc A ( B ) returns ( stream C ) ; rpc D ( E ) returns ( F ) { } } => \
             1 2 3 4 5 6 7 8 9 10 ok 12 13 14 15 16 17 18 19 20 21 22 23 24 end end\n\
         ",
-    )
+    );
 }
 
 // First with a colon for each token, then with each removed.
 #[test]
-fn each_token_of_blocks(rt: HostRuntime) -> Result<(), Fail> {
+fn each_token_of_blocks(rt: HostRuntime) {
     check_outcomes(
         &rt,
         "option a = { b [ ( c ) ] } ;",
         "0 1 2 3 ok 9 8 ok 9 10 end 11",
         "1 2 3 5 ok 9 8 ok 9 10 end end",
-    )?;
+    );
     check_outcomes(
         &rt,
         "extend . a . B { x }",
         "0 1 2 3 4 5 ok end",
         "1 ok 3 4 5 6 ok end",
-    )?;
+    );
     check_outcomes(
         &rt,
         "message M { extend A { } }",
         "0 1 2 3 4 5 end 7",
         "1 2 3 5 5 6 end end",
-    )?;
+    );
     check_outcomes(
         &rt,
         "message M { A x = 1 [ a = { } , b = { [ ] } ] ; }",
         "0 1 2 3 4 5 6 7 8 9 10 19 12 13 14 15 17 18 19 19 20 21",
         "1 2 3 5 5 6 7 8 9 10 11 19 13 14 15 16 17 18 19 20 21 end",
-    )
+    );
 }
 
 #[test]
-fn syntax_lines(rt: HostRuntime) -> Result<(), Fail> {
+fn syntax_lines(rt: HostRuntime) {
     check_errors(
         &rt,
         Code::OnlyProto3,
@@ -215,9 +206,9 @@ fn syntax_lines(rt: HostRuntime) -> Result<(), Fail> {
         syntax = \"pro\" \"to3\"; => 9-14\n\
         syntax = 'proto33' $ => 9-18\n\
         ",
-    )?;
-    check_error(&rt, Code::OnlyProto3, "", "0-0")?;
-    check_error(&rt, Code::OnlyProto3, " \n\t", "3-3")?;
+    );
+    check_error(&rt, Code::OnlyProto3, "", "0-0");
+    check_error(&rt, Code::OnlyProto3, " \n\t", "3-3");
     check_errors(
         &rt,
         Code::UnexpectedToken,
@@ -235,7 +226,7 @@ fn syntax_lines(rt: HostRuntime) -> Result<(), Fail> {
         syntax = 'proto3'; syntax = 'proto3'; => 19-25\n\
         syntax = \"proto3\"; enum E { A } => 30-31\n\
         ",
-    )?;
+    );
     check_errors(
         &rt,
         Code::UnexpectedEnd,
@@ -245,11 +236,11 @@ fn syntax_lines(rt: HostRuntime) -> Result<(), Fail> {
         syntax = /**/ => 13-13\n\
         syntax = 'proto3' => 17-17\n\
         ",
-    )
+    );
 }
 
 #[test]
-fn lexical_faults(rt: HostRuntime) -> Result<(), Fail> {
+fn lexical_faults(rt: HostRuntime) {
     let other = Code::Lexical(pq_lex::Code::OtherCharacter);
     let comment = Code::Lexical(pq_lex::Code::UnclosedComment);
     let string = Code::Lexical(pq_lex::Code::UnclosedString);
@@ -265,7 +256,7 @@ fn lexical_faults(rt: HostRuntime) -> Result<(), Fail> {
         syntax = 'proto3'; message M { int32 x = 1$; } => 42-43\n\
         syntax = 'proto3'; option a = { [ $ => 34-35\n\
         ",
-    )?;
+    );
     check_errors(
         &rt,
         comment,
@@ -274,15 +265,15 @@ fn lexical_faults(rt: HostRuntime) -> Result<(), Fail> {
         /* => 0-2\n\
         syntax = 'proto3'; message M {} /* => 32-34\n\
         ",
-    )?;
-    check_error(&rt, string, "syntax = 'proto3", "9-10")?;
-    check_error(&rt, escape, "syntax = 'proto3'; import 'a\\q';", "28-29")?;
+    );
+    check_error(&rt, string, "syntax = 'proto3", "9-10");
+    check_error(&rt, escape, "syntax = 'proto3'; import 'a\\q';", "28-29");
     check_error(
         &rt,
         number,
         "syntax = 'proto3'; message M { int32 x = 08; }",
         "41-42",
-    )?;
+    );
     check_errors(
         &rt,
         Code::UnexpectedToken,
@@ -291,5 +282,5 @@ fn lexical_faults(rt: HostRuntime) -> Result<(), Fail> {
         syntax = 'proto3'; extend A { ] $ => 30-31\n\
         syntax = 'proto3'; = $ => 19-20\n\
         ",
-    )
+    );
 }

@@ -1,10 +1,9 @@
 //! Keywords in the place of names, where they are names like any other.
-use super::shown::shown;
-use crate::tests::support::check_text;
+use super::shown::add_tree;
+use crate::tests::support::{Page, check_number, check_page, check_that};
 use pq_syntax::Memory;
 use std::alloc::Global;
 use std::process::Abort;
-use std::test::Fail;
 
 /// A text with `word` in each place where the grammar allows any name.
 fn with_word(alloc: Global, word: &str) -> Result<String, Memory> {
@@ -16,40 +15,47 @@ fn with_word(alloc: Global, word: &str) -> Result<String, Memory> {
         .replace(alloc, "@", word)
 }
 
-/// The tree of that text, as lines.
-fn shown_with_word(alloc: Global, word: &str) -> Result<String, Memory> {
-    let text = with_word(alloc, word)?;
-    shown(alloc, text.as_str())
+/// Writes the tree of that text, as lines.
+fn add_with_word(page: &mut Page, word: &str) {
+    match with_word(page.alloc, word) {
+        Ok(text) => add_tree(page, text.as_str()),
+        Err(_) => page.cut(),
+    }
+}
+
+/// `lines` with `word` in the place of `plain`.
+fn with_name(rt: &(impl Abort + AllocGlobal), lines: &str, plain: &str, word: &str) -> String {
+    check_that(rt, lines.starts_with("0 16-"), lines);
+    lines.replace(rt.alloc(), plain, word).expect(rt, "memory")
 }
 
 /// Checks that `word` is read as a plain name of its length is, in each place.
-fn check_name(rt: &(impl Abort + AllocGlobal), word: &str) -> Result<(), Fail> {
-    let alloc = rt.alloc();
-    let plain = "q".repeat(alloc, word.len())?;
-    let tree = shown_with_word(alloc, plain.as_str())?;
-    assert!(rt; tree.as_str().starts_with("0 16-"), "{tree}");
-    let want = tree.as_str().replace(alloc, plain.as_str(), word)?;
-    let read = shown_with_word(alloc, word)?;
-    check_text(rt, read.as_str(), want.as_str(), word);
-    Ok(())
+fn check_name(rt: &(impl Abort + AllocGlobal), word: &str) {
+    let mut plain = Page::new(rt.alloc());
+    plain.repeat("q", word.len());
+    let mut tree = Page::new(rt.alloc());
+    add_with_word(&mut tree, plain.text(rt));
+    let mut read = Page::new(rt.alloc());
+    add_with_word(&mut read, word);
+    let want = with_name(rt, tree.text(rt), plain.text(rt), word);
+    check_page(rt, &read, want.as_str(), word);
 }
 
 /// Checks each of the `count` words by [`check_name`].
-fn check_names(rt: &(impl Abort + AllocGlobal), count: usize, words: &str) -> Result<(), Fail> {
-    assert_eq!(rt; words.split_whitespace().count(), count);
+fn check_names(rt: &(impl Abort + AllocGlobal), count: usize, words: &str) {
+    check_number(rt, words.split_whitespace().count(), count, words);
     for word in words.split_whitespace() {
-        check_name(rt, word)?;
+        check_name(rt, word);
     }
-    Ok(())
 }
 
 #[test]
-fn names_like_any_other(rt: HostRuntime) -> Result<(), Fail> {
+fn names_like_any_other(rt: HostRuntime) {
     check_names(
         &rt,
         29,
         "syntax import weak public package option message enum service rpc returns stream oneof map \
          reserved extend to max optional repeated required inf nan true group extensions int32 \
          string proto3",
-    )
+    );
 }

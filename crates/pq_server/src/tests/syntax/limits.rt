@@ -1,31 +1,23 @@
 //! The nesting limits: messages and brackets may be 64 deep, counting the outermost.
-use super::{check_parses, shown_code, shown_error};
-use crate::tests::support::{check_row_count, check_text, split_row};
+use super::{add_code, add_error, check_parses};
+use crate::tests::support::{Page, check_pages, check_row_count, check_that, page_of, split_row};
 use pq_lex::Span;
-use pq_syntax::{Code, Memory, Parsed, parse};
+use pq_syntax::{Code, Parsed, parse};
 use std::alloc::Global;
 use std::process::Abort;
-use std::test::Fail;
-
-/// The text of the three parts, and the span of `token` in it.
-fn with_token(
-    alloc: Global,
-    before: &str,
-    token: &str,
-    after: &str,
-) -> Result<(String, Span), Memory> {
-    let mut text = String::from_str(alloc, before)?;
-    let start = text.len();
-    text.push_str(token)?;
-    let end = text.len();
-    text.push_str(after)?;
-    Ok((text, Span { start, end }))
-}
 
 /// A text that opens `count` messages, each in the one before.
-fn opened_messages(alloc: Global, count: usize) -> Result<String, Memory> {
-    let opened = "message M{".repeat(alloc, count)?;
-    format!(in alloc; "syntax='proto3';{opened}")
+fn opened_messages(alloc: Global, count: usize) -> Page {
+    let mut page = page_of(alloc, "syntax='proto3';", "", "");
+    page.repeat("message M{", count);
+    page
+}
+
+/// A text of `piece` `count` times.
+fn repeated(alloc: Global, piece: &str, count: usize) -> Page {
+    let mut page = Page::new(alloc);
+    page.repeat(piece, count);
+    page
 }
 
 /// Checks that each of the `count` rows has a tree between `before` and `after`.
@@ -35,28 +27,29 @@ fn check_all_parse(
     after: &str,
     count: usize,
     rows: &str,
-) -> Result<(), Fail> {
+) {
     check_row_count(rt, count, rows);
     for row in rows.lines() {
-        let text = format!(in rt.alloc(); "{before}{row}{after}")?;
-        check_parses(rt, text.as_str(), row)?;
+        let text = page_of(rt.alloc(), before, row, after);
+        check_parses(rt, text.text(rt), row);
     }
-    Ok(())
+}
+
+/// Checks that the error of `text` is `code` at `span`.
+fn check_found(rt: &(impl Abort + AllocGlobal), code: Code, span: Span, text: &str) {
+    let mut want = Page::new(rt.alloc());
+    add_code(&mut want, code, span);
+    let mut found = Page::new(rt.alloc());
+    add_error(&mut found, text);
+    check_pages(rt, &found, &want, text);
 }
 
 /// Checks that `token`, between `before` and `after`, is the error `code`.
-fn check_code(
-    rt: &(impl Abort + AllocGlobal),
-    code: Code,
-    before: &str,
-    token: &str,
-    after: &str,
-) -> Result<(), Fail> {
-    let (text, span) = with_token(rt.alloc(), before, token, after)?;
-    let want = shown_code(rt.alloc(), code, span)?;
-    let found = shown_error(rt.alloc(), text.as_str())?;
-    check_text(rt, found.as_str(), want.as_str(), text.as_str());
-    Ok(())
+fn check_code(rt: &(impl Abort + AllocGlobal), code: Code, before: &str, token: &str, after: &str) {
+    let text = page_of(rt.alloc(), before, token, after);
+    let start = before.len();
+    let end = start.wrapping_add(token.len());
+    check_found(rt, code, Span { start, end }, text.text(rt));
 }
 
 /// Checks the `count` rows `TOKEN|REST` between `before` and `after` by [`check_code`].
@@ -67,31 +60,32 @@ fn check_codes(
     after: &str,
     count: usize,
     rows: &str,
-) -> Result<(), Fail> {
+) {
     check_row_count(rt, count, rows);
     for row in rows.lines() {
         let (token, rest) = split_row(rt, row, "|");
-        let rest = format!(in rt.alloc(); "{rest}{after}")?;
-        check_code(rt, code, before, token, rest.as_str())?;
+        let rest = page_of(rt.alloc(), rest, after, "");
+        check_code(rt, code, before, token, rest.text(rt));
     }
-    Ok(())
 }
 
 /// Two messages side by side in the 63rd, and one after them all.
-fn two_innermost(alloc: Global, closed: &str) -> Result<String, Memory> {
-    let outer = opened_messages(alloc, 63)?;
-    format!(in alloc; "{outer}message A{{}}message B{{{closed}message C{{}}")
+fn two_innermost(alloc: Global, closed: &str) -> Page {
+    let mut page = opened_messages(alloc, 63);
+    page.add("message A{}message B{");
+    page.add(closed);
+    page.add("message C{}");
+    page
 }
 
 #[test]
-fn messages_that_are_read(rt: HostRuntime) -> Result<(), Fail> {
-    let alloc = rt.alloc();
-    let opened = opened_messages(alloc, 64)?;
-    let closed = "}".repeat(alloc, 64)?;
+fn messages_that_are_read(rt: HostRuntime) {
+    let opened = opened_messages(rt.alloc(), 64);
+    let closed = repeated(rt.alloc(), "}", 64);
     check_all_parse(
         &rt,
-        opened.as_str(),
-        closed.as_str(),
+        opened.text(&rt),
+        closed.text(&rt),
         11,
         "\
         \n\
@@ -106,24 +100,19 @@ fn messages_that_are_read(rt: HostRuntime) -> Result<(), Fail> {
         extend message{message}\n\
         option message=message;\n\
         ",
-    )?;
-    let text = two_innermost(alloc, closed.as_str())?;
-    check_parses(&rt, text.as_str(), "two innermost messages")
-}
-
-/// What follows the keyword of a message that holds a thousand more, each in the one before.
-fn thousand_messages(alloc: Global, closed: &str) -> Result<String, Memory> {
-    let more = "message M{".repeat(alloc, 1_000)?;
-    format!(in alloc; " M{{{more}{closed}")
+    );
+    let text = two_innermost(rt.alloc(), closed.text(&rt));
+    check_parses(&rt, text.text(&rt), "two innermost messages");
 }
 
 /// Checks that a message after `before` is too deep, whatever follows its keyword.
-fn check_too_deep(rt: &(impl Abort + AllocGlobal), before: &str) -> Result<(), Fail> {
-    let alloc = rt.alloc();
-    let closed = "}".repeat(alloc, 1_064)?;
-    let deep = thousand_messages(alloc, closed.as_str())?;
-    check_code(rt, Code::TooDeep, before, "message", closed.as_str())?;
-    check_code(rt, Code::TooDeep, before, "message", deep.as_str())?;
+fn check_too_deep(rt: &(impl Abort + AllocGlobal), before: &str) {
+    let closed = repeated(rt.alloc(), "}", 1_064);
+    let mut deep = page_of(rt.alloc(), " M{", "", "");
+    deep.repeat("message M{", 1_000);
+    deep.add(closed.text(rt));
+    check_code(rt, Code::TooDeep, before, "message", closed.text(rt));
+    check_code(rt, Code::TooDeep, before, "message", deep.text(rt));
     check_codes(
         rt,
         Code::TooDeep,
@@ -141,19 +130,20 @@ fn check_too_deep(rt: &(impl Abort + AllocGlobal), before: &str) -> Result<(), F
         message|}\n\
         message| $\n\
         ",
-    )
+    );
 }
 
 #[test]
-fn messages_too_deep(rt: HostRuntime) -> Result<(), Fail> {
-    let opened = opened_messages(rt.alloc(), 64)?;
-    check_too_deep(&rt, opened.as_str())?;
-    let later = format!(in rt.alloc(); "{opened}optional message x=1;oneof o{{}};")?;
-    check_too_deep(&rt, later.as_str())?;
+fn messages_too_deep(rt: HostRuntime) {
+    let opened = opened_messages(rt.alloc(), 64);
+    check_too_deep(&rt, opened.text(&rt));
+    let later = "optional message x=1;oneof o{};";
+    let later = page_of(rt.alloc(), opened.text(&rt), later, "");
+    check_too_deep(&rt, later.text(&rt));
     check_codes(
         &rt,
         Code::UnexpectedToken,
-        opened.as_str(),
+        opened.text(&rt),
         "",
         5,
         "\
@@ -163,50 +153,56 @@ fn messages_too_deep(rt: HostRuntime) -> Result<(), Fail> {
         ]|\n\
         'message'|\n\
         ",
-    )
+    );
 }
 
-/// The depth of the last statement of `body` within 64 messages, if the text has a tree.
-fn last_depth(alloc: Global, body: &str) -> Result<Option<u8>, Memory> {
-    let opened = opened_messages(alloc, 64)?;
-    let closed = "}".repeat(alloc, 64)?;
-    let text = format!(in alloc; "{opened}{body}{closed}")?;
-    match parse(alloc, text.as_str())? {
-        Parsed::Tree(file) => Ok(file.as_slice().last().map(|node| node.depth)),
-        Parsed::Fault { .. } => Ok(None),
+/// Whether the last statement of the tree of what was parsed has the depth `depth`.
+fn ends_at(parsed: &Parsed, depth: u8) -> bool {
+    match parsed {
+        Parsed::Tree(file) => match file.as_slice().last() {
+            Some(node) => node.depth == depth,
+            None => false,
+        },
+        Parsed::Fault { .. } => false,
     }
 }
 
 /// Checks that the last statement of `body` within 64 messages has the depth `depth`.
-fn check_depth(rt: &(impl Abort + AllocGlobal), body: &str, depth: u8) -> Result<(), Fail> {
-    let found = last_depth(rt.alloc(), body)?;
-    assert_eq!(rt; found, Some(depth), "{body}");
-    Ok(())
+fn check_depth(rt: &(impl Abort + AllocGlobal), body: &str, depth: u8) {
+    let mut text = opened_messages(rt.alloc(), 64);
+    text.add(body);
+    text.repeat("}", 64);
+    let parsed = parse(rt.alloc(), text.text(rt)).expect(rt, "memory");
+    check_that(rt, ends_at(&parsed, depth), body);
 }
 
 // A statement of the innermost message is in 64 others, and a field of its oneof in 65.
 #[test]
-fn depths(rt: HostRuntime) -> Result<(), Fail> {
-    check_depth(&rt, "", 63)?;
-    check_depth(&rt, "A x=1;", 64)?;
-    check_depth(&rt, "oneof o{A x=1;}", 65)?;
-    check_depth(&rt, "enum E{A=1;}", 65)
+fn depths(rt: HostRuntime) {
+    check_depth(&rt, "", 63);
+    check_depth(&rt, "A x=1;", 64);
+    check_depth(&rt, "oneof o{A x=1;}", 65);
+    check_depth(&rt, "enum E{A=1;}", 65);
 }
 
 /// A text whose brackets are 64 deep at its end.
-fn opened_brackets(alloc: Global, opened: &str, before: &str) -> Result<String, Memory> {
-    let mixed = "[({".repeat(alloc, 21)?;
-    format!(in alloc; "{opened}{before}{{{mixed}")
+fn opened_brackets(alloc: Global, opened: &str, before: &str) -> Page {
+    let mut page = page_of(alloc, opened, before, "{");
+    page.repeat("[({", 21);
+    page
 }
 
 /// The ends of these 64 brackets, and what follows them.
-fn closed_brackets(alloc: Global, after: &str, closed: &str) -> Result<String, Memory> {
-    let mixed = "})]".repeat(alloc, 21)?;
-    format!(in alloc; "{mixed}}}{after}{closed}")
+fn closed_brackets(alloc: Global, after: &str, closed: &str) -> Page {
+    let mut page = repeated(alloc, "})]", 21);
+    page.add("}");
+    page.add(after);
+    page.add(closed);
+    page
 }
 
 /// Checks that between `before` and `after` 64 brackets, the last a brace, may be open and no more.
-fn check_brackets(rt: &(impl Abort + AllocGlobal), before: &str, after: &str) -> Result<(), Fail> {
+fn check_brackets(rt: &(impl Abort + AllocGlobal), before: &str, after: &str) {
     check_all_parse(
         rt,
         before,
@@ -219,7 +215,7 @@ fn check_brackets(rt: &(impl Abort + AllocGlobal), before: &str, after: &str) ->
         }{\n\
         })({\n\
         ",
-    )?;
+    );
     check_codes(
         rt,
         Code::TooDeep,
@@ -235,7 +231,7 @@ fn check_brackets(rt: &(impl Abort + AllocGlobal), before: &str, after: &str) ->
         (| $\n\
         {|[({[({\n\
         ",
-    )?;
+    );
     check_codes(
         rt,
         Code::UnexpectedToken,
@@ -246,7 +242,7 @@ fn check_brackets(rt: &(impl Abort + AllocGlobal), before: &str, after: &str) ->
         ]|\n\
         )|\n\
         ",
-    )
+    );
 }
 
 /// Checks the `count` places `BEFORE|AFTER` between `opened` and `closed` by [`check_brackets`].
@@ -256,20 +252,19 @@ fn check_all_brackets(
     closed: &str,
     count: usize,
     rows: &str,
-) -> Result<(), Fail> {
+) {
     check_row_count(rt, count, rows);
     for row in rows.lines() {
         let (before, after) = split_row(rt, row, "|");
-        let before = opened_brackets(rt.alloc(), opened, before)?;
-        let after = closed_brackets(rt.alloc(), after, closed)?;
-        check_brackets(rt, before.as_str(), after.as_str())?;
+        let before = opened_brackets(rt.alloc(), opened, before);
+        let after = closed_brackets(rt.alloc(), after, closed);
+        check_brackets(rt, before.text(rt), after.text(rt));
     }
-    Ok(())
 }
 
 // Aggregates and extend blocks of each statement that has one, then those of the innermost message.
 #[test]
-fn brackets(rt: HostRuntime) -> Result<(), Fail> {
+fn brackets(rt: HostRuntime) {
     check_all_brackets(
         &rt,
         "syntax='proto3';",
@@ -293,38 +288,28 @@ fn brackets(rt: HostRuntime) -> Result<(), Fail> {
         service S{option a=|;}\n\
         service S{rpc A(B)returns(C){option a=|;}}\n\
         ",
-    )?;
-    let opened = opened_messages(rt.alloc(), 64)?;
-    let closed = "}".repeat(rt.alloc(), 64)?;
+    );
+    let opened = opened_messages(rt.alloc(), 64);
+    let closed = repeated(rt.alloc(), "}", 64);
     check_all_brackets(
         &rt,
-        opened.as_str(),
-        closed.as_str(),
+        opened.text(&rt),
+        closed.text(&rt),
         3,
         "\
         extend A|\n\
         option a=|;\n\
         A x=1[a=|];\n\
         ",
-    )
-}
-
-/// A text that opens a brace at `place`, and then 63 brackets `token`.
-fn opened_alike(alloc: Global, place: &str, token: &str) -> Result<String, Memory> {
-    let outer = token.repeat(alloc, 63)?;
-    format!(in alloc; "syntax='proto3';{place}{{{outer}")
+    );
 }
 
 /// Checks that the 65th of more than a thousand brackets `token` at `place` is too deep.
-fn check_thousand_too_deep(
-    rt: &(impl Abort + AllocGlobal),
-    place: &str,
-    token: &str,
-) -> Result<(), Fail> {
-    let alloc = rt.alloc();
-    let before = opened_alike(alloc, place, token)?;
-    let inner = token.repeat(alloc, 1_000)?;
-    check_code(rt, Code::TooDeep, before.as_str(), token, inner.as_str())
+fn check_thousand_too_deep(rt: &(impl Abort + AllocGlobal), place: &str, token: &str) {
+    let mut before = page_of(rt.alloc(), "syntax='proto3';", place, "{");
+    before.repeat(token, 63);
+    let inner = repeated(rt.alloc(), token, 1_000);
+    check_code(rt, Code::TooDeep, before.text(rt), token, inner.text(rt));
 }
 
 /// Checks each of the `count` places by [`check_thousand_too_deep`].
@@ -333,56 +318,50 @@ fn check_thousand_in_places(
     token: &str,
     count: usize,
     places: &str,
-) -> Result<(), Fail> {
+) {
     check_row_count(rt, count, places);
     for place in places.lines() {
-        check_thousand_too_deep(rt, place, token)?;
+        check_thousand_too_deep(rt, place, token);
     }
-    Ok(())
 }
 
 #[test]
-fn a_thousand_brackets(rt: HostRuntime) -> Result<(), Fail> {
+fn a_thousand_brackets(rt: HostRuntime) {
     let places = "option a=\nextend A\nmessage M{A x=1[a=";
-    check_thousand_in_places(&rt, "{", 3, places)?;
-    check_thousand_in_places(&rt, "[", 3, places)?;
-    check_thousand_in_places(&rt, "(", 3, places)?;
-    let closed = "}".repeat(rt.alloc(), 1_000)?;
+    check_thousand_in_places(&rt, "{", 3, places);
+    check_thousand_in_places(&rt, "[", 3, places);
+    check_thousand_in_places(&rt, "(", 3, places);
+    let closed = repeated(rt.alloc(), "}", 1_000);
     check_code(
         &rt,
         Code::UnexpectedToken,
         "syntax='proto3';message M{}",
         "}",
-        closed.as_str(),
-    )
-}
-
-/// A text with `one` a thousand times between `before` and `after`.
-fn with_thousand(alloc: Global, before: &str, one: &str, after: &str) -> Result<String, Memory> {
-    let many = one.repeat(alloc, 1_000)?;
-    format!(in alloc; "syntax='proto3';{before}{many}{after}")
+        closed.text(&rt),
+    );
 }
 
 /// Checks that the row `BEFORE|MIDDLE|AFTER` has a tree with its middle a thousand times.
-fn check_thousand(rt: &(impl Abort + AllocGlobal), row: &str) -> Result<(), Fail> {
+fn check_thousand(rt: &(impl Abort + AllocGlobal), row: &str) {
     let (before, rest) = split_row(rt, row, "|");
     let (one, after) = split_row(rt, rest, "|");
-    let text = with_thousand(rt.alloc(), before, one, after)?;
-    check_parses(rt, text.as_str(), row)
+    let mut text = page_of(rt.alloc(), "syntax='proto3';", before, "");
+    text.repeat(one, 1_000);
+    text.add(after);
+    check_parses(rt, text.text(rt), row);
 }
 
 /// Checks the `count` rows by [`check_thousand`].
-fn check_thousands(rt: &(impl Abort + AllocGlobal), count: usize, rows: &str) -> Result<(), Fail> {
+fn check_thousands(rt: &(impl Abort + AllocGlobal), count: usize, rows: &str) {
     check_row_count(rt, count, rows);
     for row in rows.lines() {
-        check_thousand(rt, row)?;
+        check_thousand(rt, row);
     }
-    Ok(())
 }
 
 // Statements and parts side by side have no limit.
 #[test]
-fn a_thousand_side_by_side(rt: HostRuntime) -> Result<(), Fail> {
+fn a_thousand_side_by_side(rt: HostRuntime) {
     check_thousands(
         &rt,
         17,
@@ -405,5 +384,5 @@ fn a_thousand_side_by_side(rt: HostRuntime) -> Result<(), Fail> {
         option a={|{}|};\n\
         extend A{|[x]|}\n\
         ",
-    )
+    );
 }

@@ -1,15 +1,14 @@
 //! Lists of tokens, and the outcome of parsing each: `ok`, `end` for an unexpected end, or the
 //! number of the unexpected token.
-use super::outcome;
-use crate::tests::support::{check_row_count, check_text, split_row};
+use super::add_outcome;
+use crate::tests::support::{Page, check_page, check_row_count, page_of, split_row};
 use std::process::Abort;
-use std::test::Fail;
 
 /// Checks that the outcome of parsing `tokens` is `want`.
-fn check_outcome(rt: &(impl Abort + AllocGlobal), tokens: &str, want: &str) -> Result<(), Fail> {
-    let found = outcome(rt.alloc(), tokens, usize::MAX, "")?;
-    check_text(rt, found.as_str(), want, tokens);
-    Ok(())
+fn check_outcome(rt: &(impl Abort + AllocGlobal), tokens: &str, want: &str) {
+    let mut found = Page::new(rt.alloc());
+    add_outcome(&mut found, tokens, usize::MAX, "");
+    check_page(rt, &found, want, tokens);
 }
 
 /// Checks the `count` rows `TOKENS => OUTCOME`, the tokens being between `before` and `after`.
@@ -19,18 +18,17 @@ fn check_outcomes(
     after: &str,
     count: usize,
     rows: &str,
-) -> Result<(), Fail> {
+) {
     check_row_count(rt, count, rows);
     for row in rows.lines() {
         let (tokens, want) = split_row(rt, row, " => ");
-        let tokens = format!(in rt.alloc(); "{before}{tokens}{after}")?;
-        check_outcome(rt, tokens.as_str(), want)?;
+        let tokens = page_of(rt.alloc(), before, tokens, after);
+        check_outcome(rt, tokens.text(rt), want);
     }
-    Ok(())
 }
 
 #[test]
-fn files(rt: HostRuntime) -> Result<(), Fail> {
+fn files(rt: HostRuntime) {
     check_outcomes(
         &rt,
         "",
@@ -72,11 +70,11 @@ fn files(rt: HostRuntime) -> Result<(), Fail> {
         service S { A x = 1 ; } => 3\n\
         service S { stream A ( B , C ) ; } => 3\n\
         ",
-    )
+    );
 }
 
 #[test]
-fn options(rt: HostRuntime) -> Result<(), Fail> {
+fn options(rt: HostRuntime) {
     check_outcomes(
         &rt,
         "",
@@ -120,12 +118,12 @@ fn options(rt: HostRuntime) -> Result<(), Fail> {
         option a ( b ) = 1 ; => 2\n\
         option a = 1 , b = 2 ; => 4\n\
         ",
-    )
+    );
 }
 
 // A keyword at the start of a field begins another statement; after a dot or a label it is a name.
 #[test]
-fn fields(rt: HostRuntime) -> Result<(), Fail> {
+fn fields(rt: HostRuntime) {
     check_outcomes(
         &rt,
         "",
@@ -180,11 +178,11 @@ fn fields(rt: HostRuntime) -> Result<(), Fail> {
         message M { A x = 1 [ a = 1 ] [ b = 2 ] ; } => 12\n\
         message M { A x = 1 { } } => 7\n\
         ",
-    )
+    );
 }
 
 #[test]
-fn map_fields(rt: HostRuntime) -> Result<(), Fail> {
+fn map_fields(rt: HostRuntime) {
     check_outcomes(
         &rt,
         "message M { map < ",
@@ -213,7 +211,7 @@ fn map_fields(rt: HostRuntime) -> Result<(), Fail> {
         . string => 5\n\
         string . A => 6\n\
         ",
-    )?;
+    );
     check_outcomes(
         &rt,
         "",
@@ -235,11 +233,11 @@ fn map_fields(rt: HostRuntime) -> Result<(), Fail> {
         message M { map . = 1 ; } => 5\n\
         message M { map x ; } => 5\n\
         ",
-    )
+    );
 }
 
 #[test]
-fn oneofs(rt: HostRuntime) -> Result<(), Fail> {
+fn oneofs(rt: HostRuntime) {
     check_outcomes(
         &rt,
         "message M { oneof o { ",
@@ -268,11 +266,11 @@ fn oneofs(rt: HostRuntime) -> Result<(), Fail> {
         int32 x = - 1 ; => 9\n\
         int32 x ; => 8\n\
         ",
-    )
+    );
 }
 
 #[test]
-fn enums(rt: HostRuntime) -> Result<(), Fail> {
+fn enums(rt: HostRuntime) {
     check_outcomes(
         &rt,
         "enum E { ",
@@ -302,12 +300,12 @@ fn enums(rt: HostRuntime) -> Result<(), Fail> {
         reserved - 1 to - 2 , - 3 ; => ok\n\
         reserved - 1 , - max ; => 8\n\
         ",
-    )
+    );
 }
 
 // The row that begins with `\x20` has an empty list.
 #[test]
-fn reserved(rt: HostRuntime) -> Result<(), Fail> {
+fn reserved(rt: HostRuntime) {
     check_outcomes(
         &rt,
         "message M { reserved ",
@@ -335,12 +333,12 @@ fn reserved(rt: HostRuntime) -> Result<(), Fail> {
         'a' , => 6\n\
         ( 1 ) => 4\n\
         ",
-    )
+    );
 }
 
 // `stream` at the start of a method's parentheses is always the keyword.
 #[test]
-fn methods(rt: HostRuntime) -> Result<(), Fail> {
+fn methods(rt: HostRuntime) {
     check_outcomes(
         &rt,
         "service S { rpc ",
@@ -372,5 +370,5 @@ fn methods(rt: HostRuntime) -> Result<(), Fail> {
         A ( B ) returns ( C ) } => 12\n\
         option ( option ) returns ( message ) ; => ok\n\
         ",
-    )
+    );
 }

@@ -1,254 +1,282 @@
 //! A tree as lines of text, with each span.
-use super::shown_code;
-use crate::tests::support::{check_text, shown_span as place};
+use super::add_code;
+use crate::tests::support::{Page, check_page};
 use pq_syntax::{
-    Constant, ConstantKind, ImportKind, Label, Memory, MethodType, Name, Node, Number, Parsed,
+    Constant, ConstantKind, ImportKind, Label, MethodType, Name, NamePart, Node, Number, Parsed,
     Range, RangeEnd, Setting, Statement, Strings, parse,
 };
-use std::alloc::Global;
 use std::process::Abort;
-use std::test::Fail;
 
-/// A name and its span.
-fn name(alloc: Global, name: &Name) -> Result<String, Memory> {
-    let place = place(alloc, name.span)?;
-    format!(in alloc; "{} {place}", name.text.as_str())
+/// Writes a name and its span.
+fn add_name(page: &mut Page, name: &Name) {
+    page.add(name.text.as_str());
+    page.add(" ");
+    page.span(name.span);
 }
 
-/// A number, `none` past 64 bits, and its span.
-fn number(alloc: Global, number: &Number) -> Result<String, Memory> {
-    let sign = if number.negative { "-" } else { "" };
-    let place = place(alloc, number.span)?;
+/// Writes a number, `none` past 64 bits, and its span.
+fn add_number(page: &mut Page, number: &Number) {
+    page.add(if number.negative { "-" } else { "" });
     match number.value {
-        Some(value) => format!(in alloc; "{sign}{value} {place}"),
-        None => format!(in alloc; "{sign}none {place}"),
+        Some(value) => page.wide(value),
+        None => page.add("none"),
+    }
+    page.add(" ");
+    page.span(number.span);
+}
+
+/// Writes the value of strings between bars, and their span.
+fn add_strings(page: &mut Page, strings: &Strings) {
+    page.add("|");
+    page.bytes(strings.value.as_slice());
+    page.add("| ");
+    page.span(strings.span);
+}
+
+/// The word of a kind of constants.
+fn kind_word(kind: ConstantKind) -> &'static str {
+    match kind {
+        ConstantKind::Identifier => "identifier ",
+        ConstantKind::Integer => "integer ",
+        ConstantKind::Float => "float ",
+        ConstantKind::Text => "text ",
+        ConstantKind::Aggregate => "aggregate ",
     }
 }
 
-/// The value of strings between bars, and their span.
-fn strings(alloc: Global, strings: &Strings) -> Result<String, Memory> {
-    let value = String::from_utf8_lossy(alloc, strings.value.as_slice())?;
-    let place = place(alloc, strings.span)?;
-    format!(in alloc; "|{value}| {place}")
+/// Writes a constant's kind, text and span.
+fn add_constant(page: &mut Page, constant: &Constant) {
+    page.add(kind_word(constant.kind));
+    page.add(constant.text.as_str());
+    page.add(" ");
+    page.span(constant.span);
 }
 
-/// A constant's kind, text and span.
-fn constant(alloc: Global, constant: &Constant) -> Result<String, Memory> {
-    let kind = match constant.kind {
-        ConstantKind::Identifier => "identifier",
-        ConstantKind::Integer => "integer",
-        ConstantKind::Float => "float",
-        ConstantKind::Text => "text",
-        ConstantKind::Aggregate => "aggregate",
-    };
-    let place = place(alloc, constant.span)?;
-    format!(in alloc; "{kind} {} {place}", constant.text.as_str())
+/// Writes a part of an option's name, and its span.
+fn add_part(page: &mut Page, part: &NamePart) {
+    page.add(if part.is_extension { "(" } else { "" });
+    page.add(part.text.as_str());
+    page.add(if part.is_extension { ") " } else { " " });
+    page.span(part.span);
+    page.add(" ");
 }
 
-/// An option: the parts of its name, its constant and its span.
-fn setting(alloc: Global, setting: &Setting) -> Result<String, Memory> {
-    let mut all = String::new(alloc);
+/// Writes an option: the parts of its name, its constant and its span.
+fn add_setting(page: &mut Page, setting: &Setting) {
     for part in setting.parts.as_slice() {
-        let place = place(alloc, part.span)?;
-        let text = part.text.as_str();
-        let one = if part.is_extension {
-            format!(in alloc; "({text}) {place} ")?
-        } else {
-            format!(in alloc; "{text} {place} ")?
-        };
-        all.push_str(one.as_str())?;
+        add_part(page, part);
     }
-    let constant = constant(alloc, &setting.constant)?;
-    let place = place(alloc, setting.span)?;
-    format!(in alloc; "{all}= {constant} in {place}")
+    page.add("= ");
+    add_constant(page, &setting.constant);
+    page.add(" in ");
+    page.span(setting.span);
 }
 
-/// Options in brackets.
-fn settings(alloc: Global, settings: &[Setting]) -> Result<String, Memory> {
-    let mut all = String::new(alloc);
+/// Writes options in brackets.
+fn add_settings(page: &mut Page, settings: &[Setting]) {
     for one in settings {
-        let one = setting(alloc, one)?;
-        let one = format!(in alloc; " [{one}]")?;
-        all.push_str(one.as_str())?;
+        page.add(" [");
+        add_setting(page, one);
+        page.add("]");
     }
-    Ok(all)
 }
 
-/// A reserved range in brackets.
-fn range(alloc: Global, range: &Range) -> Result<String, Memory> {
-    let first = number(alloc, &range.first)?;
-    let place = place(alloc, range.span)?;
-    match &range.last {
-        RangeEnd::Alone => format!(in alloc; " [{first} in {place}]"),
+/// Writes the end of a reserved range, if it has one.
+fn add_range_end(page: &mut Page, end: &RangeEnd) {
+    match end {
+        RangeEnd::Alone => {}
         RangeEnd::To(last) => {
-            let last = number(alloc, last)?;
-            format!(in alloc; " [{first} to {last} in {place}]")
+            page.add(" to ");
+            add_number(page, last);
         }
-        RangeEnd::Max => format!(in alloc; " [{first} to max in {place}]"),
+        RangeEnd::Max => page.add(" to max"),
     }
 }
 
-/// Reserved ranges.
-fn ranges(alloc: Global, ranges: &[Range]) -> Result<String, Memory> {
-    let mut all = String::new(alloc);
-    for one in ranges {
-        all.push_str(range(alloc, one)?.as_str())?;
+/// Writes reserved ranges in brackets.
+fn add_ranges(page: &mut Page, ranges: &[Range]) {
+    for range in ranges {
+        page.add(" [");
+        add_number(page, &range.first);
+        add_range_end(page, &range.last);
+        page.add(" in ");
+        page.span(range.span);
+        page.add("]");
     }
-    Ok(all)
 }
 
-/// Reserved names in brackets.
-fn reserved_names(alloc: Global, names: &[Strings]) -> Result<String, Memory> {
-    let mut all = String::new(alloc);
+/// Writes reserved names in brackets.
+fn add_reserved_names(page: &mut Page, names: &[Strings]) {
     for one in names {
-        let one = strings(alloc, one)?;
-        let one = format!(in alloc; " [{one}]")?;
-        all.push_str(one.as_str())?;
+        page.add(" [");
+        add_strings(page, one);
+        page.add("]");
     }
-    Ok(all)
 }
 
-/// A method's type, after `stream ` if it is a stream.
-fn method_type(alloc: Global, kind: &MethodType) -> Result<String, Memory> {
-    let stream = if kind.is_stream { "stream " } else { "" };
-    let type_name = name(alloc, &kind.type_name)?;
-    format!(in alloc; "{stream}{type_name}")
+/// Writes a method's type, after `stream ` if it is a stream.
+fn add_method_type(page: &mut Page, kind: &MethodType) {
+    page.add(if kind.is_stream { "stream " } else { "" });
+    add_name(page, &kind.type_name);
 }
 
-/// An import's kind and file.
-fn import(alloc: Global, kind: ImportKind, file: &Strings) -> Result<String, Memory> {
-    let kind = match kind {
-        ImportKind::Plain => "plain",
-        ImportKind::Public => "public",
-        ImportKind::Weak => "weak",
-    };
-    let file = strings(alloc, file)?;
-    format!(in alloc; "import {kind} {file}")
+/// The word of a kind of imports.
+fn import_word(kind: ImportKind) -> &'static str {
+    match kind {
+        ImportKind::Plain => "import plain ",
+        ImportKind::Public => "import public ",
+        ImportKind::Weak => "import weak ",
+    }
 }
 
-/// A statement of which only the name is shown.
-fn named(alloc: Global, what: &str, of: &Name) -> Result<String, Memory> {
-    let name = name(alloc, of)?;
-    format!(in alloc; "{what} {name}")
+/// Writes an import's kind and file.
+fn add_import(page: &mut Page, kind: ImportKind, file: &Strings) {
+    page.add(import_word(kind));
+    add_strings(page, file);
 }
 
-/// A name, its number and its options.
-fn tail(alloc: Global, of: &Name, to: &Number, options: &[Setting]) -> Result<String, Memory> {
-    let name = name(alloc, of)?;
-    let number = number(alloc, to)?;
-    let settings = settings(alloc, options)?;
-    format!(in alloc; "{name} = {number}{settings}")
+/// Writes a statement of which only the name is shown.
+fn add_named(page: &mut Page, what: &str, of: &Name) {
+    page.add(what);
+    add_name(page, of);
 }
 
-/// A statement without its span.
-fn statement(alloc: Global, statement: &Statement) -> Result<String, Memory> {
+/// Writes a name, its number and its options.
+fn add_tail(page: &mut Page, of: &Name, to: &Number, options: &[Setting]) {
+    page.add(" ");
+    add_name(page, of);
+    page.add(" = ");
+    add_number(page, to);
+    add_settings(page, options);
+}
+
+/// Writes the label and the type of a field.
+fn add_field_head(page: &mut Page, label: Option<Label>, type_name: &Name) {
+    page.add(match label {
+        None => "field ",
+        Some(Label::Optional) => "field optional ",
+        Some(Label::Repeated) => "field repeated ",
+    });
+    add_name(page, type_name);
+}
+
+/// Writes the types of a map field.
+fn add_map_head(page: &mut Page, key: &Name, value: &Name) {
+    add_named(page, "map ", key);
+    add_named(page, " to ", value);
+}
+
+/// Writes a method.
+fn add_method(page: &mut Page, of: &Name, input: &MethodType, output: &MethodType) {
+    add_named(page, "rpc ", of);
+    page.add(" from ");
+    add_method_type(page, input);
+    page.add(" to ");
+    add_method_type(page, output);
+}
+
+/// Writes a statement without its span.
+fn add_statement(page: &mut Page, statement: &Statement) {
     match statement {
-        Statement::Import { kind, file } => import(alloc, *kind, file),
-        Statement::Package { name } => named(alloc, "package", name),
+        Statement::Import { kind, file } => add_import(page, *kind, file),
+        Statement::Package { name } => add_named(page, "package ", name),
         Statement::Option(set) => {
-            let set = setting(alloc, set)?;
-            format!(in alloc; "option {set}")
+            page.add("option ");
+            add_setting(page, set);
         }
-        Statement::Message { name } => named(alloc, "message", name),
+        Statement::Message { name } => add_named(page, "message ", name),
         Statement::Field {
             label,
             type_name,
-            name: of,
+            name,
             number,
             options,
         } => {
-            let label = match label {
-                None => "",
-                Some(Label::Optional) => "optional ",
-                Some(Label::Repeated) => "repeated ",
-            };
-            let kind = name(alloc, type_name)?;
-            let tail = tail(alloc, of, number, options.as_slice())?;
-            format!(in alloc; "field {label}{kind} {tail}")
+            add_field_head(page, *label, type_name);
+            add_tail(page, name, number, options.as_slice());
         }
         Statement::MapField {
             key,
             value,
-            name: of,
+            name,
             number,
             options,
         } => {
-            let key = name(alloc, key)?;
-            let value = name(alloc, value)?;
-            let tail = tail(alloc, of, number, options.as_slice())?;
-            format!(in alloc; "map {key} to {value} {tail}")
+            add_map_head(page, key, value);
+            add_tail(page, name, number, options.as_slice());
         }
-        other => second_statement(alloc, other),
+        other => add_second_statement(page, other),
     }
 }
 
-/// The second half of [`statement`]'s cases.
-fn second_statement(alloc: Global, statement: &Statement) -> Result<String, Memory> {
+/// Writes the second half of the cases of [`add_statement`].
+fn add_second_statement(page: &mut Page, statement: &Statement) {
     match statement {
-        Statement::Oneof { name } => named(alloc, "oneof", name),
+        Statement::Oneof { name } => add_named(page, "oneof ", name),
         Statement::ReservedNumbers(all) => {
-            let all = ranges(alloc, all.as_slice())?;
-            format!(in alloc; "reserved numbers{all}")
+            page.add("reserved numbers");
+            add_ranges(page, all.as_slice());
         }
         Statement::ReservedNames(all) => {
-            let all = reserved_names(alloc, all.as_slice())?;
-            format!(in alloc; "reserved names{all}")
+            page.add("reserved names");
+            add_reserved_names(page, all.as_slice());
         }
-        Statement::Enum { name } => named(alloc, "enum", name),
+        Statement::Enum { name } => add_named(page, "enum ", name),
         Statement::Value {
             name,
             number,
             options,
         } => {
-            let tail = tail(alloc, name, number, options.as_slice())?;
-            format!(in alloc; "value {tail}")
+            page.add("value");
+            add_tail(page, name, number, options.as_slice());
         }
-        Statement::Service { name } => named(alloc, "service", name),
+        Statement::Service { name } => add_named(page, "service ", name),
         Statement::Method {
-            name: of,
+            name,
             input,
             output,
-        } => {
-            let of = name(alloc, of)?;
-            let input = method_type(alloc, input)?;
-            let output = method_type(alloc, output)?;
-            format!(in alloc; "rpc {of} from {input} to {output}")
-        }
-        Statement::Extend { type_name } => named(alloc, "extend", type_name),
-        _ => format!(in alloc; "none"),
+        } => add_method(page, name, input, output),
+        Statement::Extend { type_name } => add_named(page, "extend ", type_name),
+        _ => page.add("none"),
     }
 }
 
-/// A node: its depth, its span and its statement.
-fn node(alloc: Global, node: &Node) -> Result<String, Memory> {
-    let place = place(alloc, node.span)?;
-    let statement = statement(alloc, &node.statement)?;
-    format!(in alloc; "{} {place} {statement}\n", node.depth)
+/// Writes a node: its depth, its span and its statement.
+fn add_node(page: &mut Page, node: &Node) {
+    page.number(usize::from(node.depth));
+    page.add(" ");
+    page.span(node.span);
+    page.add(" ");
+    add_statement(page, &node.statement);
+    page.add("\n");
 }
 
-/// The statements of the tree of `text`, a line for each, or its error.
-pub(super) fn shown(alloc: Global, text: &str) -> Result<String, Memory> {
-    let mut all = String::new(alloc);
-    match parse(alloc, text)? {
-        Parsed::Tree(file) => {
-            for one in file.as_slice() {
-                all.push_str(node(alloc, one)?.as_str())?;
-            }
-        }
-        Parsed::Fault { span, code } => {
-            all.push_str(shown_code(alloc, code, span)?.as_str())?;
-        }
+/// Writes nodes, a line for each.
+fn add_nodes(page: &mut Page, nodes: &[Node]) {
+    for node in nodes {
+        add_node(page, node);
     }
-    Ok(all)
+}
+
+/// Writes what was parsed.
+fn add_parsed(page: &mut Page, parsed: &Parsed) {
+    match parsed {
+        Parsed::Tree(file) => add_nodes(page, file.as_slice()),
+        Parsed::Fault { span, code } => add_code(page, *code, *span),
+    }
+}
+
+/// Writes the statements of the tree of `text`, a line for each, or its error.
+pub(super) fn add_tree(page: &mut Page, text: &str) {
+    match parse(page.alloc, text) {
+        Ok(parsed) => add_parsed(page, &parsed),
+        Err(_) => page.cut(),
+    }
 }
 
 /// Checks that the tree of `text` has the lines `want`.
-pub(super) fn check_tree(
-    rt: &(impl Abort + AllocGlobal),
-    text: &str,
-    want: &str,
-) -> Result<(), Fail> {
-    let read = shown(rt.alloc(), text)?;
-    check_text(rt, read.as_str(), want, text);
-    Ok(())
+pub(super) fn check_tree(rt: &(impl Abort + AllocGlobal), text: &str, want: &str) {
+    let mut page = Page::new(rt.alloc());
+    add_tree(&mut page, text);
+    check_page(rt, &page, want, text);
 }
