@@ -8,34 +8,29 @@ mod random;
 mod resolution;
 mod shown;
 
-use super::support::{check_row_count, check_text, split_row};
-use pq_inputs::{Durability, Inputs};
+use super::support::{Page, check_page, check_row_count, joined, set_text, split_row};
+use pq_inputs::Inputs;
 use pq_rules::{Answer, Memory, Text, from_scratch};
-use pq_schema::{SchemaKey, SchemaRules, SchemaValue, resolve};
-use shown::{shown_answer, shown_target};
+use pq_schema::{SchemaKey, SchemaRules, SchemaValue, Scope, resolve};
+use shown::{add_answer, add_target};
 use std::alloc::Global;
 use std::process::Abort;
-use std::test::Fail;
 
-/// Sets a file to the text `text` after the statement of the syntax.
-fn set_file(alloc: Global, inputs: &mut Inputs, name: &str, text: &str) -> Result<(), Fail> {
-    let mut whole = String::from_str(alloc, "syntax='proto3';")?;
-    whole.push_str(text)?;
-    match inputs.set(name, Some(whole), Durability::Low) {
-        Ok(_revision) => Ok(()),
-        Err(_refused) => Err(Fail::from("a file was not set")),
+/// Sets the file of a line, an absent one of a line without a text.
+fn set_line(rt: &(impl Abort + AllocGlobal), inputs: &mut Inputs, line: &str) {
+    if let Some((name, text)) = line.split_once(": ") {
+        let text = joined(rt.alloc(), "syntax='proto3';", text);
+        set_text(rt, inputs, name, text);
     }
 }
 
 /// Sets the files of the set `files`.
-fn inputs_of(alloc: Global, files: &str) -> Result<Inputs, Fail> {
-    let mut inputs = Inputs::new(alloc)?;
+fn inputs_of(rt: &(impl Abort + AllocGlobal), files: &str) -> Inputs {
+    let mut inputs = Inputs::new(rt.alloc()).expect(rt, "memory");
     for line in files.lines() {
-        if let Some((name, text)) = line.split_once(": ") {
-            set_file(alloc, &mut inputs, name, text)?;
-        }
+        set_line(rt, &mut inputs, line);
     }
-    Ok(inputs)
+    inputs
 }
 
 /// The key of the query `query` of the file `name`.
@@ -50,79 +45,70 @@ fn key_of(query: &str, name: Text) -> SchemaKey {
     }
 }
 
-/// The answer of `key`.
+/// The answer of the query `query` of the file `name`.
 fn answer_of(
     alloc: Global,
     inputs: &Inputs,
-    key: &SchemaKey,
-) -> Result<Answer<SchemaKey, SchemaValue>, Memory> {
-    from_scratch(alloc, &SchemaRules, inputs, key)
-}
-
-/// The answer of the query `query` of the file `name` as text.
-fn shown_query(alloc: Global, inputs: &Inputs, query: &str, name: &str) -> Result<String, Memory> {
-    let key = key_of(query, Text::new(alloc, name)?);
-    let answer = answer_of(alloc, inputs, &key)?;
-    shown_answer(alloc, &answer)
-}
-
-/// The target of `name`, used in `within` of a file whose scope is the answer `scope`, as text.
-fn shown_search(
-    alloc: Global,
-    scope: &Answer<SchemaKey, SchemaValue>,
-    within: &str,
+    query: &str,
     name: &str,
-) -> Result<String, Memory> {
-    match scope {
-        Answer::Value(SchemaValue::Scope(scope)) => {
-            shown_target(alloc, &resolve(alloc, scope.get(), within, name))
-        }
-        _ => String::from_str(alloc, "no scope"),
+) -> Result<Answer<SchemaKey, SchemaValue>, Memory> {
+    let key = key_of(query, Text::new(alloc, name)?);
+    from_scratch(alloc, &SchemaRules, inputs, &key)
+}
+
+/// Writes the answer of the query `query` of the file `name`.
+fn add_query(page: &mut Page, inputs: &Inputs, query: &str, name: &str) {
+    match answer_of(page.alloc, inputs, query, name) {
+        Ok(answer) => add_answer(page, &answer),
+        Err(_) => page.cut(),
     }
 }
 
-/// The target of `name`, used in `within` of the file `file`, as text.
-fn shown_name(
-    alloc: Global,
-    inputs: &Inputs,
-    file: &str,
-    within: &str,
-    name: &str,
-) -> Result<String, Memory> {
-    let key = SchemaKey::Scope(Text::new(alloc, file)?);
-    let scope = answer_of(alloc, inputs, &key)?;
-    shown_search(alloc, &scope, within, name)
+/// Writes the target of `name`, used in `within` of a file with the scope `scope`.
+fn add_resolved(page: &mut Page, scope: &Scope, within: &str, name: &str) {
+    let target = resolve(page.alloc, scope, within, name);
+    add_target(page, &target);
 }
 
-/// What `asked` asks for: `QUERY FILE`, or `FILE WITHIN NAME`, where `-` is the empty scope.
-fn shown_asked(alloc: Global, inputs: &Inputs, asked: &str) -> Result<String, Memory> {
+/// Writes the target of `name`, used in `within` of a file whose scope is the answer `scope`.
+fn add_search(page: &mut Page, scope: &Answer<SchemaKey, SchemaValue>, within: &str, name: &str) {
+    match scope {
+        Answer::Value(SchemaValue::Scope(scope)) => add_resolved(page, scope.get(), within, name),
+        _ => page.add("no scope"),
+    }
+}
+
+/// Writes the target of `name`, used in `within` of the file `file`.
+fn add_name(page: &mut Page, inputs: &Inputs, file: &str, within: &str, name: &str) {
+    match answer_of(page.alloc, inputs, "Scope", file) {
+        Ok(scope) => add_search(page, &scope, within, name),
+        Err(_) => page.cut(),
+    }
+}
+
+/// Writes what `asked` asks for: `QUERY FILE`, or `FILE WITHIN NAME`, where `-` is the empty scope.
+fn add_asked(page: &mut Page, inputs: &Inputs, asked: &str) {
     let (first, rest) = asked.split_once(" ").unwrap_or((asked, ""));
     match rest.split_once(" ") {
-        None => shown_query(alloc, inputs, first, rest),
-        Some(("-", name)) => shown_name(alloc, inputs, first, "", name),
-        Some((within, name)) => shown_name(alloc, inputs, first, within, name),
+        None => add_query(page, inputs, first, rest),
+        Some(("-", name)) => add_name(page, inputs, first, "", name),
+        Some((within, name)) => add_name(page, inputs, first, within, name),
     }
 }
 
 /// Checks the row `ASKED => WANT`.
-fn check_row(rt: &(impl Abort + AllocGlobal), inputs: &Inputs, row: &str) -> Result<(), Memory> {
+fn check_row(rt: &(impl Abort + AllocGlobal), inputs: &Inputs, row: &str) {
     let (asked, want) = split_row(rt, row, " => ");
-    let found = shown_asked(rt.alloc(), inputs, asked)?;
-    check_text(rt, found.as_str(), want, row);
-    Ok(())
+    let mut page = Page::new(rt.alloc());
+    add_asked(&mut page, inputs, asked);
+    check_page(rt, &page, want, row);
 }
 
 /// Checks the `count` rows `rows` over `files`.
-fn check_rows(
-    rt: &(impl Abort + AllocGlobal),
-    files: &str,
-    count: usize,
-    rows: &str,
-) -> Result<(), Fail> {
+fn check_rows(rt: &(impl Abort + AllocGlobal), files: &str, count: usize, rows: &str) {
     check_row_count(rt, count, rows);
-    let inputs = inputs_of(rt.alloc(), files)?;
+    let inputs = inputs_of(rt, files);
     for row in rows.lines() {
-        check_row(rt, &inputs, row)?;
+        check_row(rt, &inputs, row);
     }
-    Ok(())
 }

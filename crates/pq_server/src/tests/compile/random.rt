@@ -6,8 +6,8 @@ mod file;
 mod reading;
 mod writer;
 
-use super::{SYNTAX_LINE, answer_of, set_file};
-use crate::tests::support::check_text;
+use super::{SYNTAX_LINE, answer_of};
+use crate::tests::support::{Page, check_page, joined, set_text};
 use file::{File, add_line};
 use pq_checks::Fault;
 use pq_inputs::Inputs;
@@ -17,115 +17,122 @@ use pq_rules::{Answer, Memory, Text};
 use reading::read;
 use std::alloc::Global;
 use std::process::Abort;
-use std::test::Fail;
 use writer::Writer;
 
 /// Sets the files of a set.
-fn inputs_of_set(alloc: Global, set: &[File]) -> Result<Inputs, Fail> {
-    let mut inputs = Inputs::new(alloc)?;
+fn set_files(rt: &(impl Abort + AllocGlobal), inputs: &mut Inputs, set: &[File]) {
     for file in set {
-        set_file(
-            alloc,
-            &mut inputs,
-            file.name(),
-            SYNTAX_LINE,
-            file.text.as_str(),
-        )?;
+        let text = joined(rt.alloc(), SYNTAX_LINE, file.text.text(rt));
+        set_text(rt, inputs, file.name(), text);
     }
-    Ok(inputs)
 }
 
-/// Diagnostics as lines, in their order.
-fn lines_of(alloc: Global, faults: &[Fault]) -> Result<String, Memory> {
-    let mut lines = String::new(alloc);
+/// Writes diagnostics as lines, in their order.
+fn add_lines(lines: &mut Page, faults: &[Fault]) {
     for fault in faults {
         let place = Span {
             start: fault.start,
             end: fault.end,
         };
-        add_line(
-            alloc,
-            &mut lines,
-            place,
-            fault.code.as_str(),
-            fault.text.as_str(),
-        )?;
+        add_line(lines, place, fault.code.as_str(), fault.text.as_str());
     }
-    Ok(lines)
 }
 
-/// The diagnostics of `file` as lines.
-fn found_lines(alloc: Global, inputs: &Inputs, file: &str) -> Result<String, Memory> {
-    let key = ProtoKey::Diagnostics(Text::new(alloc, file)?);
-    match &answer_of(alloc, inputs, &key)? {
+/// Writes the diagnostics of an answer as lines.
+fn add_answer(lines: &mut Page, answer: &Answer<ProtoKey, ProtoValue>) {
+    match answer {
         Answer::Value(ProtoValue::Diagnostics(checked)) => {
-            lines_of(alloc, checked.get().faults.as_slice())
+            add_lines(lines, checked.get().faults.as_slice());
         }
-        _ => String::from_str(alloc, "another answer"),
+        _ => lines.add("another answer"),
+    }
+}
+
+/// The answer of the diagnostics of `file`.
+fn diagnostics_of(
+    alloc: Global,
+    inputs: &Inputs,
+    file: &str,
+) -> Result<Answer<ProtoKey, ProtoValue>, Memory> {
+    let key = ProtoKey::Diagnostics(Text::new(alloc, file)?);
+    answer_of(alloc, inputs, &key)
+}
+
+/// Writes the diagnostics of `file` as lines.
+fn add_found(lines: &mut Page, inputs: &Inputs, file: &str) {
+    match diagnostics_of(lines.alloc, inputs, file) {
+        Ok(answer) => add_answer(lines, &answer),
+        Err(_) => lines.cut(),
     }
 }
 
 /// The lines of `text` in order.
-fn ordered_lines(alloc: Global, text: &str) -> Result<Vec<String>, Memory> {
-    let mut lines = Vec::new(alloc);
-    for line in text.lines() {
-        lines.push(format!(in alloc; "{line}\n")?)?;
-    }
+fn ordered_lines(alloc: Global, text: &str) -> Result<Vec<&str>, Memory> {
+    let mut lines: Vec<&str> = text.lines().collect(alloc)?;
     lines.sort()?;
     Ok(lines)
 }
 
-/// The lines of `text` in order, each once.
-fn sorted_lines(alloc: Global, text: &str) -> Result<String, Memory> {
-    let mut sorted = String::new(alloc);
-    for line in &ordered_lines(alloc, text)? {
-        if !sorted.ends_with(line.as_str()) {
-            sorted.push_str(line.as_str())?;
+/// Writes the lines `sorted`, each once.
+fn add_once(lines: &mut Page, sorted: &[&str]) {
+    let mut last = "";
+    for line in sorted {
+        if *line != last {
+            lines.add(line);
+            lines.add("\n");
+            last = line;
         }
     }
-    Ok(sorted)
+}
+
+/// Writes the lines of `text` in order, each once.
+fn add_sorted(lines: &mut Page, text: &str) {
+    match ordered_lines(lines.alloc, text) {
+        Ok(sorted) => add_once(lines, &sorted),
+        Err(_) => lines.cut(),
+    }
+}
+
+/// Checks that the lines `found` are those of `said` in order, each once.
+fn check_lines(rt: &(impl Abort + AllocGlobal), found: &Page, said: &Page, row: &str) {
+    let mut want = Page::new(rt.alloc());
+    add_sorted(&mut want, said.text(rt));
+    check_page(rt, found, want.text(rt), row);
 }
 
 /// Checks the diagnostics of a file of the set `set`.
-fn check_file(
-    rt: &(impl Abort + AllocGlobal),
-    inputs: &Inputs,
-    set: &[File],
-    file: &File,
-) -> Result<(), Memory> {
-    let alloc = rt.alloc();
-    let found = found_lines(alloc, inputs, file.name())?;
-    let said = read(alloc, set, file)?;
-    let want = sorted_lines(alloc, said.as_str())?;
-    check_text(rt, found.as_str(), want.as_str(), file.text.as_str());
-    Ok(())
+fn check_file(rt: &(impl Abort + AllocGlobal), inputs: &Inputs, set: &[File], file: &File) {
+    let mut found = Page::new(rt.alloc());
+    add_found(&mut found, inputs, file.name());
+    let mut said = Page::new(rt.alloc());
+    read(&mut said, set, file);
+    check_lines(rt, &found, &said, file.text.text(rt));
 }
 
 /// Checks each file of a set.
-fn check_set(rt: &(impl Abort + AllocGlobal), set: &[File]) -> Result<(), Fail> {
-    let inputs = inputs_of_set(rt.alloc(), set)?;
+fn check_set(rt: &(impl Abort + AllocGlobal), set: &[File]) {
+    let mut inputs = Inputs::new(rt.alloc()).expect(rt, "memory");
+    set_files(rt, &mut inputs, set);
     for file in set {
-        check_file(rt, &inputs, set, file)?;
+        check_file(rt, &inputs, set, file);
     }
-    Ok(())
 }
 
 /// Checks 150 sets, which the state `state` begins.
-fn check_sets(rt: &(impl Abort + AllocGlobal), state: usize) -> Result<(), Fail> {
+fn check_sets(rt: &(impl Abort + AllocGlobal), state: usize) {
     let mut writer = Writer::new(state);
     for _ in 0..150u32 {
-        let set = writer.set(rt.alloc())?;
-        check_set(rt, &set)?;
+        let set = writer.set(rt.alloc()).expect(rt, "memory");
+        check_set(rt, &set);
     }
-    Ok(())
 }
 
 #[test]
-fn first_random_sets(rt: HostRuntime) -> Result<(), Fail> {
-    check_sets(&rt, 1)
+fn first_random_sets(rt: HostRuntime) {
+    check_sets(&rt, 1);
 }
 
 #[test]
-fn second_random_sets(rt: HostRuntime) -> Result<(), Fail> {
-    check_sets(&rt, 2)
+fn second_random_sets(rt: HostRuntime) {
+    check_sets(&rt, 2);
 }

@@ -1,9 +1,8 @@
 //! Links: which files a file exports, sees and reaches, and the rings of imports.
 use super::check_rows;
-use std::test::Fail;
 
 #[test]
-fn chains(rt: HostRuntime) -> Result<(), Fail> {
+fn chains(rt: HostRuntime) {
     check_rows(
         &rt,
         "\
@@ -26,12 +25,12 @@ fn chains(rt: HostRuntime) -> Result<(), Fail> {
         Scope a => a b c d | a b c d e \n\
         Scope f => f | f \n\
         ",
-    )
+    );
 }
 
 // Of imports of one name and one publicity the first counts.
 #[test]
-fn repeated_and_absent(rt: HostRuntime) -> Result<(), Fail> {
+fn repeated_and_absent(rt: HostRuntime) {
     check_rows(
         &rt,
         "\
@@ -62,12 +61,12 @@ fn repeated_and_absent(rt: HostRuntime) -> Result<(), Fail> {
         Resolved gone => \n\
         Defs gone =>  |\n\
         ",
-    )
+    );
 }
 
 // The order is that of the first visits, depth first.
 #[test]
-fn orders(rt: HostRuntime) -> Result<(), Fail> {
+fn orders(rt: HostRuntime) {
     check_rows(
         &rt,
         "\
@@ -87,11 +86,11 @@ fn orders(rt: HostRuntime) -> Result<(), Fail> {
         Linked c => c b e | c b e f | c b e f g \n\
         Linked h => h g | h g e | h g e \n\
         ",
-    )
+    );
 }
 
 #[test]
-fn rings(rt: HostRuntime) -> Result<(), Fail> {
+fn rings(rt: HostRuntime) {
     check_rows(
         &rt,
         "\
@@ -109,12 +108,12 @@ fn rings(rt: HostRuntime) -> Result<(), Fail> {
         Scope self => | \n\
         Resolved self => 2 type NotFound;\n\
         ",
-    )
+    );
 }
 
 // Each bad file leads to the ring of its first bad import. Good files stay good.
 #[test]
-fn rings_of_many(rt: HostRuntime) -> Result<(), Fail> {
+fn rings_of_many(rt: HostRuntime) {
     check_rows(
         &rt,
         "\
@@ -142,5 +141,5 @@ fn rings_of_many(rt: HostRuntime) -> Result<(), Fail> {
         Scope last => | \n\
         Resolved b => \n\
         ",
-    )
+    );
 }

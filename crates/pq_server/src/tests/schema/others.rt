@@ -1,55 +1,50 @@
 //! The first other file of a scope that defines a full name.
 use super::{answer_of, inputs_of};
-use crate::tests::support::{check_row_count, check_text, split_row};
+use crate::tests::support::{Page, check_page, check_row_count, split_row};
 use pq_inputs::Inputs;
-use pq_rules::{Answer, Memory, Text};
-use pq_schema::{SchemaKey, SchemaValue};
-use std::alloc::Global;
+use pq_rules::Answer;
+use pq_schema::{SchemaKey, SchemaValue, Scope};
 use std::process::Abort;
-use std::test::Fail;
 
-/// The first file of the answer `scope` but `file` that defines `full_name`, or `none`.
-fn shown_in(
-    alloc: Global,
-    scope: &Answer<SchemaKey, SchemaValue>,
-    file: &str,
-    full_name: &str,
-) -> Result<String, Memory> {
-    let Answer::Value(SchemaValue::Scope(scope)) = scope else {
-        return String::from_str(alloc, "no scope");
-    };
-    match scope.get().first_other(alloc, file, full_name)? {
-        Some(other) => String::from_str(alloc, other.as_str()),
-        None => String::from_str(alloc, "none"),
+/// Writes the first file of `scope` but `file` that defines `full_name`, or `none`.
+fn add_first(page: &mut Page, scope: &Scope, file: &str, full_name: &str) {
+    match scope.first_other(page.alloc, file, full_name) {
+        Ok(Some(other)) => page.add(other.as_str()),
+        Ok(None) => page.add("none"),
+        Err(_) => page.cut(),
     }
 }
 
-/// The first other file that `file` sees and that defines `full_name`, or `none`.
-fn shown_other(
-    alloc: Global,
-    inputs: &Inputs,
-    file: &str,
-    full_name: &str,
-) -> Result<String, Memory> {
-    let key = SchemaKey::Scope(Text::new(alloc, file)?);
-    let scope = answer_of(alloc, inputs, &key)?;
-    shown_in(alloc, &scope, file, full_name)
+/// Writes the first file of the answer `scope` but `file` that defines `full_name`, or `none`.
+fn add_in(page: &mut Page, scope: &Answer<SchemaKey, SchemaValue>, file: &str, full_name: &str) {
+    match scope {
+        Answer::Value(SchemaValue::Scope(scope)) => add_first(page, scope.get(), file, full_name),
+        _ => page.add("no scope"),
+    }
+}
+
+/// Writes the first other file that `file` sees and that defines `full_name`, or `none`.
+fn add_other(page: &mut Page, inputs: &Inputs, file: &str, full_name: &str) {
+    match answer_of(page.alloc, inputs, "Scope", file) {
+        Ok(scope) => add_in(page, &scope, file, full_name),
+        Err(_) => page.cut(),
+    }
 }
 
 /// Checks the row `FILE FULL_NAME => OTHER`.
-fn check_other(rt: &(impl Abort + AllocGlobal), inputs: &Inputs, row: &str) -> Result<(), Memory> {
+fn check_other(rt: &(impl Abort + AllocGlobal), inputs: &Inputs, row: &str) {
     let (asked, want) = split_row(rt, row, " => ");
     let (file, full_name) = split_row(rt, asked, " ");
-    let found = shown_other(rt.alloc(), inputs, file, full_name)?;
-    check_text(rt, found.as_str(), want, row);
-    Ok(())
+    let mut page = Page::new(rt.alloc());
+    add_other(&mut page, inputs, file, full_name);
+    check_page(rt, &page, want, row);
 }
 
 // A file that is reached but not seen does not count, and neither does the file itself.
 #[test]
-fn first_other_of_a_scope(rt: HostRuntime) -> Result<(), Fail> {
+fn first_other_of_a_scope(rt: HostRuntime) {
     let inputs = inputs_of(
-        rt.alloc(),
+        &rt,
         "\
         a: package p;import 'b';import 'c';import 'd';import 'e';import 'h';message M{}message A{}\n\
         b: package p;message M{}enum E{V=0;}\n\
@@ -61,7 +56,7 @@ fn first_other_of_a_scope(rt: HostRuntime) -> Result<(), Fail> {
         h: message p{message R{}}message M{}\n\
         ring: import 'ring';message M{}\n\
         ",
-    )?;
+    );
     let rows = "\
         a p.M => b\n\
         a p.V => b\n\
@@ -83,7 +78,6 @@ fn first_other_of_a_scope(rt: HostRuntime) -> Result<(), Fail> {
         ";
     check_row_count(&rt, 17, rows);
     for row in rows.lines() {
-        check_other(&rt, &inputs, row)?;
+        check_other(&rt, &inputs, row);
     }
-    Ok(())
 }

@@ -1,9 +1,8 @@
 //! Definitions of files, and what names resolve to.
 use super::check_rows;
-use std::test::Fail;
 
 #[test]
-fn imports_and_names(rt: HostRuntime) -> Result<(), Fail> {
+fn imports_and_names(rt: HostRuntime) {
     check_rows(
         &rt,
         "\
@@ -35,13 +34,13 @@ fn imports_and_names(rt: HostRuntime) -> Result<(), Fail> {
         self M M => NotFound\n\
         gone - C => NotFound\n\
         ",
-    )
+    );
 }
 
 // The innermost scope in which the first part is a message, an enum, a service or a package
 // decides.
 #[test]
-fn packages(rt: HostRuntime) -> Result<(), Fail> {
+fn packages(rt: HostRuntime) {
     check_rows(
         &rt,
         "\
@@ -70,13 +69,13 @@ fn packages(rt: HostRuntime) -> Result<(), Fail> {
         c p Baz => NotFound\n\
         f foo foo.Bar => NotFound\n\
         ",
-    )
+    );
 }
 
 // The first definition counts: files in the order in which they are seen, then the order of the
 // text. A definition counts before a package of its name.
 #[test]
-fn equal_names(rt: HostRuntime) -> Result<(), Fail> {
+fn equal_names(rt: HostRuntime) {
     check_rows(
         &rt,
         "\
@@ -105,12 +104,12 @@ fn equal_names(rt: HostRuntime) -> Result<(), Fail> {
         e - .N.x => c N.x message 78-79\n\
         e - x => NotAType\n\
         ",
-    )
+    );
 }
 
 // An inner scope decides for a dotted name; for a single name only where it has a type.
 #[test]
-fn scopes(rt: HostRuntime) -> Result<(), Fail> {
+fn scopes(rt: HostRuntime) {
     check_rows(
         &rt,
         "\
@@ -136,12 +135,12 @@ fn scopes(rt: HostRuntime) -> Result<(), Fail> {
         b M.p.S S.C => NotAType\n\
         b M.p.S A => a M.A message 56-57\n\
         ",
-    )
+    );
 }
 
 // An entry is not a type, and does not decide for a dotted name.
 #[test]
-fn map_entries(rt: HostRuntime) -> Result<(), Fail> {
+fn map_entries(rt: HostRuntime) {
     check_rows(
         &rt,
         "\
@@ -161,12 +160,12 @@ fn map_entries(rt: HostRuntime) -> Result<(), Fail> {
         Resolved a => 1 type a M.N message 2;\n\
         Resolved b => 4 type b FooBarEntry message 1;5 type a M.N message 2;\n\
         ",
-    )
+    );
 }
 
 // An enum value is defined in the scope that holds its enum. The first package counts.
 #[test]
-fn definitions(rt: HostRuntime) -> Result<(), Fail> {
+fn definitions(rt: HostRuntime) {
     check_rows(
         &rt,
         "\
@@ -181,11 +180,11 @@ fn definitions(rt: HostRuntime) -> Result<(), Fail> {
         Defs c =>  |\n\
         Resolved b => \n\
         ",
-    )
+    );
 }
 
 #[test]
-fn keywords(rt: HostRuntime) -> Result<(), Fail> {
+fn keywords(rt: HostRuntime) {
     check_rows(
         &rt,
         "\
@@ -195,12 +194,12 @@ fn keywords(rt: HostRuntime) -> Result<(), Fail> {
         "\
         Resolved a => 1 type a message message 0;2 type a message message 0;3 type a message message 0;5 type a map.stream message 7;6 type a enum enum 8;11 input a message message 0;11 output a map.stream message 7;\n\
         ",
-    )
+    );
 }
 
 // The name of a scalar type alone is that type in a field, and looked up in a method.
 #[test]
-fn scalars(rt: HostRuntime) -> Result<(), Fail> {
+fn scalars(rt: HostRuntime) {
     check_rows(
         &rt,
         "\
@@ -214,5 +213,5 @@ fn scalars(rt: HostRuntime) -> Result<(), Fail> {
         Resolved a => 3 type a int32 message 0;4 type NotFound;6 input a int32 message 0;6 output NotFound;7 input NotAType;7 output NotAType;\n\
         Resolved b => 3 type b M.N message 5;4 type NotAType;7 type NotFound;8 type NotVisible d;\n\
         ",
-    )
+    );
 }

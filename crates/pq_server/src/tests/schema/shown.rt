@@ -1,13 +1,12 @@
 //! Answers as text.
-use crate::tests::support::shown_span;
+use crate::tests::support::Page;
 use pq_links::{Import, Links, ParsedFile};
-use pq_rules::{Answer, Memory, Ring, Text};
+use pq_rules::{Answer, Ring, Text};
 use pq_schema::{
-    Definition, DefinitionKind, Defs, FileDefs, Resolution, ResolveFault, ResolvedReference,
-    SchemaKey, SchemaValue, Scope, Target, TypePart,
+    Definition, DefinitionKind, Defs, FileDefs, FullName, Resolution, ResolveFault,
+    ResolvedReference, SchemaKey, SchemaValue, Scope, Target, TypePart,
 };
 use pq_syntax::Parsed;
-use std::alloc::Global;
 
 /// The name of a file on a ring of imports.
 fn linked_name(key: &SchemaKey) -> &str {
@@ -17,114 +16,138 @@ fn linked_name(key: &SchemaKey) -> &str {
     }
 }
 
-/// The keys of a cycle, each with a semicolon after it.
-fn shown_ring(alloc: Global, ring: &Ring<SchemaKey>) -> Result<String, Memory> {
-    let mut all = String::new(alloc);
+/// Writes the keys of a cycle, each with a semicolon after it.
+fn add_ring(page: &mut Page, ring: &Ring<SchemaKey>) {
     for key in ring.keys() {
-        all.push_str("Linked ")?;
-        all.push_str(linked_name(key))?;
-        all.push(';')?;
+        page.add("Linked ");
+        page.add(linked_name(key));
+        page.add(";");
     }
-    Ok(all)
 }
 
-/// Names, each with a blank after it.
-fn shown_names(alloc: Global, names: &[Text]) -> Result<String, Memory> {
-    let mut all = String::new(alloc);
+/// Writes names, each with a blank after it.
+fn add_names(page: &mut Page, names: &[Text]) {
     for name in names {
-        all.push_str(name.as_str())?;
-        all.push(' ')?;
+        page.add(name.as_str());
+        page.add(" ");
     }
-    Ok(all)
 }
 
-/// The names of files, each with a blank after it.
-fn shown_files(alloc: Global, files: &[FileDefs]) -> Result<String, Memory> {
-    let mut all = String::new(alloc);
+/// Writes the names of files, each with a blank after it.
+fn add_files(page: &mut Page, files: &[FileDefs]) {
     for file in files {
-        all.push_str(file.file.as_str())?;
-        all.push(' ')?;
+        page.add(file.file.as_str());
+        page.add(" ");
     }
-    Ok(all)
 }
 
-/// Imports as `NAME plain;` or `NAME public;`.
-fn shown_imports(alloc: Global, imports: &[Import]) -> Result<String, Memory> {
-    let mut all = String::new(alloc);
+/// Writes imports as `NAME plain;` or `NAME public;`.
+fn add_imports(page: &mut Page, imports: &[Import]) {
     for import in imports {
-        all.push_str(import.file.as_str())?;
-        all.push_str(if import.is_public {
+        page.add(import.file.as_str());
+        page.add(if import.is_public {
             " public;"
         } else {
             " plain;"
-        })?;
+        });
     }
-    Ok(all)
 }
 
-/// A definition as `NAME KIND ITEM SPAN`.
-fn shown_definition(alloc: Global, definition: &Definition) -> Result<String, Memory> {
-    let kind = match definition.kind {
-        DefinitionKind::Message => "message",
-        DefinitionKind::Enum => "enum",
-        DefinitionKind::Service => "service",
-        DefinitionKind::Field => "field",
-        DefinitionKind::Oneof => "oneof",
-        DefinitionKind::Method => "method",
-        DefinitionKind::Value => "value",
-        DefinitionKind::Entry => "entry",
-    };
-    let full_name = definition.full_name.text(alloc)?;
-    let name = full_name.as_str();
-    let place = shown_span(alloc, definition.span)?;
-    format!(in alloc; " {name} {kind} {} {place};", definition.item)
+/// The word of a kind of definitions, between blanks.
+fn definition_word(kind: DefinitionKind) -> &'static str {
+    match kind {
+        DefinitionKind::Message => " message ",
+        DefinitionKind::Enum => " enum ",
+        DefinitionKind::Service => " service ",
+        DefinitionKind::Field => " field ",
+        DefinitionKind::Oneof => " oneof ",
+        DefinitionKind::Method => " method ",
+        DefinitionKind::Value => " value ",
+        DefinitionKind::Entry => " entry ",
+    }
 }
 
-/// What a file is read as.
-fn shown_file(alloc: Global, file: &ParsedFile) -> Result<String, Memory> {
+/// Writes a full name.
+fn add_full_name(page: &mut Page, full_name: &FullName) {
+    match full_name.text(page.alloc) {
+        Ok(text) => page.add(text.as_str()),
+        Err(_) => page.cut(),
+    }
+}
+
+/// Writes a definition as ` NAME KIND ITEM SPAN;`.
+fn add_definition(page: &mut Page, definition: &Definition) {
+    page.add(" ");
+    add_full_name(page, &definition.full_name);
+    page.add(definition_word(definition.kind));
+    page.number(definition.item);
+    page.add(" ");
+    page.span(definition.span);
+    page.add(";");
+}
+
+/// Writes what a text is parsed to.
+fn add_parsed(page: &mut Page, parsed: &Parsed) {
+    match parsed {
+        Parsed::Tree(nodes) => {
+            page.number(nodes.as_slice().len());
+            page.add(" statements");
+        }
+        Parsed::Fault { span, code: _ } => {
+            page.add("fault ");
+            page.span(*span);
+        }
+    }
+}
+
+/// Writes what a file is read as.
+fn add_file(page: &mut Page, file: &ParsedFile) {
     match file {
-        ParsedFile::Absent => String::from_str(alloc, "absent"),
-        ParsedFile::Present { parsed, lines: _ } => match parsed {
-            Parsed::Tree(nodes) => format!(in alloc; "{} statements", nodes.as_slice().len()),
-            Parsed::Fault { span, code: _ } => {
-                let place = shown_span(alloc, *span)?;
-                format!(in alloc; "fault {place}")
-            }
-        },
+        ParsedFile::Absent => page.add("absent"),
+        ParsedFile::Present { parsed, lines: _ } => add_parsed(page, parsed),
     }
 }
 
-/// What a file exports, sees and reaches.
-fn shown_links(alloc: Global, links: &Links) -> Result<String, Memory> {
-    let exports = shown_names(alloc, links.exports.as_slice())?;
-    let visible = shown_names(alloc, links.visible.as_slice())?;
-    let reach = shown_names(alloc, links.reach.as_slice())?;
-    format!(in alloc; "{exports}| {visible}| {reach}")
+/// Writes what a file exports, sees and reaches.
+fn add_links(page: &mut Page, links: &Links) {
+    add_names(page, links.exports.as_slice());
+    page.add("| ");
+    add_names(page, links.visible.as_slice());
+    page.add("| ");
+    add_names(page, links.reach.as_slice());
 }
 
-/// The package of a file and its definitions.
-fn shown_defs(alloc: Global, defs: &Defs) -> Result<String, Memory> {
-    let mut all = format!(in alloc; "{} |", defs.package_name())?;
+/// Writes the package of a file and its definitions.
+fn add_defs(page: &mut Page, defs: &Defs) {
+    page.add(defs.package_name());
+    page.add(" |");
     for definition in defs.definitions() {
-        all.push_str(shown_definition(alloc, definition)?.as_str())?;
+        add_definition(page, definition);
     }
-    Ok(all)
 }
 
-/// What a file sees and reaches.
-fn shown_scope(alloc: Global, scope: &Scope) -> Result<String, Memory> {
-    let visible = shown_files(alloc, scope.visible())?;
-    let reach = shown_files(alloc, scope.reach())?;
-    format!(in alloc; "{visible}| {reach}")
+/// Writes what a file sees and reaches.
+fn add_scope(page: &mut Page, scope: &Scope) {
+    add_files(page, scope.visible());
+    page.add("| ");
+    add_files(page, scope.reach());
 }
 
-/// What a kind of type is called.
-fn kind_name(is_enum: bool) -> &'static str {
-    if is_enum { "enum" } else { "message" }
+/// What a kind of type is called, between blanks.
+fn kind_word(is_enum: bool) -> &'static str {
+    if is_enum { " enum " } else { " message " }
 }
 
-/// What a reference resolves to, a type as `FILE NAME KIND ITEM`.
-fn shown_resolution(alloc: Global, resolution: &Resolution) -> Result<String, Memory> {
+/// Writes a type as `FILE NAME KIND `.
+fn add_type(page: &mut Page, file: &str, full_name: &FullName, is_enum: bool) {
+    page.add(file);
+    page.add(" ");
+    add_full_name(page, full_name);
+    page.add(kind_word(is_enum));
+}
+
+/// Writes what a reference resolves to, a type as `FILE NAME KIND ITEM`.
+fn add_resolution(page: &mut Page, resolution: &Resolution) {
     match resolution {
         Resolution::Type {
             file,
@@ -132,85 +155,87 @@ fn shown_resolution(alloc: Global, resolution: &Resolution) -> Result<String, Me
             is_enum,
             item,
         } => {
-            let kind = kind_name(*is_enum);
-            let full_name = full_name.text(alloc)?;
-            format!(in alloc; "{} {} {kind} {item}", file.as_str(), full_name.as_str())
+            add_type(page, file.as_str(), full_name, *is_enum);
+            page.number(*item);
         }
-        Resolution::NotFound => String::from_str(alloc, "NotFound"),
-        Resolution::NotVisible(file) => format!(in alloc; "NotVisible {}", file.as_str()),
-        Resolution::NotAType => String::from_str(alloc, "NotAType"),
+        Resolution::NotFound => page.add("NotFound"),
+        Resolution::NotVisible(file) => {
+            page.add("NotVisible ");
+            page.add(file.as_str());
+        }
+        Resolution::NotAType => page.add("NotAType"),
     }
 }
 
-/// The word of the part of an item that is a reference.
-fn part_name(part: TypePart) -> &'static str {
+/// The word of the part of an item that is a reference, between blanks.
+fn part_word(part: TypePart) -> &'static str {
     match part {
-        TypePart::Type => "type",
-        TypePart::Input => "input",
-        TypePart::Output => "output",
+        TypePart::Type => " type ",
+        TypePart::Input => " input ",
+        TypePart::Output => " output ",
     }
 }
 
-/// A reference as `ITEM PART RESOLUTION;`.
-fn shown_reference(alloc: Global, reference: &ResolvedReference) -> Result<String, Memory> {
-    let part = part_name(reference.part);
-    let resolution = shown_resolution(alloc, &reference.resolution)?;
-    format!(in alloc; "{} {part} {resolution};", reference.item)
-}
-
-/// References, one after the other.
-fn shown_references(alloc: Global, references: &[ResolvedReference]) -> Result<String, Memory> {
-    let mut all = String::new(alloc);
+/// Writes references, each as `ITEM PART RESOLUTION;`.
+fn add_references(page: &mut Page, references: &[ResolvedReference]) {
     for reference in references {
-        all.push_str(shown_reference(alloc, reference)?.as_str())?;
+        page.number(reference.item);
+        page.add(part_word(reference.part));
+        add_resolution(page, &reference.resolution);
+        page.add(";");
     }
-    Ok(all)
 }
 
-/// A value: its lists with `|` between.
-fn shown_value(alloc: Global, value: &SchemaValue) -> Result<String, Memory> {
+/// Writes a value: its lists with `|` between.
+fn add_value(page: &mut Page, value: &SchemaValue) {
     match value {
-        SchemaValue::Source(_) => String::from_str(alloc, "a text"),
-        SchemaValue::Parse(file) => shown_file(alloc, file.get()),
-        SchemaValue::Imports(None) => String::from_str(alloc, "absent"),
-        SchemaValue::Imports(Some(imports)) => shown_imports(alloc, imports.get().as_slice()),
-        SchemaValue::Linked(links) => shown_links(alloc, links.get()),
-        SchemaValue::Defs(defs) => shown_defs(alloc, defs.get()),
-        SchemaValue::Scope(scope) => shown_scope(alloc, scope.get()),
-        SchemaValue::Resolved(all) => shown_references(alloc, all.get().as_slice()),
+        SchemaValue::Source(_) => page.add("a text"),
+        SchemaValue::Parse(file) => add_file(page, file.get()),
+        SchemaValue::Imports(None) => page.add("absent"),
+        SchemaValue::Imports(Some(imports)) => add_imports(page, imports.get().as_slice()),
+        SchemaValue::Linked(links) => add_links(page, links.get()),
+        SchemaValue::Defs(defs) => add_defs(page, defs.get()),
+        SchemaValue::Scope(scope) => add_scope(page, scope.get()),
+        SchemaValue::Resolved(all) => add_references(page, all.get().as_slice()),
     }
 }
 
-/// An answer: a value, or the keys of a cycle.
-pub(super) fn shown_answer(
-    alloc: Global,
-    answer: &Answer<SchemaKey, SchemaValue>,
-) -> Result<String, Memory> {
+/// Writes an answer: a value, or the keys of a cycle.
+pub(super) fn add_answer(page: &mut Page, answer: &Answer<SchemaKey, SchemaValue>) {
     match answer {
-        Answer::Value(value) => shown_value(alloc, value),
-        Answer::Cycle(ring) => shown_ring(alloc, ring),
+        Answer::Value(value) => add_value(page, value),
+        Answer::Cycle(ring) => add_ring(page, ring),
     }
 }
 
-/// A target as `FILE NAME KIND SPAN`.
-fn shown_type(alloc: Global, target: &Target) -> Result<String, Memory> {
-    let kind = kind_name(target.is_enum);
-    let place = shown_span(alloc, target.span)?;
-    let full_name = target.full_name.text(alloc)?;
-    let (file, name) = (target.file.as_str(), full_name.as_str());
-    format!(in alloc; "{file} {name} {kind} {place}")
+/// Writes a target as `FILE NAME KIND SPAN`.
+fn add_found(page: &mut Page, target: &Target) {
+    add_type(
+        page,
+        target.file.as_str(),
+        &target.full_name,
+        target.is_enum,
+    );
+    page.span(target.span);
 }
 
-/// The target of a name, or why it has none.
-pub(super) fn shown_target(
-    alloc: Global,
-    target: &Result<Target, ResolveFault>,
-) -> Result<String, Memory> {
+/// Writes why a name has no target.
+fn add_fault(page: &mut Page, fault: &ResolveFault) {
+    match fault {
+        ResolveFault::NotFound => page.add("NotFound"),
+        ResolveFault::NotVisible(file) => {
+            page.add("NotVisible ");
+            page.add(file.as_str());
+        }
+        ResolveFault::NotAType => page.add("NotAType"),
+        ResolveFault::Memory => page.cut(),
+    }
+}
+
+/// Writes the target of a name, or why it has none.
+pub(super) fn add_target(page: &mut Page, target: &Result<Target, ResolveFault>) {
     match target {
-        Ok(target) => shown_type(alloc, target),
-        Err(ResolveFault::NotFound) => String::from_str(alloc, "NotFound"),
-        Err(ResolveFault::NotVisible(file)) => format!(in alloc; "NotVisible {}", file.as_str()),
-        Err(ResolveFault::NotAType) => String::from_str(alloc, "NotAType"),
-        Err(ResolveFault::Memory) => Err(Memory),
+        Ok(target) => add_found(page, target),
+        Err(fault) => add_fault(page, fault),
     }
 }

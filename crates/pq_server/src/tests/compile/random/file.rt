@@ -2,8 +2,8 @@
 //!
 //! A dotted name is a number whose hexadecimal digits are simple names, and 0 is the empty name.
 use super::super::SYNTAX_LINE;
+use crate::tests::support::Page;
 use pq_lex::Span;
-use pq_rules::Memory;
 use std::alloc::Global;
 
 /// The simple names of the digits from 0 on. The entry of a map field is 4 after the field.
@@ -19,35 +19,36 @@ pub(crate) fn simple_name(digit: usize) -> &'static str {
     NAMES.split('|').nth(digit).unwrap_or("")
 }
 
-/// A dotted name as text.
-pub(crate) fn shown_name(alloc: Global, name: usize) -> Result<String, Memory> {
-    let mut all = String::new(alloc);
+/// Writes a dotted name.
+pub(crate) fn add_name(page: &mut Page, name: usize) {
     let mut rest = name;
+    let mut dot = "";
     for _ in 0..16u32 {
         if rest >> 60 > 0 {
-            if !all.is_empty() {
-                all.push('.')?;
-            }
-            all.push_str(simple_name(rest >> 60))?;
+            page.add(dot);
+            page.add(simple_name(rest >> 60));
+            dot = ".";
         }
         rest <<= 4;
     }
-    Ok(all)
 }
 
-/// Adds the line of a diagnostic. Lines have the order of the diagnostics of one file: offsets are
+/// Begins the line of a diagnostic. Lines have the order of the diagnostics of one file: offsets are
 /// written with as many digits as one another.
-pub(crate) fn add_line(
-    alloc: Global,
-    lines: &mut String,
-    place: Span,
-    code: &str,
-    text: &str,
-) -> Result<(), Memory> {
-    let start = place.start.wrapping_add(1_000_000);
-    let end = place.end.wrapping_add(1_000_000);
-    let line = format!(in alloc; "{start} {end} {code} {text}\n")?;
-    lines.push_str(line.as_str())
+pub(crate) fn begin_line(lines: &mut Page, place: Span, code: &str) {
+    lines.number(place.start.wrapping_add(1_000_000));
+    lines.add(" ");
+    lines.number(place.end.wrapping_add(1_000_000));
+    lines.add(" ");
+    lines.add(code);
+    lines.add(" ");
+}
+
+/// Adds the line of a diagnostic.
+pub(crate) fn add_line(lines: &mut Page, place: Span, code: &str, text: &str) {
+    begin_line(lines, place, code);
+    lines.add(text);
+    lines.add("\n");
 }
 
 /// A definition, and whether it is at file level.
@@ -111,7 +112,7 @@ pub(crate) struct Import {
 #[derive(Drop)]
 pub(crate) struct File {
     pub(crate) number: usize,
-    pub(crate) text: String,
+    pub(crate) text: Page,
     pub(crate) packages: Vec<Span>,
     pub(crate) imports: Vec<Import>,
     pub(crate) definitions: Vec<Definition>,
@@ -127,7 +128,7 @@ impl File {
     pub(crate) fn new(alloc: Global, number: usize) -> File {
         File {
             number,
-            text: String::new(alloc),
+            text: Page::new(alloc),
             packages: Vec::new(alloc),
             imports: Vec::new(alloc),
             definitions: Vec::new(alloc),
@@ -145,33 +146,71 @@ impl File {
     }
 
     /// Writes `text`, and returns its place in the whole text.
-    pub(crate) fn write(&mut self, text: &str) -> Result<Span, Memory> {
+    pub(crate) fn write(&mut self, text: &str) -> Span {
         let before = SYNTAX_LINE.len();
         let start = self.text.len().wrapping_add(before);
-        self.text.push_str(text)?;
+        self.text.add(text);
         let end = self.text.len().wrapping_add(before);
-        Ok(Span { start, end })
+        Span { start, end }
     }
 
     /// Writes the simple name of a digit, and returns its place.
-    pub(crate) fn write_name(&mut self, digit: usize) -> Result<Span, Memory> {
+    pub(crate) fn write_name(&mut self, digit: usize) -> Span {
         self.write(simple_name(digit))
     }
 
     /// Adds the definition of `name` in `scope`.
-    pub(crate) fn define(
-        &mut self,
-        scope: usize,
-        name: usize,
-        place: Span,
-        is_at_top: bool,
-    ) -> Result<(), Memory> {
-        self.definitions.push(Definition {
+    pub(crate) fn define(&mut self, scope: usize, name: usize, place: Span, is_at_top: bool) {
+        let definition = Definition {
             full_name: scope << 4 | name,
             place,
             is_at_top,
-        })?;
-        Ok(())
+        };
+        if self.definitions.push(definition).is_err() {
+            self.text.cut();
+        }
+    }
+
+    /// Adds a field or a value.
+    pub(crate) fn add_member(&mut self, member: Member) {
+        if self.members.push(member).is_err() {
+            self.text.cut();
+        }
+    }
+
+    /// Adds a oneof or an enum.
+    pub(crate) fn add_body(&mut self, body: Body) {
+        if self.bodies.push(body).is_err() {
+            self.text.cut();
+        }
+    }
+
+    /// Adds a reserved range.
+    pub(crate) fn add_range(&mut self, range: Range) {
+        if self.ranges.push(range).is_err() {
+            self.text.cut();
+        }
+    }
+
+    /// Adds a reserved name.
+    pub(crate) fn add_reserved_name(&mut self, reserved_name: ReservedName) {
+        if self.reserved_names.push(reserved_name).is_err() {
+            self.text.cut();
+        }
+    }
+
+    /// Adds the place of a package.
+    pub(crate) fn add_package(&mut self, package: Span) {
+        if self.packages.push(package).is_err() {
+            self.text.cut();
+        }
+    }
+
+    /// Adds an import.
+    pub(crate) fn add_import(&mut self, import: Import) {
+        if self.imports.push(import).is_err() {
+            self.text.cut();
+        }
     }
 
     /// A new message or enum.

@@ -1,9 +1,9 @@
 //! The lines of the table that hold for a file, by scans of its lists.
 use super::file::{
-    Definition, File, Import, Member, Owner, Range, add_line, file_name, shown_name, simple_name,
+    Definition, File, Import, Member, Owner, Range, add_line, add_name, begin_line, file_name,
+    simple_name,
 };
-use pq_rules::Memory;
-use std::alloc::Global;
+use crate::tests::support::Page;
 
 /// The least and the greatest number of the members of a message or an enum.
 fn limits(owner: Owner) -> (i64, i64) {
@@ -92,139 +92,110 @@ fn allows_alias(file: &File, owner: Owner) -> bool {
 }
 
 /// Adds the diagnostic `code` of the number of `member`: `before`, the number and `after`.
-fn add_number(
-    alloc: Global,
-    lines: &mut String,
-    member: &Member,
-    code: &str,
-    before: &str,
-    after: &str,
-) -> Result<(), Memory> {
-    let text = format!(in alloc; "{before} {}{after}", member.number)?;
-    add_line(alloc, lines, member.number_place, code, text.as_str())
+fn add_number(lines: &mut Page, member: &Member, code: &str, before: &str, after: &str) {
+    begin_line(lines, member.number_place, code);
+    lines.add(before);
+    lines.signed(member.number);
+    lines.add(after);
 }
 
-/// P120 to P123.
-fn read_field(
-    alloc: Global,
-    lines: &mut String,
-    file: &File,
-    earlier: &[Member],
-    field: &Member,
-) -> Result<(), Memory> {
+/// P120 and P121.
+fn read_field_number(lines: &mut Page, field: &Member) {
     let place = field.number_place;
     if !is_allowed(field.owner, field.number) {
         add_line(
-            alloc,
             lines,
             place,
             "P120",
             "field number must be from 1 to 536870911",
-        )?;
+        );
     }
     if 19_000 <= field.number && field.number <= 19_999 {
         add_line(
-            alloc,
             lines,
             place,
             "P121",
             "field numbers 19000 to 19999 are reserved",
-        )?;
+        );
     }
-    if has_number(earlier, field) {
-        add_number(
-            alloc,
-            lines,
-            field,
-            "P122",
-            "field number",
-            " is used twice",
-        )?;
-    }
-    if is_reserved(file, field) {
-        add_number(alloc, lines, field, "P123", "field number", " is reserved")?;
-    }
-    Ok(())
 }
 
-/// P131 to P134.
-fn read_value(
-    alloc: Global,
-    lines: &mut String,
-    file: &File,
-    earlier: &[Member],
-    value: &Member,
-) -> Result<(), Memory> {
+/// P120 to P123.
+fn read_field(lines: &mut Page, file: &File, earlier: &[Member], field: &Member) {
+    read_field_number(lines, field);
+    if has_number(earlier, field) {
+        add_number(lines, field, "P122", "field number ", " is used twice\n");
+    }
+    if is_reserved(file, field) {
+        add_number(lines, field, "P123", "field number ", " is reserved\n");
+    }
+}
+
+/// P131 and P132.
+fn read_value_number(lines: &mut Page, earlier: &[Member], value: &Member) {
     let place = value.number_place;
     if !has_earlier(earlier, value) && value.number != 0 {
-        add_line(
-            alloc,
-            lines,
-            place,
-            "P131",
-            "the first enum value must be 0",
-        )?;
+        add_line(lines, place, "P131", "the first enum value must be 0");
     }
     if !is_allowed(value.owner, value.number) {
         let text = "enum number must be from -2147483648 to 2147483647";
-        add_line(alloc, lines, place, "P132", text)?;
+        add_line(lines, place, "P132", text);
     }
+}
+
+/// P131 to P134.
+fn read_value(lines: &mut Page, file: &File, earlier: &[Member], value: &Member) {
+    read_value_number(lines, earlier, value);
     if has_number(earlier, value) && !allows_alias(file, value.owner) {
-        let after = " is used twice without allow_alias";
-        add_number(alloc, lines, value, "P133", "enum number", after)?;
+        let after = " is used twice without allow_alias\n";
+        add_number(lines, value, "P133", "enum number ", after);
     }
     if is_reserved(file, value) {
-        add_number(alloc, lines, value, "P134", "enum number", " is reserved")?;
+        add_number(lines, value, "P134", "enum number ", " is reserved\n");
     }
-    Ok(())
 }
 
 /// P124 and P135.
-fn read_name(
-    alloc: Global,
-    lines: &mut String,
-    file: &File,
-    member: &Member,
-) -> Result<(), Memory> {
+fn read_name(lines: &mut Page, file: &File, member: &Member) {
     if !is_name_reserved(file, member) {
-        return Ok(());
+        return;
     }
     let (code, before) = if member.owner.is_enum {
-        ("P135", "enum value name")
+        ("P135", "enum value name \"")
     } else {
-        ("P124", "field name")
+        ("P124", "field name \"")
     };
-    let text = format!(in alloc; "{before} \"{}\" is reserved", simple_name(member.name))?;
-    add_line(alloc, lines, member.name_place, code, text.as_str())
+    begin_line(lines, member.name_place, code);
+    lines.add(before);
+    lines.add(simple_name(member.name));
+    lines.add("\" is reserved\n");
 }
 
 /// What is wrong with the members.
-fn read_members(alloc: Global, lines: &mut String, file: &File) -> Result<(), Memory> {
+fn read_members(lines: &mut Page, file: &File) {
     for (i, member) in file.members.iter().enumerate() {
         let earlier = file.members.get(..i).unwrap_or(&[]);
         if member.owner.is_enum {
-            read_value(alloc, lines, file, earlier, member)?;
+            read_value(lines, file, earlier, member);
         } else {
-            read_field(alloc, lines, file, earlier, member)?;
+            read_field(lines, file, earlier, member);
         }
-        read_name(alloc, lines, file, member)?;
+        read_name(lines, file, member);
     }
-    Ok(())
 }
 
 /// P125.
-fn read_ranges(alloc: Global, lines: &mut String, file: &File) -> Result<(), Memory> {
+fn read_ranges(lines: &mut Page, file: &File) {
     for range in &file.ranges {
         if !reserves(range) {
             let text = "reserved range is empty or out of range";
-            add_line(alloc, lines, range.place, "P125", text)?;
+            add_line(lines, range.place, "P125", text);
         }
     }
-    Ok(())
 }
 
 /// P126 and P130.
-fn read_bodies(alloc: Global, lines: &mut String, file: &File) -> Result<(), Memory> {
+fn read_bodies(lines: &mut Page, file: &File) {
     for body in &file.bodies {
         if body.count == 0 {
             let (code, text) = if body.owner.is_enum {
@@ -232,10 +203,9 @@ fn read_bodies(alloc: Global, lines: &mut String, file: &File) -> Result<(), Mem
             } else {
                 ("P126", "oneof has no field")
             };
-            add_line(alloc, lines, body.place, code, text)?;
+            add_line(lines, body.place, code, text);
         }
     }
-    Ok(())
 }
 
 /// Whether one of `definitions` has the full name `full_name`.
@@ -260,87 +230,83 @@ fn first_other(set: &[File], file: &File, full_name: usize) -> Option<&'static s
     None
 }
 
+/// Adds the diagnostic `code` of a definition, up to the name of another file.
+fn add_defined(lines: &mut Page, definition: &Definition, code: &str) {
+    begin_line(lines, definition.place, code);
+    lines.add("\"");
+    add_name(lines, definition.full_name);
+    lines.add("\" is already defined");
+}
+
 /// P110 and P111 of a definition.
 fn read_definition(
-    alloc: Global,
-    lines: &mut String,
+    lines: &mut Page,
     set: &[File],
     file: &File,
     earlier: &[Definition],
     definition: &Definition,
-) -> Result<(), Memory> {
-    let name = shown_name(alloc, definition.full_name)?;
-    let text = format!(in alloc; "\"{name}\" is already defined")?;
+) {
     if defines(earlier, definition.full_name) {
-        add_line(alloc, lines, definition.place, "P110", text.as_str())?;
+        add_defined(lines, definition, "P110");
+        lines.add("\n");
     }
     if !definition.is_at_top {
-        return Ok(());
+        return;
     }
     if let Some(other) = first_other(set, file, definition.full_name) {
-        let text = format!(in alloc; "{text} in {other}")?;
-        add_line(alloc, lines, definition.place, "P111", text.as_str())?;
+        add_defined(lines, definition, "P111");
+        lines.add(" in ");
+        lines.add(other);
+        lines.add("\n");
     }
-    Ok(())
 }
 
 /// P110 and P111.
-fn read_definitions(
-    alloc: Global,
-    lines: &mut String,
-    set: &[File],
-    file: &File,
-) -> Result<(), Memory> {
+fn read_definitions(lines: &mut Page, set: &[File], file: &File) {
     for (i, definition) in file.definitions.iter().enumerate() {
         let earlier = file.definitions.get(..i).unwrap_or(&[]);
-        read_definition(alloc, lines, set, file, earlier, definition)?;
+        read_definition(lines, set, file, earlier, definition);
     }
-    Ok(())
+}
+
+/// Adds the diagnostic `code` of an import: its name and `after`.
+fn add_import(lines: &mut Page, import: &Import, code: &str, after: &str) {
+    begin_line(lines, import.place, code);
+    lines.add("import \"");
+    lines.add(file_name(import.file));
+    lines.add(after);
 }
 
 /// P102 and P103 of an import.
-fn read_import(
-    alloc: Global,
-    lines: &mut String,
-    set: &[File],
-    earlier: &[Import],
-    import: &Import,
-) -> Result<(), Memory> {
-    let name = file_name(import.file);
+fn read_import(lines: &mut Page, set: &[File], earlier: &[Import], import: &Import) {
     if set.get(import.file).is_none() {
-        let text = format!(in alloc; "import \"{name}\" is not found")?;
-        add_line(alloc, lines, import.place, "P102", text.as_str())?;
+        add_import(lines, import, "P102", "\" is not found\n");
     }
     for one in earlier {
         if one.file == import.file {
-            let text = format!(in alloc; "import \"{name}\" is listed twice")?;
-            add_line(alloc, lines, import.place, "P103", text.as_str())?;
+            add_import(lines, import, "P103", "\" is listed twice\n");
         }
     }
-    Ok(())
 }
 
 /// P101 to P103.
-fn read_links(alloc: Global, lines: &mut String, set: &[File], file: &File) -> Result<(), Memory> {
+fn read_links(lines: &mut Page, set: &[File], file: &File) {
     for (i, place) in file.packages.iter().enumerate() {
         if i > 0 {
-            add_line(alloc, lines, *place, "P101", "package is given twice")?;
+            add_line(lines, *place, "P101", "package is given twice");
         }
     }
     for (i, import) in file.imports.iter().enumerate() {
         let earlier = file.imports.get(..i).unwrap_or(&[]);
-        read_import(alloc, lines, set, earlier, import)?;
+        read_import(lines, set, earlier, import);
     }
-    Ok(())
 }
 
-/// The diagnostics of a file as lines, in no order, and some more than once.
-pub(crate) fn read(alloc: Global, set: &[File], file: &File) -> Result<String, Memory> {
-    let mut lines = String::new(alloc);
-    read_links(alloc, &mut lines, set, file)?;
-    read_definitions(alloc, &mut lines, set, file)?;
-    read_members(alloc, &mut lines, file)?;
-    read_ranges(alloc, &mut lines, file)?;
-    read_bodies(alloc, &mut lines, file)?;
-    Ok(lines)
+/// Writes the diagnostics of a file as lines, in no order, and some more than once.
+pub(crate) fn read(lines: &mut Page, set: &[File], file: &File) {
+    read_links(lines, set, file);
+    read_definitions(lines, set, file);
+    read_members(lines, file);
+    read_ranges(lines, file);
+    read_bodies(lines, file);
 }

@@ -54,10 +54,10 @@ impl Writer {
     }
 
     /// Writes a number of a member of `owner`, and returns it with its place.
-    fn number(&mut self, file: &mut File, owner: Owner) -> Result<(i64, Span), Memory> {
+    fn number(&mut self, file: &mut File, owner: Owner) -> (i64, Span) {
         let text = self.number_text(owner);
-        let place = file.write(text)?;
-        Ok((text.parse().unwrap_or(0), place))
+        let place = file.write(text);
+        (text.parse().unwrap_or(0), place)
     }
 
     /// Writes the name and the number of a member, and what is defined by them.
@@ -68,86 +68,84 @@ impl Writer {
         owner: Owner,
         is_map: bool,
         is_at_top: bool,
-    ) -> Result<(), Memory> {
+    ) {
         let name = self.below(4).wrapping_add(1);
-        let name_place = file.write_name(name)?;
-        file.write("=")?;
-        let (number, number_place) = self.number(file, owner)?;
-        file.write(";")?;
-        file.members.push(Member {
+        let name_place = file.write_name(name);
+        file.write("=");
+        let (number, number_place) = self.number(file, owner);
+        file.write(";");
+        file.add_member(Member {
             owner,
             name,
             name_place,
             number,
             number_place,
-        })?;
-        file.define(scope, name, name_place, is_at_top)?;
+        });
+        file.define(scope, name, name_place, is_at_top);
         if is_map {
-            file.define(scope, name.wrapping_add(4), name_place, false)?;
+            file.define(scope, name.wrapping_add(4), name_place, false);
         }
-        Ok(())
     }
 
     /// Writes a field.
-    fn field(&mut self, file: &mut File, scope: usize, owner: Owner) -> Result<(), Memory> {
+    fn field(&mut self, file: &mut File, scope: usize, owner: Owner) {
         let (before, is_map) = match self.below(4) {
             0 => ("optional int32 ", false),
             1 => ("map<int32,bool>", true),
             _ => ("int32 ", false),
         };
-        file.write(before)?;
+        file.write(before);
         self.member(file, scope, owner, is_map, false)
     }
 
     /// Writes a oneof of up to two fields.
-    fn oneof(&mut self, file: &mut File, scope: usize, owner: Owner) -> Result<(), Memory> {
+    fn oneof(&mut self, file: &mut File, scope: usize, owner: Owner) {
         let (name, count) = (self.name(), self.below(3));
-        file.write("oneof ")?;
-        let place = file.write_name(name)?;
-        file.define(scope, name, place, false)?;
-        file.bodies.push(Body {
+        file.write("oneof ");
+        let place = file.write_name(name);
+        file.define(scope, name, place, false);
+        file.add_body(Body {
             owner,
             place,
             count,
             allows_alias: false,
-        })?;
-        file.write("{")?;
+        });
+        file.write("{");
         for _ in 0..count {
-            file.write("bool ")?;
-            self.member(file, scope, owner, false, false)?;
+            file.write("bool ");
+            self.member(file, scope, owner, false, false);
         }
-        file.write("}")?;
-        Ok(())
+        file.write("}");
     }
 
     /// Writes what a reserved range has after its first number, and returns its last number.
-    fn range_end(&mut self, file: &mut File, owner: Owner, first: i64) -> Result<i64, Memory> {
+    fn range_end(&mut self, file: &mut File, owner: Owner, first: i64) -> i64 {
         match self.below(4) {
-            0 => Ok(first),
+            0 => first,
             1 => {
-                file.write(" to max")?;
-                Ok(if owner.is_enum {
+                file.write(" to max");
+                if owner.is_enum {
                     2_147_483_647
                 } else {
                     536_870_911
-                })
+                }
             }
             _ => {
-                file.write(" to ")?;
-                let (last, _place) = self.number(file, owner)?;
-                Ok(last)
+                file.write(" to ");
+                let (last, _place) = self.number(file, owner);
+                last
             }
         }
     }
 
     /// Writes a reserved range.
-    fn range(&mut self, file: &mut File, owner: Owner) -> Result<(), Memory> {
-        file.write("reserved ")?;
-        let (first, place) = self.number(file, owner)?;
-        let last = self.range_end(file, owner, first)?;
-        let end = file.write("")?.end;
-        file.write(";")?;
-        file.ranges.push(Range {
+    fn range(&mut self, file: &mut File, owner: Owner) {
+        file.write("reserved ");
+        let (first, place) = self.number(file, owner);
+        let last = self.range_end(file, owner, first);
+        let end = file.write("").end;
+        file.write(";");
+        file.add_range(Range {
             owner,
             first,
             last,
@@ -155,38 +153,28 @@ impl Writer {
                 start: place.start,
                 end,
             },
-        })?;
-        Ok(())
+        });
     }
 
     /// Writes a reserved name.
-    fn reserved_name(&mut self, file: &mut File, owner: Owner) -> Result<(), Memory> {
+    fn reserved_name(&mut self, file: &mut File, owner: Owner) {
         let name = self.name();
-        file.write("reserved '")?;
-        file.write_name(name)?;
-        file.write("';")?;
-        file.reserved_names.push(ReservedName { owner, name })?;
-        Ok(())
+        file.write("reserved '");
+        file.write_name(name);
+        file.write("';");
+        file.add_reserved_name(ReservedName { owner, name });
     }
 
     /// Writes a statement of an enum body.
-    fn in_enum(
-        &mut self,
-        file: &mut File,
-        scope: usize,
-        is_at_top: bool,
-        body: &mut Body,
-    ) -> Result<(), Memory> {
+    fn in_enum(&mut self, file: &mut File, scope: usize, is_at_top: bool, body: &mut Body) {
         match self.below(8) {
             0 => {
-                file.write("option allow_alias=true;")?;
+                file.write("option allow_alias=true;");
                 body.allows_alias = true;
-                Ok(())
             }
             1 => {
-                file.write("option allow_alias=false;")?;
+                file.write("option allow_alias=false;");
                 body.allows_alias = false;
-                Ok(())
             }
             2 => self.range(file, body.owner),
             3 => self.reserved_name(file, body.owner),
@@ -198,43 +186,37 @@ impl Writer {
     }
 
     /// Writes an enum.
-    fn enumeration(
-        &mut self,
-        file: &mut File,
-        scope: usize,
-        is_at_top: bool,
-    ) -> Result<(), Memory> {
+    fn enumeration(&mut self, file: &mut File, scope: usize, is_at_top: bool) {
         let name = self.name();
-        file.write("enum ")?;
-        let place = file.write_name(name)?;
-        file.define(scope, name, place, is_at_top)?;
+        file.write("enum ");
+        let place = file.write_name(name);
+        file.define(scope, name, place, is_at_top);
         let mut body = Body {
             owner: file.own(true),
             place,
             count: 0,
             allows_alias: false,
         };
-        file.write("{")?;
+        file.write("{");
         for _ in 0..self.below(7) {
-            self.in_enum(file, scope, is_at_top, &mut body)?;
+            self.in_enum(file, scope, is_at_top, &mut body);
         }
-        file.bodies.push(body)?;
-        file.write("}")?;
-        Ok(())
+        file.add_body(body);
+        file.write("}");
     }
 
     /// Writes the head of a message, and returns its scope.
-    fn head(&mut self, file: &mut File, scope: usize, is_at_top: bool) -> Result<usize, Memory> {
+    fn head(&mut self, file: &mut File, scope: usize, is_at_top: bool) -> usize {
         let name = self.name();
-        file.write("message ")?;
-        let place = file.write_name(name)?;
-        file.define(scope, name, place, is_at_top)?;
-        file.write("{")?;
-        Ok(scope << 4 | name)
+        file.write("message ");
+        let place = file.write_name(name);
+        file.define(scope, name, place, is_at_top);
+        file.write("{");
+        scope << 4 | name
     }
 
     /// Writes a statement of a message that holds no message.
-    fn in_message(&mut self, file: &mut File, scope: usize, owner: Owner) -> Result<(), Memory> {
+    fn in_message(&mut self, file: &mut File, scope: usize, owner: Owner) {
         match self.below(9) {
             0 => self.oneof(file, scope, owner),
             1 | 2 => self.range(file, owner),
@@ -245,97 +227,93 @@ impl Writer {
     }
 
     /// Writes a message within another.
-    fn inner_message(&mut self, file: &mut File, scope: usize) -> Result<(), Memory> {
-        let inner = self.head(file, scope, false)?;
+    fn inner_message(&mut self, file: &mut File, scope: usize) {
+        let inner = self.head(file, scope, false);
         let owner = file.own(false);
         for _ in 0..self.below(5) {
-            self.in_message(file, inner, owner)?;
+            self.in_message(file, inner, owner);
         }
-        file.write("}")?;
-        Ok(())
+        file.write("}");
     }
 
     /// Writes a message of the file.
-    fn message(&mut self, file: &mut File, scope: usize) -> Result<(), Memory> {
-        let inner = self.head(file, scope, true)?;
+    fn message(&mut self, file: &mut File, scope: usize) {
+        let inner = self.head(file, scope, true);
         let owner = file.own(false);
         for _ in 0..self.below(10) {
             if self.below(6) == 0 {
-                self.inner_message(file, inner)?;
+                self.inner_message(file, inner);
             } else {
-                self.in_message(file, inner, owner)?;
+                self.in_message(file, inner, owner);
             }
         }
-        file.write("}")?;
-        Ok(())
+        file.write("}");
     }
 
     /// Writes a service without methods.
-    fn service(&mut self, file: &mut File, scope: usize) -> Result<(), Memory> {
+    fn service(&mut self, file: &mut File, scope: usize) {
         let name = self.name();
-        file.write("service ")?;
-        let place = file.write_name(name)?;
-        file.define(scope, name, place, true)?;
-        file.write("{}")?;
-        Ok(())
+        file.write("service ");
+        let place = file.write_name(name);
+        file.define(scope, name, place, true);
+        file.write("{}");
     }
 
     /// Writes a package, and returns its name.
-    fn package(&mut self, file: &mut File) -> Result<usize, Memory> {
+    fn package(&mut self, file: &mut File) -> usize {
         let name = self.below(2).wrapping_add(1);
-        file.write("package ")?;
-        let place = file.write_name(name)?;
-        file.packages.push(place)?;
-        file.write(";")?;
-        Ok(name)
+        file.write("package ");
+        let place = file.write_name(name);
+        file.add_package(place);
+        file.write(";");
+        name
     }
 
     /// Writes no package, one or two, and returns the name of the first.
-    fn packages(&mut self, file: &mut File) -> Result<usize, Memory> {
+    fn packages(&mut self, file: &mut File) -> usize {
         match self.below(6) {
             0 | 1 => self.package(file),
             2 => {
-                let first = self.package(file)?;
-                self.package(file)?;
-                Ok(first)
+                let first = self.package(file);
+                self.package(file);
+                first
             }
-            _ => Ok(0),
+            _ => 0,
         }
     }
 
     /// Writes an import of a file of a greater number, or of an absent one.
-    fn import(&mut self, file: &mut File) -> Result<(), Memory> {
+    fn import(&mut self, file: &mut File) {
         let after = file.number.wrapping_add(1);
         let left = self.count.wrapping_sub(file.number);
         let imported = self.below(left).wrapping_add(after);
-        file.write("import ")?;
+        file.write("import ");
         let name = file_name(imported);
-        let start = file.write("'")?.start;
-        file.write(name)?;
-        let end = file.write("'")?.end;
-        file.write(";")?;
-        file.imports.push(Import {
+        let start = file.write("'").start;
+        file.write(name);
+        let end = file.write("'").end;
+        file.write(";");
+        file.add_import(Import {
             file: imported,
             place: Span { start, end },
-        })?;
-        Ok(())
+        });
     }
 
     /// Writes a file.
-    fn file(&mut self, alloc: Global, number: usize) -> Result<File, Memory> {
+    fn file(&mut self, alloc: Global, number: usize) -> File {
         let mut file = File::new(alloc, number);
         for _ in 0..self.below(4) {
-            self.import(&mut file)?;
+            self.import(&mut file);
         }
-        let scope = self.packages(&mut file)?;
+        let scope = self.packages(&mut file);
         for _ in 0..self.below(5).wrapping_add(1) {
             match self.below(5) {
-                0 => self.enumeration(&mut file, scope, true)?,
-                1 => self.service(&mut file, scope)?,
-                _ => self.message(&mut file, scope)?,
+                0 => self.enumeration(&mut file, scope, true),
+                1 => self.service(&mut file, scope),
+                _ => self.message(&mut file, scope),
             }
         }
-        Ok(file)
+        file
     }
 
     /// A set of one to three files.
@@ -343,7 +321,7 @@ impl Writer {
         let mut set = Vec::new(alloc);
         self.count = self.below(3).wrapping_add(1);
         for number in 0..self.count {
-            set.push(self.file(alloc, number)?)?;
+            set.push(self.file(alloc, number))?;
         }
         Ok(set)
     }

@@ -1,4 +1,5 @@
 //! The diagnostics of files of a random set: those of rings of imports and of types.
+use crate::tests::support::Page;
 use pq_checks::{Code, Fault};
 use pq_inputs::Inputs;
 use pq_proto::{ProtoKey, ProtoValue, compile};
@@ -17,27 +18,42 @@ fn is_of_links(code: Code) -> bool {
     )
 }
 
-/// The diagnostics among `faults` of rings and of types, as `CODE MESSAGE;`.
-fn shown_faults(alloc: Global, faults: &[Fault]) -> Result<String, Memory> {
-    let mut all = String::new(alloc);
+/// Writes the diagnostics among `faults` of rings and of types, as `CODE MESSAGE;`.
+fn add_faults(page: &mut Page, faults: &[Fault]) {
     for fault in faults {
         if is_of_links(fault.code) {
-            all.push_str(fault.code.as_str())?;
-            all.push(' ')?;
-            all.push_str(fault.text.as_str())?;
-            all.push(';')?;
+            page.add(fault.code.as_str());
+            page.add(" ");
+            page.add(fault.text.as_str());
+            page.add(";");
         }
     }
-    Ok(all)
 }
 
-/// The diagnostics of `file` of rings and of types, as `CODE MESSAGE;`.
-pub(crate) fn found_errors(alloc: Global, inputs: &Inputs, file: &str) -> Result<String, Memory> {
-    let key = ProtoKey::Diagnostics(Text::new(alloc, file)?);
-    match &compile(alloc, inputs, &key)? {
+/// Writes the diagnostics of an answer that are of rings and of types.
+fn add_answer(page: &mut Page, answer: &Answer<ProtoKey, ProtoValue>) {
+    match answer {
         Answer::Value(ProtoValue::Diagnostics(checked)) => {
-            shown_faults(alloc, checked.get().faults.as_slice())
+            add_faults(page, checked.get().faults.as_slice());
         }
-        _ => String::from_str(alloc, "another answer"),
+        _ => page.add("another answer"),
+    }
+}
+
+/// The answer of the diagnostics of `file`.
+fn diagnostics_of(
+    alloc: Global,
+    inputs: &Inputs,
+    file: &str,
+) -> Result<Answer<ProtoKey, ProtoValue>, Memory> {
+    let key = ProtoKey::Diagnostics(Text::new(alloc, file)?);
+    compile(alloc, inputs, &key)
+}
+
+/// Writes the diagnostics of `file` of rings and of types, as `CODE MESSAGE;`.
+pub(crate) fn add_found_errors(page: &mut Page, inputs: &Inputs, file: &str) {
+    match diagnostics_of(page.alloc, inputs, file) {
+        Ok(answer) => add_answer(page, &answer),
+        Err(_) => page.cut(),
     }
 }

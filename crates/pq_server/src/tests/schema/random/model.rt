@@ -1,6 +1,7 @@
 //! A file in numbers, written together with the text that says the same.
 //!
 //! A dotted name is a number whose hexadecimal digits are simple names, and 0 is the empty name.
+use crate::tests::support::Page;
 use pq_rules::Memory;
 use std::alloc::Global;
 
@@ -46,7 +47,7 @@ pub(crate) struct Import {
 #[derive(Drop)]
 pub(crate) struct File {
     pub(crate) number: usize,
-    pub(crate) text: String,
+    pub(crate) text: Page,
     pub(crate) package: usize,
     pub(crate) imports: Vec<Import>,
     pub(crate) definitions: Vec<Definition>,
@@ -60,25 +61,23 @@ pub(crate) fn file_name(file: usize) -> &'static str {
     "a|b|c|d|e".split('|').nth(file).unwrap_or("f")
 }
 
-/// Adds the simple name of a digit to a dotted name.
-fn add_part(all: &mut String, digit: usize) -> Result<(), Memory> {
-    if !all.is_empty() {
-        all.push('.')?;
-    }
-    all.push_str(NAMES.split('|').nth(digit).unwrap_or(""))
+/// The simple name of a digit.
+fn simple_name(digit: usize) -> &'static str {
+    NAMES.split('|').nth(digit).unwrap_or("")
 }
 
-/// A dotted name as text.
-pub(crate) fn shown_name(alloc: Global, name: usize) -> Result<String, Memory> {
-    let mut all = String::new(alloc);
+/// Writes a dotted name.
+pub(crate) fn add_name(page: &mut Page, name: usize) {
     let mut rest = name;
+    let mut dot = "";
     for _ in 0..16u32 {
         if rest >> 60 > 0 {
-            add_part(&mut all, rest >> 60)?;
+            page.add(dot);
+            page.add(simple_name(rest >> 60));
+            dot = ".";
         }
         rest <<= 4;
     }
-    Ok(all)
 }
 
 /// Whether a list has a number.
@@ -101,20 +100,13 @@ pub(crate) fn add_new(files: &mut Vec<usize>, more: &[usize]) -> Result<(), Memo
     Ok(())
 }
 
-/// The names of files, with `before` and `after` around each.
-pub(crate) fn shown_list(
-    alloc: Global,
-    before: &str,
-    files: &[usize],
-    after: &str,
-) -> Result<String, Memory> {
-    let mut all = String::new(alloc);
+/// Writes the names of files, with `before` and `after` around each.
+pub(crate) fn add_list(page: &mut Page, before: &str, files: &[usize], after: &str) {
     for file in files {
-        all.push_str(before)?;
-        all.push_str(file_name(*file))?;
-        all.push_str(after)?;
+        page.add(before);
+        page.add(file_name(*file));
+        page.add(after);
     }
-    Ok(all)
 }
 
 impl File {
@@ -122,7 +114,7 @@ impl File {
     pub(crate) fn new(alloc: Global, number: usize) -> File {
         File {
             number,
-            text: String::new(alloc),
+            text: Page::new(alloc),
             package: 0,
             imports: Vec::new(alloc),
             definitions: Vec::new(alloc),
@@ -133,45 +125,45 @@ impl File {
     }
 
     /// Writes `before`, a dotted name and `after`.
-    pub(crate) fn write(
-        &mut self,
-        alloc: Global,
-        before: &str,
-        name: usize,
-        after: &str,
-    ) -> Result<(), Memory> {
-        self.text.push_str(before)?;
-        self.text.push_str(shown_name(alloc, name)?.as_str())?;
-        self.text.push_str(after)
+    pub(crate) fn write(&mut self, before: &str, name: usize, after: &str) {
+        self.text.add(before);
+        add_name(&mut self.text, name);
+        self.text.add(after);
+    }
+
+    /// Adds an import.
+    pub(crate) fn add_import(&mut self, import: Import) {
+        if self.imports.push(import).is_err() {
+            self.text.cut();
+        }
     }
 
     /// Adds the definition of a name by the next item.
-    pub(crate) fn define(&mut self, name: usize, kind: Kind) -> Result<(), Memory> {
-        self.definitions.push(Definition {
+    pub(crate) fn define(&mut self, name: usize, kind: Kind) {
+        let definition = Definition {
             full_name: self.scope << 4 | name,
             kind,
             file: self.number,
             item: self.items,
-        })?;
-        Ok(())
+        };
+        if self.definitions.push(definition).is_err() {
+            self.text.cut();
+        }
     }
 
     /// Adds a reference of the next item, and writes it.
-    pub(crate) fn refer(
-        &mut self,
-        alloc: Global,
-        part: &'static str,
-        has_dot: bool,
-        name: usize,
-    ) -> Result<(), Memory> {
-        self.references.push(Reference {
+    pub(crate) fn refer(&mut self, part: &'static str, has_dot: bool, name: usize) {
+        let reference = Reference {
             item: self.items,
             part,
             within: self.scope,
             has_dot,
             name,
-        })?;
-        self.write(alloc, if has_dot { "." } else { "" }, name, "")
+        };
+        if self.references.push(reference).is_err() {
+            self.text.cut();
+        }
+        self.write(if has_dot { "." } else { "" }, name, "");
     }
 
     /// Ends the next item.
@@ -191,11 +183,11 @@ impl File {
     }
 
     /// Takes back all that the file says, since it has a syntax error.
-    pub(crate) fn spoil(&mut self, alloc: Global) -> Result<(), Memory> {
+    pub(crate) fn spoil(&mut self) {
         self.package = 0;
-        self.imports = Vec::new(alloc);
-        self.definitions = Vec::new(alloc);
-        self.references = Vec::new(alloc);
-        self.text.push_str("message")
+        self.imports.clear();
+        self.definitions.clear();
+        self.references.clear();
+        self.text.add("message");
     }
 }

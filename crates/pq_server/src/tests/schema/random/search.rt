@@ -1,5 +1,6 @@
 //! What names resolve to, read from the definitions: full names are looked for by scans of lists.
-use super::model::{Definition, File, Kind, Reference, file_name, has, shown_name};
+use super::model::{Definition, File, Kind, Reference, add_name, file_name, has};
+use crate::tests::support::Page;
 use pq_rules::Memory;
 use std::alloc::Global;
 
@@ -18,6 +19,15 @@ enum Found<'a> {
     Nothing,
 }
 
+impl Names {
+    /// Adds the definitions and packages of a file.
+    fn add(&mut self, file: &File) -> Result<(), Memory> {
+        self.all.extend_from_slice(&file.definitions)?;
+        self.packages
+            .extend_from_slice(&[file.package, file.package >> 4])
+    }
+}
+
 /// The names of `files`.
 pub(crate) fn names_of(alloc: Global, set: &[File], files: &[usize]) -> Result<Names, Memory> {
     let mut names = Names {
@@ -26,9 +36,7 @@ pub(crate) fn names_of(alloc: Global, set: &[File], files: &[usize]) -> Result<N
     };
     for file in files {
         if let Some(source) = set.get(*file) {
-            names.all.extend_from_slice(&source.definitions)?;
-            names.packages.push(source.package)?;
-            names.packages.push(source.package >> 4)?;
+            names.add(source)?;
         }
     }
     Ok(names)
@@ -134,109 +142,92 @@ impl Names {
     }
 }
 
-/// A type as `FILE NAME KIND ITEM`.
-fn shown_type(alloc: Global, definition: &Definition) -> Result<String, Memory> {
-    let kind = match &definition.kind {
-        Kind::Enum => "enum",
-        _ => "message",
-    };
-    let file = file_name(definition.file);
-    let name = shown_name(alloc, definition.full_name)?;
-    format!(in alloc; "{file} {} {kind} {}", name.as_str(), definition.item)
+/// Writes a type as `FILE NAME KIND ITEM`.
+fn add_type(page: &mut Page, definition: &Definition) {
+    page.add(file_name(definition.file));
+    page.add(" ");
+    add_name(page, definition.full_name);
+    page.add(match &definition.kind {
+        Kind::Enum => " enum ",
+        _ => " message ",
+    });
+    page.number(definition.item);
 }
 
-/// What a reference resolves to.
-fn resolution(
-    alloc: Global,
-    visible: &Names,
-    reach: &Names,
-    reference: &Reference,
-) -> Result<String, Memory> {
-    match visible.search(reference) {
-        Found::Type(definition) => shown_type(alloc, definition),
-        Found::Other => String::from_str(alloc, "NotAType"),
-        Found::Nothing => match reach.search(reference) {
-            Found::Type(definition) => {
-                format!(in alloc; "NotVisible {}", file_name(definition.file))
-            }
-            _ => String::from_str(alloc, "NotFound"),
-        },
-    }
-}
-
-/// A reference as `ITEM PART RESOLUTION;`.
-fn shown_reference(
-    alloc: Global,
-    visible: &Names,
-    reach: &Names,
-    reference: &Reference,
-) -> Result<String, Memory> {
-    let found = resolution(alloc, visible, reach, reference)?;
-    format!(in alloc; "{} {} {};", reference.item, reference.part, found.as_str())
-}
-
-/// The references of a file that sees `visible` and reaches `reach`.
-pub(crate) fn resolved(
-    alloc: Global,
-    file: &File,
-    visible: &Names,
-    reach: &Names,
-) -> Result<String, Memory> {
-    let mut all = String::new(alloc);
-    for reference in &file.references {
-        all.push_str(shown_reference(alloc, visible, reach, reference)?.as_str())?;
-    }
-    Ok(all)
-}
-
-/// What is said of a name that has no target, as `CODE MESSAGE;`.
-fn shown_miss(
-    alloc: Global,
-    reach: &Names,
-    reference: &Reference,
-    name: &str,
-) -> Result<String, Memory> {
+/// Writes what a reference that is not seen resolves to.
+fn add_unseen(page: &mut Page, reach: &Names, reference: &Reference) {
     match reach.search(reference) {
         Found::Type(definition) => {
-            let file = file_name(definition.file);
-            format!(in alloc; "P151 type \"{name}\" is in {file}, which is not imported;")
+            page.add("NotVisible ");
+            page.add(file_name(definition.file));
         }
-        _ => format!(in alloc; "P150 type \"{name}\" is not found;"),
+        _ => page.add("NotFound"),
     }
 }
 
-/// What is said of a reference, as `CODE MESSAGE;`, or an empty text.
-fn shown_error(
-    alloc: Global,
-    visible: &Names,
-    reach: &Names,
-    reference: &Reference,
-) -> Result<String, Memory> {
-    let dot = if reference.has_dot { "." } else { "" };
-    let name = shown_name(alloc, reference.name)?;
-    let name = format!(in alloc; "{dot}{name}")?;
+/// Writes what a reference resolves to.
+fn add_resolution(page: &mut Page, visible: &Names, reach: &Names, reference: &Reference) {
     match visible.search(reference) {
-        Found::Type(definition) => match (&definition.kind, reference.part) {
-            (Kind::Enum, "input" | "output") => {
-                format!(in alloc; "P153 \"{name}\" is not a message;")
-            }
-            _ => Ok(String::new(alloc)),
-        },
-        Found::Other => format!(in alloc; "P152 \"{name}\" is not a type;"),
-        Found::Nothing => shown_miss(alloc, reach, reference, name.as_str()),
+        Found::Type(definition) => add_type(page, definition),
+        Found::Other => page.add("NotAType"),
+        Found::Nothing => add_unseen(page, reach, reference),
     }
 }
 
-/// What is said of the references of a file that sees `visible` and reaches `reach`.
-pub(crate) fn errors(
-    alloc: Global,
-    file: &File,
-    visible: &Names,
-    reach: &Names,
-) -> Result<String, Memory> {
-    let mut all = String::new(alloc);
+/// Writes the references of a file that sees `visible` and reaches `reach`, each as
+/// `ITEM PART RESOLUTION;`.
+pub(crate) fn add_resolved(page: &mut Page, file: &File, visible: &Names, reach: &Names) {
     for reference in &file.references {
-        all.push_str(shown_error(alloc, visible, reach, reference)?.as_str())?;
+        page.number(reference.item);
+        page.add(" ");
+        page.add(reference.part);
+        page.add(" ");
+        add_resolution(page, visible, reach, reference);
+        page.add(";");
     }
-    Ok(all)
+}
+
+/// Writes the name of a reference between `before` and `after`.
+fn add_quoted(page: &mut Page, before: &str, reference: &Reference, after: &str) {
+    page.add(before);
+    page.add(if reference.has_dot { "." } else { "" });
+    add_name(page, reference.name);
+    page.add(after);
+}
+
+/// Writes what is said of a name that has no target, as `CODE MESSAGE;`.
+fn add_miss(page: &mut Page, reach: &Names, reference: &Reference) {
+    match reach.search(reference) {
+        Found::Type(definition) => {
+            add_quoted(page, "P151 type \"", reference, "\" is in ");
+            page.add(file_name(definition.file));
+            page.add(", which is not imported;");
+        }
+        _ => add_quoted(page, "P150 type \"", reference, "\" is not found;"),
+    }
+}
+
+/// Whether a reference is to a type that may not stand there: an enum in a method.
+fn is_misplaced(definition: &Definition, reference: &Reference) -> bool {
+    matches!(&definition.kind, Kind::Enum) && matches!(reference.part, "input" | "output")
+}
+
+/// Writes what is said of a reference, as `CODE MESSAGE;`, or nothing.
+fn add_error(page: &mut Page, visible: &Names, reach: &Names, reference: &Reference) {
+    match visible.search(reference) {
+        Found::Type(definition) => {
+            if is_misplaced(definition, reference) {
+                add_quoted(page, "P153 \"", reference, "\" is not a message;");
+            }
+        }
+        Found::Other => add_quoted(page, "P152 \"", reference, "\" is not a type;"),
+        Found::Nothing => add_miss(page, reach, reference),
+    }
+}
+
+/// Writes what is said of the references of a file that sees `visible` and reaches `reach`.
+pub(crate) fn add_errors(page: &mut Page, file: &File, visible: &Names, reach: &Names) {
+    for reference in &file.references {
+        add_error(page, visible, reach, reference);
+    }
 }

@@ -119,23 +119,44 @@ pub(crate) struct Links {
     pub(crate) ring: Vec<usize>,
 }
 
+/// The links of a bad file.
+fn bad_links(alloc: Global, set: &[File], bad: &[bool], file: usize) -> Result<Links, Memory> {
+    Ok(Links {
+        exports: Vec::new(alloc),
+        visible: Vec::new(alloc),
+        reach: Vec::new(alloc),
+        ring: ring(alloc, set, bad, file)?,
+    })
+}
+
+/// The files that a file sees, or of which it exports the names if `is_public`.
+fn seen(alloc: Global, set: &[File], file: usize, is_public: bool) -> Result<Vec<usize>, Memory> {
+    let exports = walks(alloc, set, true)?;
+    walk(alloc, set, &exports, file, is_public)
+}
+
+/// The files that a file reaches.
+fn reached(alloc: Global, set: &[File], file: usize) -> Result<Vec<usize>, Memory> {
+    let reach = walks(alloc, set, false)?;
+    walk(alloc, set, &reach, file, false)
+}
+
+/// The links of a good file.
+fn good_links(alloc: Global, set: &[File], file: usize) -> Result<Links, Memory> {
+    Ok(Links {
+        exports: seen(alloc, set, file, true)?,
+        visible: seen(alloc, set, file, false)?,
+        reach: reached(alloc, set, file)?,
+        ring: Vec::new(alloc),
+    })
+}
+
 /// The links of a file. A bad file has a ring alone, and a good file none.
 pub(crate) fn links_of(alloc: Global, set: &[File], file: usize) -> Result<Links, Memory> {
     let bad = bad_files(alloc, set)?;
     if matches!(bad.get(file), Some(true)) {
-        return Ok(Links {
-            exports: Vec::new(alloc),
-            visible: Vec::new(alloc),
-            reach: Vec::new(alloc),
-            ring: ring(alloc, set, &bad, file)?,
-        });
+        bad_links(alloc, set, &bad, file)
+    } else {
+        good_links(alloc, set, file)
     }
-    let exports = walks(alloc, set, true)?;
-    let reach = walks(alloc, set, false)?;
-    Ok(Links {
-        exports: walk(alloc, set, &exports, file, true)?,
-        visible: walk(alloc, set, &exports, file, false)?,
-        reach: walk(alloc, set, &reach, file, false)?,
-        ring: Vec::new(alloc),
-    })
 }

@@ -67,180 +67,173 @@ impl Writer {
     }
 
     /// A reference.
-    fn refer(&mut self, alloc: Global, file: &mut File, part: &'static str) -> Result<(), Memory> {
+    fn refer(&mut self, file: &mut File, part: &'static str) {
         let has_dot = self.below(8) == 0;
         let name = self.type_name();
-        file.refer(alloc, part, has_dot, name)
+        file.refer(part, has_dot, name)
     }
 
     /// The start of a message, its name often the file's own.
-    fn message(&mut self, alloc: Global, file: &mut File) -> Result<(), Memory> {
+    fn message(&mut self, file: &mut File) {
         let own = file.number.wrapping_add(9);
         let name = if self.below(3) == 0 { own } else { self.name() };
-        file.define(name, Kind::Message)?;
+        file.define(name, Kind::Message);
         file.open(name);
-        file.write(alloc, "message ", name, "{")
+        file.write("message ", name, "{")
     }
 
     /// An enum of one value, which is defined beside it.
-    fn enumeration(&mut self, alloc: Global, file: &mut File) -> Result<(), Memory> {
+    fn enumeration(&mut self, file: &mut File) {
         let (name, value) = (self.name(), self.name());
-        file.define(name, Kind::Enum)?;
+        file.define(name, Kind::Enum);
         file.end();
-        file.define(value, Kind::Other)?;
+        file.define(value, Kind::Other);
         file.end();
-        file.write(alloc, "enum ", name, "{")?;
-        file.write(alloc, "", value, "=0;}")
+        file.write("enum ", name, "{");
+        file.write("", value, "=0;}")
     }
 
     /// A field that is written after `before`.
-    fn field(
-        &mut self,
-        alloc: Global,
-        file: &mut File,
-        before: &str,
-        after: &str,
-    ) -> Result<(), Memory> {
-        file.write(alloc, before, 0, "")?;
-        self.refer(alloc, file, "type")?;
+    fn field(&mut self, file: &mut File, before: &str, after: &str) {
+        file.write(before, 0, "");
+        self.refer(file, "type");
         let name = self.name();
-        file.define(name, Kind::Other)?;
+        file.define(name, Kind::Other);
         file.end();
-        file.write(alloc, " ", name, after)
+        file.write(" ", name, after)
     }
 
     /// A map field, with its entry.
-    fn map(&mut self, alloc: Global, file: &mut File) -> Result<(), Memory> {
-        file.write(alloc, "map<int32,", 0, "")?;
-        self.refer(alloc, file, "type")?;
+    fn map(&mut self, file: &mut File) {
+        file.write("map<int32,", 0, "");
+        self.refer(file, "type");
         let name = self.name();
-        file.define(name, Kind::Other)?;
-        file.define(name.wrapping_add(4), Kind::Other)?;
+        file.define(name, Kind::Other);
+        file.define(name.wrapping_add(4), Kind::Other);
         file.end();
-        file.write(alloc, ">", name, "=1;")
+        file.write(">", name, "=1;")
     }
 
     /// A oneof of one field.
-    fn oneof(&mut self, alloc: Global, file: &mut File) -> Result<(), Memory> {
+    fn oneof(&mut self, file: &mut File) {
         let name = self.name();
-        file.define(name, Kind::Other)?;
+        file.define(name, Kind::Other);
         file.end();
-        file.write(alloc, "oneof ", name, "{")?;
-        self.field(alloc, file, "", "=1;}")
+        file.write("oneof ", name, "{");
+        self.field(file, "", "=1;}")
     }
 
     /// The start of a method of the service that is open.
-    fn method(&mut self, alloc: Global, file: &mut File) -> Result<(), Memory> {
+    fn method(&mut self, file: &mut File) {
         let name = self.name();
-        file.define(name, Kind::Other)?;
-        file.write(alloc, "rpc ", name, "(")?;
-        self.refer(alloc, file, "input")?;
-        file.write(alloc, ")returns(", 0, "")?;
-        self.refer(alloc, file, "output")
+        file.define(name, Kind::Other);
+        file.write("rpc ", name, "(");
+        self.refer(file, "input");
+        file.write(")returns(", 0, "");
+        self.refer(file, "output")
     }
 
     /// A service of one method.
-    fn service(&mut self, alloc: Global, file: &mut File) -> Result<(), Memory> {
+    fn service(&mut self, file: &mut File) {
         let name = self.name();
-        file.define(name, Kind::Service)?;
+        file.define(name, Kind::Service);
         file.open(name);
-        file.write(alloc, "service ", name, "{")?;
-        self.method(alloc, file)?;
+        file.write("service ", name, "{");
+        self.method(file);
         file.end();
-        self.close(alloc, file, ");}")
+        self.close(file, ");}")
     }
 
     /// The end of a message or service.
-    fn close(&mut self, alloc: Global, file: &mut File, text: &str) -> Result<(), Memory> {
+    fn close(&mut self, file: &mut File, text: &str) {
         file.scope >>= 4;
-        file.write(alloc, text, 0, "")
+        file.write(text, 0, "")
     }
 
     /// A statement of a file.
-    fn outside(&mut self, alloc: Global, file: &mut File) -> Result<(), Memory> {
+    fn outside(&mut self, file: &mut File) {
         match self.below(9) {
-            0 => self.enumeration(alloc, file),
-            1 => self.service(alloc, file),
+            0 => self.enumeration(file),
+            1 => self.service(file),
             2 => {
                 file.end();
-                file.write(alloc, "extend ", 1, "{}")
+                file.write("extend ", 1, "{}")
             }
-            _ => self.message(alloc, file),
+            _ => self.message(file),
         }
     }
 
     /// A statement of a message, or its end.
-    fn inside(&mut self, alloc: Global, file: &mut File) -> Result<(), Memory> {
+    fn inside(&mut self, file: &mut File) {
         match self.below(14) {
-            0 | 1 => self.message(alloc, file),
-            2 => self.enumeration(alloc, file),
-            3 => self.map(alloc, file),
-            4 => self.oneof(alloc, file),
-            5..=7 => self.field(alloc, file, "", "=1;"),
-            8 => self.field(alloc, file, "repeated ", "=1;"),
-            _ => self.close(alloc, file, "}"),
+            0 | 1 => self.message(file),
+            2 => self.enumeration(file),
+            3 => self.map(file),
+            4 => self.oneof(file),
+            5..=7 => self.field(file, "", "=1;"),
+            8 => self.field(file, "repeated ", "=1;"),
+            _ => self.close(file, "}"),
         }
     }
 
     /// The package of a file. Most files have none.
-    fn package(&mut self, alloc: Global, file: &mut File) -> Result<(), Memory> {
+    fn package(&mut self, file: &mut File) {
         let name = match self.below(6) {
             0 => 3,
             1 => self.name() << 4 | 3,
-            _ => return Ok(()),
+            _ => return,
         };
         file.package = name;
         file.scope = name;
         file.end();
-        file.write(alloc, "package ", name, ";")
+        file.write("package ", name, ";")
     }
 
     /// An import.
-    fn import(&mut self, alloc: Global, file: &mut File) -> Result<(), Memory> {
+    fn import(&mut self, file: &mut File) {
         let (kind, imported) = (self.below(6), self.file());
-        file.imports.push(Import {
+        file.add_import(Import {
             file: imported,
             is_public: kind == 0,
-        })?;
+        });
         file.end();
         let before = match kind {
             0 => "import public '",
             1 => "import weak '",
             _ => "import '",
         };
-        file.write(alloc, before, 0, file_name(imported))?;
-        file.write(alloc, "';", 0, "")
+        file.write(before, 0, file_name(imported));
+        file.write("';", 0, "")
     }
 
     /// The messages, enums and services of a file.
-    fn items(&mut self, alloc: Global, file: &mut File) -> Result<(), Memory> {
+    fn items(&mut self, file: &mut File) {
         for _ in 0..self.below(10).wrapping_add(3) {
             if file.is_outside() {
-                self.outside(alloc, file)?;
+                self.outside(file);
             } else {
-                self.inside(alloc, file)?;
+                self.inside(file);
             }
         }
         for _ in 0..12u32 {
             if !file.is_outside() {
-                self.close(alloc, file, "}")?;
+                self.close(file, "}");
             }
         }
-        Ok(())
     }
 
     /// A file, and now and then one with a syntax error.
-    fn source(&mut self, alloc: Global, number: usize) -> Result<File, Memory> {
+    fn source(&mut self, alloc: Global, number: usize) -> File {
         let mut file = File::new(alloc, number);
-        self.package(alloc, &mut file)?;
+        self.package(&mut file);
         for _ in 0..self.below(3).wrapping_add(1) {
-            self.import(alloc, &mut file)?;
+            self.import(&mut file);
         }
-        self.items(alloc, &mut file)?;
+        self.items(&mut file);
         if self.below(20) == 0 {
-            file.spoil(alloc)?;
+            file.spoil();
         }
-        Ok(file)
+        file
     }
 
     /// A set of two to five files. In three of four sets each file imports only files after it.
@@ -254,7 +247,7 @@ impl Writer {
             } else {
                 0
             };
-            set.push(self.source(alloc, number)?)?;
+            set.push(self.source(alloc, number))?;
         }
         Ok(set)
     }
