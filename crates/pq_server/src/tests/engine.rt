@@ -233,6 +233,26 @@ fn backdates(rt: HostRuntime) {
     );
 }
 
+// An engine that starts a rule without listing it does not pass: the rules that count their starts
+// start as many as are listed, and a demand after no change starts none.
+#[test]
+fn rule_started_uncounted(rt: HostRuntime) {
+    check_rows(
+        &rt,
+        8,
+        "\
+        low a=b\n\
+        low b=c d\n\
+        Sum a => 4 | Sum a 2 fresh;Sum b 2 fresh;Sum c 2 fresh;Sum d 2 fresh;\n\
+        Sum a => 4 | \n\
+        low b=d c\n\
+        Sum a => 4 | Sum b 3 Text b;\n\
+        Sum b => 3 | \n\
+        Sum a => 4 | \n\
+        ",
+    );
+}
+
 // A text that is set again changes nothing, but another durability does.
 #[test]
 fn durabilities(rt: HostRuntime) {

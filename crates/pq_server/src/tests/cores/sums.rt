@@ -1,6 +1,7 @@
 //! The keys of sums as lines write them.
 use super::lines::Sample;
-use crate::tests::rules::{key_of, shown_answer, shown_key};
+use crate::tests::rules::{add_answer, add_key, key_of};
+use crate::tests::support::Page;
 use pq_inputs::Inputs;
 use pq_rules::{Answer, Memory, Sums, SumsKey, SumsValue, from_scratch};
 use std::alloc::Global;
@@ -10,15 +11,19 @@ impl Sample for SumsKey {
     type Value = SumsValue;
 
     fn written(rt: &(impl Abort + AllocGlobal), text: &str) -> Result<SumsKey, Memory> {
-        key_of(rt, text)
+        Ok(key_of(rt, text))
     }
 
     fn shown(&self, alloc: Global) -> Result<String, Memory> {
-        shown_key(alloc, self)
+        let mut page = Page::new(alloc);
+        add_key(&mut page, self);
+        page.into_text()
     }
 
     fn shown_answer(alloc: Global, answer: &Answer<SumsKey, SumsValue>) -> Result<String, Memory> {
-        shown_answer(alloc, answer)
+        let mut page = Page::new(alloc);
+        add_answer(&mut page, answer);
+        page.into_text()
     }
 
     fn scratch(
