@@ -1,7 +1,6 @@
 //! What calls of a core answer, as text.
-use super::lines::shown_replies;
+use super::lines::{Sample, shown_replies};
 use super::post::Post;
-use crate::tests::rules::shown_key;
 use pq_core::{
     AcceptRefused, ClientId, Done, EditRefused, GiveFault, GiveRefused, LookFault, Move, Number,
     OpenRefused, Released, RunId, Work,
@@ -108,7 +107,7 @@ fn shown_why(alloc: Global, why: &Option<Why<SumsKey>>) -> Result<String, Memory
     match why {
         None => String::from_str(alloc, "on"),
         Some(Why::Fresh) => String::from_str(alloc, "fresh"),
-        Some(Why::Changed(key)) => shown_key(alloc, key),
+        Some(Why::Changed(key)) => key.shown(alloc),
         Some(Why::Ring) => String::from_str(alloc, "ring"),
     }
 }
@@ -118,7 +117,7 @@ fn shown_work<R: Rules<Key = SumsKey, Value = SumsValue>>(
     alloc: Global,
     work: &Work<R>,
 ) -> Result<String, Memory> {
-    let key = shown_key(alloc, work.key())?;
+    let key = work.key().shown(alloc)?;
     let why = shown_why(alloc, work.why())?;
     format!(in alloc; "{} {}", key.as_str(), why.as_str())
 }
