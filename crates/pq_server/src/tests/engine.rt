@@ -7,21 +7,14 @@ mod random;
 
 use super::rules::counted::Counted;
 use super::rules::{add_answer, add_key, add_sum, key_of};
-use super::support::{Page, check_number, check_page, check_pages, check_row_count, check_that};
+use super::support::{
+    Page, check_number, check_page, check_pages, check_row_count, check_that, durability_of,
+};
 use pq_inputs::{Durability, Inputs};
 use pq_memo::{Carried, Demanded, Engine, Why};
 use pq_rules::{Rules, SumsKey, SumsValue};
 use std::cell::Cell;
 use std::process::Abort;
-
-/// The durability that a word names.
-fn durability_of(word: &str) -> Durability {
-    match word {
-        "high" => Durability::High,
-        "medium" => Durability::Medium,
-        _ => Durability::Low,
-    }
-}
 
 /// Sets a file.
 fn set<R: Rules<Key = SumsKey, Value = SumsValue>>(

@@ -13,7 +13,7 @@ mod writer;
 use super::cores::lines::{
     Sample, change_of, client_of, number_of, request_of, shown_replies, shown_request,
 };
-use super::support::{check_text, split_row};
+use super::support::check_text;
 use pq_core::{Request, RunId};
 use pq_play::{Event, Played, play};
 use pq_rules::{Memory, Sums, SumsKey, SumsValue};

@@ -3,8 +3,7 @@ pub(super) mod counted;
 
 use super::support::{Page, check_page, check_row_count, check_that, split_row};
 use pq_inputs::{Durability, Inputs};
-use pq_rules::{Answer, Memory, Ring, Sums, SumsKey, SumsValue, Text, from_scratch};
-use std::alloc::Global;
+use pq_rules::{Answer, Ring, Sums, SumsKey, SumsValue, Text, from_scratch};
 use std::process::Abort;
 
 /// Sets a file.

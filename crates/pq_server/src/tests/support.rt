@@ -198,9 +198,13 @@ pub(super) fn set_text(
     check_that(rt, is_set, name);
 }
 
-/// `span` as `START-END`.
-pub(super) fn shown_span(alloc: Global, span: Span) -> Result<String, Memory> {
-    format!(in alloc; "{}-{}", span.start, span.end)
+/// The durability that a word names.
+pub(super) fn durability_of(word: &str) -> Durability {
+    match word {
+        "high" => Durability::High,
+        "medium" => Durability::Medium,
+        _ => Durability::Low,
+    }
 }
 
 /// The name of a lexical error.

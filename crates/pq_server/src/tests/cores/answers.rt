@@ -14,6 +14,7 @@
 use super::calls::Calls;
 use super::lines::{change_of, client_of, number_of, request_of};
 use super::shown::{shown_released, yes_or_no};
+use crate::tests::support::joined;
 use pq_core::{ClientId, RunId};
 use pq_rules::{Memory, SumsKey};
 use std::alloc::Global;
@@ -26,11 +27,6 @@ const MOST_STEPS: u32 = 1_000;
 /// Whether a run is over after a step.
 fn is_over(step: &str) -> bool {
     step == "answered" || step == "stopped" || step == "no such run"
-}
-
-/// The text `start`, and then `end`.
-fn joined(alloc: Global, start: &str, end: &str) -> Result<String, Memory> {
-    format!(in alloc; "{start}{end}")
 }
 
 /// Takes steps of `run` until it is over. Returns the rules that it started, and its end.

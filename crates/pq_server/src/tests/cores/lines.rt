@@ -3,9 +3,9 @@
 //! A request is `LABEL KEY` or, for a fixed text, `LABEL say TEXT`. A change is
 //! `DURABILITY NAME=TEXT`, or `DURABILITY NAME` where the file becomes absent. A reply is
 //! `NUMBER REQUEST @REVISION OUTCOME`.
-use crate::tests::support::split_row;
+use crate::tests::support::{durability_of, split_row};
 use pq_core::{Change, ClientId, Label, Outcome, Reply, Request, Want};
-use pq_inputs::{Durability, Inputs};
+use pq_inputs::Inputs;
 use pq_rules::{Answer, Memory, Text};
 use std::alloc::Global;
 use std::process::Abort;
@@ -69,15 +69,6 @@ pub(crate) fn request_of<K: Sample>(
     let label = label_of(rt.alloc(), label)?;
     let want = want_of(rt, want)?;
     Ok(Request { label, want })
-}
-
-/// The durability that a word names.
-fn durability_of(word: &str) -> Durability {
-    match word {
-        "high" => Durability::High,
-        "medium" => Durability::Medium,
-        _ => Durability::Low,
-    }
 }
 
 /// The change that `text` writes.
