@@ -2,7 +2,6 @@
 use Rattle.std.proofs.Common.{◌≡◌, ◌≢◌, ℕ, ◌<◌, Bool, true, false, List, length, slice_get, slice_set, Option, Some, None, refl, sym, ◌∙◌, ap, subst, inl, inr, arith}
 use Rattle.pq_inputs.specs.Sources.{Sources}
 use Rattle.pq_rules.specs.declared.turn.Answer.{Answer}
-use Rattle.pq_rules.specs.Relations.{In}
 use Rattle.pq_core.proofs.Lists.{get_within, get_there, set_same, set_other, same_or_other, some_one, none_some}
 use Rattle.pq_core.proofs.Standing.{Elsewhere, client_entry, count_same, restand}
 use Rattle.pq_core.specs.Replies.{ReplyView}
@@ -33,7 +32,6 @@ pub record SameCounts {K L : Type 0} (f g : Fields K L) : Type 0 where
 pub record SameFields {K L : Type 0} (f g : Fields K L) : Type 0 where
   pub counts : SameCounts f g
   pub lanes : (c : ℕ) → g.lanes c ≡ f.lanes c
-  pub waiting : g.waiting ≡ f.waiting
   pub runs : (r : ℕ) → g.runs r ≡ f.runs r
   pub started : g.started ≡ f.started
 
@@ -63,7 +61,7 @@ module _ {K V L O : Type 0} (AsLane : L → Client K V O → Type 0) (means : So
   }
     where
       entry_same : (c n : ℕ) (entry : Entry K V) (place : Place K V) → EntryStands f c n entry place → EntryStands g c n entry place
-      entry_same c n entry Waiting x = subst (λ (ws : List (ℕ × ℕ)). In (c, n) ws) (sym e.waiting) x
+      entry_same c n entry Waiting x = x
       entry_same c n entry (Running r st o) x = (subst (λ (m : ℕ). r < m) (sym e.started) x.0, e.runs r ∙ x.1)
       entry_same c n entry (Ready reply) x = x
       entry_same c n entry Put x = x
@@ -137,7 +135,7 @@ module _ {K V L O : Type 0} (AsLane : L → Client K V O → Type 0) (means : So
 
   -- a run's request has another entry, and the run is kept as `run`, or is over
   pub run_entry : (f g : Fields K L) (l m : Ledger K V O) (r : ℕ) (at : RunAt K V O) (entry : Entry K V) (run : Option (RunSeen K))
-      → Stands AsLane means puts f l → Runs l r at → SameCounts f g → RunSet f g r run → g.waiting ≡ f.waiting → g.started ≡ f.started
+      → Stands AsLane means puts f l → Runs l r at → SameCounts f g → RunSet f g r run → g.started ≡ f.started
       → ((k : ℕ) → k ≢ at.c → g.lanes k ≡ f.lanes k)
       → (at.client.is_open ≡ true → (lane : L) × (g.lanes at.c ≡ Some lane) × AsLane lane (with_entry at.client at.n entry))
       → (at.client.is_open ≡ false → g.lanes at.c ≡ None)
@@ -146,10 +144,9 @@ module _ {K V L O : Type 0} (AsLane : L → Client K V O → Type 0) (means : So
       → ((seen : RunSeen K) → run ≡ Some seen → (seen.client ≡ at.c) × (seen.number ≡ at.n) × (entry.place ≡ Running r seen.started seen.out) × (seen.request ≡ entry.request))
       → m ≡ with_client l at.c (with_entry at.client at.n entry)
       → Kept means puts m → Stands AsLane means puts g m
-  run_entry f g l m r at entry run s h counts runs waiting started lanes lane shut dropped there place e kept =
+  run_entry f g l m r at entry run s h counts runs started lanes lane shut dropped there place e kept =
       let elsewhere : Elsewhere f g at.c at.n = record {
         lanes = lanes;
-        waiting = λ k i ne w. subst (λ (ws : List (ℕ × ℕ)). In (k, i) ws) (sym waiting) w;
         later = let a : g.started ≡ f.started = started in omega arith;
         kept = λ q x w ne. elim (same_or_other q r) [
           | inl v ↦ absurd (ne (client_of x q w v, number_of x q w v))

@@ -1,12 +1,11 @@
 -- Accepting a request or an edit, at what a core keeps.
-use Rattle.std.proofs.Common.{◌≡◌, ℕ, ◌+◌, ◌<◌, ◌≤◌, ◌==◌, if◌then◌else◌, ◌⊎◌, Bool, true, false, List, [], ◌∷◌, ◌++◌, length, Option, Some, None, refl, sym, ◌∙◌, ap, subst, inl, inr, arith}
+use Rattle.std.proofs.Common.{◌≡◌, ℕ, ◌+◌, ◌<◌, ◌≤◌, ◌==◌, if◌then◌else◌, Bool, true, false, List, [], ◌∷◌, ◌++◌, length, Option, Some, None, refl, sym, ◌∙◌, ap, subst, inl, inr, arith}
 use Rattle.std.specs.Prelude.{Ok, Err, Result, OnOk, is_err, unwrap_or}
 use Rattle.std.specs.Option.{option_map}
 use Rattle.std.specs.declared.cmp.Ordering.{Ordering}
 use Rattle.pq_inputs.specs.Sources.{Table}
 use Rattle.pq_inputs.specs.Refusal.{refusal}
 use Rattle.pq_rules.specs.Turns.{Machine}
-use Rattle.pq_rules.specs.Relations.{In}
 use Rattle.pq_core.proofs.Lists.{some_one}
 use Rattle.pq_core.proofs.Changing.{if_at, if_other}
 use Rattle.pq_core.proofs.Calling.{open_of, closed_of, run_at}
@@ -17,7 +16,6 @@ use Rattle.pq_core.specs.Replies.{ReplyView}
 use Rattle.pq_core.specs.Changes.{ChangeView}
 use Rattle.pq_core.specs.Ledger.{Client, Ledger, with_client}
 use Rattle.pq_core.specs.RightReply.{answer_by}
-use Rattle.pq_core.specs.Kept.{IsDemand}
 use Rattle.pq_core.specs.Moves.{Reaches, Accepts, Edits, AcceptRefusal, EditRefusal, InputRefusal, window, owed, first_place, new_entry, with_new, changed}
 use Rattle.pq_core.specs.Cores.{Held, fields_of, run_seen as seen_of, StandsOf}
 use Rattle.pq_core.specs.aux.Stands.{Fields, EntryStands}
@@ -37,20 +35,6 @@ use Rattle.pq_inputs.specs.Sources.{with_file}
 use Rattle.pq_core.specs.aux.Runs.{RunView}
 use Rattle.pq_core.specs.aux.Stands.{RunSeen}
 use Rattle.pq_core.specs.Moves.{file_of}
-
--- the last of a longer list
-in_last : (xs : List (ℕ × ℕ)) (x : ℕ × ℕ) → In x (xs ++ x ∷ [])
-in_last [] x = inl refl
-in_last (y ∷ ys) x = inr (in_last ys x)
-
-in_longer : (xs : List (ℕ × ℕ)) (x y : ℕ × ℕ) → In y xs → In y (xs ++ x ∷ [])
-in_longer [] x y h = absurd h
-in_longer (z ∷ zs) x y h = elim h [ inl e ↦ inl e | inr w ↦ inr (in_longer zs x y w) ]
-
--- `IsQueued want before c n after` is that the request `n` of the client `c` was queued if it is
--- for a key
-abbrev pub IsQueued : {K : Type 0} → Want K → List (ℕ × ℕ) → ℕ → ℕ → List (ℕ × ℕ) → Type 0
-IsQueued want before c n after = (IsDemand want × (after ≡ before ++ (c, n) ∷ [])) ⊎ ((IsDemand want → ⊥) × (after ≡ before))
 
 module _ {K P V O : Type 0} (order : K → K → Ordering) (m : Machine K P V) (puts : O → List (ReplyView K V)) where
   few_owed : (lane : LaneView K V O) (client : Client K V O) → LaneStands puts lane client → length lane.owed < window → owed puts client < window
@@ -80,13 +64,10 @@ module _ {K P V O : Type 0} (order : K → K → Ordering) (m : Machine K P V) (
       below : (n : ℕ) → (window ≤ n → ⊥) → n < window
       below n f = grind (arith, f)
 
-  there_of : (f : Fields K (LaneView K V O)) (c n revision : ℕ) (request : Request K) (want : Want K) (before : List (ℕ × ℕ)) → IsQueued want before c n f.waiting
+  there_of : (f : Fields K (LaneView K V O)) (c n revision : ℕ) (request : Request K) (want : Want K)
       → EntryStands f c n (new_entry {V = V} c n request revision) (first_place c n request revision want)
-  there_of f c n revision request (Demand key) before q = elim q [
-    | inl w ↦ subst (λ (xs : List (ℕ × ℕ)). In (c, n) xs) (sym w.1) (in_last before (c, n))
-    | inr w ↦ absurd (w.0 tt)
-  ]
-  there_of f c n revision request (Fixed text) before q = tt
+  there_of f c n revision request (Demand key) = tt
+  there_of f c n revision request (Fixed text) = tt
 
   -- a request is accepted
   pub accept_moved : (b a : Held K P V O) (c n revision : ℕ) (request : Request K) (lane : LaneView K V O) (l : Ledger K V O)
@@ -94,9 +75,9 @@ module _ {K P V O : Type 0} (order : K → K → Ordering) (m : Machine K P V) (
       → ((k : ℕ) → found a.lanes k ≡ (if k == c then Some (pushed lane (first_owed c n request revision request.want)) else found b.lanes k))
       → n ≡ lane.put + length lane.owed → revision ≡ b.inputs.revision
       → a.inputs ≡ b.inputs → a.opened ≡ b.opened → a.clients ≡ b.clients → ((k : ℕ) → found a.runs k ≡ found b.runs k) → a.started ≡ b.started
-      → IsQueued request.want b.waiting c n a.waiting → StandsOf order m puts b l
+      → StandsOf order m puts b l
       → Reaches (Accepts puts c request (Ok n)) l (StandsOf order m puts a)
-  accept_moved b a c n revision request lane l here few lanes number is_now inputs count clients runs started queued s =
+  accept_moved b a c n revision request lane l here few lanes number is_now inputs count clients runs started s =
       let w = open_of (LaneStands puts) (answer_by order m) puts (fields_of b) l c lane s here in
       let client : Client K V O = w.0 in
       let at : n ≡ length client.entries = number ∙ sym w.2.counted in
@@ -113,11 +94,7 @@ module _ {K P V O : Type 0} (order : K → K → Ordering) (m : Machine K P V) (
             })
             (record { inputs = inputs; opened = count; clients = clients })
             (λ r. ap (option_map seen_of) (runs r)) started
-            (λ k i h. elim queued [
-              | inl v ↦ subst (λ (xs : List (ℕ × ℕ)). In (k, i) xs) (sym v.1) (in_longer b.waiting (c, n) (k, i) h)
-              | inr v ↦ subst (λ (xs : List (ℕ × ℕ)). In (k, i) xs) (sym v.1) h
-            ])
-            (there_of (fields_of a) c n l.inputs.revision request request.want b.waiting queued)
+            (there_of (fields_of a) c n l.inputs.revision request request.want)
             (subst (λ (r : ℕ). LaneStands puts (pushed lane (first_owed c n request r request.want)) (with_new client (new_entry c n request l.inputs.revision))) revision_is
             (accepted_stands puts lane client c n l.inputs.revision request w.2))
             refl
@@ -137,10 +114,10 @@ module _ {K P V O : Type 0} (order : K → K → Ordering) (m : Machine K P V) (
   -- an edit is accepted
   pub edit_moved : (b a : Held K P V O) (c revision : ℕ) (change : ChangeView) (l : Ledger K V O) → (lane : LaneView K V O) × (found b.lanes c ≡ Some lane)
       → refusal b.inputs change.file change.text ≡ None → revision ≡ b.inputs.revision + 1 → a.inputs ≡ changed b.inputs change
-      → ((k : ℕ) → found a.lanes k ≡ found b.lanes k) → a.opened ≡ b.opened → a.clients ≡ b.clients → a.waiting ≡ b.waiting
+      → ((k : ℕ) → found a.lanes k ≡ found b.lanes k) → a.opened ≡ b.opened → a.clients ≡ b.clients
       → ((k : ℕ) → found a.runs k ≡ found b.runs k) → a.started ≡ b.started → StandsOf order m puts b l
       → Reaches (Edits c change (Ok revision)) l (StandsOf order m puts a)
-  edit_moved b a c revision change l there accepted next inputs lanes count clients waiting runs started s =
+  edit_moved b a c revision change l there accepted next inputs lanes count clients runs started s =
       let w = open_of (LaneStands puts) (answer_by order m) puts (fields_of b) l c there.0 s there.1 in
       let after : Ledger K V O = record { inputs = changed l.inputs change; clients = l.clients; runs = l.runs } in
       let move : Edits c change (Ok revision) l after = (
@@ -153,7 +130,7 @@ module _ {K P V O : Type 0} (order : K → K → Ordering) (m : Machine K P V) (
         after,
         move,
         edit_stands (LaneStands puts) (answer_by order m) puts (fields_of b) (fields_of a) l after change s inputs count clients lanes
-            (record { waiting = waiting; runs = λ r. ap (option_map seen_of) (runs r); started = started }) refl
+            (record { runs = λ r. ap (option_map seen_of) (runs r); started = started }) refl
             (kept_edits (answer_by order m) puts c change (Ok revision) l after s.kept move),
       )
 

@@ -25,7 +25,6 @@ pub record SameMaps {K P V O : Type 0} (b a : Held K P V O) : Type 0 where
   pub lanes : (k : ℕ) → found a.lanes k ≡ found b.lanes k
   pub opened : a.opened ≡ b.opened
   pub clients : a.clients ≡ b.clients
-  pub waiting : a.waiting ≡ b.waiting
   pub runs : (k : ℕ) → found a.runs k ≡ found b.runs k
   pub started : a.started ≡ b.started
 
@@ -34,7 +33,6 @@ module _ {K P V O : Type 0} (order : K → K → Ordering) (m : Machine K P V) (
   same_fields b a e = record {
     counts = record { inputs = e.inputs; opened = e.opened; clients = e.clients };
     lanes = e.lanes;
-    waiting = e.waiting;
     runs = λ r. ap (option_map run_seen) (e.runs r);
     started = e.started;
   }
@@ -51,10 +49,10 @@ module _ {K P V O : Type 0} (order : K → K → Ordering) (m : Machine K P V) (
   -- a client is opened
   pub open_moved : (b a : Held K P V O) (lane : LaneView K V O) (outbox : O) (l : Ledger K V O)
       → ((k : ℕ) → found a.lanes k ≡ (if k == b.clients then Some lane else found b.lanes k))
-      → a.inputs ≡ b.inputs → a.opened ≡ b.opened + 1 → a.clients ≡ b.clients + 1 → a.waiting ≡ b.waiting → a.runs ≡ b.runs → a.started ≡ b.started
+      → a.inputs ≡ b.inputs → a.opened ≡ b.opened + 1 → a.clients ≡ b.clients + 1 → a.runs ≡ b.runs → a.started ≡ b.started
       → LaneStands puts lane (opened outbox) → puts outbox ≡ [] → b.opened < 64 → StandsOf order m puts b l
       → Reaches (Opens outbox (Ok b.clients)) l (StandsOf order m puts a)
-  open_moved b a lane outbox l lanes inputs count clients waiting runs started as_lane nothing few s =
+  open_moved b a lane outbox l lanes inputs count clients runs started as_lane nothing few s =
       let after : Ledger K V O = record { inputs = l.inputs; clients = l.clients ++ opened outbox ∷ []; runs = l.runs } in
       let move : Opens outbox (Ok b.clients) l after = (sym s.clients, subst (λ (n : ℕ). n < max_clients) (sym s.opened) few, refl) in (
         after,
@@ -64,7 +62,7 @@ module _ {K P V O : Type 0} (order : K → K → Ordering) (m : Machine K P V) (
               here = lanes b.clients ∙ if_at b.clients (Some lane) (found b.lanes b.clients);
               others = λ k ne. lanes k ∙ if_other k b.clients (Some lane) (found b.lanes k) ne;
             })
-            (record { waiting = waiting; runs = λ r. ap (λ (x : List (Place _)). option_map run_seen (found x r)) runs; started = started })
+            (record { runs = λ r. ap (λ (x : List (Place _)). option_map run_seen (found x r)) runs; started = started })
             inputs count clients as_lane refl
             (kept_opens (answer_by order m) puts outbox (Ok b.clients) l after nothing s.kept move),
       )

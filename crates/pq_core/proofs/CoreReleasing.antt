@@ -1,5 +1,5 @@
 -- Replies that leave and clients that close, at what a core keeps.
-use Rattle.std.proofs.Common.{◌≡◌, ◌≢◌, ℕ, ◌+◌, ◌≤◌, ◌==◌, if◌then◌else◌, Bool, true, false, List, length, slice_get, Option, Some, None, refl, sym, ◌∙◌, ap, subst, inl, inr, arith}
+use Rattle.std.proofs.Common.{◌≡◌, ℕ, ◌+◌, ◌≤◌, ◌==◌, if◌then◌else◌, Bool, true, false, List, length, slice_get, Option, Some, None, refl, sym, ◌∙◌, ap, subst, inl, inr, arith}
 use Rattle.std.specs.Prelude.{Ok, Err, Result}
 use Rattle.std.specs.Option.{option_map}
 use Rattle.std.specs.declared.cmp.Ordering.{Ordering}
@@ -8,17 +8,16 @@ use Rattle.pq_core.proofs.Lists.{get_within, set_same, some_one, same_or_other}
 use Rattle.pq_core.proofs.Changing.{if_at, if_other}
 use Rattle.pq_core.proofs.Standing.{count_closed}
 use Rattle.pq_core.proofs.Calling.{LaneSet, open_of, none_open}
-use Rattle.pq_core.proofs.Moving.{SameQueues, drop_stands}
+use Rattle.pq_core.proofs.Moving.{SameRuns}
 use Rattle.pq_core.proofs.Ending.{put_stands, outbox_stands, close_stands}
 use Rattle.pq_core.proofs.Keeping.{kept_releases, kept_closes, kept_takes}
 use Rattle.pq_core.proofs.LaneMoves.{put_count, numbered, released, taken}
 use Rattle.pq_core.proofs.CoreOpening.{SameMaps, unmoved}
 use Rattle.pq_core.specs.Replies.{ReplyView}
-use Rattle.pq_core.specs.Ledger.{Waiting, Put, Client, Entry, Ledger, IsOpen, with_client, with_entry, moved_to, with_outbox, closed}
+use Rattle.pq_core.specs.Ledger.{Put, Client, Ledger, IsOpen, with_client, with_entry, moved_to, with_outbox, closed}
 use Rattle.pq_core.specs.RightReply.{answer_by}
-use Rattle.pq_rules.specs.Relations.{In}
 use Rattle.pq_core.specs.Kept.{Kept}
-use Rattle.pq_core.specs.Moves.{Reaches, Releases, Closes, TakesOut, Waits}
+use Rattle.pq_core.specs.Moves.{Reaches, Releases, Closes, TakesOut}
 use Rattle.pq_core.specs.Cores.{Held, fields_of, run_seen, StandsOf}
 use Rattle.pq_core.specs.declared.rising.Place.{Place}
 use Rattle.pq_core.specs.aux.Rising.{Slots, found, IsAbove}
@@ -30,15 +29,6 @@ use Rattle.pq_core.specs.declared.moves.Released.TheVariants.{Put as ReleasedPut
 
 -- `SameButLanes b a` is that `a` keeps what `b` keeps, but for lanes and the count of open clients
 pub record SameButLanes {K P V O : Type 0} (b a : Held K P V O) : Type 0 where
-  pub inputs : a.inputs ≡ b.inputs
-  pub clients : a.clients ≡ b.clients
-  pub waiting : a.waiting ≡ b.waiting
-  pub runs : a.runs ≡ b.runs
-  pub started : a.started ≡ b.started
-
--- `SameButQueue b a` is that `a` keeps what `b` keeps, but for lanes, the count of open clients and
--- the requests that may wait
-pub record SameButQueue {K P V O : Type 0} (b a : Held K P V O) : Type 0 where
   pub inputs : a.inputs ≡ b.inputs
   pub clients : a.clients ≡ b.clients
   pub runs : a.runs ≡ b.runs
@@ -55,9 +45,8 @@ still_above {T} x y c n opens closes h = by_lane (found x.items c) refl
     by_lane None e = (closes e).1.above n h
 
 module _ {K P V O : Type 0} (order : K → K → Ordering) (m : Machine K P V) (puts : O → List (ReplyView K V)) where
-  same_queues : (b a : Held K P V O) → SameButLanes b a → SameQueues (fields_of b) (fields_of a)
-  same_queues b a e = record {
-    waiting = e.waiting;
+  same_runs : (b a : Held K P V O) → SameButLanes b a → SameRuns (fields_of b) (fields_of a)
+  same_runs b a e = record {
     runs = λ r. ap (λ (x : List (Place _)). option_map run_seen (found x r)) e.runs;
     started = e.started;
   }
@@ -68,7 +57,6 @@ module _ {K P V O : Type 0} (order : K → K → Ordering) (m : Machine K P V) (
     lanes = lanes;
     opened = count;
     clients = e.clients;
-    waiting = e.waiting;
     runs = λ k. ap (λ (x : List (Place _)). found x k) e.runs;
     started = e.started;
   }
@@ -111,7 +99,7 @@ module _ {K P V O : Type 0} (order : K → K → Ordering) (m : Machine K P V) (
       → LaneStands puts lane x → x ≡ with_outbox client o refused → Kept (answer_by order m) puts (with_client l c x) → StandsOf order m puts a (with_client l c x)
   outbox_so b a l c client x o refused lane s is_open set e count as_lane is kept =
       outbox_stands (LaneStands puts) (answer_by order m) puts (fields_of b) (fields_of a) l (with_client l c x) c client lane o refused s is_open set
-      (record { inputs = e.inputs; opened = count; clients = e.clients }) (same_queues b a e)
+      (record { inputs = e.inputs; opened = count; clients = e.clients }) (same_runs b a e)
       (subst (λ (y : Client K V O). LaneStands puts lane y) is as_lane) (ap (λ (y : Client K V O). with_client l c y) is) kept
 
   -- after a release, whatever came of it
@@ -126,7 +114,7 @@ module _ {K P V O : Type 0} (order : K → K → Ordering) (m : Machine K P V) (
       put_stands (LaneStands puts) (answer_by order m) puts (fields_of b) (fields_of a) l (with_client l c x) c n next.client next.entry next.reply lane w.3.0 s
       (record { here = w.1.here; open_yet = w.1.ready.open_yet })
       (ap (λ (i : ℕ). slice_get next.client.entries i) w.2 ∙ w.1.ready.here) w.1.ready.ready set
-      (record { inputs = e.inputs; opened = count; clients = e.clients }) (same_queues b a e)
+      (record { inputs = e.inputs; opened = count; clients = e.clients }) (same_runs b a e)
       (subst (λ (y : Client K V O). LaneStands puts lane y) is as_lane) w.3.3 kept
   released_so takes was_full b a l c ReleasedFull client x lane s is_open set e count as_lane w kept =
       outbox_so b a l c w.0.client x w.2.0 true lane s (record { here = w.1.here; open_yet = w.1.ready.open_yet }) set e count as_lane
@@ -220,37 +208,9 @@ module _ {K P V O : Type 0} (order : K → K → Ordering) (m : Machine K P V) (
         after,
         move,
         close_stands (LaneStands puts) (answer_by order m) puts (fields_of b) (fields_of a) l after c w.0 s w.1 (lane_set b a c None lanes)
-            e.inputs count e.clients (same_queues b a e) refl
+            e.inputs count e.clients (same_runs b a e) refl
             (kept_closes (answer_by order m) puts c (Some outbox) l after s.kept move),
       )
-
-  -- a client is closed, and its requests leave the queue
-  pub close_left : (b a : Held K P V O) (c : ℕ) (lane : LaneView K V O) (outbox : O) (l : Ledger K V O) → found b.lanes c ≡ Some lane
-      → ((k : ℕ) → found a.lanes k ≡ (if k == c then None else found b.lanes k)) → outbox ≡ lane.outbox
-      → SameButQueue b a → a.opened + 1 ≡ b.opened → ((k i : ℕ) → k ≢ c → In (k, i) b.waiting → In (k, i) a.waiting)
-      → StandsOf order m puts b l → Reaches (Closes c (Some outbox)) l (StandsOf order m puts a)
-  close_left b a c lane outbox l here lanes is e count others s =
-      let mid : Held K P V O = record { inputs = a.inputs; lanes = a.lanes; opened = a.opened; clients = a.clients; waiting = b.waiting; runs = a.runs; started = a.started } in
-      let moved = close_moved b mid c lane outbox l here lanes is
-      (record { inputs = e.inputs; clients = e.clients; waiting = refl; runs = e.runs; started = e.started }) count s in (
-        moved.0,
-        moved.1,
-        drop_stands (LaneStands puts) (answer_by order m) puts (fields_of mid) (fields_of a) moved.0 moved.2
-            (record { inputs = refl; opened = refl; clients = refl }) (λ k. refl) (λ r. refl) refl
-            (λ k i w. elim (same_or_other k c) [
-              | inl v ↦ inr (λ client entry x. none_waits_there l moved.0 c outbox moved.1 k v client i entry x (moved.2.each k client x.is_entry.client_here).dropped)
-              | inr v ↦ inl (others k i v w)
-            ]),
-      )
-    where
-      none_waits_there : (l after : Ledger K V O) (c : ℕ) (outbox : O) → Closes c (Some outbox) l after → (k : ℕ) → k ≡ c → (client : Client K V O) (i : ℕ) (entry : Entry K V)
-          → Waits after k client i entry → (client.is_open ≡ false → (n : ℕ) (e : Entry K V) → slice_get client.entries n ≡ Some e → e.place ≡ Waiting → ⊥) → ⊥
-      none_waits_there l after c outbox move k v client i entry x dropped =
-          let lt = get_within l.clients c move.0 move.1.here in
-          let there : slice_get after.clients c ≡ Some (closed move.0) =
-          ap (λ (y : Ledger K V O). slice_get y.clients c) move.3 ∙ set_same l.clients c (closed move.0) lt in
-          let same : client ≡ closed move.0 = some_one client (closed move.0) (sym x.is_entry.client_here ∙ (ap (λ (j : ℕ). slice_get after.clients j) v ∙ there)) in
-          dropped (ap (λ (y : Client K V O). y.is_open) same) i entry x.is_entry.here x.waits
 
   -- the client has no lane
   pub close_none : (b a : Held K P V O) (c : ℕ) (l : Ledger K V O) → found b.lanes c ≡ None

@@ -1,26 +1,24 @@
 -- Whether nothing is to be done, at what a core keeps.
-use Rattle.std.proofs.Common.{◌≡◌, ℕ, zero, suc, ◌+◌, ◌<◌, Bool, true, false, List, [], ◌∷◌, length, slice_get, Option, Some, None, refl, sym, ◌∙◌, ap, subst, inl, inr, arith, not, slice_index_or}
+use Rattle.std.proofs.Common.{◌≡◌, ℕ, ◌+◌, ◌<◌, Bool, true, false, List, [], ◌∷◌, length, slice_get, Option, Some, None, refl, sym, ◌∙◌, ap, subst, inl, inr, arith, not, slice_index_or}
 use Rattle.std.specs.Option.{option_map}
 use Rattle.std.proofs.lemmas.Option.{slice_get-get_or}
 use Rattle.std.specs.declared.cmp.Ordering.{Ordering}
 use Rattle.pq_rules.specs.Turns.{Machine}
-use Rattle.pq_rules.specs.Relations.{In}
-use Rattle.pq_core.proofs.Lists.{some_one, none_some, get_within, same_or_other}
+use Rattle.pq_core.proofs.Lists.{some_one, get_within, same_or_other}
 use Rattle.pq_core.proofs.Slots.{found_at, found_somewhere}
 use Rattle.pq_core.proofs.Calling.{open_of, none_runs, run_at}
 use Rattle.pq_core.proofs.LaneMoves.{waiting_owed, waiting_entry, next_ready, first_ready}
 use Rattle.pq_core.specs.Replies.{ReplyView}
-use Rattle.pq_core.specs.Ledger.{Place, Entry, Client, Ledger}
+use Rattle.pq_core.specs.Ledger.{Entry, Client, Ledger}
 use Rattle.pq_core.specs.RightReply.{answer_by}
 use Rattle.pq_core.specs.Moves.{Waits, IsAtRest}
 use Rattle.pq_core.specs.Cores.{Held, fields_of, run_seen, StandsOf}
 use Rattle.pq_core.specs.declared.rising.Place.{Place as Slot}
-use Rattle.pq_core.specs.aux.Stands.{EntryStands}
 use Rattle.pq_core.specs.aux.Rising.{Slots, found, Rises}
 use Rattle.pq_core.specs.aux.Lanes.{LaneView, LaneStands, IsOwed}
 use Rattle.pq_core.specs.aux.Runs.{RunView}
-use Rattle.pq_core.specs.aux.Resting.{HasWaiting, HasReadyLane, IsDone}
-use Rattle.pq_core.specs.aux.Starting.{IsStale}
+use Rattle.pq_core.specs.aux.Resting.{HasReadyLane, IsDone}
+use Rattle.pq_core.specs.aux.Queue.{WaitsIn, IsQueue}
 use Rattle.pq_core.specs.declared.request.Request.{Request}
 use Rattle.pq_core.specs.declared.lane.Owed.TheVariants.{Waiting as OwedWaiting, Ready as OwedReady}
 
@@ -35,48 +33,17 @@ pub true_not : (t : Bool) → (t ≡ true → ⊥) → not t ≡ true
 true_not true f = absurd (f refl)
 true_not false f = refl
 
--- ---- the two loops
+-- a list without a length is empty
+pub no_length : {A : Type 0} (xs : List A) → length xs ≡ 0 → xs ≡ []
+no_length [] h = refl
+no_length (x ∷ xs) h = absurd (omega arith)
+
+-- ---- the loop over the lanes
 
 pub index_there : {A : Type 0} (xs : List A) (i : ℕ) (x : A) → i < length xs → x ≡ slice_index_or xs i x → slice_get xs i ≡ Some x
 index_there xs i x lt e = slice_get-get_or xs i x lt ∙ ap (λ y. Some y) (sym e)
 
-pub in_at : (xs : List (ℕ × ℕ)) (x : ℕ × ℕ) → In x xs → (j : ℕ) × (slice_get xs j ≡ Some x)
-in_at [] x h = absurd h
-in_at (y ∷ ys) x h = elim h [
-  | inl e ↦ (zero, ap (λ (z : ℕ × ℕ). Some z) (sym e))
-  | inr w ↦ (let r = in_at ys x w in (suc r.0, r.1))
-]
-
-pub at_in : (xs : List (ℕ × ℕ)) (j : ℕ) (x : ℕ × ℕ) → slice_get xs j ≡ Some x → In x xs
-at_in [] j x h = absurd (none_some x h)
-at_in (y ∷ ys) zero x h = inl (sym (some_one y x h))
-at_in (y ∷ ys) (suc j) x h = inr (at_in ys j x h)
-
 module _ {K V O : Type 0} where
-  pub none_waiting : (queue : List (ℕ × ℕ)) (lanes : Slots (LaneView K V O)) → ((j : ℕ) (seat : ℕ × ℕ) → j < length queue → slice_get queue j ≡ Some seat → IsStale lanes seat)
-      → HasWaiting queue lanes → ⊥
-  none_waiting queue lanes h w =
-      let at = in_at queue (w.client, w.number) w.queued in
-      h at.0 (w.client, w.number) (get_within queue at.0 (w.client, w.number) at.1) at.1 w.lane w.request w.here w.waits
-
-  -- one more of the queue does not wait
-  pub stale_more : (queue : List (ℕ × ℕ)) (lanes : Slots (LaneView K V O)) (n : ℕ) (seat : ℕ × ℕ) → slice_get queue n ≡ Some seat → IsStale lanes seat
-      → ((j : ℕ) (seat : ℕ × ℕ) → j < n → slice_get queue j ≡ Some seat → IsStale lanes seat)
-      → (j : ℕ) (seat : ℕ × ℕ) → j < n + 1 → slice_get queue j ≡ Some seat → IsStale lanes seat
-  stale_more queue lanes n seat here stale before j other lt get = elim (same_or_other j n) [
-    | inl e ↦ subst (λ (x : ℕ × ℕ). IsStale lanes x) (some_one seat other (sym here ∙ (ap (λ (i : ℕ). slice_get queue i) (sym e) ∙ get))) stale
-    | inr ne ↦ before j other (omega arith) get
-  ]
-
-  -- the lane does not have the request as one that waits
-  pub stale_of : (lanes : Slots (LaneView K V O)) (seat : ℕ × ℕ) (lane : LaneView K V O) (t : Bool) → Some lane ≡ found lanes.items seat.0 → t ≡ false
-      → (((request : Request K) × IsOwed lane seat.1 (OwedWaiting request)) → t ≡ true) → IsStale lanes seat
-  stale_of lanes seat lane t here off waits other request h owed =
-      not_both t off (waits (request, subst (λ (y : LaneView K V O). IsOwed y seat.1 (OwedWaiting request)) (some_one other lane (sym h ∙ sym here)) owed))
-
-  pub stale_none : (lanes : Slots (LaneView K V O)) (seat : ℕ × ℕ) → None ≡ found lanes.items seat.0 → IsStale lanes seat
-  stale_none lanes seat none lane request h owed = none_some lane (none ∙ h)
-
   pub done_more : (places : List (Slot (LaneView K V O))) (n : ℕ) (p : Slot (LaneView K V O)) → slice_get places n ≡ Some p
       → ((lane : LaneView K V O) (reply : ReplyView K V) → p.value ≡ Some lane → slice_get lane.owed 0 ≡ Some (OwedReady reply) → lane.refused ≡ false → ⊥)
       → IsDone places n → IsDone places (n + 1)
@@ -120,28 +87,22 @@ module _ {K V O : Type 0} where
 -- ---- rest
 
 module _ {K P V O : Type 0} (order : K → K → Ordering) (m : Machine K P V) (puts : O → List (ReplyView K V)) where
-  -- a request that waits is in the queue and in the lane of its client
-  pub waits_queued : (b : Held K P V O) (l : Ledger K V O) (c : ℕ) (client : Client K V O) (n : ℕ) (entry : Entry K V) → StandsOf order m puts b l → Waits l c client n entry
-      → In (c, n) b.waiting × ((lane : LaneView K V O) × (found b.lanes c ≡ Some lane) × IsOwed lane n (OwedWaiting entry.request))
-  waits_queued b l c client n entry s w = by_flag client.is_open refl
+  -- a request that waits does so in the lane of its client
+  pub waits_seen : (b : Held K P V O) (l : Ledger K V O) (c : ℕ) (client : Client K V O) (n : ℕ) (entry : Entry K V) → StandsOf order m puts b l → Waits l c client n entry
+      → WaitsIn b.lanes c n entry.request
+  waits_seen b l c client n entry s w = by_flag client.is_open refl
     where
-      queued : In (c, n) b.waiting
-      queued = subst (λ (p : Place K V). EntryStands (fields_of b) c n entry p) w.waits ((s.each c client w.is_entry.client_here).entries n entry w.is_entry.here)
-
-      by_flag : (flag : Bool) → client.is_open ≡ flag
-          → In (c, n) b.waiting × ((lane : LaneView K V O) × (found b.lanes c ≡ Some lane) × IsOwed lane n (OwedWaiting entry.request))
+      by_flag : (flag : Bool) → client.is_open ≡ flag → WaitsIn b.lanes c n entry.request
       by_flag true e =
-          let x = (s.each c client w.is_entry.client_here).lane e in (
-            queued,
-            (
-              x.0,
-              x.1,
-              waiting_owed puts (answer_by order m) l.inputs c x.0 client n entry (s.kept.clients c client w.is_entry.client_here) x.2 w.is_entry.here w.waits,
-            ),
-          )
+          let x = (s.each c client w.is_entry.client_here).lane e in
+          record {
+            lane = x.0;
+            here = x.1;
+            waits = waiting_owed puts (answer_by order m) l.inputs c x.0 client n entry (s.kept.clients c client w.is_entry.client_here) x.2 w.is_entry.here w.waits;
+          }
       by_flag false e = absurd ((s.each c client w.is_entry.client_here).dropped e n entry w.is_entry.here w.waits)
 
-  -- a request of the queue that waits in its lane waits
+  -- a request that waits in its lane waits
   pub owed_waits : (b : Held K P V O) (l : Ledger K V O) (c n : ℕ) (lane : LaneView K V O) (request : Request K) → StandsOf order m puts b l
       → found b.lanes c ≡ Some lane → IsOwed lane n (OwedWaiting request)
       → (client : Client K V O) × (entry : Entry K V) × Waits l c client n entry × (entry.request ≡ request) × (client.is_open ≡ true) × LaneStands puts lane client
@@ -150,10 +111,12 @@ module _ {K P V O : Type 0} (order : K → K → Ordering) (m : Machine K P V) (
       let e = waiting_entry puts lane w.0 n request w.2 owed in
       (w.0, e.0, record { is_entry = record { client_here = w.1.here; here = e.1 }; waits = e.2 }, e.3, w.1.open_yet, w.2)
 
-  pub waits_not_rest : (b : Held K P V O) (lanes : Slots (LaneView K V O)) (l : Ledger K V O) → lanes.items ≡ b.lanes → StandsOf order m puts b l → HasWaiting b.waiting lanes → IsAtRest puts l → ⊥
-  waits_not_rest b lanes l is s w rest =
-      let x = owed_waits b l w.client w.number w.lane w.request s (ap (λ (xs : List (Slot (LaneView K V O))). found xs w.client) (sym is) ∙ w.here) w.waits in
-      rest.waiting w.client x.0 w.number x.1 x.2
+  pub waits_not_rest : (b : Held K P V O) (queue : List (ℕ × ℕ)) (l : Ledger K V O) → IsQueue b.lanes queue → (queue ≡ [] → ⊥) → StandsOf order m puts b l → IsAtRest puts l → ⊥
+  waits_not_rest b [] l q some s rest = some refl
+  waits_not_rest b (seat ∷ queue) l q some s rest =
+      let y = q.waits seat.0 seat.1 (inl refl) in
+      let x = owed_waits b l seat.0 seat.1 y.1.lane y.0 s y.1.here y.1.waits in
+      rest.waiting seat.0 x.0 seat.1 x.1 x.2
 
   pub runs_not_rest : (b : Held K P V O) (l : Ledger K V O) → StandsOf order m puts b l → (((r : ℕ) → found b.runs r ≡ None) → ⊥) → IsAtRest puts l → ⊥
   runs_not_rest b l s some rest = some (λ r. none_at r (found b.runs r) refl)
@@ -170,20 +133,10 @@ module _ {K P V O : Type 0} (order : K → K → Ordering) (m : Machine K P V) (
       not_both w.lane.refused w.not_refused
       (x.2.refused ∙ rest.refused w.client _ (next_ready puts l w.client w.lane x.0 w.reply x.2 w.ready x.1.here))
 
-  pub all_rest : (b : Held K P V O) (lanes : Slots (LaneView K V O)) (l : Ledger K V O) → lanes.items ≡ b.lanes → StandsOf order m puts b l → (HasWaiting b.waiting lanes → ⊥)
+  pub all_rest : (b : Held K P V O) (lanes : Slots (LaneView K V O)) (l : Ledger K V O) → lanes.items ≡ b.lanes → StandsOf order m puts b l → IsQueue b.lanes []
       → ((r : ℕ) → found b.runs r ≡ None) → (HasReadyLane lanes → ⊥) → IsAtRest puts l
   all_rest b lanes l is s waits runs ready = record {
-    waiting = λ c client n entry w.
-        let x = waits_queued b l c client n entry s w in
-        waits (record {
-          client = c;
-          number = n;
-          queued = x.0;
-          lane = x.1.0;
-          here = ap (λ (xs : List (Slot (LaneView K V O))). found xs c) is ∙ x.1.1;
-          request = entry.request;
-          waits = x.1.2;
-        });
+    waiting = λ c client n entry w. waits.queued c n entry.request (waits_seen b l c client n entry s w);
     running = λ r. none_runs (LaneStands puts) (answer_by order m) puts (fields_of b) l r s (ap (option_map run_seen) (runs r));
     refused = λ c next w.
         let x = (s.each c next.client w.here).lane w.ready.open_yet in

@@ -17,7 +17,8 @@ use Rattle.pq_core.proofs.Changing.{if_at, if_other}
 use Rattle.pq_core.proofs.Calling.{stands_same, run_seen, none_runs, run_at, lane_open, lane_shut}
 use Rattle.pq_core.proofs.Ending.{end_stands, out_stands}
 use Rattle.pq_core.proofs.Keeping.{runs_placed, kept_looks, kept_gives}
-use Rattle.pq_core.proofs.LaneMoves.{running_within, finished_stands, out_changed_stands}
+use Rattle.pq_core.proofs.LaneMoves.{owed_within, running_owed, finished_stands, out_changed_stands}
+use Rattle.pq_core.proofs.Queued.{queue_same, queue_finished}
 use Rattle.pq_core.proofs.Renewed.{runs_kept}
 use Rattle.pq_core.specs.Replies.{ReplyView}
 use Rattle.pq_core.specs.Ledger.{Out, Ledger, with_entry}
@@ -31,8 +32,9 @@ use Rattle.pq_core.specs.aux.Stands.{RunSeen}
 use Rattle.pq_core.specs.declared.rising.Place.{Place}
 use Rattle.pq_core.specs.aux.Rising.{found}
 use Rattle.pq_core.specs.aux.Runs.{RunView, RunKept, Renewed, IsSameRun, HandedOut, IsAnswer, out_at}
-use Rattle.pq_core.specs.aux.Lanes.{LaneView, LaneStands, with_owed}
-use Rattle.pq_core.specs.declared.lane.Owed.TheVariants.{Ready as OwedReady}
+use Rattle.pq_core.specs.aux.Lanes.{LaneView, LaneStands, IsOwed, with_owed}
+use Rattle.pq_core.specs.aux.Queue.{IsQueue}
+use Rattle.pq_core.specs.declared.lane.Owed.TheVariants.{Running as OwedRunning, Ready as OwedReady}
 use Rattle.pq_core.specs.declared.outcome.Outcome.{Outcome}
 use Rattle.pq_core.specs.declared.outcome.Outcome.TheVariants.{Cancelled, Answered}
 use Rattle.pq_core.specs.declared.moves.Move.TheVariants.{Carry, Stepped, Answered as MoveAnswered, Stopped}
@@ -60,7 +62,6 @@ pub record SameBut {K P V O : Type 0} (b a : Held K P V O) : Type 0 where
   pub inputs : a.inputs ≡ b.inputs
   pub opened : a.opened ≡ b.opened
   pub clients : a.clients ≡ b.clients
-  pub waiting : a.waiting ≡ b.waiting
   pub started : a.started ≡ b.started
 
 module _ {K P V O : Type 0} (order : K → K → Ordering) (m : Machine K P V) (puts : O → List (ReplyView K V)) where
@@ -73,17 +74,38 @@ module _ {K P V O : Type 0} (order : K → K → Ordering) (m : Machine K P V) (
   pub no_run : (b : Held K P V O) (l : Ledger K V O) (r : ℕ) → StandsOf order m puts b l → found b.runs r ≡ None → NoneRuns l r
   no_run b l r s h = none_runs (LaneStands puts) (answer_by order m) puts (fields_of b) l r s (ap (option_map seen_of) h)
 
-  -- a run's request is in the window of its client, and for a key
-  pub run_within : (b : Held K P V O) (l : Ledger K V O) (r : ℕ) (run : RunView K P) (lane : LaneView K V O) → StandsOf order m puts b l → found b.runs r ≡ Some run
-      → found b.lanes run.client ≡ Some lane → (lane.put ≤ run.number) × (run.number < lane.put + length lane.owed)
-  run_within b l r run lane s h there =
+  -- a run's request is in a run in its lane, so in the window of its client; and it is for a key
+  pub run_owed : (b : Held K P V O) (l : Ledger K V O) (r : ℕ) (run : RunView K P) (lane : LaneView K V O) → StandsOf order m puts b l → found b.runs r ≡ Some run
+      → found b.lanes run.client ≡ Some lane → IsOwed lane run.number OwedRunning
+  run_owed b l r run lane s h there =
       let x = run_here b l r run s h in
       let c_is : run.client ≡ x.at.c = ap (λ (y : RunSeen K). y.client) x.same in
       let n_is : run.number ≡ x.at.n = ap (λ (y : RunSeen K). y.number) x.same in
       let w = lane_open (LaneStands puts) (answer_by order m) puts (fields_of b) l x.at.c x.at.client lane s x.runs.is_entry.client_here (ap (λ (c : ℕ). found b.lanes c) (sym c_is) ∙ there) in
-      subst (λ (n : ℕ). (lane.put ≤ n) × (n < lane.put + length lane.owed)) (sym n_is)
-      (running_within puts (answer_by order m) l.inputs x.at.c lane x.at.client x.at.n x.at.entry r x.at.started x.at.out
+      subst (λ (n : ℕ). IsOwed lane n OwedRunning) (sym n_is)
+      (running_owed puts (answer_by order m) l.inputs x.at.c lane x.at.client x.at.n x.at.entry r x.at.started x.at.out
       (s.kept.clients x.at.c x.at.client x.runs.is_entry.client_here) w.1 x.runs.is_entry.here x.runs.runs)
+
+  pub run_within : (b : Held K P V O) (l : Ledger K V O) (r : ℕ) (run : RunView K P) (lane : LaneView K V O) → StandsOf order m puts b l → found b.runs r ≡ Some run
+      → found b.lanes run.client ≡ Some lane → (lane.put ≤ run.number) × (run.number < lane.put + length lane.owed)
+  run_within b l r run lane s h there = let w = run_owed b l r run lane s h there in (w.past, owed_within puts lane run.number OwedRunning w)
+
+  -- the queue after a run has ended
+  pub end_queue : (b : Held K P V O) (a : List (Place (LaneView K V O))) (queue : List (ℕ × ℕ)) (l : Ledger K V O) (r : ℕ) (run last : RunView K P) (reply : ReplyView K V)
+      → StandsOf order m puts b l → found b.runs r ≡ Some run → IsSameRun run last
+      → ((lane : LaneView K V O) → found b.lanes last.client ≡ Some lane
+      → (k : ℕ) → found a k ≡ (if k == last.client then Some (with_owed lane last.number (OwedReady reply)) else found b.lanes k))
+      → (found b.lanes last.client ≡ None → (k : ℕ) → found a k ≡ found b.lanes k)
+      → IsQueue b.lanes queue → IsQueue a queue
+  end_queue b a queue l r run last reply s h is set same q = by_lane (found b.lanes last.client) refl
+    where
+      owed : (lane : LaneView K V O) → found b.lanes last.client ≡ Some lane → IsOwed lane last.number OwedRunning
+      owed lane here =
+          subst (λ (n : ℕ). IsOwed lane n OwedRunning) (sym is.number) (run_owed b l r run lane s h (ap (λ (c : ℕ). found b.lanes c) (sym is.client) ∙ here))
+
+      by_lane : (lane : Option (LaneView K V O)) → found b.lanes last.client ≡ lane → IsQueue a queue
+      by_lane (Some lane) here = queue_finished b.lanes a queue last.client last.number lane reply here (owed lane here) (set lane here) q
+      by_lane None none = queue_same b.lanes a queue (same none) q
 
   pub run_demands : (b : Held K P V O) (l : Ledger K V O) (r : ℕ) (run : RunView K P) → StandsOf order m puts b l → found b.runs r ≡ Some run → IsDemand run.request.want
   run_demands b l r run s h =
@@ -140,7 +162,7 @@ module _ {K P V O : Type 0} (order : K → K → Ordering) (m : Machine K P V) (
         here = ap (option_map seen_of) (runs r ∙ if_at r None (found b.runs r));
         others = λ q ne. ap (option_map seen_of) (runs q ∙ if_other q r None (found b.runs q) ne);
       })
-      but.waiting but.started (elsewhere (found b.lanes run.client) refl) (opened_so (found b.lanes run.client) refl)
+      but.started (elsewhere (found b.lanes run.client) refl) (opened_so (found b.lanes run.client) refl)
       (λ o. shut_so (found b.lanes run.client) refl o) refl kept
     where
       c_is : run.client ≡ x.at.c
@@ -199,7 +221,7 @@ module _ {K P V O : Type 0} (order : K → K → Ordering) (m : Machine K P V) (
         here = ap (option_map seen_of) (runs r ∙ if_at r (Some after) (found b.runs r)) ∙ ap Some seen_is;
         others = λ q ne. ap (option_map seen_of) (runs q ∙ if_other q r (Some after) (found b.runs q) ne);
       })
-      but.waiting but.started lanes
+      but.started lanes
       (λ lane w. out_changed_stands puts lane x.at.client x.at.n x.at.entry r x.at.started x.at.out (out_at after.top) w x.runs.is_entry.here x.runs.runs)
       refl kept
     where
@@ -219,7 +241,6 @@ module _ {K P V O : Type 0} (order : K → K → Ordering) (m : Machine K P V) (
       (record {
         counts = record { inputs = but.inputs; opened = but.opened; clients = but.clients };
         lanes = lanes;
-        waiting = but.waiting;
         runs = λ k. same_seen k (k == r) refl;
         started = but.started;
       })

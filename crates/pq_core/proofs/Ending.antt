@@ -6,7 +6,7 @@ use Rattle.pq_rules.specs.declared.turn.Answer.{Answer}
 use Rattle.pq_core.proofs.Lists.{get_set, get_within, get_map, set_long, set_same, set_other, same_or_other, some_one, none_some}
 use Rattle.pq_core.proofs.Standing.{entry_elsewhere, client_elsewhere, count_same, count_closed, restand}
 use Rattle.pq_core.proofs.Calling.{LaneSet, RunSet, SameCounts, run_entry, placed}
-use Rattle.pq_core.proofs.Moving.{SameQueues, elsewhere_lane, none_there, waiting_place}
+use Rattle.pq_core.proofs.Moving.{SameRuns, elsewhere_lane, none_there, waiting_place}
 use Rattle.pq_core.specs.Replies.{ReplyView}
 use Rattle.pq_core.specs.Ledger.{Out, Place, Waiting, Running, Ready, Put, Dropped, Entry, Client, Ledger, IsOpen, with_client, with_entry, moved_to, with_outbox, place_closed, entry_closed, closed}
 use Rattle.pq_core.specs.Moves.{RunAt, Runs, open_count, ended, ended_entry, place_ended, reply_at, with_out}
@@ -28,13 +28,13 @@ module _ {K V L O : Type 0} (AsLane : L → Client K V O → Type 0) (means : So
 
   -- a run ends: its reply is in the lane of its client, if that is open
   pub end_stands : (f g : Fields K L) (l m : Ledger K V O) (r : ℕ) (at : RunAt K V O) (starved : Bool) (outcome : Outcome K V)
-      → Stands AsLane means puts f l → Runs l r at → SameCounts f g → RunSet f g r None → g.waiting ≡ f.waiting → g.started ≡ f.started
+      → Stands AsLane means puts f l → Runs l r at → SameCounts f g → RunSet f g r None → g.started ≡ f.started
       → ((k : ℕ) → k ≢ at.c → g.lanes k ≡ f.lanes k)
       → (at.client.is_open ≡ true → (lane : L) × (g.lanes at.c ≡ Some lane) × AsLane lane (with_entry at.client at.n (ended_entry l at starved outcome)))
       → (at.client.is_open ≡ false → g.lanes at.c ≡ None)
       → m ≡ ended l at starved outcome → Kept means puts m → Stands AsLane means puts g m
-  end_stands f g l m r at starved outcome s h counts runs waiting started lanes lane shut e kept =
-      run_entry AsLane means puts f g l m r at (ended_entry l at starved outcome) None s h counts runs waiting started lanes lane shut
+  end_stands f g l m r at starved outcome s h counts runs started lanes lane shut e kept =
+      run_entry AsLane means puts f g l m r at (ended_entry l at starved outcome) None s h counts runs started lanes lane shut
       (λ o p. ended_not_waiting at.client.is_open (reply_at l at outcome) p)
       (ended_entry_stands g at.c at.n (ended_entry l at starved outcome) at.client.is_open (reply_at l at outcome))
       (λ seen x. absurd (none_some seen x))
@@ -44,13 +44,13 @@ module _ {K V L O : Type 0} (AsLane : L → Client K V O → Type 0) (means : So
   pub out_stands : (f g : Fields K L) (l m : Ledger K V O) (r : ℕ) (at : RunAt K V O) (out : Option (Out K))
       → Stands AsLane means puts f l → Runs l r at → SameCounts f g
       → RunSet f g r (Some (record { client = at.c; number = at.n; request = at.entry.request; started = at.started; out = out }))
-      → g.waiting ≡ f.waiting → g.started ≡ f.started → ((k : ℕ) → g.lanes k ≡ f.lanes k)
+      → g.started ≡ f.started → ((k : ℕ) → g.lanes k ≡ f.lanes k)
       → ((lane : L) → AsLane lane at.client → AsLane lane (with_entry at.client at.n (moved_to at.entry (Running r at.started out))))
       → m ≡ with_out l r at out → Kept means puts m → Stands AsLane means puts g m
-  out_stands f g l m r at out s h counts runs waiting started lanes as_lane e kept =
+  out_stands f g l m r at out s h counts runs started lanes as_lane e kept =
       let x = s.each at.c at.client h.is_entry.client_here in
       let below = (subst (λ (p : Place K V). EntryStands f at.c at.n at.entry p) h.runs (x.entries at.n at.entry h.is_entry.here)).0 in
-      run_entry AsLane means puts f g l m r at (moved_to at.entry (Running r at.started out)) _ s h counts runs waiting started (λ k ne. lanes k)
+      run_entry AsLane means puts f g l m r at (moved_to at.entry (Running r at.started out)) _ s h counts runs started (λ k ne. lanes k)
       (λ o. let w = x.lane o in (w.0, lanes at.c ∙ w.1, as_lane w.0 w.2))
       (λ o. lanes at.c ∙ x.shut o)
       (λ o p. running_not p)
@@ -72,7 +72,7 @@ module _ {K V L O : Type 0} (AsLane : L → Client K V O → Type 0) (means : So
 
   -- an open client stays open, and at most its request `n` changes, which is in no run
   pub open_restand : (f g : Fields K L) (l m : Ledger K V O) (c n : ℕ) (client after : Client K V O) (lane : L)
-      → Stands AsLane means puts f l → IsOpen l c client → after.is_open ≡ true → LaneSet f g c (Some lane) → SameCounts f g → SameQueues f g
+      → Stands AsLane means puts f l → IsOpen l c client → after.is_open ≡ true → LaneSet f g c (Some lane) → SameCounts f g → SameRuns f g
       → ((i : ℕ) (entry : Entry K V) → i ≢ n → slice_get client.entries i ≡ Some entry → slice_get after.entries i ≡ Some entry)
       → ((i : ℕ) (entry : Entry K V) → slice_get after.entries i ≡ Some entry → (slice_get client.entries i ≡ Some entry) × (i ≢ n) ⊎ EntryStands g c i entry entry.place)
       → ((entry : Entry K V) (r s : ℕ) (o : Option (Out K)) → slice_get client.entries n ≡ Some entry → entry.place ≡ Running r s o → ⊥)
@@ -102,7 +102,7 @@ module _ {K V L O : Type 0} (AsLane : L → Client K V O → Type 0) (means : So
   -- a reply that was ready is put
   pub put_stands : (f g : Fields K L) (l m : Ledger K V O) (c n : ℕ) (client : Client K V O) (entry : Entry K V) (reply : ReplyView K V) (lane : L) (o : O)
       → Stands AsLane means puts f l → IsOpen l c client → slice_get client.entries n ≡ Some entry → entry.place ≡ Ready reply
-      → LaneSet f g c (Some lane) → SameCounts f g → SameQueues f g
+      → LaneSet f g c (Some lane) → SameCounts f g → SameRuns f g
       → AsLane lane (with_outbox (with_entry client n (moved_to entry Put)) o false)
       → m ≡ with_client l c (with_outbox (with_entry client n (moved_to entry Put)) o false) → Kept means puts m → Stands AsLane means puts g m
   put_stands f g l m c n client entry reply lane o s is_open here ready set counts q as_lane e kept =
@@ -120,7 +120,7 @@ module _ {K V L O : Type 0} (AsLane : L → Client K V O → Type 0) (means : So
 
   -- the outbox of an open client changes, and not its requests
   pub outbox_stands : (f g : Fields K L) (l m : Ledger K V O) (c : ℕ) (client : Client K V O) (lane : L) (o : O) (refused : Bool)
-      → Stands AsLane means puts f l → IsOpen l c client → LaneSet f g c (Some lane) → SameCounts f g → SameQueues f g
+      → Stands AsLane means puts f l → IsOpen l c client → LaneSet f g c (Some lane) → SameCounts f g → SameRuns f g
       → AsLane lane (with_outbox client o refused) → m ≡ with_client l c (with_outbox client o refused) → Kept means puts m → Stands AsLane means puts g m
   outbox_stands f g l m c client lane o refused s is_open set counts q as_lane e kept =
       open_restand f g l m c (length client.entries) client (with_outbox client o refused) lane s is_open is_open.open_yet set counts q
@@ -134,7 +134,7 @@ module _ {K V L O : Type 0} (AsLane : L → Client K V O → Type 0) (means : So
 
   -- a client is closed
   pub close_stands : (f g : Fields K L) (l m : Ledger K V O) (c : ℕ) (client : Client K V O) → Stands AsLane means puts f l → IsOpen l c client
-      → LaneSet f g c None → g.inputs ≡ f.inputs → g.opened + 1 ≡ f.opened → g.clients ≡ f.clients → SameQueues f g
+      → LaneSet f g c None → g.inputs ≡ f.inputs → g.opened + 1 ≡ f.opened → g.clients ≡ f.clients → SameRuns f g
       → m ≡ with_client l c (closed client) → Kept means puts m → Stands AsLane means puts g m
   close_stands f g l m c client s is_open set inputs count clients q e kept = record {
     inputs = ap (λ (y : Ledger K V O). y.inputs) e ∙ (s.inputs ∙ sym inputs);

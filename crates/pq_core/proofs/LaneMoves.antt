@@ -137,7 +137,7 @@ module _ {K V O : Type 0} (puts : O → List (ReplyView K V)) where
         ];
       }
 
-  owed_within : (lane : LaneView K V O) (n : ℕ) (item : Owed K V) → IsOwed lane n item → n < lane.put + length lane.owed
+  pub owed_within : (lane : LaneView K V O) (n : ℕ) (item : Owed K V) → IsOwed lane n item → n < lane.put + length lane.owed
   owed_within lane n item w =
       let past = w.past in
       let lt = get_within lane.owed (n - lane.put) item w.here in
@@ -233,12 +233,6 @@ module _ {K V O : Type 0} (puts : O → List (ReplyView K V)) where
   ready_owed means inputs c lane client n entry reply kept h here is =
       let w = owed_item means inputs c lane client n entry kept h here (pending_as entry.place (Ready reply) is tt) in
       item_is lane n w.item (OwedReady reply) (ready_item w.item entry reply is w.stands) w.owed
-
-  -- what `finish` asks of the number of a request in a run
-  pub running_within : (means : Sources → K → Answer K V → Type 0) (inputs : Table) (c : ℕ) (lane : LaneView K V O) (client : Client K V O) (n : ℕ) (entry : Entry K V) (run started : ℕ) (out : Option (Out K)) → ClientKept means inputs (puts client.outbox) c client.entries → LaneStands puts lane client → slice_get client.entries n ≡ Some entry → entry.place ≡ Running run started out → (lane.put ≤ n) × (n < lane.put + length lane.owed)
-  running_within means inputs c lane client n entry run started out kept h here is =
-      let w = running_owed means inputs c lane client n entry run started out kept h here is in
-      (w.past, owed_within lane n OwedRunning w)
 
   -- ---- release
 

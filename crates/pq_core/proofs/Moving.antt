@@ -1,23 +1,21 @@
 -- The calls of a core as moves of the ledgers that it stands for: opening, accepting, editing,
 -- starting.
-use Rattle.std.proofs.Common.{◌≡◌, ◌≢◌, ℕ, ◌+◌, ◌<◌, ◌⊎◌, true, false, List, [], ◌∷◌, ◌++◌, length, slice_get, slice_set, Option, Some, None, refl, sym, ◌∙◌, ap, subst, inl, inr, arith}
+use Rattle.std.proofs.Common.{◌≡◌, ◌≢◌, ℕ, ◌+◌, ◌<◌, true, false, List, [], ◌∷◌, ◌++◌, length, slice_get, slice_set, Option, Some, None, refl, sym, ◌∙◌, ap, subst, inl, inr, arith}
 use Rattle.pq_inputs.specs.Sources.{Sources, Table}
 use Rattle.pq_rules.specs.declared.turn.Answer.{Answer}
-use Rattle.pq_rules.specs.Relations.{In}
 use Rattle.pq_core.proofs.Lists.{get_append, get_longer, get_within, set_same, set_other, append_long, same_or_other, some_one, none_some}
 use Rattle.pq_core.proofs.Standing.{Elsewhere, RunsThere, entry_elsewhere, client_elsewhere, client_entry, count_same, count_opened, restand}
 use Rattle.pq_core.proofs.Calling.{LaneSet, RunSet, SameCounts, SameFields, stands_same, placed}
 use Rattle.pq_core.specs.Replies.{ReplyView}
 use Rattle.pq_core.specs.Changes.{ChangeView}
 use Rattle.pq_core.specs.Ledger.{Out, Place, Waiting, Running, Ready, Put, Dropped, Entry, Client, Ledger, IsOpen, with_client, with_entry, moved_to, opened}
-use Rattle.pq_core.specs.Moves.{Waits, NoneWaits, open_count, first_place, new_entry, with_new, changed, started_at}
+use Rattle.pq_core.specs.Moves.{Waits, open_count, first_place, new_entry, with_new, changed, started_at}
 use Rattle.pq_core.specs.Kept.{Kept}
 use Rattle.pq_core.specs.aux.Stands.{RunSeen, Fields, EntryStands, ClientStands, Stands}
 use Rattle.pq_core.specs.declared.request.Request.{Request}
 
--- `SameQueues f g` is that `f` and `g` have the same requests that may wait and the same runs
-pub record SameQueues {K L : Type 0} (f g : Fields K L) : Type 0 where
-  pub waiting : g.waiting ≡ f.waiting
+-- `SameRuns f g` is that `f` and `g` have the same runs
+pub record SameRuns {K L : Type 0} (f g : Fields K L) : Type 0 where
   pub runs : (r : ℕ) → g.runs r ≡ f.runs r
   pub started : g.started ≡ f.started
 
@@ -26,10 +24,9 @@ waiting_place = Waiting
 
 module _ {K L : Type 0} where
   -- but for a lane nothing differs
-  pub elsewhere_lane : (f g : Fields K L) (c n : ℕ) (lane : Option L) → LaneSet f g c lane → SameQueues f g → Elsewhere f g c n
+  pub elsewhere_lane : (f g : Fields K L) (c n : ℕ) (lane : Option L) → LaneSet f g c lane → SameRuns f g → Elsewhere f g c n
   elsewhere_lane f g c n lane s q = record {
     lanes = s.others;
-    waiting = λ k i ne w. subst (λ (ws : List (ℕ × ℕ)). In (k, i) ws) (sym q.waiting) w;
     later = let a : g.started ≡ f.started = q.started in omega arith;
     kept = λ r run h ne. q.runs r ∙ h;
     back = λ r run h ne. sym (q.runs r) ∙ h;
@@ -56,7 +53,7 @@ module _ {K V L O : Type 0} (AsLane : L → Client K V O → Type 0) (means : So
 
   -- a client is opened
   pub open_stands : (f g : Fields K L) (l m : Ledger K V O) (lane : L) (outbox : O) → Stands AsLane means puts f l
-      → LaneSet f g f.clients (Some lane) → SameQueues f g → g.inputs ≡ f.inputs → g.opened ≡ f.opened + 1 → g.clients ≡ f.clients + 1
+      → LaneSet f g f.clients (Some lane) → SameRuns f g → g.inputs ≡ f.inputs → g.opened ≡ f.opened + 1 → g.clients ≡ f.clients + 1
       → AsLane lane (opened outbox) → m ≡ record { inputs = l.inputs; clients = l.clients ++ opened outbox ∷ []; runs = l.runs }
       → Kept means puts m → Stands AsLane means puts g m
   open_stands f g l m lane outbox s set q inputs count clients as_lane e kept = record {
@@ -109,11 +106,10 @@ module _ {K V L O : Type 0} (AsLane : L → Client K V O → Type 0) (means : So
   -- a request is accepted
   pub accept_stands : (f g : Fields K L) (l m : Ledger K V O) (c n : ℕ) (client : Client K V O) (lane : L) (request : Request K) → Stands AsLane means puts f l
       → IsOpen l c client → n ≡ length client.entries → LaneSet f g c (Some lane) → SameCounts f g → ((r : ℕ) → g.runs r ≡ f.runs r) → g.started ≡ f.started
-      → ((k i : ℕ) → In (k, i) f.waiting → In (k, i) g.waiting)
       → EntryStands g c n (new_entry {V = V} c n request l.inputs.revision) (first_place c n request l.inputs.revision request.want)
       → AsLane lane (with_new client (new_entry c n request l.inputs.revision))
       → m ≡ with_client l c (with_new client (new_entry c n request l.inputs.revision)) → Kept means puts m → Stands AsLane means puts g m
-  accept_stands f g l m c n client lane request s is_open number set counts runs started waiting there as_lane e kept =
+  accept_stands f g l m c n client lane request s is_open number set counts runs started there as_lane e kept =
       restand AsLane means puts f g l m c n client after s is_open.here elsewhere counts.inputs counts.clients
       (ap (λ (y : Ledger K V O). y.inputs) e) (ap (λ (y : Ledger K V O). y.clients) e) (ap (λ (y : Ledger K V O). y.runs) e ∙ (s.started ∙ sym started))
       (count_same l.clients c client after is_open.here refl ∙ (s.opened ∙ sym counts.opened))
@@ -132,7 +128,6 @@ module _ {K V L O : Type 0} (AsLane : L → Client K V O → Type 0) (means : So
       elsewhere : Elsewhere f g c n
       elsewhere = record {
         lanes = set.others;
-        waiting = λ k i ne w. waiting k i w;
         later = let a : g.started ≡ f.started = started in omega arith;
         kept = λ r run h ne. runs r ∙ h;
         back = λ r run h ne. sym (runs r) ∙ h;
@@ -159,13 +154,12 @@ module _ {K V L O : Type 0} (AsLane : L → Client K V O → Type 0) (means : So
 
   -- an edit is accepted
   pub edit_stands : (f g : Fields K L) (l m : Ledger K V O) (change : ChangeView) → Stands AsLane means puts f l
-      → g.inputs ≡ changed f.inputs change → g.opened ≡ f.opened → g.clients ≡ f.clients → ((c : ℕ) → g.lanes c ≡ f.lanes c) → SameQueues f g
+      → g.inputs ≡ changed f.inputs change → g.opened ≡ f.opened → g.clients ≡ f.clients → ((c : ℕ) → g.lanes c ≡ f.lanes c) → SameRuns f g
       → m ≡ record { inputs = changed l.inputs change; clients = l.clients; runs = l.runs } → Kept means puts m → Stands AsLane means puts g m
   edit_stands f g l m change s inputs count clients lanes q e kept =
-      let h : SameFields f (record { inputs = f.inputs; lanes = g.lanes; opened = g.opened; clients = g.clients; waiting = g.waiting; runs = g.runs; started = g.started }) = record {
+      let h : SameFields f (record { inputs = f.inputs; lanes = g.lanes; opened = g.opened; clients = g.clients; runs = g.runs; started = g.started }) = record {
         counts = record { inputs = refl; opened = count; clients = clients };
         lanes = lanes;
-        waiting = q.waiting;
         runs = q.runs;
         started = q.started;
       } in
@@ -193,7 +187,7 @@ module _ {K V L O : Type 0} (AsLane : L → Client K V O → Type 0) (means : So
       }
     where
       entry_same : (c n : ℕ) (entry : Entry K V) (place : Place K V)
-          → EntryStands (record { inputs = f.inputs; lanes = g.lanes; opened = g.opened; clients = g.clients; waiting = g.waiting; runs = g.runs; started = g.started }) c n entry place
+          → EntryStands (record { inputs = f.inputs; lanes = g.lanes; opened = g.opened; clients = g.clients; runs = g.runs; started = g.started }) c n entry place
           → EntryStands g c n entry place
       entry_same c n entry Waiting x = x
       entry_same c n entry (Running r st o) x = x
@@ -201,54 +195,14 @@ module _ {K V L O : Type 0} (AsLane : L → Client K V O → Type 0) (means : So
       entry_same c n entry Put x = x
       entry_same c n entry Dropped x = x
 
-  -- items of the queue whose requests do not wait are dropped
-  pub drop_stands : (f g : Fields K L) (l : Ledger K V O) → Stands AsLane means puts f l → SameCounts f g → ((k : ℕ) → g.lanes k ≡ f.lanes k)
-      → ((r : ℕ) → g.runs r ≡ f.runs r) → g.started ≡ f.started
-      → ((k i : ℕ) → In (k, i) f.waiting → In (k, i) g.waiting ⊎ ((client : Client K V O) (entry : Entry K V) → Waits l k client i entry → ⊥))
-      → Stands AsLane means puts g l
-  drop_stands f g l s counts lanes runs started waiting = record {
-    inputs = s.inputs ∙ sym counts.inputs;
-    clients = s.clients ∙ sym counts.clients;
-    opened = s.opened ∙ sym counts.opened;
-    started = s.started ∙ sym started;
-    within = λ k lane h. subst (λ (i : ℕ). k < i) (sym counts.clients) (s.within k lane (sym (lanes k) ∙ h));
-    each = λ k client h.
-        let x = s.each k client h in
-        record {
-          lane = λ o. let w = x.lane o in (w.0, lanes k ∙ w.1, w.2);
-          shut = λ o. lanes k ∙ x.shut o;
-          dropped = x.dropped;
-          entries = λ i entry v. entry_kept k client i entry entry.place h v refl (x.entries i entry v);
-        };
-    runs = λ r run h. s.runs r run (sym (runs r) ∙ h);
-    kept = s.kept;
-  }
-    where
-      entry_kept : (k : ℕ) (client : Client K V O) (i : ℕ) (entry : Entry K V) (place : Place K V) → slice_get l.clients k ≡ Some client
-          → slice_get client.entries i ≡ Some entry → entry.place ≡ place → EntryStands f k i entry place → EntryStands g k i entry place
-      entry_kept k client i entry Waiting h v p x = elim (waiting k i x) [
-        | inl w ↦ w
-        | inr w ↦ absurd (w client entry (record { is_entry = record { client_here = h; here = v }; waits = p }))
-      ]
-      entry_kept k client i entry (Running r st o) h v p x = (subst (λ (m : ℕ). r < m) (sym started) x.0, runs r ∙ x.1)
-      entry_kept k client i entry (Ready reply) h v p x = x
-      entry_kept k client i entry Put h v p x = x
-      entry_kept k client i entry Dropped h v p x = x
-
-  -- where nothing may wait, nothing waits
-  pub none_waits : (f : Fields K L) (l : Ledger K V O) → Stands AsLane means puts f l → f.waiting ≡ [] → NoneWaits l
-  none_waits f l s e c client n entry w =
-      subst (λ (ws : List (ℕ × ℕ)). In (c, n) ws) e
-      (subst (λ (p : Place K V). EntryStands f c n entry p) w.waits ((s.each c client w.is_entry.client_here).entries n entry w.is_entry.here))
-
   -- a request is started
   pub start_stands : (f g : Fields K L) (l m : Ledger K V O) (c n : ℕ) (client : Client K V O) (entry : Entry K V) (lane : L) → Stands AsLane means puts f l
       → client.is_open ≡ true → Waits l c client n entry → LaneSet f g c (Some lane) → SameCounts f g
       → RunSet f g f.started (Some (record { client = c; number = n; request = entry.request; started = l.inputs.revision; out = None }))
-      → g.started ≡ f.started + 1 → ((k i : ℕ) → ((k ≡ c) × (i ≡ n) → ⊥) → In (k, i) f.waiting → In (k, i) g.waiting)
+      → g.started ≡ f.started + 1
       → AsLane lane (with_entry client n (moved_to entry (Running f.started l.inputs.revision None)))
       → m ≡ started_at l f.started c client n entry → Kept means puts m → Stands AsLane means puts g m
-  start_stands f g l m c n client entry lane s is_open w set counts runs started waiting as_lane e kept =
+  start_stands f g l m c n client entry lane s is_open w set counts runs started as_lane e kept =
       restand AsLane means puts f g l m c n client after s w.is_entry.client_here elsewhere counts.inputs counts.clients
       (ap (λ (y : Ledger K V O). y.inputs) e) (ap (λ (y : Ledger K V O). y.clients) e)
       (ap (λ (y : Ledger K V O). y.runs) e ∙ (ap (λ (i : ℕ). i + 1) s.started ∙ sym started))
@@ -274,7 +228,6 @@ module _ {K V L O : Type 0} (AsLane : L → Client K V O → Type 0) (means : So
       elsewhere : Elsewhere f g c n
       elsewhere = record {
         lanes = set.others;
-        waiting = waiting;
         later = let a : g.started ≡ f.started + 1 = started in omega arith;
         kept = λ r run h ne. runs.others r (let a : r < f.started = run_below f l r run s h in omega arith) ∙ h;
         back = λ r run h ne. elim (same_or_other r f.started) [

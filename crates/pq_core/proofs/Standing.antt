@@ -2,7 +2,6 @@
 use Rattle.std.proofs.Common.{◌≡◌, ◌≢◌, ℕ, zero, suc, ◌+◌, ◌<◌, ◌≤◌, Bool, true, false, List, [], ◌∷◌, ◌++◌, length, slice_get, slice_set, Some, None, sym, ◌∙◌, ap, subst, inl, inr, arith}
 use Rattle.pq_inputs.specs.Sources.{Sources}
 use Rattle.pq_rules.specs.declared.turn.Answer.{Answer}
-use Rattle.pq_rules.specs.Relations.{In}
 use Rattle.pq_core.proofs.Lists.{get_set, get_within, set_long, set_same, set_other, same_or_other, some_one}
 use Rattle.pq_core.specs.Replies.{ReplyView}
 use Rattle.pq_core.specs.Ledger.{Place, Waiting, Running, Ready, Put, Dropped, Entry, Client, Ledger, with_entry, opened}
@@ -14,7 +13,6 @@ use Rattle.pq_core.specs.aux.Stands.{RunSeen, Fields, EntryStands, ClientStands,
 -- of the lanes of other clients, what `f` keeps
 pub record Elsewhere {K L : Type 0} (f g : Fields K L) (c n : ℕ) : Type 0 where
   pub lanes : (k : ℕ) → k ≢ c → g.lanes k ≡ f.lanes k
-  pub waiting : (k i : ℕ) → ((k ≡ c) × (i ≡ n) → ⊥) → In (k, i) f.waiting → In (k, i) g.waiting
   pub later : f.started ≤ g.started
   pub kept : (r : ℕ) (run : RunSeen K) → f.runs r ≡ Some run → ((run.client ≡ c) × (run.number ≡ n) → ⊥) → g.runs r ≡ Some run
   pub back : (r : ℕ) (run : RunSeen K) → g.runs r ≡ Some run → ((run.client ≡ c) × (run.number ≡ n) → ⊥) → f.runs r ≡ Some run
@@ -30,7 +28,7 @@ module _ {K V L : Type 0} where
   -- a request elsewhere
   pub entry_elsewhere : (f g : Fields K L) (c n k i : ℕ) (entry : Entry K V) (place : Place K V) → Elsewhere f g c n → ((k ≡ c) × (i ≡ n) → ⊥)
       → EntryStands f k i entry place → EntryStands g k i entry place
-  entry_elsewhere f g c n k i entry Waiting e ne x = e.waiting k i ne x
+  entry_elsewhere f g c n k i entry Waiting e ne x = x
   entry_elsewhere f g c n k i entry (Running r s o) e ne x =
       let a : r < f.started = x.0 in
       let b : f.started ≤ g.started = e.later in

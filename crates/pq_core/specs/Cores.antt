@@ -19,6 +19,7 @@ use Rattle.pq_core.specs.aux.Rising.{Slots, found, IsAbove}
 use Rattle.pq_core.specs.aux.Lanes.{LaneView, LaneStands}
 use Rattle.pq_core.specs.aux.Runs.{RunView, RunKept, out_at}
 use Rattle.pq_core.specs.aux.Stands.{RunSeen, Fields, Stands}
+use Rattle.pq_core.specs.aux.Queue.{IsQueue}
 
 -- `CoreView R K P V O` is a core
 pub record CoreView (R K P V O : Type 0) : Type 0 where
@@ -42,7 +43,6 @@ pub record Held (K P V O : Type 0) : Type 0 where
   pub lanes : List (Place (LaneView K V O))
   pub opened : ℕ
   pub clients : ℕ
-  pub waiting : List (ℕ × ℕ)
   pub runs : List (Place (RunView K P))
   pub started : ℕ
 
@@ -53,7 +53,6 @@ held core = record {
   lanes = core.lanes.items;
   opened = core.opened;
   clients = core.clients;
-  waiting = core.waiting;
   runs = core.runs.items;
   started = core.started;
 }
@@ -65,7 +64,6 @@ fields_of h = record {
   lanes = λ c. found h.lanes c;
   opened = h.opened;
   clients = h.clients;
-  waiting = h.waiting;
   runs = λ r. option_map run_seen (found h.runs r);
   started = h.started;
 }
@@ -79,12 +77,14 @@ abbrev pub StandsFor : {R K P V O : Type 0} → (K → K → Ordering) → Machi
 StandsFor order m puts core l = StandsOf order m puts (held core) l
 
 -- `IsWhole order m puts core` is the invariant of a core: its table keeps its invariant; the
--- numbers of clients and runs are above those given; there is room for a run of each request that
--- may wait; the frames of the current runs are in order; and it stands for a ledger
+-- numbers of clients and runs are above those given; its queue is of the requests that wait, and
+-- there is room for a run of each; the frames of the current runs are in order; and it stands for a
+-- ledger
 pub record IsWhole {R K P V O : Type 0} (order : K → K → Ordering) (m : Machine K P V) (puts : O → List (ReplyView K V)) (core : CoreView R K P V O) : Type 0 where
   pub kept : KeptOver order m core.inputs core.places
   pub lanes_above : IsAbove core.clients core.lanes.items
   pub runs_above : IsAbove core.started core.runs.items
+  pub queue : IsQueue core.lanes.items core.waiting
   pub room : length core.waiting ≤ core.runs.room
   pub current : (r : ℕ) (run : RunView K P) → found core.runs.items r ≡ Some run → run.started ≡ core.inputs.revision
       → RunKept order m core.inputs (memo_at order core.places) run

@@ -7,5 +7,5 @@ pub mod Changes
 pub mod Lanes
 pub mod Runs
 pub mod Accepting
-pub mod Starting
+pub mod Queue
 pub mod Resting

@@ -1,7 +1,7 @@
 //! The core: open clients, runs, inputs and memos.
 //!
-//! A client that is open has a lane; the requests that wait have their numbers in a queue; each run
-//! keeps its request. Of a closed client only its runs are kept. Lanes and runs are found by their
+//! A client that is open has a lane; the queue holds the numbers of exactly the requests that wait;
+//! each run keeps its request. Of a closed client only its runs are kept. Lanes and runs are found by their
 //! numbers in logarithmic time. `accept` makes the room that `start` needs, so that starting,
 //! starving, releasing and closing take no memory.
 //!

@@ -1,11 +1,12 @@
 //! What calls do to the lane of one client.
-ghost use Rattle.std.specs.Prelude.{◌≡◌, ◌≤◌, ◌<◌, ◌+◌, ◌^◌, ℕ, IfOk, IfErr, IfSome, IfNone, OnErr, length, slice_get, Some, None};
+ghost use Rattle.std.specs.Prelude.{◌≡◌, ◌≤◌, ◌<◌, ◌+◌, ◌^◌, ℕ, IfOk, IfErr, OnErr, length, slice_get, Some, None};
 ghost use Rattle.pq_core.specs.Replies.{ReplyView};
 ghost use Rattle.pq_core.specs.aux.Rising.{found, IsAbove};
 ghost use Rattle.pq_core.specs.aux.Changes.{IsSetAt, IsSameMap};
-ghost use Rattle.pq_core.specs.aux.Lanes.{LaneView, IsOwed, with_owed, pushed, first_owed, LaneReleases, LaneTakes};
+ghost use Rattle.pq_core.specs.aux.Queue.{WaitsIn};
+ghost use Rattle.pq_core.specs.aux.Lanes.{LaneView, with_owed, pushed, first_owed, LaneReleases, LaneTakes};
 ghost use Rattle.pq_core.specs.declared.request.Request.{Request};
-ghost use Rattle.pq_core.specs.declared.lane.Owed.TheVariants.{Waiting as OwedWaiting, Running as OwedRunning, Ready as OwedReady};
+ghost use Rattle.pq_core.specs.declared.lane.Owed.TheVariants.{Running as OwedRunning, Ready as OwedReady};
 ghost use Rattle.pq_core.specs.declared.moves.Released.TheVariants.{Nothing};
 ghost use Rattle.std.specs.Prelude.{Ok, false};
 
@@ -44,16 +45,15 @@ pub(crate) fn accept_in<K: Drop, V: Drop, O: Drop>(
     }
 }
 
-/// Starts the request `number` of `client`, if it waits. Returns it.
+/// Hands out the request `number` of `client`, which waits. It is in a run afterwards.
 pub(crate) fn start_in<K: Drop, V: Drop, O: Drop>(
     lanes: &mut Rising<Lane<K, V, O>>,
     client: u64,
     number: u64,
-) -> Option<Request<K>>
-    ensures started { IfSome result (λ request. (lane : LaneView K V O) × (found lanes.old.items client ≡ Some lane) × IsOwed lane number (OwedWaiting request)
-        × IsSetAt lanes.old lanes.new client (Some (with_owed lane number OwedRunning))) }
-    ensures none { IfNone result (((lane : LaneView K V O) (request : Request K) → found lanes.old.items client ≡ Some lane → IsOwed lane number (OwedWaiting request) → ⊥)
-        × IsSameMap lanes.old lanes.new) }
+) -> Request<K>
+    requires { (request : Request K) × WaitsIn lanes.old.items client number request }
+    ensures waited { WaitsIn lanes.old.items client number result }
+    ensures runs { (lane : LaneView K V O) → found lanes.old.items client ≡ Some lane → IsSetAt lanes.old lanes.new client (Some (with_owed lane number OwedRunning)) }
 {
     match lanes.take(client) {
         Some(lane) => {
@@ -62,7 +62,7 @@ pub(crate) fn start_in<K: Drop, V: Drop, O: Drop>(
             lanes.put_back(client, lane);
             request
         }
-        None => None,
+        None => unreachable!(),
     }
 }
 

@@ -55,18 +55,15 @@ impl<K, V, O> Model for Lane<K, V, O> {
 }
 
 impl<K: Drop, V: Drop> Owed<K, V> {
-    /// Hands out the request if it waits, which then runs.
-    fn start(&mut self) -> Option<Request<K>>
-        ensures started { IfSome result (λ request. (self.old ≡ OwedWaiting request) × (self.new ≡ OwedRunning)) }
-        ensures none { IfNone result (((request : Request K) → self.old ≡ OwedWaiting request → ⊥) × (self.new ≡ self.old)) }
+    /// Hands out the request, which waits. It is in a run afterwards.
+    fn start(&mut self) -> Request<K>
+        requires { (request : Request K) × (self.old ≡ OwedWaiting request) }
+        ensures waited { self.old ≡ OwedWaiting result }
+        ensures runs { self.new ≡ OwedRunning }
     {
         match mem::replace(self, Owed::Running) {
-            Owed::Waiting(request) => return Some(request),
-            Owed::Running => return None,
-            Owed::Ready(reply) => {
-                *self = Owed::Ready(reply);
-                return None;
-            }
+            Owed::Waiting(request) => request,
+            _ => unreachable!(),
         }
     }
 
@@ -82,17 +79,6 @@ impl<K: Drop, V: Drop> Owed<K, V> {
             }
             Owed::Running => return None,
             Owed::Ready(reply) => return Some(reply),
-        }
-    }
-
-    /// Whether it waits.
-    fn is_waiting(&self) -> bool
-        ensures { IsTrue result ↔ ((request : Request K) × (self.now ≡ OwedWaiting request)) }
-    {
-        match self {
-            Owed::Waiting(_) => return true,
-            Owed::Running => return false,
-            Owed::Ready(_) => return false,
         }
     }
 
@@ -158,15 +144,13 @@ impl<K: Drop, V: Drop, O> Lane<K, V, O> {
         }
     }
 
-    /// Hands out the request `number` if it waits, which then runs.
-    pub(crate) fn start(&mut self, number: u64) -> Option<Request<K>>
-        ensures started { IfSome result (λ request. IsOwed self.old number (OwedWaiting request) × (self.new ≡ with_owed self.old number OwedRunning)) }
-        ensures none { IfNone result (((request : Request K) → IsOwed self.old number (OwedWaiting request) → ⊥) × (self.new ≡ self.old)) }
+    /// Hands out the request `number`, which waits. It is in a run afterwards.
+    pub(crate) fn start(&mut self, number: u64) -> Request<K>
+        requires { (request : Request K) × IsOwed self.old number (OwedWaiting request) }
+        ensures waited { IsOwed self.old number (OwedWaiting result) }
+        ensures runs { self.new ≡ with_owed self.old number OwedRunning }
     {
-        if number < self.put {
-            return None;
-        }
-        start_at(&mut self.owed, number - self.put)
+        self.owed[(number - self.put) as usize].start()
     }
 
     /// Makes `reply` to the request `number`.
@@ -176,16 +160,6 @@ impl<K: Drop, V: Drop, O> Lane<K, V, O> {
         ensures { self.new ≡ with_owed self.old number (OwedReady reply) }
     {
         self.owed[(number - self.put) as usize] = Owed::Ready(reply);
-    }
-
-    /// Whether the request `number` waits.
-    pub(crate) fn is_waiting(&self, number: u64) -> bool
-        ensures { IsTrue result ↔ ((request : Request K) × IsOwed self.now number (OwedWaiting request)) }
-    {
-        if number < self.put || number - self.put >= self.owed.len() as u64 {
-            return false;
-        }
-        self.owed[(number - self.put) as usize].is_waiting()
     }
 
     /// Whether the reply to the first request that is owed one is ready.
@@ -266,21 +240,6 @@ fn owed_first<K, V>(
     match &request.want {
         Want::Demand(_) => return Owed::Waiting(request),
         Want::Fixed(_) => return Owed::Ready(Reply::plain(client, number, request, revision)),
-    }
-}
-
-/// Hands out the request at `at` if it waits, which then runs.
-fn start_at<K: Drop, V: Drop>(owed: &mut VecDeque<Owed<K, V>>, at: u64) -> Option<Request<K>>
-    ensures started { IfSome result (λ request. (slice_get owed.old.items at ≡ Some (OwedWaiting request)) × (owed.new.items ≡ slice_set owed.old.items at OwedRunning)) }
-    ensures none { IfNone result (((request : Request K) → slice_get owed.old.items at ≡ Some (OwedWaiting request) → ⊥) × (owed.new.items ≡ owed.old.items)) }
-{
-    if at >= owed.len() as u64 {
-        return None;
-    }
-    let item = &mut owed[at as usize];
-    match item.start() {
-        Some(request) => return Some(request),
-        None => return None,
     }
 }
 

@@ -3,8 +3,8 @@ ghost use Rattle.std.specs.Prelude.{◌≡◌, ◌↔◌, IsTrue, Some, None, tr
 ghost use Rattle.pq_core.specs.Ledger.{Ledger};
 ghost use Rattle.pq_core.specs.Moves.{Reaches, Releases, Closes, TakesOut, IsAtRest};
 ghost use Rattle.pq_core.specs.Cores.{StandsFor};
-ghost use Rattle.pq_core.specs.aux.Resting.{HasWaiting, HasReadyLane};
-ghost use Rattle.pq_core.specs.aux.Starting.{is_of_other};
+ghost use Rattle.pq_core.specs.aux.Queue.{is_of_other};
+ghost use Rattle.pq_core.specs.aux.Resting.{HasReadyLane};
 
 use crate::cores::Core;
 use crate::fault::Memory;
@@ -16,24 +16,6 @@ use crate::outbox::{Outbox, Taking};
 use crate::rising::Rising;
 use pq_rules::Rules;
 use std::collections::VecDeque;
-
-/// Whether a request of the queue waits.
-fn has_waiting<K: Drop, V: Drop, O: Drop>(
-    waiting: &VecDeque<(u64, u64)>,
-    lanes: &Rising<Lane<K, V, O>>,
-) -> bool
-    ensures { IsTrue result ↔ HasWaiting waiting.now.items lanes.now }
-{
-    for i in 0..waiting.len() {
-        let (client, number) = waiting[i];
-        if let Some(lane) = lanes.get(client) {
-            if lane.is_waiting(number) {
-                return true;
-            }
-        }
-    }
-    false
-}
 
 /// Removes the requests of `client` from the queue.
 fn drop_queued(waiting: &mut VecDeque<(u64, u64)>, client: u64)
@@ -99,7 +81,7 @@ impl<R: Rules, O: Outbox<R::Key, R::Value> + Drop> Core<R, O> {
     pub fn is_at_rest(&self) -> bool
         ensures { (l : Ledger R.Key R.Value O) → StandsFor R.Key.cmp (R.machine self.now.rules) O.puts self.now l → (IsTrue result ↔ IsAtRest O.puts l) }
     {
-        if has_waiting(&self.waiting, &self.lanes) {
+        if !self.waiting.is_empty() {
             return false;
         }
         if !self.runs.is_empty() {

@@ -1,22 +1,10 @@
--- Auxiliary: what is to be done.
+-- Auxiliary: replies that are ready to leave.
 use Rattle.std.specs.Prelude.{ℕ, ◌≡◌, ◌<◌, List, false, slice_get, Some}
-use Rattle.pq_rules.specs.Relations.{In}
 use Rattle.pq_core.specs.Replies.{ReplyView}
-use Rattle.pq_core.specs.declared.request.Request.{Request}
-use Rattle.pq_core.specs.declared.lane.Owed.TheVariants.{Waiting as OwedWaiting, Ready as OwedReady}
+use Rattle.pq_core.specs.declared.lane.Owed.TheVariants.{Ready as OwedReady}
 use Rattle.pq_core.specs.declared.rising.Place.{Place}
 use Rattle.pq_core.specs.aux.Rising.{Slots, found}
-use Rattle.pq_core.specs.aux.Lanes.{LaneView, IsOwed}
-
--- `HasWaiting queue lanes` is that a request of `queue` waits
-pub record HasWaiting {K V O : Type 0} (queue : List (ℕ × ℕ)) (lanes : Slots (LaneView K V O)) : Type 0 where
-  pub client : ℕ
-  pub number : ℕ
-  pub queued : In (client, number) queue
-  pub lane : LaneView K V O
-  pub here : found lanes.items client ≡ Some lane
-  pub request : Request K
-  pub waits : IsOwed lane number (OwedWaiting request)
+use Rattle.pq_core.specs.aux.Lanes.{LaneView}
 
 -- `HasReadyLane lanes` is that the next reply of a lane is ready, and was not refused
 pub record HasReadyLane {K V O : Type 0} (lanes : Slots (LaneView K V O)) : Type 0 where

@@ -4,7 +4,6 @@
 use Rattle.std.specs.Prelude.{ℕ, ◌≡◌, ◌<◌, true, false, List, length, slice_get, Option, Some, None}
 use Rattle.pq_inputs.specs.Sources.{Sources, Table}
 use Rattle.pq_rules.specs.declared.turn.Answer.{Answer}
-use Rattle.pq_rules.specs.Relations.{In}
 use Rattle.pq_core.specs.Replies.{ReplyView}
 use Rattle.pq_core.specs.Ledger.{Out, Place, Waiting, Running, Ready, Put, Dropped, Entry, Client, Ledger}
 use Rattle.pq_core.specs.Moves.{open_count}
@@ -20,21 +19,19 @@ pub record RunSeen (K : Type 0) : Type 0 where
   pub out : Option (Out K)
 
 -- `Fields K L` is what a core keeps of clients and runs: the lanes of the open clients and their
--- count, the count of all clients, the requests that may wait, the runs, and the count of those
--- started
+-- count, the count of all clients, the runs, and the count of those started
 pub record Fields (K L : Type 0) : Type 0 where
   pub inputs : Table
   pub lanes : ℕ → Option L
   pub opened : ℕ
   pub clients : ℕ
-  pub waiting : List (ℕ × ℕ)
   pub runs : ℕ → Option (RunSeen K)
   pub started : ℕ
 
 -- `EntryStands f c n entry place` is what the core keeps of the request `n` of the client `c` in
 -- `place`
 abbrev pub EntryStands : {K V L : Type 0} → Fields K L → ℕ → ℕ → Entry K V → Place K V → Type 0
-EntryStands f c n entry Waiting = In (c, n) f.waiting
+EntryStands f c n entry Waiting = Unit {0}
 EntryStands f c n entry (Running r s o) =
     (r < f.started) × (f.runs r ≡ Some (record { client = c; number = n; request = entry.request; started = s; out = o }))
 EntryStands f c n entry (Ready reply) = Unit {0}

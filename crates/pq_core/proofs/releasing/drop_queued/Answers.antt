@@ -1,5 +1,5 @@
 use Rattle.std.proofs.Common.{rules}
-use Rattle.pq_core.specs.aux.Starting.{is_of_other}
+use Rattle.pq_core.specs.aux.Queue.{is_of_other}
 use Rattle.pq_core.proofs.Queued.{filter_retained}
 use Rattle.pq_core.proofs.releasing.drop_queued.Goals as goal
 

@@ -1,8 +1,9 @@
-use Rattle.std.proofs.Common.{◌≡◌, ◌≤◌, ◌∷◌, ◌++◌, [], length, refl, sym, ◌∙◌, subst, inl, inr, arith}
+use Rattle.std.proofs.Common.{◌≡◌, ◌≤◌, ◌∷◌, ◌++◌, [], length, refl, sym, ◌∙◌, subst, arith}
 use Rattle.pq_core.specs.Cores.{CoreView, held}
 use Rattle.pq_core.specs.aux.Accepting.{MayNot, MayPost}
 use Rattle.pq_core.proofs.CoreOpening.{unmoved}
 use Rattle.pq_core.proofs.CoreAccepting.{accept_refusal_so, may_post, accept_moved, queue_room, not_full, false_true}
+use Rattle.pq_core.proofs.Queued.{queue_same, queue_pushed, queue_fixed}
 use Rattle.pq_core.proofs.cores.Core.accept.Goals as goal
 
 pub returns-in-Some-clause-moved : goal.returns-in-Some-clause-moved
@@ -24,6 +25,7 @@ invariant_of-self g c =
       kept = w.kept;
       lanes_above = w.lanes_above;
       runs_above = c.make_room.ensures.runs.above c.self.inside.started w.runs_above;
+      queue = rw c.make_room.ensures.queue w.queue;
       room =
           let a : length c.self.inside.waiting.items ≤ c.self.inside.runs.room = w.room in
           let b : c.self.inside.runs.room ≤ c.make_room.new.runs.room = c.make_room.ensures.runs.room in
@@ -37,7 +39,6 @@ invariant_of-self g c =
               lanes = λ k. refl;
               opened = refl;
               clients = refl;
-              waiting = c.make_room.ensures.queue;
               runs = λ k. c.make_room.ensures.runs.found k;
               started = refl;
             })
@@ -60,7 +61,6 @@ returns-then-is_err-clause-moved g c =
             lanes = λ k. refl;
             opened = refl;
             clients = refl;
-            waiting = c.make_room.ensures.queue;
             runs = λ k. c.make_room.ensures.runs.found k;
             started = refl;
           })
@@ -77,15 +77,16 @@ invariant_of-self-then-waits g c =
     rw c.make_room.ensures.queue at (rw c.number-then-waits-2.ensures at (rw c.number-then-waits.ensures at c.push_back_reserved.ensures.items)) in
     let moved = accept_moved g.R.Key.Ord.cmp (g.R.Rules.machine c.self.inside.memos.rules) g.O.Outbox.puts
     (held (record { rules = c.self.inside.memos.rules; places = c.self.inside.memos.places; inputs = c.self.inside.inputs; lanes = c.self.inside.lanes; opened = c.self.inside.opened; clients = c.self.inside.clients; waiting = c.self.inside.waiting.items; runs = c.self.inside.runs; started = c.self.inside.started }))
-    (record { inputs = c.self.inside.inputs; lanes = c.accept_in.new.lanes.items; opened = c.self.inside.opened; clients = c.self.inside.clients; waiting = c.push_back_reserved.new.self.items; runs = c.make_room.new.runs.items; started = c.self.inside.started })
+    (record { inputs = c.self.inside.inputs; lanes = c.accept_in.new.lanes.items; opened = c.self.inside.opened; clients = c.self.inside.clients; runs = c.make_room.new.runs.items; started = c.self.inside.started })
     c.args.client c.in-Ok.number c.now-revision.result c.args.request told.0 w.ledger.0 told.1
     (not_full (held (record { rules = c.self.inside.memos.rules; places = c.self.inside.memos.places; inputs = c.self.inside.inputs; lanes = c.self.inside.lanes; opened = c.self.inside.opened; clients = c.self.inside.clients; waiting = c.self.inside.waiting.items; runs = c.self.inside.runs; started = c.self.inside.started })) c.args.client told.0 may told.1) told.3.found told.2 c.now-revision.ensures.now refl refl refl c.make_room.ensures.runs.found refl
-    (inl (c.is_demand-waits.ensures.0 c.if-waits.true, pushed))
     w.ledger.1 in
     record {
       kept = w.kept;
       lanes_above = told.3.above c.self.inside.clients w.lanes_above;
       runs_above = c.make_room.ensures.runs.above c.self.inside.started w.runs_above;
+      queue = queue_pushed _ _ _ _ c.args.client c.in-Ok.number c.now-revision.result told.0 c.args.request c.args.request.want (c.is_demand-waits.ensures.0 c.if-waits.true)
+          told.2 told.1 told.3.found pushed w.queue;
       room = queue_room c.make_room.result c.make_room.new.waiting.items c.push_back_reserved.new.self.items _ c.make_room.ensures.run_room c.if-is_err.false c.is_err.ensures.value c.push_back_reserved.ensures.items;
       current = λ r run h e. w.current r run (sym (c.make_room.ensures.runs.found r) ∙ h) e;
       ledger = (moved.0, moved.2);
@@ -96,15 +97,12 @@ returns-then-waits-clause-moved g c =
     let may : MayPost (held (record { rules = c.self.inside.memos.rules; places = c.self.inside.memos.places; inputs = c.self.inside.inputs; lanes = c.self.inside.lanes; opened = c.self.inside.opened; clients = c.self.inside.clients; waiting = c.self.inside.waiting.items; runs = c.self.inside.runs; started = c.self.inside.started })) c.args.client =
     subst (λ (v : CoreView g.row.R.Denot g.row.R-Key.Denot g.row.R-Part.Denot g.row.R-Value.Denot g.row.O.Denot). MayPost (held v) c.args.client) (sym c.self.view_is) (rw c.number.ensures at (c.in_default.ensures {u = tt}).may) in
     let told = (c.in-Ok.ensures {u = tt}).accepted in
-    let pushed : c.push_back_reserved.new.self.items ≡ c.self.inside.waiting.items ++ (c.args.client, c.in-Ok.number) ∷ [] =
-    rw c.make_room.ensures.queue at (rw c.number-then-waits-2.ensures at (rw c.number-then-waits.ensures at c.push_back_reserved.ensures.items)) in
     rw (← c.self.view_is)
     (λ l s. accept_moved g.R.Key.Ord.cmp (g.R.Rules.machine c.self.inside.memos.rules) g.O.Outbox.puts
     (held (record { rules = c.self.inside.memos.rules; places = c.self.inside.memos.places; inputs = c.self.inside.inputs; lanes = c.self.inside.lanes; opened = c.self.inside.opened; clients = c.self.inside.clients; waiting = c.self.inside.waiting.items; runs = c.self.inside.runs; started = c.self.inside.started }))
-    (record { inputs = c.self.inside.inputs; lanes = c.accept_in.new.lanes.items; opened = c.self.inside.opened; clients = c.self.inside.clients; waiting = c.push_back_reserved.new.self.items; runs = c.make_room.new.runs.items; started = c.self.inside.started })
+    (record { inputs = c.self.inside.inputs; lanes = c.accept_in.new.lanes.items; opened = c.self.inside.opened; clients = c.self.inside.clients; runs = c.make_room.new.runs.items; started = c.self.inside.started })
     c.args.client c.in-Ok.number c.now-revision.result c.args.request told.0 l told.1
     (not_full (held (record { rules = c.self.inside.memos.rules; places = c.self.inside.memos.places; inputs = c.self.inside.inputs; lanes = c.self.inside.lanes; opened = c.self.inside.opened; clients = c.self.inside.clients; waiting = c.self.inside.waiting.items; runs = c.self.inside.runs; started = c.self.inside.started })) c.args.client told.0 may told.1) told.3.found told.2 c.now-revision.ensures.now refl refl refl c.make_room.ensures.runs.found refl
-    (inl (c.is_demand-waits.ensures.0 c.if-waits.true, pushed))
     s)
 
 pub invariant_of-self-else-waits : goal.invariant_of-self-else-waits
@@ -115,15 +113,18 @@ invariant_of-self-else-waits g c =
     let told = (c.in-Ok.ensures {u = tt}).accepted in
     let moved = accept_moved g.R.Key.Ord.cmp (g.R.Rules.machine c.self.inside.memos.rules) g.O.Outbox.puts
     (held (record { rules = c.self.inside.memos.rules; places = c.self.inside.memos.places; inputs = c.self.inside.inputs; lanes = c.self.inside.lanes; opened = c.self.inside.opened; clients = c.self.inside.clients; waiting = c.self.inside.waiting.items; runs = c.self.inside.runs; started = c.self.inside.started }))
-    (record { inputs = c.self.inside.inputs; lanes = c.accept_in.new.lanes.items; opened = c.self.inside.opened; clients = c.self.inside.clients; waiting = c.make_room.new.waiting.items; runs = c.make_room.new.runs.items; started = c.self.inside.started })
+    (record { inputs = c.self.inside.inputs; lanes = c.accept_in.new.lanes.items; opened = c.self.inside.opened; clients = c.self.inside.clients; runs = c.make_room.new.runs.items; started = c.self.inside.started })
     c.args.client c.in-Ok.number c.now-revision.result c.args.request told.0 w.ledger.0 told.1
     (not_full (held (record { rules = c.self.inside.memos.rules; places = c.self.inside.memos.places; inputs = c.self.inside.inputs; lanes = c.self.inside.lanes; opened = c.self.inside.opened; clients = c.self.inside.clients; waiting = c.self.inside.waiting.items; runs = c.self.inside.runs; started = c.self.inside.started })) c.args.client told.0 may told.1) told.3.found told.2 c.now-revision.ensures.now refl refl refl c.make_room.ensures.runs.found refl
-    (inr (λ d. false_true (sym c.if-waits.false ∙ c.is_demand-waits.ensures.1 d), c.make_room.ensures.queue))
     w.ledger.1 in
     record {
       kept = w.kept;
       lanes_above = told.3.above c.self.inside.clients w.lanes_above;
       runs_above = c.make_room.ensures.runs.above c.self.inside.started w.runs_above;
+      queue =
+          rw c.make_room.ensures.queue
+          (queue_fixed _ _ _ c.args.client c.in-Ok.number c.now-revision.result told.0 c.args.request c.args.request.want (λ d. false_true (sym c.if-waits.false ∙ c.is_demand-waits.ensures.1 d))
+          told.1 told.3.found w.queue);
       room =
           let a : length c.self.inside.waiting.items ≤ c.self.inside.runs.room = w.room in
           let b : c.self.inside.runs.room ≤ c.make_room.new.runs.room = c.make_room.ensures.runs.room in
@@ -140,10 +141,9 @@ returns-in-Ok-clause-moved g c =
     rw (← c.self.view_is)
     (λ l s. accept_moved g.R.Key.Ord.cmp (g.R.Rules.machine c.self.inside.memos.rules) g.O.Outbox.puts
     (held (record { rules = c.self.inside.memos.rules; places = c.self.inside.memos.places; inputs = c.self.inside.inputs; lanes = c.self.inside.lanes; opened = c.self.inside.opened; clients = c.self.inside.clients; waiting = c.self.inside.waiting.items; runs = c.self.inside.runs; started = c.self.inside.started }))
-    (record { inputs = c.self.inside.inputs; lanes = c.accept_in.new.lanes.items; opened = c.self.inside.opened; clients = c.self.inside.clients; waiting = c.make_room.new.waiting.items; runs = c.make_room.new.runs.items; started = c.self.inside.started })
+    (record { inputs = c.self.inside.inputs; lanes = c.accept_in.new.lanes.items; opened = c.self.inside.opened; clients = c.self.inside.clients; runs = c.make_room.new.runs.items; started = c.self.inside.started })
     c.args.client c.in-Ok.number c.now-revision.result c.args.request told.0 l told.1
     (not_full (held (record { rules = c.self.inside.memos.rules; places = c.self.inside.memos.places; inputs = c.self.inside.inputs; lanes = c.self.inside.lanes; opened = c.self.inside.opened; clients = c.self.inside.clients; waiting = c.self.inside.waiting.items; runs = c.self.inside.runs; started = c.self.inside.started })) c.args.client told.0 may told.1) told.3.found told.2 c.now-revision.ensures.now refl refl refl c.make_room.ensures.runs.found refl
-    (inr (λ d. false_true (sym c.if-waits.false ∙ c.is_demand-waits.ensures.1 d), c.make_room.ensures.queue))
     s)
 
 pub invariant_of-self-in-Err : goal.invariant_of-self-in-Err
@@ -154,6 +154,7 @@ invariant_of-self-in-Err g c =
       kept = w.kept;
       lanes_above = same.above c.self.inside.clients w.lanes_above;
       runs_above = c.make_room.ensures.runs.above c.self.inside.started w.runs_above;
+      queue = rw c.make_room.ensures.queue (queue_same _ _ _ same.found w.queue);
       room =
           let a : length c.self.inside.waiting.items ≤ c.self.inside.runs.room = w.room in
           let b : c.self.inside.runs.room ≤ c.make_room.new.runs.room = c.make_room.ensures.runs.room in
@@ -167,7 +168,6 @@ invariant_of-self-in-Err g c =
               lanes = λ k. same.found k;
               opened = refl;
               clients = refl;
-              waiting = c.make_room.ensures.queue;
               runs = λ k. c.make_room.ensures.runs.found k;
               started = refl;
             })
@@ -190,7 +190,6 @@ returns-in-Err-clause-moved g c =
             lanes = λ k. same.found k;
             opened = refl;
             clients = refl;
-            waiting = c.make_room.ensures.queue;
             runs = λ k. c.make_room.ensures.runs.found k;
             started = refl;
           })

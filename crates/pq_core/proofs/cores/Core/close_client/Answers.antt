@@ -1,6 +1,7 @@
 use Rattle.std.proofs.Common.{◌≡◌, ◌≤◌, ◌+◌, ◌-◌, ℕ, refl, sym, arith}
-use Rattle.pq_core.proofs.CoreReleasing.{some_opened, close_left, close_none}
-use Rattle.pq_core.proofs.Queued.{others_stay, no_longer}
+use Rattle.pq_core.proofs.CoreReleasing.{some_opened, close_moved, close_none}
+use Rattle.pq_core.proofs.Queued.{queue_closed, queue_same, no_longer}
+use Rattle.pq_core.proofs.Changing.{none_taken}
 use Rattle.pq_core.proofs.cores.Core.close_client.Goals as goal
 
 less_one : (n : ℕ) → 1 ≤ n → n - 1 + 1 ≡ n
@@ -16,16 +17,17 @@ invariant_of-self g c =
     let w = c.self.invariant in
     let here = sym c.in-Some.ensures.value in
     let some = some_opened g.R.Key.Ord.cmp (g.R.Rules.machine c.self.inside.memos.rules) g.O.Outbox.puts _ w.ledger.0 c.number-seat.result c.in-Some.lane w.ledger.1 here in
-    let moved = close_left g.R.Key.Ord.cmp (g.R.Rules.machine c.self.inside.memos.rules) g.O.Outbox.puts _ _ c.number-seat.result c.in-Some.lane
+    let moved = close_moved g.R.Key.Ord.cmp (g.R.Rules.machine c.self.inside.memos.rules) g.O.Outbox.puts _ _ c.number-seat.result c.in-Some.lane
     c.into_outbox.result w.ledger.0 here c.take.ensures.found c.into_outbox.ensures
     (record { inputs = refl; clients = refl; runs = refl; started = refl }) (less_one c.self.inside.opened some)
-    (others_stay c.number-seat.result _ _ c.drop_queued.ensures) w.ledger.1 in
+    w.ledger.1 in
     let fewer = no_longer c.number-seat.result _ _ c.drop_queued.ensures in
     let room = w.room in
     record {
       kept = w.kept;
       lanes_above = c.take.ensures.above c.self.inside.clients w.lanes_above;
       runs_above = w.runs_above;
+      queue = queue_closed _ _ _ _ c.number-seat.result c.take.ensures.found c.drop_queued.ensures w.queue;
       room = omega arith;
       current = w.current;
       ledger = (moved.0, moved.2);
@@ -38,21 +40,22 @@ returns-in-Some-clause-moved g c =
     let some = some_opened g.R.Key.Ord.cmp (g.R.Rules.machine c.self.inside.memos.rules) g.O.Outbox.puts _ w.ledger.0 c.number-seat.result c.in-Some.lane w.ledger.1 here in
     rw (← c.self.view_is)
     (rw (← c.number-seat.ensures)
-    (λ l s. close_left g.R.Key.Ord.cmp (g.R.Rules.machine c.self.inside.memos.rules) g.O.Outbox.puts _ _ c.number-seat.result c.in-Some.lane
+    (λ l s. close_moved g.R.Key.Ord.cmp (g.R.Rules.machine c.self.inside.memos.rules) g.O.Outbox.puts _ _ c.number-seat.result c.in-Some.lane
     c.into_outbox.result l here c.take.ensures.found c.into_outbox.ensures
     (record { inputs = refl; clients = refl; runs = refl; started = refl }) (less_one c.self.inside.opened some)
-    (others_stay c.number-seat.result _ _ c.drop_queued.ensures) s))
+    s))
 
 pub invariant_of-self-in-None : goal.invariant_of-self-in-None
 invariant_of-self-in-None g c =
     let w = c.self.invariant in
     let moved = close_none g.R.Key.Ord.cmp (g.R.Rules.machine c.self.inside.memos.rules) g.O.Outbox.puts _ _ c.number-seat.result w.ledger.0
     (sym c.in-None.ensures.value) c.take.ensures.found
-    (record { inputs = refl; clients = refl; waiting = refl; runs = refl; started = refl }) refl w.ledger.1 in
+    (record { inputs = refl; clients = refl; runs = refl; started = refl }) refl w.ledger.1 in
     record {
       kept = w.kept;
       lanes_above = c.take.ensures.above c.self.inside.clients w.lanes_above;
       runs_above = w.runs_above;
+      queue = queue_same _ _ _ (none_taken c.self.inside.lanes c.take.new.self c.number-seat.result (sym c.in-None.ensures.value) c.take.ensures.found c.take.ensures.above c.take.ensures.room).found w.queue;
       room = w.room;
       current = w.current;
       ledger = (moved.0, moved.2);
@@ -64,4 +67,4 @@ returns-in-None-clause-moved g c =
     (rw (← c.number-seat.ensures)
     (λ l s. close_none g.R.Key.Ord.cmp (g.R.Rules.machine c.self.inside.memos.rules) g.O.Outbox.puts _ _ c.number-seat.result l
     (sym c.in-None.ensures.value) c.take.ensures.found
-    (record { inputs = refl; clients = refl; waiting = refl; runs = refl; started = refl }) refl s))
+    (record { inputs = refl; clients = refl; runs = refl; started = refl }) refl s))

@@ -30,13 +30,14 @@ invariant_of-self g c =
     let table = table_is c.set.new.self c.self.inside.inputs (record { file = c.change.inside.file; text = option_map string_bytes c.change.inside.text; durability = c.change.inside.durability }) (rw c.as_str.ensures.same at told.files) (told.revision.1 ∙ told.revision.0) told.history in
     let moved = edit_moved g.R.Key.Ord.cmp (g.R.Rules.machine c.self.inside.memos.rules) g.O.Outbox.puts
     (held (record { rules = c.self.inside.memos.rules; places = c.self.inside.memos.places; inputs = c.self.inside.inputs; lanes = c.self.inside.lanes; opened = c.self.inside.opened; clients = c.self.inside.clients; waiting = c.self.inside.waiting.items; runs = c.self.inside.runs; started = c.self.inside.started }))
-    (record { inputs = c.set.new.self; lanes = c.self.inside.lanes.items; opened = c.self.inside.opened; clients = c.self.inside.clients; waiting = c.self.inside.waiting.items; runs = c.self.inside.runs.items; started = c.self.inside.started })
-    c.args.client c.in-Ok.revision (record { file = c.change.inside.file; text = option_map string_bytes c.change.inside.text; durability = c.change.inside.durability }) w.ledger.0 may (rw c.as_str.ensures.same at told.accepted) told.revision.0 table (λ k. refl) refl refl refl (λ k. refl) refl w.ledger.1 in
+    (record { inputs = c.set.new.self; lanes = c.self.inside.lanes.items; opened = c.self.inside.opened; clients = c.self.inside.clients; runs = c.self.inside.runs.items; started = c.self.inside.started })
+    c.args.client c.in-Ok.revision (record { file = c.change.inside.file; text = option_map string_bytes c.change.inside.text; durability = c.change.inside.durability }) w.ledger.0 may (rw c.as_str.ensures.same at told.accepted) told.revision.0 table (λ k. refl) refl refl (λ k. refl) refl w.ledger.1 in
     record {
       kept = c.kept_is_sound.ensures.next c.self.inside.inputs c.set.new.self
           (record { counted = c.now-latest.ensures.counted; latest = c.now-latest.ensures.last; revision = told.revision.1 ∙ told.revision.0; history = told.history }) w.kept;
       lanes_above = w.lanes_above;
       runs_above = w.runs_above;
+      queue = w.queue;
       room = w.room;
       current = λ r run h e.
           let a = run_past g.R.Key.Ord.cmp (g.R.Rules.machine c.self.inside.memos.rules) g.O.Outbox.puts (held (record { rules = c.self.inside.memos.rules; places = c.self.inside.memos.places; inputs = c.self.inside.inputs; lanes = c.self.inside.lanes; opened = c.self.inside.opened; clients = c.self.inside.clients; waiting = c.self.inside.waiting.items; runs = c.self.inside.runs; started = c.self.inside.started })) w.ledger.0 r run w.ledger.1 h in
@@ -55,8 +56,8 @@ returns-in-Ok-clause-moved g c =
     (rw (← c.change.view_is)
     (λ l s. edit_moved g.R.Key.Ord.cmp (g.R.Rules.machine c.self.inside.memos.rules) g.O.Outbox.puts
     (held (record { rules = c.self.inside.memos.rules; places = c.self.inside.memos.places; inputs = c.self.inside.inputs; lanes = c.self.inside.lanes; opened = c.self.inside.opened; clients = c.self.inside.clients; waiting = c.self.inside.waiting.items; runs = c.self.inside.runs; started = c.self.inside.started }))
-    (record { inputs = c.set.new.self; lanes = c.self.inside.lanes.items; opened = c.self.inside.opened; clients = c.self.inside.clients; waiting = c.self.inside.waiting.items; runs = c.self.inside.runs.items; started = c.self.inside.started })
-    c.args.client c.in-Ok.revision (record { file = c.change.inside.file; text = option_map string_bytes c.change.inside.text; durability = c.change.inside.durability }) l may (rw c.as_str.ensures.same at told.accepted) told.revision.0 table (λ k. refl) refl refl refl (λ k. refl) refl s))
+    (record { inputs = c.set.new.self; lanes = c.self.inside.lanes.items; opened = c.self.inside.opened; clients = c.self.inside.clients; runs = c.self.inside.runs.items; started = c.self.inside.started })
+    c.args.client c.in-Ok.revision (record { file = c.change.inside.file; text = option_map string_bytes c.change.inside.text; durability = c.change.inside.durability }) l may (rw c.as_str.ensures.same at told.accepted) told.revision.0 table (λ k. refl) refl refl (λ k. refl) refl s))
 
 pub returns-in-Err-clause-moved : goal.returns-in-Err-clause-moved
 returns-in-Err-clause-moved g c =
@@ -79,7 +80,6 @@ returns-in-Err-clause-moved g c =
             lanes = λ k. refl;
             opened = refl;
             clients = refl;
-            waiting = refl;
             runs = λ k. refl;
             started = refl;
           })

@@ -8,7 +8,7 @@ use Rattle.pq_core.specs.declared.outcome.Outcome.TheVariants.{Cancelled, Answer
 use Rattle.pq_core.proofs.Changing.{none_taken, set_back}
 use Rattle.pq_core.proofs.CoreOpening.{unmoved}
 use Rattle.pq_core.proofs.CoreAccepting.{false_true}
-use Rattle.pq_core.proofs.CoreRunning.{run_here, no_run, run_within, run_demands, current, stop_moved, back_moved, others_kept, all_kept, none_of, goes_on, look_blocked, carry_moved, answer_moved, why_cause, why_then, ended_as}
+use Rattle.pq_core.proofs.CoreRunning.{end_queue, run_here, no_run, run_within, run_demands, current, stop_moved, back_moved, others_kept, all_kept, none_of, goes_on, look_blocked, carry_moved, answer_moved, why_cause, why_then, ended_as}
 use Rattle.pq_core.proofs.Renewed.{renewed_same}
 use Rattle.pq_core.proofs.cores.Core.look.Goals as goal
 
@@ -21,6 +21,7 @@ invariant_of-self g c =
       kept = w.kept;
       lanes_above = w.lanes_above;
       runs_above = same.above c.self.inside.started w.runs_above;
+      queue = w.queue;
       room =
           let a : length c.self.inside.waiting.items ≤ c.self.inside.runs.room = w.room in
           let b = same.room in
@@ -33,7 +34,6 @@ invariant_of-self g c =
           lanes = λ k. refl;
           opened = refl;
           clients = refl;
-          waiting = refl;
           runs = same.found;
           started = refl;
         }) w.ledger.1,
@@ -53,7 +53,6 @@ returns-in-None-clause-moved g c =
         lanes = λ k. refl;
         opened = refl;
         clients = refl;
-        waiting = refl;
         runs = same.found;
         started = refl;
       }) s,
@@ -70,13 +69,15 @@ invariant_of-self-then-is_overtaken g c =
     let here = sym (rw c.number-id.ensures at (c.in-Some.ensures {u = tt}).value) in
     let runs = rw c.number-id.ensures at c.take.ensures.found in
     let x = run_here g.R.Key.Ord.cmp (g.R.Rules.machine c.self.inside.memos.rules) g.O.Outbox.puts (held (record { rules = c.self.inside.memos.rules; places = c.self.inside.memos.places; inputs = c.self.inside.inputs; lanes = c.self.inside.lanes; opened = c.self.inside.opened; clients = c.self.inside.clients; waiting = c.self.inside.waiting.items; runs = c.self.inside.runs; started = c.self.inside.started })) w.ledger.0 c.args.run c.in-Some.taken w.ledger.1 here in
-    let moved = stop_moved g.R.Key.Ord.cmp (g.R.Rules.machine c.self.inside.memos.rules) g.O.Outbox.puts c.self.inside.memos.rules (held (record { rules = c.self.inside.memos.rules; places = c.self.inside.memos.places; inputs = c.self.inside.inputs; lanes = c.self.inside.lanes; opened = c.self.inside.opened; clients = c.self.inside.clients; waiting = c.self.inside.waiting.items; runs = c.self.inside.runs; started = c.self.inside.started })) (record { inputs = c.self.inside.inputs; lanes = c.stop_run.new.lanes.items; opened = c.self.inside.opened; clients = c.self.inside.clients; waiting = c.self.inside.waiting.items; runs = c.take.new.self.items; started = c.self.inside.started }) w.ledger.0 c.args.run c.in-Some.taken x w.ledger.1 here
+    let moved = stop_moved g.R.Key.Ord.cmp (g.R.Rules.machine c.self.inside.memos.rules) g.O.Outbox.puts c.self.inside.memos.rules (held (record { rules = c.self.inside.memos.rules; places = c.self.inside.memos.places; inputs = c.self.inside.inputs; lanes = c.self.inside.lanes; opened = c.self.inside.opened; clients = c.self.inside.clients; waiting = c.self.inside.waiting.items; runs = c.self.inside.runs; started = c.self.inside.started })) (record { inputs = c.self.inside.inputs; lanes = c.stop_run.new.lanes.items; opened = c.self.inside.opened; clients = c.self.inside.clients; runs = c.take.new.self.items; started = c.self.inside.started }) w.ledger.0 c.args.run c.in-Some.taken x w.ledger.1 here
     (rw c.now-now.ensures.now at (c.is_overtaken.ensures.0 c.if-is_overtaken.true)) runs
-    (λ lane h k. rw c.now-now.ensures.now at ((c.stop_run.ensures.«open» lane h).found k)) (λ h k. (c.stop_run.ensures.closed h).found k) (record { inputs = refl; opened = refl; clients = refl; waiting = refl; started = refl }) in
+    (λ lane h k. rw c.now-now.ensures.now at ((c.stop_run.ensures.«open» lane h).found k)) (λ h k. (c.stop_run.ensures.closed h).found k) (record { inputs = refl; opened = refl; clients = refl; started = refl }) in
     record {
       kept = w.kept;
       lanes_above = c.stop_run.ensures.above c.self.inside.clients w.lanes_above;
       runs_above = c.take.ensures.above c.self.inside.started w.runs_above;
+      queue = end_queue g.R.Key.Ord.cmp (g.R.Rules.machine c.self.inside.memos.rules) g.O.Outbox.puts _ _ _ w.ledger.0 c.args.run c.in-Some.taken c.in-Some.taken _ w.ledger.1 here (record { client = refl; number = refl; request = refl; started = refl })
+          (λ lane h k. (c.stop_run.ensures.«open» lane h).found k) (λ h k. (c.stop_run.ensures.closed h).found k) w.queue;
       room =
           let a : length c.self.inside.waiting.items ≤ c.self.inside.runs.room = w.room in
           let b = c.take.ensures.room in
@@ -92,9 +93,9 @@ returns-then-is_overtaken-clause-moved g c =
     rw (← c.self.view_is)
     (λ l s.
     let x = run_here g.R.Key.Ord.cmp (g.R.Rules.machine c.self.inside.memos.rules) g.O.Outbox.puts (held (record { rules = c.self.inside.memos.rules; places = c.self.inside.memos.places; inputs = c.self.inside.inputs; lanes = c.self.inside.lanes; opened = c.self.inside.opened; clients = c.self.inside.clients; waiting = c.self.inside.waiting.items; runs = c.self.inside.runs; started = c.self.inside.started })) l c.args.run c.in-Some.taken s here in
-    let moved = stop_moved g.R.Key.Ord.cmp (g.R.Rules.machine c.self.inside.memos.rules) g.O.Outbox.puts c.self.inside.memos.rules (held (record { rules = c.self.inside.memos.rules; places = c.self.inside.memos.places; inputs = c.self.inside.inputs; lanes = c.self.inside.lanes; opened = c.self.inside.opened; clients = c.self.inside.clients; waiting = c.self.inside.waiting.items; runs = c.self.inside.runs; started = c.self.inside.started })) (record { inputs = c.self.inside.inputs; lanes = c.stop_run.new.lanes.items; opened = c.self.inside.opened; clients = c.self.inside.clients; waiting = c.self.inside.waiting.items; runs = c.take.new.self.items; started = c.self.inside.started }) l c.args.run c.in-Some.taken x s here
+    let moved = stop_moved g.R.Key.Ord.cmp (g.R.Rules.machine c.self.inside.memos.rules) g.O.Outbox.puts c.self.inside.memos.rules (held (record { rules = c.self.inside.memos.rules; places = c.self.inside.memos.places; inputs = c.self.inside.inputs; lanes = c.self.inside.lanes; opened = c.self.inside.opened; clients = c.self.inside.clients; waiting = c.self.inside.waiting.items; runs = c.self.inside.runs; started = c.self.inside.started })) (record { inputs = c.self.inside.inputs; lanes = c.stop_run.new.lanes.items; opened = c.self.inside.opened; clients = c.self.inside.clients; runs = c.take.new.self.items; started = c.self.inside.started }) l c.args.run c.in-Some.taken x s here
     (rw c.now-now.ensures.now at (c.is_overtaken.ensures.0 c.if-is_overtaken.true)) runs
-    (λ lane h k. rw c.now-now.ensures.now at ((c.stop_run.ensures.«open» lane h).found k)) (λ h k. (c.stop_run.ensures.closed h).found k) (record { inputs = refl; opened = refl; clients = refl; waiting = refl; started = refl }) in
+    (λ lane h k. rw c.now-now.ensures.now at ((c.stop_run.ensures.«open» lane h).found k)) (λ h k. (c.stop_run.ensures.closed h).found k) (record { inputs = refl; opened = refl; clients = refl; started = refl }) in
     (ended l x.at x.at.entry.starved (Cancelled x.at.started l.inputs.revision), moved.0, moved.1))
 
 pub invariant_of-self-then-is_out : goal.invariant_of-self-then-is_out
@@ -107,12 +108,13 @@ invariant_of-self-then-is_out g c =
       kept = w.kept;
       lanes_above = w.lanes_above;
       runs_above = set.above c.self.inside.started w.runs_above;
+      queue = w.queue;
       room =
           let a : length c.self.inside.waiting.items ≤ c.self.inside.runs.room = w.room in
           let b = set.room in
           omega (arith, a, b);
       current = all_kept g.R.Key.Ord.cmp (g.R.Rules.machine c.self.inside.memos.rules) c.self.inside.inputs (memo_at g.R.Key.Ord.cmp c.self.inside.memos.places) (memo_at g.R.Key.Ord.cmp c.self.inside.memos.places) c.self.inside.runs.items _ c.args.run c.in-Some.taken (renewed_same (g.R.Rules.machine c.self.inside.memos.rules) c.self.inside.inputs.revision _ _ (λ q. refl)) set.found w.current (w.current c.args.run c.in-Some.taken here);
-      ledger = (w.ledger.0, back_moved g.R.Key.Ord.cmp (g.R.Rules.machine c.self.inside.memos.rules) g.O.Outbox.puts (held (record { rules = c.self.inside.memos.rules; places = c.self.inside.memos.places; inputs = c.self.inside.inputs; lanes = c.self.inside.lanes; opened = c.self.inside.opened; clients = c.self.inside.clients; waiting = c.self.inside.waiting.items; runs = c.self.inside.runs; started = c.self.inside.started })) (record { inputs = c.self.inside.inputs; lanes = c.self.inside.lanes.items; opened = c.self.inside.opened; clients = c.self.inside.clients; waiting = c.self.inside.waiting.items; runs = c.put_back.new.self.items; started = c.self.inside.started }) w.ledger.0 c.args.run c.in-Some.taken c.in-Some.taken w.ledger.1 here (record { client = refl; number = refl; request = refl; started = refl }) refl set.found (λ k. refl) (record { inputs = refl; opened = refl; clients = refl; waiting = refl; started = refl }));
+      ledger = (w.ledger.0, back_moved g.R.Key.Ord.cmp (g.R.Rules.machine c.self.inside.memos.rules) g.O.Outbox.puts (held (record { rules = c.self.inside.memos.rules; places = c.self.inside.memos.places; inputs = c.self.inside.inputs; lanes = c.self.inside.lanes; opened = c.self.inside.opened; clients = c.self.inside.clients; waiting = c.self.inside.waiting.items; runs = c.self.inside.runs; started = c.self.inside.started })) (record { inputs = c.self.inside.inputs; lanes = c.self.inside.lanes.items; opened = c.self.inside.opened; clients = c.self.inside.clients; runs = c.put_back.new.self.items; started = c.self.inside.started }) w.ledger.0 c.args.run c.in-Some.taken c.in-Some.taken w.ledger.1 here (record { client = refl; number = refl; request = refl; started = refl }) refl set.found (λ k. refl) (record { inputs = refl; opened = refl; clients = refl; started = refl }));
     }
 
 pub returns-then-is_out-clause-moved : goal.returns-then-is_out-clause-moved
@@ -123,7 +125,7 @@ returns-then-is_out-clause-moved g c =
     rw (← c.self.view_is)
     (λ l s.
     let b = look_blocked g.R.Key.Ord.cmp (g.R.Rules.machine c.self.inside.memos.rules) g.O.Outbox.puts c.self.inside.memos.rules (held (record { rules = c.self.inside.memos.rules; places = c.self.inside.memos.places; inputs = c.self.inside.inputs; lanes = c.self.inside.lanes; opened = c.self.inside.opened; clients = c.self.inside.clients; waiting = c.self.inside.waiting.items; runs = c.self.inside.runs; started = c.self.inside.started })) l c.args.run c.in-Some.taken s here (λ o. false_true (sym c.if-is_overtaken.false ∙ c.is_overtaken.ensures.1 (rw c.now-now.ensures.now o))) (c.is_out.ensures.0 c.if-is_out.true) in
-    (l, (b.0, b.1, b.2, b.3, c.new.ensures ∙ c.number-id.ensures, refl), back_moved g.R.Key.Ord.cmp (g.R.Rules.machine c.self.inside.memos.rules) g.O.Outbox.puts (held (record { rules = c.self.inside.memos.rules; places = c.self.inside.memos.places; inputs = c.self.inside.inputs; lanes = c.self.inside.lanes; opened = c.self.inside.opened; clients = c.self.inside.clients; waiting = c.self.inside.waiting.items; runs = c.self.inside.runs; started = c.self.inside.started })) (record { inputs = c.self.inside.inputs; lanes = c.self.inside.lanes.items; opened = c.self.inside.opened; clients = c.self.inside.clients; waiting = c.self.inside.waiting.items; runs = c.put_back.new.self.items; started = c.self.inside.started }) l c.args.run c.in-Some.taken c.in-Some.taken s here (record { client = refl; number = refl; request = refl; started = refl }) refl set.found (λ k. refl) (record { inputs = refl; opened = refl; clients = refl; waiting = refl; started = refl })))
+    (l, (b.0, b.1, b.2, b.3, c.new.ensures ∙ c.number-id.ensures, refl), back_moved g.R.Key.Ord.cmp (g.R.Rules.machine c.self.inside.memos.rules) g.O.Outbox.puts (held (record { rules = c.self.inside.memos.rules; places = c.self.inside.memos.places; inputs = c.self.inside.inputs; lanes = c.self.inside.lanes; opened = c.self.inside.opened; clients = c.self.inside.clients; waiting = c.self.inside.waiting.items; runs = c.self.inside.runs; started = c.self.inside.started })) (record { inputs = c.self.inside.inputs; lanes = c.self.inside.lanes.items; opened = c.self.inside.opened; clients = c.self.inside.clients; runs = c.put_back.new.self.items; started = c.self.inside.started }) l c.args.run c.in-Some.taken c.in-Some.taken s here (record { client = refl; number = refl; request = refl; started = refl }) refl set.found (λ k. refl) (record { inputs = refl; opened = refl; clients = refl; started = refl })))
 
 pub look-requires-clause-demand : goal.look-requires-clause-demand
 look-requires-clause-demand g c =
@@ -150,12 +152,13 @@ invariant_of-self-in-Ok-Carry g c =
     let here = sym (rw c.number-id.ensures at (c.in-Some.ensures {u = tt}).value) in
     let set = set_back c.self.inside.runs c.take.new.self c.put_back-in-Ok-Carry.new.self c.args.run c.look.new.self (rw c.number-id.ensures at c.take.ensures.found) c.take.ensures.above
     (rw c.in-Some.is at c.take.ensures.more_room) (rw c.number-id.ensures at c.put_back-in-Ok-Carry.ensures.found) c.put_back-in-Ok-Carry.ensures.room c.put_back-in-Ok-Carry.ensures.above in
-    let moved = carry_moved g.R.Key.Ord.cmp (g.R.Rules.machine c.self.inside.memos.rules) g.O.Outbox.puts c.self.inside.memos.rules (held (record { rules = c.self.inside.memos.rules; places = c.self.inside.memos.places; inputs = c.self.inside.inputs; lanes = c.self.inside.lanes; opened = c.self.inside.opened; clients = c.self.inside.clients; waiting = c.self.inside.waiting.items; runs = c.self.inside.runs; started = c.self.inside.started })) (record { inputs = c.self.inside.inputs; lanes = c.self.inside.lanes.items; opened = c.self.inside.opened; clients = c.self.inside.clients; waiting = c.self.inside.waiting.items; runs = c.put_back-in-Ok-Carry.new.self.items; started = c.self.inside.started }) w.ledger.0 c.args.run c.in-Some.taken c.look.new.self c.in-Ok-Carry.work (memo_at g.R.Key.Ord.cmp c.self.inside.memos.places) w.ledger.1 here (λ o. false_true (sym c.if-is_overtaken.false ∙ c.is_overtaken.ensures.1 (rw c.now-now.ensures.now o))) (none_of (out_at c.in-Some.taken.top) (λ e. false_true (sym c.if-is_out.false ∙ c.is_out.ensures.1 e))) c.look.ensures.same (rw c.number-id.ensures at (rw c.new-in-Some.ensures at (rw c.in-Ok-Carry.field-0-is at (c.in-Ok-Carry.ensures {u = tt}).looked))) set.found (λ k. refl) (record { inputs = refl; opened = refl; clients = refl; waiting = refl; started = refl }) in
+    let moved = carry_moved g.R.Key.Ord.cmp (g.R.Rules.machine c.self.inside.memos.rules) g.O.Outbox.puts c.self.inside.memos.rules (held (record { rules = c.self.inside.memos.rules; places = c.self.inside.memos.places; inputs = c.self.inside.inputs; lanes = c.self.inside.lanes; opened = c.self.inside.opened; clients = c.self.inside.clients; waiting = c.self.inside.waiting.items; runs = c.self.inside.runs; started = c.self.inside.started })) (record { inputs = c.self.inside.inputs; lanes = c.self.inside.lanes.items; opened = c.self.inside.opened; clients = c.self.inside.clients; runs = c.put_back-in-Ok-Carry.new.self.items; started = c.self.inside.started }) w.ledger.0 c.args.run c.in-Some.taken c.look.new.self c.in-Ok-Carry.work (memo_at g.R.Key.Ord.cmp c.self.inside.memos.places) w.ledger.1 here (λ o. false_true (sym c.if-is_overtaken.false ∙ c.is_overtaken.ensures.1 (rw c.now-now.ensures.now o))) (none_of (out_at c.in-Some.taken.top) (λ e. false_true (sym c.if-is_out.false ∙ c.is_out.ensures.1 e))) c.look.ensures.same (rw c.number-id.ensures at (rw c.new-in-Some.ensures at (rw c.in-Ok-Carry.field-0-is at (c.in-Ok-Carry.ensures {u = tt}).looked))) set.found (λ k. refl) (record { inputs = refl; opened = refl; clients = refl; started = refl }) in
     rw c.look.ensures.rules
     (record {
       kept = c.look.ensures.kept;
       lanes_above = w.lanes_above;
       runs_above = set.above c.self.inside.started w.runs_above;
+      queue = w.queue;
       room =
           let a : length c.self.inside.waiting.items ≤ c.self.inside.runs.room = w.room in
           let b = set.room in
@@ -170,7 +173,7 @@ returns-in-Ok-Carry-clause-moved g c =
     let set = set_back c.self.inside.runs c.take.new.self c.put_back-in-Ok-Carry.new.self c.args.run c.look.new.self (rw c.number-id.ensures at c.take.ensures.found) c.take.ensures.above
     (rw c.in-Some.is at c.take.ensures.more_room) (rw c.number-id.ensures at c.put_back-in-Ok-Carry.ensures.found) c.put_back-in-Ok-Carry.ensures.room c.put_back-in-Ok-Carry.ensures.above in
     rw (← c.self.view_is)
-    (λ l s. carry_moved g.R.Key.Ord.cmp (g.R.Rules.machine c.self.inside.memos.rules) g.O.Outbox.puts c.self.inside.memos.rules (held (record { rules = c.self.inside.memos.rules; places = c.self.inside.memos.places; inputs = c.self.inside.inputs; lanes = c.self.inside.lanes; opened = c.self.inside.opened; clients = c.self.inside.clients; waiting = c.self.inside.waiting.items; runs = c.self.inside.runs; started = c.self.inside.started })) (record { inputs = c.self.inside.inputs; lanes = c.self.inside.lanes.items; opened = c.self.inside.opened; clients = c.self.inside.clients; waiting = c.self.inside.waiting.items; runs = c.put_back-in-Ok-Carry.new.self.items; started = c.self.inside.started }) l c.args.run c.in-Some.taken c.look.new.self c.in-Ok-Carry.work (memo_at g.R.Key.Ord.cmp c.self.inside.memos.places) s here (λ o. false_true (sym c.if-is_overtaken.false ∙ c.is_overtaken.ensures.1 (rw c.now-now.ensures.now o))) (none_of (out_at c.in-Some.taken.top) (λ e. false_true (sym c.if-is_out.false ∙ c.is_out.ensures.1 e))) c.look.ensures.same (rw c.number-id.ensures at (rw c.new-in-Some.ensures at (rw c.in-Ok-Carry.field-0-is at (c.in-Ok-Carry.ensures {u = tt}).looked))) set.found (λ k. refl) (record { inputs = refl; opened = refl; clients = refl; waiting = refl; started = refl }))
+    (λ l s. carry_moved g.R.Key.Ord.cmp (g.R.Rules.machine c.self.inside.memos.rules) g.O.Outbox.puts c.self.inside.memos.rules (held (record { rules = c.self.inside.memos.rules; places = c.self.inside.memos.places; inputs = c.self.inside.inputs; lanes = c.self.inside.lanes; opened = c.self.inside.opened; clients = c.self.inside.clients; waiting = c.self.inside.waiting.items; runs = c.self.inside.runs; started = c.self.inside.started })) (record { inputs = c.self.inside.inputs; lanes = c.self.inside.lanes.items; opened = c.self.inside.opened; clients = c.self.inside.clients; runs = c.put_back-in-Ok-Carry.new.self.items; started = c.self.inside.started }) l c.args.run c.in-Some.taken c.look.new.self c.in-Ok-Carry.work (memo_at g.R.Key.Ord.cmp c.self.inside.memos.places) s here (λ o. false_true (sym c.if-is_overtaken.false ∙ c.is_overtaken.ensures.1 (rw c.now-now.ensures.now o))) (none_of (out_at c.in-Some.taken.top) (λ e. false_true (sym c.if-is_out.false ∙ c.is_out.ensures.1 e))) c.look.ensures.same (rw c.number-id.ensures at (rw c.new-in-Some.ensures at (rw c.in-Ok-Carry.field-0-is at (c.in-Ok-Carry.ensures {u = tt}).looked))) set.found (λ k. refl) (record { inputs = refl; opened = refl; clients = refl; started = refl }))
 
 pub returns-in-Ok-Carry-clause-handed : goal.returns-in-Ok-Carry-clause-handed
 returns-in-Ok-Carry-clause-handed g c =
@@ -199,12 +202,13 @@ invariant_of-self-in-Ok-Stepped g c =
       kept = c.look.ensures.kept;
       lanes_above = w.lanes_above;
       runs_above = set.above c.self.inside.started w.runs_above;
+      queue = w.queue;
       room =
           let a : length c.self.inside.waiting.items ≤ c.self.inside.runs.room = w.room in
           let b = set.room in
           omega (arith, a, b);
       current = all_kept g.R.Key.Ord.cmp (g.R.Rules.machine c.self.inside.memos.rules) c.self.inside.inputs (memo_at g.R.Key.Ord.cmp c.self.inside.memos.places) (memo_at g.R.Key.Ord.cmp c.look.new.memos.places) c.self.inside.runs.items _ c.args.run c.look.new.self c.look.ensures.renewed set.found w.current (λ e. c.look.ensures.run_kept);
-      ledger = (w.ledger.0, back_moved g.R.Key.Ord.cmp (g.R.Rules.machine c.self.inside.memos.rules) g.O.Outbox.puts (held (record { rules = c.self.inside.memos.rules; places = c.self.inside.memos.places; inputs = c.self.inside.inputs; lanes = c.self.inside.lanes; opened = c.self.inside.opened; clients = c.self.inside.clients; waiting = c.self.inside.waiting.items; runs = c.self.inside.runs; started = c.self.inside.started })) (record { inputs = c.self.inside.inputs; lanes = c.self.inside.lanes.items; opened = c.self.inside.opened; clients = c.self.inside.clients; waiting = c.self.inside.waiting.items; runs = c.put_back-in-Ok-Stepped.new.self.items; started = c.self.inside.started }) w.ledger.0 c.args.run c.in-Some.taken c.look.new.self w.ledger.1 here c.look.ensures.same ((rw c.in-Ok-Stepped.field-0-is at (c.in-Ok-Stepped.ensures {u = tt}).looked) ∙ sym (none_of (out_at c.in-Some.taken.top) (λ e. false_true (sym c.if-is_out.false ∙ c.is_out.ensures.1 e)))) set.found (λ k. refl) (record { inputs = refl; opened = refl; clients = refl; waiting = refl; started = refl }));
+      ledger = (w.ledger.0, back_moved g.R.Key.Ord.cmp (g.R.Rules.machine c.self.inside.memos.rules) g.O.Outbox.puts (held (record { rules = c.self.inside.memos.rules; places = c.self.inside.memos.places; inputs = c.self.inside.inputs; lanes = c.self.inside.lanes; opened = c.self.inside.opened; clients = c.self.inside.clients; waiting = c.self.inside.waiting.items; runs = c.self.inside.runs; started = c.self.inside.started })) (record { inputs = c.self.inside.inputs; lanes = c.self.inside.lanes.items; opened = c.self.inside.opened; clients = c.self.inside.clients; runs = c.put_back-in-Ok-Stepped.new.self.items; started = c.self.inside.started }) w.ledger.0 c.args.run c.in-Some.taken c.look.new.self w.ledger.1 here c.look.ensures.same ((rw c.in-Ok-Stepped.field-0-is at (c.in-Ok-Stepped.ensures {u = tt}).looked) ∙ sym (none_of (out_at c.in-Some.taken.top) (λ e. false_true (sym c.if-is_out.false ∙ c.is_out.ensures.1 e)))) set.found (λ k. refl) (record { inputs = refl; opened = refl; clients = refl; started = refl }));
     })
 
 pub returns-in-Ok-Stepped-clause-moved : goal.returns-in-Ok-Stepped-clause-moved
@@ -215,7 +219,7 @@ returns-in-Ok-Stepped-clause-moved g c =
     rw (← c.self.view_is)
     (λ l s.
     let b = goes_on g.R.Key.Ord.cmp (g.R.Rules.machine c.self.inside.memos.rules) g.O.Outbox.puts c.self.inside.memos.rules (held (record { rules = c.self.inside.memos.rules; places = c.self.inside.memos.places; inputs = c.self.inside.inputs; lanes = c.self.inside.lanes; opened = c.self.inside.opened; clients = c.self.inside.clients; waiting = c.self.inside.waiting.items; runs = c.self.inside.runs; started = c.self.inside.started })) l c.args.run c.in-Some.taken s here (λ o. false_true (sym c.if-is_overtaken.false ∙ c.is_overtaken.ensures.1 (rw c.now-now.ensures.now o))) (none_of (out_at c.in-Some.taken.top) (λ e. false_true (sym c.if-is_out.false ∙ c.is_out.ensures.1 e))) in
-    (l, (b.0, b.1, refl), back_moved g.R.Key.Ord.cmp (g.R.Rules.machine c.self.inside.memos.rules) g.O.Outbox.puts (held (record { rules = c.self.inside.memos.rules; places = c.self.inside.memos.places; inputs = c.self.inside.inputs; lanes = c.self.inside.lanes; opened = c.self.inside.opened; clients = c.self.inside.clients; waiting = c.self.inside.waiting.items; runs = c.self.inside.runs; started = c.self.inside.started })) (record { inputs = c.self.inside.inputs; lanes = c.self.inside.lanes.items; opened = c.self.inside.opened; clients = c.self.inside.clients; waiting = c.self.inside.waiting.items; runs = c.put_back-in-Ok-Stepped.new.self.items; started = c.self.inside.started }) l c.args.run c.in-Some.taken c.look.new.self s here c.look.ensures.same ((rw c.in-Ok-Stepped.field-0-is at (c.in-Ok-Stepped.ensures {u = tt}).looked) ∙ sym (none_of (out_at c.in-Some.taken.top) (λ e. false_true (sym c.if-is_out.false ∙ c.is_out.ensures.1 e)))) set.found (λ k. refl) (record { inputs = refl; opened = refl; clients = refl; waiting = refl; started = refl })))
+    (l, (b.0, b.1, refl), back_moved g.R.Key.Ord.cmp (g.R.Rules.machine c.self.inside.memos.rules) g.O.Outbox.puts (held (record { rules = c.self.inside.memos.rules; places = c.self.inside.memos.places; inputs = c.self.inside.inputs; lanes = c.self.inside.lanes; opened = c.self.inside.opened; clients = c.self.inside.clients; waiting = c.self.inside.waiting.items; runs = c.self.inside.runs; started = c.self.inside.started })) (record { inputs = c.self.inside.inputs; lanes = c.self.inside.lanes.items; opened = c.self.inside.opened; clients = c.self.inside.clients; runs = c.put_back-in-Ok-Stepped.new.self.items; started = c.self.inside.started }) l c.args.run c.in-Some.taken c.look.new.self s here c.look.ensures.same ((rw c.in-Ok-Stepped.field-0-is at (c.in-Ok-Stepped.ensures {u = tt}).looked) ∙ sym (none_of (out_at c.in-Some.taken.top) (λ e. false_true (sym c.if-is_out.false ∙ c.is_out.ensures.1 e)))) set.found (λ k. refl) (record { inputs = refl; opened = refl; clients = refl; started = refl })))
 
 pub end_run-requires-clause-within : goal.end_run-requires-clause-within
 end_run-requires-clause-within g c =
@@ -231,15 +235,17 @@ invariant_of-self-in-Ok-Answered g c =
     let here = sym (rw c.number-id.ensures at (c.in-Some.ensures {u = tt}).value) in
     let runs = rw c.number-id.ensures at c.take.ensures.found in
     let told = rw c.in-Ok-Answered.field-0-is at (c.in-Ok-Answered.ensures {u = tt}).looked in
-    let moved = answer_moved g.R.Key.Ord.cmp (g.R.Rules.machine c.self.inside.memos.rules) g.O.Outbox.puts c.self.inside.memos.rules (held (record { rules = c.self.inside.memos.rules; places = c.self.inside.memos.places; inputs = c.self.inside.inputs; lanes = c.self.inside.lanes; opened = c.self.inside.opened; clients = c.self.inside.clients; waiting = c.self.inside.waiting.items; runs = c.self.inside.runs; started = c.self.inside.started })) (record { inputs = c.self.inside.inputs; lanes = c.end_run.new.lanes.items; opened = c.self.inside.opened; clients = c.self.inside.clients; waiting = c.self.inside.waiting.items; runs = c.take.new.self.items; started = c.self.inside.started }) w.ledger.0 c.args.run c.in-Some.taken c.in-Ok-Answered.answer w.ledger.1 here (λ o. false_true (sym c.if-is_overtaken.false ∙ c.is_overtaken.ensures.1 (rw c.now-now.ensures.now o))) (none_of (out_at c.in-Some.taken.top) (λ e. false_true (sym c.if-is_out.false ∙ c.is_out.ensures.1 e))) told.0 runs
-    (ended_as (held (record { rules = c.self.inside.memos.rules; places = c.self.inside.memos.places; inputs = c.self.inside.inputs; lanes = c.self.inside.lanes; opened = c.self.inside.opened; clients = c.self.inside.clients; waiting = c.self.inside.waiting.items; runs = c.self.inside.runs; started = c.self.inside.started })) (record { inputs = c.self.inside.inputs; lanes = c.end_run.new.lanes.items; opened = c.self.inside.opened; clients = c.self.inside.clients; waiting = c.self.inside.waiting.items; runs = c.take.new.self.items; started = c.self.inside.started }) c.in-Some.taken c.look.new.self c.self.inside.inputs.revision (Answered c.in-Ok-Answered.answer) c.look.ensures.same
+    let moved = answer_moved g.R.Key.Ord.cmp (g.R.Rules.machine c.self.inside.memos.rules) g.O.Outbox.puts c.self.inside.memos.rules (held (record { rules = c.self.inside.memos.rules; places = c.self.inside.memos.places; inputs = c.self.inside.inputs; lanes = c.self.inside.lanes; opened = c.self.inside.opened; clients = c.self.inside.clients; waiting = c.self.inside.waiting.items; runs = c.self.inside.runs; started = c.self.inside.started })) (record { inputs = c.self.inside.inputs; lanes = c.end_run.new.lanes.items; opened = c.self.inside.opened; clients = c.self.inside.clients; runs = c.take.new.self.items; started = c.self.inside.started }) w.ledger.0 c.args.run c.in-Some.taken c.in-Ok-Answered.answer w.ledger.1 here (λ o. false_true (sym c.if-is_overtaken.false ∙ c.is_overtaken.ensures.1 (rw c.now-now.ensures.now o))) (none_of (out_at c.in-Some.taken.top) (λ e. false_true (sym c.if-is_out.false ∙ c.is_out.ensures.1 e))) told.0 runs
+    (ended_as (held (record { rules = c.self.inside.memos.rules; places = c.self.inside.memos.places; inputs = c.self.inside.inputs; lanes = c.self.inside.lanes; opened = c.self.inside.opened; clients = c.self.inside.clients; waiting = c.self.inside.waiting.items; runs = c.self.inside.runs; started = c.self.inside.started })) (record { inputs = c.self.inside.inputs; lanes = c.end_run.new.lanes.items; opened = c.self.inside.opened; clients = c.self.inside.clients; runs = c.take.new.self.items; started = c.self.inside.started }) c.in-Some.taken c.look.new.self c.self.inside.inputs.revision (Answered c.in-Ok-Answered.answer) c.look.ensures.same
     (λ lane h k. rw c.now-now.ensures.now at ((c.end_run.ensures.«open» lane h).found k)))
-    (λ h k. (c.end_run.ensures.closed (ap (λ (n : ℕ). found c.self.inside.lanes.items n) c.look.ensures.same.client ∙ h)).found k) (record { inputs = refl; opened = refl; clients = refl; waiting = refl; started = refl }) in
+    (λ h k. (c.end_run.ensures.closed (ap (λ (n : ℕ). found c.self.inside.lanes.items n) c.look.ensures.same.client ∙ h)).found k) (record { inputs = refl; opened = refl; clients = refl; started = refl }) in
     rw c.look.ensures.rules
     (record {
       kept = c.look.ensures.kept;
       lanes_above = c.end_run.ensures.above c.self.inside.clients w.lanes_above;
       runs_above = c.take.ensures.above c.self.inside.started w.runs_above;
+      queue = end_queue g.R.Key.Ord.cmp (g.R.Rules.machine c.self.inside.memos.rules) g.O.Outbox.puts _ _ _ w.ledger.0 c.args.run c.in-Some.taken _ _ w.ledger.1 here c.look.ensures.same
+          (λ lane h k. (c.end_run.ensures.«open» lane h).found k) (λ h k. (c.end_run.ensures.closed h).found k) w.queue;
       room =
           let a : length c.self.inside.waiting.items ≤ c.self.inside.runs.room = w.room in
           let b = c.take.ensures.room in
@@ -254,10 +260,10 @@ returns-in-Ok-Answered-clause-moved g c =
     let runs = rw c.number-id.ensures at c.take.ensures.found in
     let told = rw c.in-Ok-Answered.field-0-is at (c.in-Ok-Answered.ensures {u = tt}).looked in
     rw (← c.self.view_is)
-    (λ l s. answer_moved g.R.Key.Ord.cmp (g.R.Rules.machine c.self.inside.memos.rules) g.O.Outbox.puts c.self.inside.memos.rules (held (record { rules = c.self.inside.memos.rules; places = c.self.inside.memos.places; inputs = c.self.inside.inputs; lanes = c.self.inside.lanes; opened = c.self.inside.opened; clients = c.self.inside.clients; waiting = c.self.inside.waiting.items; runs = c.self.inside.runs; started = c.self.inside.started })) (record { inputs = c.self.inside.inputs; lanes = c.end_run.new.lanes.items; opened = c.self.inside.opened; clients = c.self.inside.clients; waiting = c.self.inside.waiting.items; runs = c.take.new.self.items; started = c.self.inside.started }) l c.args.run c.in-Some.taken c.in-Ok-Answered.answer s here (λ o. false_true (sym c.if-is_overtaken.false ∙ c.is_overtaken.ensures.1 (rw c.now-now.ensures.now o))) (none_of (out_at c.in-Some.taken.top) (λ e. false_true (sym c.if-is_out.false ∙ c.is_out.ensures.1 e))) told.0 runs
-    (ended_as (held (record { rules = c.self.inside.memos.rules; places = c.self.inside.memos.places; inputs = c.self.inside.inputs; lanes = c.self.inside.lanes; opened = c.self.inside.opened; clients = c.self.inside.clients; waiting = c.self.inside.waiting.items; runs = c.self.inside.runs; started = c.self.inside.started })) (record { inputs = c.self.inside.inputs; lanes = c.end_run.new.lanes.items; opened = c.self.inside.opened; clients = c.self.inside.clients; waiting = c.self.inside.waiting.items; runs = c.take.new.self.items; started = c.self.inside.started }) c.in-Some.taken c.look.new.self c.self.inside.inputs.revision (Answered c.in-Ok-Answered.answer) c.look.ensures.same
+    (λ l s. answer_moved g.R.Key.Ord.cmp (g.R.Rules.machine c.self.inside.memos.rules) g.O.Outbox.puts c.self.inside.memos.rules (held (record { rules = c.self.inside.memos.rules; places = c.self.inside.memos.places; inputs = c.self.inside.inputs; lanes = c.self.inside.lanes; opened = c.self.inside.opened; clients = c.self.inside.clients; waiting = c.self.inside.waiting.items; runs = c.self.inside.runs; started = c.self.inside.started })) (record { inputs = c.self.inside.inputs; lanes = c.end_run.new.lanes.items; opened = c.self.inside.opened; clients = c.self.inside.clients; runs = c.take.new.self.items; started = c.self.inside.started }) l c.args.run c.in-Some.taken c.in-Ok-Answered.answer s here (λ o. false_true (sym c.if-is_overtaken.false ∙ c.is_overtaken.ensures.1 (rw c.now-now.ensures.now o))) (none_of (out_at c.in-Some.taken.top) (λ e. false_true (sym c.if-is_out.false ∙ c.is_out.ensures.1 e))) told.0 runs
+    (ended_as (held (record { rules = c.self.inside.memos.rules; places = c.self.inside.memos.places; inputs = c.self.inside.inputs; lanes = c.self.inside.lanes; opened = c.self.inside.opened; clients = c.self.inside.clients; waiting = c.self.inside.waiting.items; runs = c.self.inside.runs; started = c.self.inside.started })) (record { inputs = c.self.inside.inputs; lanes = c.end_run.new.lanes.items; opened = c.self.inside.opened; clients = c.self.inside.clients; runs = c.take.new.self.items; started = c.self.inside.started }) c.in-Some.taken c.look.new.self c.self.inside.inputs.revision (Answered c.in-Ok-Answered.answer) c.look.ensures.same
     (λ lane h k. rw c.now-now.ensures.now at ((c.end_run.ensures.«open» lane h).found k)))
-    (λ h k. (c.end_run.ensures.closed (ap (λ (n : ℕ). found c.self.inside.lanes.items n) c.look.ensures.same.client ∙ h)).found k) (record { inputs = refl; opened = refl; clients = refl; waiting = refl; started = refl }))
+    (λ h k. (c.end_run.ensures.closed (ap (λ (n : ℕ). found c.self.inside.lanes.items n) c.look.ensures.same.client ∙ h)).found k) (record { inputs = refl; opened = refl; clients = refl; started = refl }))
 
 pub invariant_of-self-in-Err : goal.invariant_of-self-in-Err
 invariant_of-self-in-Err g c =
@@ -270,12 +276,13 @@ invariant_of-self-in-Err g c =
       kept = c.look.ensures.kept;
       lanes_above = w.lanes_above;
       runs_above = set.above c.self.inside.started w.runs_above;
+      queue = w.queue;
       room =
           let a : length c.self.inside.waiting.items ≤ c.self.inside.runs.room = w.room in
           let b = set.room in
           omega (arith, a, b);
       current = all_kept g.R.Key.Ord.cmp (g.R.Rules.machine c.self.inside.memos.rules) c.self.inside.inputs (memo_at g.R.Key.Ord.cmp c.self.inside.memos.places) (memo_at g.R.Key.Ord.cmp c.look.new.memos.places) c.self.inside.runs.items _ c.args.run c.look.new.self c.look.ensures.renewed set.found w.current (λ e. c.look.ensures.run_kept);
-      ledger = (w.ledger.0, back_moved g.R.Key.Ord.cmp (g.R.Rules.machine c.self.inside.memos.rules) g.O.Outbox.puts (held (record { rules = c.self.inside.memos.rules; places = c.self.inside.memos.places; inputs = c.self.inside.inputs; lanes = c.self.inside.lanes; opened = c.self.inside.opened; clients = c.self.inside.clients; waiting = c.self.inside.waiting.items; runs = c.self.inside.runs; started = c.self.inside.started })) (record { inputs = c.self.inside.inputs; lanes = c.self.inside.lanes.items; opened = c.self.inside.opened; clients = c.self.inside.clients; waiting = c.self.inside.waiting.items; runs = c.put_back-in-Err.new.self.items; started = c.self.inside.started }) w.ledger.0 c.args.run c.in-Some.taken c.look.new.self w.ledger.1 here c.look.ensures.same ((c.in-Err.ensures {u = tt}).refused ∙ sym (none_of (out_at c.in-Some.taken.top) (λ e. false_true (sym c.if-is_out.false ∙ c.is_out.ensures.1 e)))) set.found (λ k. refl) (record { inputs = refl; opened = refl; clients = refl; waiting = refl; started = refl }));
+      ledger = (w.ledger.0, back_moved g.R.Key.Ord.cmp (g.R.Rules.machine c.self.inside.memos.rules) g.O.Outbox.puts (held (record { rules = c.self.inside.memos.rules; places = c.self.inside.memos.places; inputs = c.self.inside.inputs; lanes = c.self.inside.lanes; opened = c.self.inside.opened; clients = c.self.inside.clients; waiting = c.self.inside.waiting.items; runs = c.self.inside.runs; started = c.self.inside.started })) (record { inputs = c.self.inside.inputs; lanes = c.self.inside.lanes.items; opened = c.self.inside.opened; clients = c.self.inside.clients; runs = c.put_back-in-Err.new.self.items; started = c.self.inside.started }) w.ledger.0 c.args.run c.in-Some.taken c.look.new.self w.ledger.1 here c.look.ensures.same ((c.in-Err.ensures {u = tt}).refused ∙ sym (none_of (out_at c.in-Some.taken.top) (λ e. false_true (sym c.if-is_out.false ∙ c.is_out.ensures.1 e)))) set.found (λ k. refl) (record { inputs = refl; opened = refl; clients = refl; started = refl }));
     })
 
 pub returns-in-Err-clause-moved : goal.returns-in-Err-clause-moved
@@ -286,4 +293,4 @@ returns-in-Err-clause-moved g c =
     rw (← c.self.view_is)
     (λ l s.
     let b = goes_on g.R.Key.Ord.cmp (g.R.Rules.machine c.self.inside.memos.rules) g.O.Outbox.puts c.self.inside.memos.rules (held (record { rules = c.self.inside.memos.rules; places = c.self.inside.memos.places; inputs = c.self.inside.inputs; lanes = c.self.inside.lanes; opened = c.self.inside.opened; clients = c.self.inside.clients; waiting = c.self.inside.waiting.items; runs = c.self.inside.runs; started = c.self.inside.started })) l c.args.run c.in-Some.taken s here (λ o. false_true (sym c.if-is_overtaken.false ∙ c.is_overtaken.ensures.1 (rw c.now-now.ensures.now o))) (none_of (out_at c.in-Some.taken.top) (λ e. false_true (sym c.if-is_out.false ∙ c.is_out.ensures.1 e))) in
-    (l, (b.0, b.1, refl), back_moved g.R.Key.Ord.cmp (g.R.Rules.machine c.self.inside.memos.rules) g.O.Outbox.puts (held (record { rules = c.self.inside.memos.rules; places = c.self.inside.memos.places; inputs = c.self.inside.inputs; lanes = c.self.inside.lanes; opened = c.self.inside.opened; clients = c.self.inside.clients; waiting = c.self.inside.waiting.items; runs = c.self.inside.runs; started = c.self.inside.started })) (record { inputs = c.self.inside.inputs; lanes = c.self.inside.lanes.items; opened = c.self.inside.opened; clients = c.self.inside.clients; waiting = c.self.inside.waiting.items; runs = c.put_back-in-Err.new.self.items; started = c.self.inside.started }) l c.args.run c.in-Some.taken c.look.new.self s here c.look.ensures.same ((c.in-Err.ensures {u = tt}).refused ∙ sym (none_of (out_at c.in-Some.taken.top) (λ e. false_true (sym c.if-is_out.false ∙ c.is_out.ensures.1 e)))) set.found (λ k. refl) (record { inputs = refl; opened = refl; clients = refl; waiting = refl; started = refl })))
+    (l, (b.0, b.1, refl), back_moved g.R.Key.Ord.cmp (g.R.Rules.machine c.self.inside.memos.rules) g.O.Outbox.puts (held (record { rules = c.self.inside.memos.rules; places = c.self.inside.memos.places; inputs = c.self.inside.inputs; lanes = c.self.inside.lanes; opened = c.self.inside.opened; clients = c.self.inside.clients; waiting = c.self.inside.waiting.items; runs = c.self.inside.runs; started = c.self.inside.started })) (record { inputs = c.self.inside.inputs; lanes = c.self.inside.lanes.items; opened = c.self.inside.opened; clients = c.self.inside.clients; runs = c.put_back-in-Err.new.self.items; started = c.self.inside.started }) l c.args.run c.in-Some.taken c.look.new.self s here c.look.ensures.same ((c.in-Err.ensures {u = tt}).refused ∙ sym (none_of (out_at c.in-Some.taken.top) (λ e. false_true (sym c.if-is_out.false ∙ c.is_out.ensures.1 e)))) set.found (λ k. refl) (record { inputs = refl; opened = refl; clients = refl; started = refl })))

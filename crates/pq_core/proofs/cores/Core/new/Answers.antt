@@ -1,5 +1,6 @@
 use Rattle.std.proofs.Common.{refl, sym, ◌∙◌, arith}
 use Rattle.pq_core.proofs.Lists.{none_some}
+use Rattle.pq_core.proofs.Queued.{once_none}
 use Rattle.pq_core.proofs.CoreOpening.{new_stands}
 use Rattle.pq_core.specs.Ledger.{unused}
 use Rattle.pq_core.proofs.cores.Core.new.Goals as goal
@@ -10,6 +11,11 @@ invariant_of-result g c =
       kept = record { memos = λ k memo h. absurd (none_some memo (sym (c.new.ensures.empty k) ∙ h)) };
       lanes_above = c.new-2.ensures.above 0;
       runs_above = c.new-4.ensures.above 0;
+      queue = rw c.new-3.ensures.items (record {
+        waits = λ k n w. absurd w;
+        queued = λ k n request w. absurd (none_some w.lane (sym (c.new-2.ensures.none k) ∙ w.here));
+        once = once_none _;
+      });
       room = rw c.new-3.ensures.items (omega arith);
       current = λ r run h. absurd (none_some run (sym (c.new-4.ensures.none r) ∙ h));
       ledger = (

@@ -1,6 +1,8 @@
 use Rattle.std.proofs.Common.{◌+◌, refl, arith}
 use Rattle.pq_core.proofs.Changing.{pushed_at, room_made, above_next}
 use Rattle.pq_core.proofs.CoreOpening.{open_moved, open_refused, unmoved, new_lane}
+use Rattle.pq_core.proofs.Queued.{queue_same, queue_opened}
+use Rattle.pq_core.proofs.Slots.{found_above}
 use Rattle.pq_core.proofs.cores.Core.open_client.Goals as goal
 
 pub returns-then-is_err-clause-moved : goal.returns-then-is_err-clause-moved
@@ -12,7 +14,6 @@ returns-then-is_err-clause-moved g c =
       lanes = λ k. c.reserve.ensures.same.same k;
       opened = refl;
       clients = refl;
-      waiting = refl;
       runs = λ k. refl;
       started = refl;
     })
@@ -28,6 +29,7 @@ invariant_of-self g c =
       kept = w.kept;
       lanes_above = c.reserve.ensures.same.above c.self.inside.clients w.lanes_above;
       runs_above = w.runs_above;
+      queue = queue_same _ _ _ (λ k. c.reserve.ensures.same.same k) w.queue;
       room = w.room;
       current = w.current;
       ledger = (
@@ -38,7 +40,6 @@ invariant_of-self g c =
               lanes = λ k. c.reserve.ensures.same.same k;
               opened = refl;
               clients = refl;
-              waiting = refl;
               runs = λ k. refl;
               started = refl;
             })
@@ -51,12 +52,14 @@ invariant_of-self-2 g c =
     let w = c.self.invariant in
     let moved = open_moved g.R.Key.Ord.cmp (g.R.Rules.machine c.self.inside.memos.rules) g.O.Outbox.puts _ _ c.new.result c.args.outbox w.ledger.0
     (pushed_at _ _ _ c.self.inside.clients c.new.result c.reserve.ensures.same c.push_reserved.ensures.found)
-    refl refl refl refl refl refl
+    refl refl refl refl refl
     (rw c.new.ensures (new_lane g.O.Outbox.puts c.args.outbox c.requires)) c.requires (omega arith) w.ledger.1 in
+    let lanes = rw c.new.ensures at (pushed_at _ _ _ c.self.inside.clients c.new.result c.reserve.ensures.same c.push_reserved.ensures.found) in
     record {
       kept = w.kept;
       lanes_above = c.push_reserved.ensures.above (c.self.inside.clients + 1) (omega arith) (above_next _ _ (c.reserve.ensures.same.above c.self.inside.clients w.lanes_above));
       runs_above = w.runs_above;
+      queue = queue_opened _ _ _ c.self.inside.clients c.args.outbox (found_above c.self.inside.clients _ w.lanes_above) lanes w.queue;
       room = w.room;
       current = w.current;
       ledger = (moved.0, moved.2);
@@ -68,5 +71,5 @@ returns-clause-moved g c =
     (rw c.new-2.ensures
     (λ l s. open_moved g.R.Key.Ord.cmp (g.R.Rules.machine c.self.inside.memos.rules) g.O.Outbox.puts _ _ c.new.result c.args.outbox l
     (pushed_at _ _ _ c.self.inside.clients c.new.result c.reserve.ensures.same c.push_reserved.ensures.found)
-    refl refl refl refl refl refl
+    refl refl refl refl refl
     (rw c.new.ensures (new_lane g.O.Outbox.puts c.args.outbox c.requires)) c.requires (omega arith) s))

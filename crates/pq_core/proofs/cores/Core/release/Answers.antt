@@ -1,5 +1,6 @@
 use Rattle.std.proofs.Common.{refl}
 use Rattle.pq_core.proofs.CoreReleasing.{still_above, lane_put, lane_numbered, release_moved}
+use Rattle.pq_core.proofs.Queued.{queue_called, released_waits}
 use Rattle.pq_core.proofs.cores.Core.release.Goals as goal
 
 pub release_in-requires-clause-put : goal.release_in-requires-clause-put
@@ -19,12 +20,15 @@ invariant_of-self g c =
     c.release_in.result w.ledger.0
     (λ lane h. let x = c.release_in.ensures.«open» lane h in (x.0, x.1, x.2.found))
     (λ h. let x = c.release_in.ensures.closed h in (x.0, x.1.found))
-    (record { inputs = refl; clients = refl; waiting = refl; runs = refl; started = refl }) refl w.ledger.1 in
+    (record { inputs = refl; clients = refl; runs = refl; started = refl }) refl w.ledger.1 in
     record {
       kept = w.kept;
       lanes_above =
           still_above c.self.inside.lanes c.release_in.new.lanes c.number-seat.result c.self.inside.clients c.release_in.ensures.«open» c.release_in.ensures.closed w.lanes_above;
       runs_above = w.runs_above;
+      queue = queue_called _ _ _ c.number-seat.result
+          (λ lane h. let x = c.release_in.ensures.«open» lane h in (x.0, released_waits g.O.Outbox.puts g.O.Outbox.takes g.O.Outbox.was_full c.release_in.result lane x.0 x.1, x.2.found))
+          (λ h. let x = c.release_in.ensures.closed h in (x.0, x.1.found)) w.queue;
       room = w.room;
       current = w.current;
       ledger = (moved.0, moved.2);
@@ -38,4 +42,4 @@ returns-clause-moved g c =
     c.release_in.result l
     (λ lane h. let x = c.release_in.ensures.«open» lane h in (x.0, x.1, x.2.found))
     (λ h. let x = c.release_in.ensures.closed h in (x.0, x.1.found))
-    (record { inputs = refl; clients = refl; waiting = refl; runs = refl; started = refl }) refl s))
+    (record { inputs = refl; clients = refl; runs = refl; started = refl }) refl s))

@@ -7,7 +7,7 @@ use Rattle.pq_core.specs.declared.outcome.Outcome.TheVariants.{Starved}
 use Rattle.pq_core.proofs.Changing.{none_taken}
 use Rattle.pq_core.proofs.Keeping.{kept_starves}
 use Rattle.pq_core.proofs.CoreOpening.{unmoved}
-use Rattle.pq_core.proofs.CoreRunning.{run_here, no_run, run_within, end_moved, others_kept}
+use Rattle.pq_core.proofs.CoreRunning.{end_queue, run_here, no_run, run_within, end_moved, others_kept}
 use Rattle.pq_core.proofs.Renewed.{renewed_same}
 use Rattle.pq_core.proofs.cores.Core.starve.Goals as goal
 
@@ -23,13 +23,15 @@ invariant_of-self g c =
     let runs = rw c.number.ensures at c.take.ensures.found in
     let x = run_here g.R.Key.Ord.cmp (g.R.Rules.machine c.self.inside.memos.rules) g.O.Outbox.puts (held (record { rules = c.self.inside.memos.rules; places = c.self.inside.memos.places; inputs = c.self.inside.inputs; lanes = c.self.inside.lanes; opened = c.self.inside.opened; clients = c.self.inside.clients; waiting = c.self.inside.waiting.items; runs = c.self.inside.runs; started = c.self.inside.started })) w.ledger.0 c.args.run c.in-Some.run' w.ledger.1 here in
     let move : Starves c.args.run true w.ledger.0 (ended w.ledger.0 x.at true Starved) = (x.at, x.runs, refl) in
-    let stands = end_moved g.R.Key.Ord.cmp (g.R.Rules.machine c.self.inside.memos.rules) g.O.Outbox.puts (held (record { rules = c.self.inside.memos.rules; places = c.self.inside.memos.places; inputs = c.self.inside.inputs; lanes = c.self.inside.lanes; opened = c.self.inside.opened; clients = c.self.inside.clients; waiting = c.self.inside.waiting.items; runs = c.self.inside.runs; started = c.self.inside.started })) (record { inputs = c.self.inside.inputs; lanes = c.end_run.new.lanes.items; opened = c.self.inside.opened; clients = c.self.inside.clients; waiting = c.self.inside.waiting.items; runs = c.take.new.self.items; started = c.self.inside.started }) w.ledger.0 c.args.run c.in-Some.run' true Starved x w.ledger.1 here runs
-    (λ lane h k. rw c.now-now.ensures.now at ((c.end_run.ensures.«open» lane h).found k)) (λ h k. (c.end_run.ensures.closed h).found k) (record { inputs = refl; opened = refl; clients = refl; waiting = refl; started = refl })
+    let stands = end_moved g.R.Key.Ord.cmp (g.R.Rules.machine c.self.inside.memos.rules) g.O.Outbox.puts (held (record { rules = c.self.inside.memos.rules; places = c.self.inside.memos.places; inputs = c.self.inside.inputs; lanes = c.self.inside.lanes; opened = c.self.inside.opened; clients = c.self.inside.clients; waiting = c.self.inside.waiting.items; runs = c.self.inside.runs; started = c.self.inside.started })) (record { inputs = c.self.inside.inputs; lanes = c.end_run.new.lanes.items; opened = c.self.inside.opened; clients = c.self.inside.clients; runs = c.take.new.self.items; started = c.self.inside.started }) w.ledger.0 c.args.run c.in-Some.run' true Starved x w.ledger.1 here runs
+    (λ lane h k. rw c.now-now.ensures.now at ((c.end_run.ensures.«open» lane h).found k)) (λ h k. (c.end_run.ensures.closed h).found k) (record { inputs = refl; opened = refl; clients = refl; started = refl })
     (kept_starves (answer_by g.R.Key.Ord.cmp (g.R.Rules.machine c.self.inside.memos.rules)) g.O.Outbox.puts c.args.run true w.ledger.0 _ w.ledger.1.kept move) in
     record {
       kept = w.kept;
       lanes_above = c.end_run.ensures.above c.self.inside.clients w.lanes_above;
       runs_above = c.take.ensures.above c.self.inside.started w.runs_above;
+      queue = end_queue g.R.Key.Ord.cmp (g.R.Rules.machine c.self.inside.memos.rules) g.O.Outbox.puts _ _ _ w.ledger.0 c.args.run c.in-Some.run' c.in-Some.run' _ w.ledger.1 here (record { client = refl; number = refl; request = refl; started = refl })
+          (λ lane h k. (c.end_run.ensures.«open» lane h).found k) (λ h k. (c.end_run.ensures.closed h).found k) w.queue;
       room =
           let a : length c.self.inside.waiting.items ≤ c.self.inside.runs.room = w.room in
           let b : c.self.inside.runs.room ≤ c.take.new.self.room = c.take.ensures.room in
@@ -48,8 +50,8 @@ returns-in-Some-clause-moved g c =
     (λ l s.
     let x = run_here g.R.Key.Ord.cmp (g.R.Rules.machine c.self.inside.memos.rules) g.O.Outbox.puts (held (record { rules = c.self.inside.memos.rules; places = c.self.inside.memos.places; inputs = c.self.inside.inputs; lanes = c.self.inside.lanes; opened = c.self.inside.opened; clients = c.self.inside.clients; waiting = c.self.inside.waiting.items; runs = c.self.inside.runs; started = c.self.inside.started })) l c.args.run c.in-Some.run' s here in
     let move : Starves c.args.run true l (ended l x.at true Starved) = (x.at, x.runs, refl) in
-    let stands = end_moved g.R.Key.Ord.cmp (g.R.Rules.machine c.self.inside.memos.rules) g.O.Outbox.puts (held (record { rules = c.self.inside.memos.rules; places = c.self.inside.memos.places; inputs = c.self.inside.inputs; lanes = c.self.inside.lanes; opened = c.self.inside.opened; clients = c.self.inside.clients; waiting = c.self.inside.waiting.items; runs = c.self.inside.runs; started = c.self.inside.started })) (record { inputs = c.self.inside.inputs; lanes = c.end_run.new.lanes.items; opened = c.self.inside.opened; clients = c.self.inside.clients; waiting = c.self.inside.waiting.items; runs = c.take.new.self.items; started = c.self.inside.started }) l c.args.run c.in-Some.run' true Starved x s here runs
-    (λ lane h k. rw c.now-now.ensures.now at ((c.end_run.ensures.«open» lane h).found k)) (λ h k. (c.end_run.ensures.closed h).found k) (record { inputs = refl; opened = refl; clients = refl; waiting = refl; started = refl })
+    let stands = end_moved g.R.Key.Ord.cmp (g.R.Rules.machine c.self.inside.memos.rules) g.O.Outbox.puts (held (record { rules = c.self.inside.memos.rules; places = c.self.inside.memos.places; inputs = c.self.inside.inputs; lanes = c.self.inside.lanes; opened = c.self.inside.opened; clients = c.self.inside.clients; waiting = c.self.inside.waiting.items; runs = c.self.inside.runs; started = c.self.inside.started })) (record { inputs = c.self.inside.inputs; lanes = c.end_run.new.lanes.items; opened = c.self.inside.opened; clients = c.self.inside.clients; runs = c.take.new.self.items; started = c.self.inside.started }) l c.args.run c.in-Some.run' true Starved x s here runs
+    (λ lane h k. rw c.now-now.ensures.now at ((c.end_run.ensures.«open» lane h).found k)) (λ h k. (c.end_run.ensures.closed h).found k) (record { inputs = refl; opened = refl; clients = refl; started = refl })
     (kept_starves (answer_by g.R.Key.Ord.cmp (g.R.Rules.machine c.self.inside.memos.rules)) g.O.Outbox.puts c.args.run true l _ s.kept move) in
     (ended l x.at true Starved, move, stands))
 
@@ -62,6 +64,7 @@ invariant_of-self-in-None g c =
       kept = w.kept;
       lanes_above = w.lanes_above;
       runs_above = same.above c.self.inside.started w.runs_above;
+      queue = w.queue;
       room =
           let a : length c.self.inside.waiting.items ≤ c.self.inside.runs.room = w.room in
           let b : c.self.inside.runs.room ≤ c.take.new.self.room = same.room in
@@ -74,7 +77,6 @@ invariant_of-self-in-None g c =
           lanes = λ k. refl;
           opened = refl;
           clients = refl;
-          waiting = refl;
           runs = same.found;
           started = refl;
         }) w.ledger.1,
@@ -94,7 +96,6 @@ returns-in-None-clause-moved g c =
         lanes = λ k. refl;
         opened = refl;
         clients = refl;
-        waiting = refl;
         runs = same.found;
         started = refl;
       }) s,

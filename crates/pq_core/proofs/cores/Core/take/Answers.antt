@@ -1,5 +1,6 @@
 use Rattle.std.proofs.Common.{refl}
 use Rattle.pq_core.proofs.CoreReleasing.{still_above, take_moved}
+use Rattle.pq_core.proofs.Queued.{queue_called, taken_waits}
 use Rattle.pq_core.proofs.cores.Core.take.Goals as goal
 
 pub invariant_of-self : goal.invariant_of-self
@@ -9,12 +10,15 @@ invariant_of-self g c =
     c.take_in.result w.ledger.0
     (λ lane h. let x = c.take_in.ensures.«open» lane h in (x.0, x.1, x.2.found))
     (λ h. let x = c.take_in.ensures.closed h in (x.0, x.1.found))
-    (record { inputs = refl; clients = refl; waiting = refl; runs = refl; started = refl }) refl w.ledger.1 in
+    (record { inputs = refl; clients = refl; runs = refl; started = refl }) refl w.ledger.1 in
     record {
       kept = w.kept;
       lanes_above =
           still_above c.self.inside.lanes c.take_in.new.lanes c.number-seat.result c.self.inside.clients c.take_in.ensures.«open» c.take_in.ensures.closed w.lanes_above;
       runs_above = w.runs_above;
+      queue = queue_called _ _ _ c.number-seat.result
+          (λ lane h. let x = c.take_in.ensures.«open» lane h in (x.0, taken_waits g.O.Outbox.puts g.O.Outbox.takes c.take_in.result lane x.0 x.1, x.2.found))
+          (λ h. let x = c.take_in.ensures.closed h in (x.0, x.1.found)) w.queue;
       room = w.room;
       current = w.current;
       ledger = (moved.0, moved.2);
@@ -28,4 +32,4 @@ returns-clause-moved g c =
     c.take_in.result l
     (λ lane h. let x = c.take_in.ensures.«open» lane h in (x.0, x.1, x.2.found))
     (λ h. let x = c.take_in.ensures.closed h in (x.0, x.1.found))
-    (record { inputs = refl; clients = refl; waiting = refl; runs = refl; started = refl }) refl s))
+    (record { inputs = refl; clients = refl; runs = refl; started = refl }) refl s))
