@@ -13,11 +13,13 @@
 //! (how an error is added); the errors of a tree: `unread_lines`, and `member_lines` over
 //! `field_lines`, `range_lines`, `body_lines`, `value_lines`, `aliases`, `name_lines`; the errors
 //! of its surroundings (`surroundings`): `import_lines`, `definition_lines`, `reference_lines`;
-//! `keys` (what a sum offers), `gathered` and `checked` (the query of the errors), `diagnostics`;
+//! `keys` (what a sum offers), `answered`, `gathered` and `checked` (the query of the errors),
+//! `diagnostics`;
 //! `laws`, `rule_laws`.
 #![tactic(auto)]
 
 mod aliases;
+mod answered;
 mod body_lines;
 mod checked;
 mod code;
