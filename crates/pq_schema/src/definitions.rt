@@ -2,7 +2,7 @@
 //!
 //! `Defs::of` makes the full names in one walk over the tree, and sorts them. Names of one scope
 //! share its name. `find` is a binary search, `repeated` a walk over the sorted names.
-ghost use Rattle.std.specs.Prelude.{◌≡◌, bytes_eq, find, IfOk};
+ghost use Rattle.std.specs.Prelude.{◌≡◌, bytes_eq, find, IfOk, IsTrue};
 ghost use Rattle.std.specs.Option.{option_copied};
 ghost use Rattle.pq_schema.specs.Definitions.{defs_of};
 ghost use Rattle.pq_schema.specs.Repeated.{AreRepeated};
@@ -129,6 +129,15 @@ impl Defs {
             ≡ find (λ d. bytes_eq d.full_name full_name.now) self.now.definitions }
     {
         first_named(&self.index, &self.definitions, full_name)
+    }
+
+    /// Whether this may equal `other`: both have as many definitions, and the last are equal. An edit
+    /// moves the names after it, so it mostly changes the last one.
+    pub(crate) fn may_equal(&self, other: &Defs) -> bool
+        ensures equal { self.now ≡ other.now → IsTrue result }
+    {
+        self.definitions.len() == other.definitions.len()
+            && self.definitions.last() == other.definitions.last()
     }
 
     /// Of each definition, whether one before it has its full name, by one walk over the names in

@@ -1,5 +1,5 @@
 //! The scope of a file: the definitions that it sees, and those that it reaches.
-ghost use Rattle.std.specs.Prelude.{◌≡◌, IfOk};
+ghost use Rattle.std.specs.Prelude.{◌≡◌, IfOk, IsTrue};
 ghost use Rattle.std.specs.Option.{option_copied};
 ghost use Rattle.pq_schema.specs.Others.{first_other};
 
@@ -91,7 +91,23 @@ impl Scope {
     }
 }
 
-/// Two scopes are equal exactly if contracts see the same files in both lists.
+/// Whether the lists of files may be equal, by the last definition of each file.
+fn may_equal(files: &[FileDefs], others: &[FileDefs]) -> bool
+    ensures equal { files.now ≡ others.now → IsTrue result }
+{
+    if files.len() != others.len() {
+        return false;
+    }
+    'files: for i in 0..files.len() {
+        if !files[i].defs.get().may_equal(others[i].defs.get()) {
+            return false;
+        }
+    }
+    true
+}
+
+/// Two scopes are equal exactly if contracts see the same files in both lists. A file that differs
+/// is mostly found by its last definition, without a look at the definitions of the other files.
 impl PartialEq for Scope {
     ghost use Rattle.pq_schema.specs.aux.SameScopes.{same_lists, lists_per};
 
@@ -100,6 +116,12 @@ impl PartialEq for Scope {
     ghost laws = { lists_per };
 
     fn eq(&self, other: &Self) -> bool {
+        if !may_equal(self.visible(), other.visible()) {
+            return false;
+        }
+        if !may_equal(self.reach(), other.reach()) {
+            return false;
+        }
         self.visible() == other.visible() && self.reach() == other.reach()
     }
 }
