@@ -10,6 +10,7 @@ ghost use Rattle.pq_schema.specs.aux.InPackage.{AllBelow, dotted};
 
 use crate::coded::Coded;
 use crate::define::definitions_in;
+use crate::digests::digest_of;
 use crate::enclosing::Enclosing;
 use crate::full_name::{FullName, with_dot};
 use crate::index::{first_named, index_of, repeated};
@@ -65,6 +66,8 @@ pub struct Defs {
     definitions: Vec<Definition>,
     /// The full names in the order of the index, each with its place in `definitions`.
     index: Vec<(Coded, usize)>,
+    /// A number made of the definitions.
+    digest: u64,
 }
 
 impl Model for Defs {
@@ -75,12 +78,14 @@ impl Model for Defs {
     ghost use Rattle.std.specs.Prelude.{◌≡◌};
     ghost use Rattle.pq_schema.specs.aux.InPackage.{AllBelow, dotted};
     ghost use Rattle.pq_schema.specs.aux.Index.{IsIndexOf};
+    ghost use Rattle.pq_schema.specs.aux.Digests.{digest_from};
 
     ghost view = { λ d. record { package_name = d.package_name; definitions = d.definitions.items } };
 
     ghost invariant = { λ d. (d.root ≡ dotted d.package_name)
         × AllBelow d.package_name d.definitions.items
-        × IsIndexOf d.index.items d.definitions.items };
+        × IsIndexOf d.index.items d.definitions.items
+        × (d.digest ≡ digest_from 0 d.definitions.items) };
 }
 
 impl Defs {
@@ -93,11 +98,13 @@ impl Defs {
         let package = Enclosing::package(alloc, &package_name)?;
         let definitions = definitions_in(alloc, &package, nodes)?;
         let index = index_of(alloc, &definitions)?;
+        let digest = digest_of(&definitions);
         Ok(Defs {
             package_name,
             root,
             definitions,
             index,
+            digest,
         })
     }
 
@@ -131,13 +138,12 @@ impl Defs {
         first_named(&self.index, &self.definitions, full_name)
     }
 
-    /// Whether this may equal `other`: both have as many definitions, and the last are equal. An edit
-    /// moves the names after it, so it mostly changes the last one.
+    /// Whether this may equal `other`, by one comparison of numbers. Definitions of other names or at
+    /// other places mostly have another number.
     pub(crate) fn may_equal(&self, other: &Defs) -> bool
         ensures equal { self.now ≡ other.now → IsTrue result }
     {
-        self.definitions.len() == other.definitions.len()
-            && self.definitions.last() == other.definitions.last()
+        self.digest == other.digest
     }
 
     /// Of each definition, whether one before it has its full name, by one walk over the names in

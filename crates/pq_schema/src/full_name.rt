@@ -240,14 +240,14 @@ fn compare(a: Rest<'_>, b: Rest<'_>) -> Ordering
 /// The most bytes that a code is made of.
 const CODED: usize = 32;
 
-/// The factor of a code before each byte: 2^64 over the golden ratio, odd.
+/// The factor of a code before each number: 2^64 over the golden ratio, odd.
 const FACTOR: u64 = 11_400_714_819_323_198_485;
 
-/// The code `code` with the byte `byte` after it.
-fn coded(code: u64, byte: u8) -> u64
-    ensures code { result ≡ coded code byte }
+/// The code `code` with the number `part` after it.
+pub(crate) fn coded(code: u64, part: u64) -> u64
+    ensures code { result ≡ coded code part }
 {
-    code.wrapping_mul(FACTOR).wrapping_add(byte as u64)
+    code.wrapping_mul(FACTOR).wrapping_add(part)
 }
 
 /// The code of `bytes`.
@@ -258,7 +258,7 @@ fn code_of_rest(bytes: Rest<'_>) -> u64
     let mut code = 0u64;
     'bytes: for i in 0..CODED {
         match rest.pop() {
-            Some(byte) => code = coded(code, byte),
+            Some(byte) => code = coded(code, byte as u64),
             None => return code,
         }
     }

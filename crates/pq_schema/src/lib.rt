@@ -10,12 +10,13 @@
 //! compiles to; `schema_in_rules` says this of every rule set that embeds the queries.
 //!
 //! Modules: `definitions` (what a file defines), `define` (what a statement defines), `index` (the
-//! search by full name, over `coded`), `references`, `outline` (the package and the scopes of a file),
-//! `full_name` and `enclosing` (names that share their scopes), `map_entries`; `scope` (the files
-//! that a file sees and reaches), `files` over `by_package` and `named` (the look-up of a full
-//! name, which files it asks, and the first that has it), `nesting` (the scopes around a scope), `search` (the search from scope to scope), `resolution` (its answers); `keys` (what a
-//! sum offers), `defined`, `scopes` over `collected`, and `resolved` (the queries), `rules` (the
-//! rule set); `laws`, `scope_laws`.
+//! search by full name, over `coded`), `digests` (a number of all definitions), `references`,
+//! `outline` (the package and the scopes of a file), `full_name` and `enclosing` (names that share
+//! their scopes), `map_entries`; `scope` (the files that a file sees and reaches), `files` over
+//! `by_package` and `named` (the look-up of a full name, which files it asks, and the first that
+//! has it), `nesting` (the scopes around a scope), `search` (the search from scope to scope),
+//! `resolution` (its answers); `keys` (what a sum offers), `defined`, `scopes` over `collected`,
+//! and `resolved` (the queries), `rules` (the rule set); `laws`, `scope_laws`.
 #![tactic(auto)]
 
 mod by_package;
@@ -24,6 +25,7 @@ mod collected;
 mod define;
 mod defined;
 mod definitions;
+mod digests;
 mod enclosing;
 mod files;
 mod full_name;

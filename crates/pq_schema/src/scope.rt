@@ -91,7 +91,7 @@ impl Scope {
     }
 }
 
-/// Whether the lists of files may be equal, by the last definition of each file.
+/// Whether the lists of files may be equal, by one number of each file.
 fn may_equal(files: &[FileDefs], others: &[FileDefs]) -> bool
     ensures equal { files.now ≡ others.now → IsTrue result }
 {
@@ -107,7 +107,7 @@ fn may_equal(files: &[FileDefs], others: &[FileDefs]) -> bool
 }
 
 /// Two scopes are equal exactly if contracts see the same files in both lists. A file that differs
-/// is mostly found by its last definition, without a look at the definitions of the other files.
+/// is mostly found by its number, without a look at the definitions of the other files.
 impl PartialEq for Scope {
     ghost use Rattle.pq_schema.specs.aux.SameScopes.{same_lists, lists_per};
 

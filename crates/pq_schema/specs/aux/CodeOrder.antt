@@ -1,6 +1,6 @@
 -- Auxiliary: the order of names by their codes is total, and its ties are equal names. The lemmas
 -- are here, since the laws of the order cite them.
-use Rattle.std.proofs.Common.{◌≡◌, ℕ, List, Bool, true, false, refl, sym, ap, ◌∙◌, true≢false}
+use Rattle.std.proofs.Common.{◌≡◌, ℕ, List, true, refl, sym, ap, ◌∙◌, true≢false}
 use Rattle.std.specs.Prelude.{bytes_eq}
 use Rattle.std.specs.Cmp.{IsTotalOrder, IsPartialOrder, partial_order_from_agreeing_total, both_ways}
 use Rattle.std.specs.Cmp.Lexicographic.{bytes_decides}

@@ -4,7 +4,7 @@ use Rattle.std.specs.declared.cmp.Ordering.{Ordering}
 use Rattle.std.specs.Ordering.{nat_cmp, ordering_then}
 use Rattle.pq_schema.specs.aux.NameParts.{name_order}
 
--- `coded c b` is the code `c` with the byte `b` after it
+-- `coded c b` is the code `c` with the number `b` after it
 abbrev pub coded : ℕ → ℕ → ℕ
 coded c b = ((c * 11400714819323198485) % 2 ^ 64 + b) % 2 ^ 64
 

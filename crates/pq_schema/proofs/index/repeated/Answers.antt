@@ -1,6 +1,6 @@
-use Rattle.std.proofs.Common.{◌≡◌, ℕ, ◌+◌, ◌<◌, ◌≤◌, Bool, nat_lt, set, length, get_or, List, refl, sym, ap, subst, ◌∙◌, arith}
+use Rattle.std.proofs.Common.{ℕ, ◌+◌, ◌<◌, ◌≤◌, nat_lt, set, length, get_or, List, sym, ap, subst, arith}
 use Rattle.std.proofs.lemmas.List.{get_or_default}
-use Rattle.pq_schema.specs.aux.Index.{IsStart, AreMarked, place_at, group_start}
+use Rattle.pq_schema.specs.aux.Index.{IsStart, AreMarked, place_at}
 use Rattle.pq_schema.proofs.IndexLemmas.{no_entry}
 use Rattle.pq_schema.proofs.Repeats.{placed, next_start, marked_more, marked_all}
 use Rattle.pq_schema.proofs.index.repeated.Goals as goal

@@ -3,6 +3,8 @@ use Rattle.std.specs.Prelude.{codes}
 use Rattle.pq_syntax.specs.Places.{places}
 use Rattle.pq_schema.specs.aux.InPackage.{AllBelow}
 use Rattle.pq_schema.specs.aux.Index.{IsIndexOf}
+use Rattle.pq_schema.specs.aux.Digests.{digest_from}
+use Rattle.pq_schema.specs.declared.definitions.Definition.{Definition}
 use Rattle.pq_schema.proofs.InPackage.{all_below}
 use Rattle.pq_schema.proofs.definitions.Defs.of.Goals as goal
 
@@ -15,4 +17,5 @@ invariant_of-result c =
       c.in_ok-root.ensures.dotted ∙ ap (λ (n : List ℕ). n ++ codes ".") c.as_str.ensures.same,
       below,
       subst (IsIndexOf c.in_ok-index.index.items) c.deref.ensures.value index,
+      subst (λ (xs : List Definition). c.digest_of-digest.result ≡ digest_from 0 xs) c.deref-2.ensures.value c.digest_of-digest.ensures.digest,
     )
