@@ -11,7 +11,7 @@ mod shown;
 mod sums;
 
 use super::rules::counted::Counted;
-use super::support::{check_row_count, check_text, split_row};
+use super::support::{Page, check_number, check_page, check_row_count, split_row};
 use answers::answer;
 use calls::Calls;
 use post::Post;
@@ -20,23 +20,19 @@ use pq_inputs::Inputs;
 use pq_rules::{Rules, SumsKey, SumsValue};
 use std::cell::Cell;
 use std::process::Abort;
-use std::test::Fail;
 
 /// Checks what the call of `line` answers, and whether the core is at rest then. Returns how many
 /// rules were started.
-fn check_line<C: Calls>(
-    rt: &(impl Abort + AllocGlobal),
-    core: &mut C,
-    line: &str,
-) -> Result<usize, Fail> {
+fn check_line<C: Calls>(rt: &(impl Abort + AllocGlobal), core: &mut C, line: &str) -> usize {
     let (call, want) = split_row(rt, line, " => ");
-    let mut log = String::new(rt.alloc());
-    let mut found = answer(rt, core, &mut log, call)?;
+    let mut log = Page::new(rt.alloc());
+    let mut found = Page::new(rt.alloc());
+    answer(rt, &mut found, core, &mut log, call);
     if core.rests() {
-        found.push_str("; rest")?;
+        found.add("; rest");
     }
-    check_text(rt, found.as_str(), want, line);
-    Ok(log.as_str().matches(';').count())
+    check_page(rt, &found, want, line);
+    log.text(rt).matches(';').count()
 }
 
 /// Runs a script on `core`, whose rules count in `starts`: work has a cause where a rule starts.
@@ -45,13 +41,12 @@ fn check_lines<C: Calls>(
     core: &mut C,
     starts: &Cell<u32>,
     script: &str,
-) -> Result<(), Fail> {
+) {
     let mut started = 0usize;
     for line in script.lines() {
-        started = started.saturating_add(check_line(rt, core, line)?);
-        assert_eq!(rt; started, starts.get() as usize, "{line}");
+        started = started.saturating_add(check_line(rt, core, line));
+        check_number(rt, started, starts.get() as usize, line);
     }
-    Ok(())
 }
 
 /// Runs a script with `rules`, which count in `starts`.
@@ -60,30 +55,30 @@ fn check_script_by<R: Rules<Key = SumsKey, Value = SumsValue>>(
     rules: R,
     starts: &Cell<u32>,
     script: &str,
-) -> Result<(), Fail>
+)
 where
     Core<R, Post>: Calls,
 {
-    let inputs = Inputs::new(rt.alloc())?;
+    let inputs = Inputs::new(rt.alloc()).expect(rt, "memory");
     let mut core: Core<R, Post> = Core::new(rt.alloc(), rules, inputs);
-    check_lines(rt, &mut core, starts, script)
+    check_lines(rt, &mut core, starts, script);
 }
 
 /// Runs a script, each of its answers checked.
-fn check_script(rt: &(impl Abort + AllocGlobal), script: &str) -> Result<(), Fail> {
+fn check_script(rt: &(impl Abort + AllocGlobal), script: &str) {
     let starts = Cell::new(0);
-    check_script_by(rt, Counted { starts: &starts }, &starts, script)
+    check_script_by(rt, Counted { starts: &starts }, &starts, script);
 }
 
 /// Runs the script `rows` of `count` lines.
-fn check_rows(rt: &(impl Abort + AllocGlobal), count: usize, rows: &str) -> Result<(), Fail> {
+fn check_rows(rt: &(impl Abort + AllocGlobal), count: usize, rows: &str) {
     check_row_count(rt, count, rows);
-    check_script(rt, rows)
+    check_script(rt, rows);
 }
 
 // Replies leave in the order of their numbers, whichever run ends first.
 #[test]
-fn replies_in_order(rt: HostRuntime) -> Result<(), Fail> {
+fn replies_in_order(rt: HostRuntime) {
     check_rows(
         &rt,
         17,
@@ -106,13 +101,13 @@ fn replies_in_order(rt: HostRuntime) -> Result<(), Fail> {
         release 0 => nothing; rest\n\
         close 0 => 0 7 Sum a @1 answered 2|1 8 Sum b @1 answered 1|0; rest\n\
         ",
-    )
+    );
 }
 
 // A run that an edit overtook is cancelled. One that was not started yet is answered at the edit's
 // revision.
 #[test]
-fn cancelled_by_an_edit(rt: HostRuntime) -> Result<(), Fail> {
+fn cancelled_by_an_edit(rt: HostRuntime) {
     check_rows(
         &rt,
         17,
@@ -135,12 +130,12 @@ fn cancelled_by_an_edit(rt: HostRuntime) -> Result<(), Fail> {
         release 0 => put 1; rest\n\
         close 0 => 0 7 Sum a @4 cancelled 3 4|1 8 Sum a @4 answered 3|0; rest\n\
         ",
-    )
+    );
 }
 
 // An outbox with room for one reply, and a client that closes.
 #[test]
-fn full_and_closed(rt: HostRuntime) -> Result<(), Fail> {
+fn full_and_closed(rt: HostRuntime) {
     check_rows(
         &rt,
         19,
@@ -165,12 +160,12 @@ fn full_and_closed(rt: HostRuntime) -> Result<(), Fail> {
         accept 0 7 Sum a => the client was closed; rest\n\
         edit 0 low a= => the client was closed; rest\n\
         ",
-    )
+    );
 }
 
 // A reply that a full outbox refused leaves the core at rest until it has room.
 #[test]
-fn rests_while_full(rt: HostRuntime) -> Result<(), Fail> {
+fn rests_while_full(rt: HostRuntime) {
     check_rows(
         &rt,
         11,
@@ -187,12 +182,12 @@ fn rests_while_full(rt: HostRuntime) -> Result<(), Fail> {
         release 0 => put 1\n\
         close 0 => 0 none say first @0 plain|1 -5 say second @0 plain|1; rest\n\
         ",
-    )
+    );
 }
 
 // A reply to a client whose taking end is gone is not put, and the core is at rest then.
 #[test]
-fn rests_while_gone(rt: HostRuntime) -> Result<(), Fail> {
+fn rests_while_gone(rt: HostRuntime) {
     check_rows(
         &rt,
         12,
@@ -210,13 +205,13 @@ fn rests_while_gone(rt: HostRuntime) -> Result<(), Fail> {
         release 0 => gone; rest\n\
         close 0 => 0 7 say first @0 plain|1; rest\n\
         ",
-    )
+    );
 }
 
 // The request that waited longest is started first, whichever client posted it. One of a client
 // that was closed is passed over.
 #[test]
-fn started_in_order(rt: HostRuntime) -> Result<(), Fail> {
+fn started_in_order(rt: HostRuntime) {
     check_rows(
         &rt,
         25,
@@ -247,12 +242,12 @@ fn started_in_order(rt: HostRuntime) -> Result<(), Fail> {
         close 0 => 0 7 Sum a @0 answered 1|1 8 Sum c @0 answered 1|0; rest\n\
         close 1 => 0 7 Sum b @0 answered 1|1 8 say hello @0 plain|0; rest\n\
         ",
-    )
+    );
 }
 
 // A run waits for its own work, takes no result of another run, and is starved once.
 #[test]
-fn starved(rt: HostRuntime) -> Result<(), Fail> {
+fn starved(rt: HostRuntime) {
     check_rows(
         &rt,
         17,
@@ -275,12 +270,12 @@ fn starved(rt: HostRuntime) -> Result<(), Fail> {
         release 0 => put 1; rest\n\
         close 0 => 0 7 Sum a @0 starved|1 8 Sum a @0 answered 1|0; rest\n\
         ",
-    )
+    );
 }
 
 // A result that is given after an edit stops its run.
 #[test]
-fn stopped_by_a_late_result(rt: HostRuntime) -> Result<(), Fail> {
+fn stopped_by_a_late_result(rt: HostRuntime) {
     check_rows(
         &rt,
         7,
@@ -293,12 +288,12 @@ fn stopped_by_a_late_result(rt: HostRuntime) -> Result<(), Fail> {
         release 0 => put 0; rest\n\
         close 0 => 0 7 Sum a @1 cancelled 0 1|0; rest\n\
         ",
-    )
+    );
 }
 
 // Calls on clients and runs that do not exist are refused and change nothing.
 #[test]
-fn strangers(rt: HostRuntime) -> Result<(), Fail> {
+fn strangers(rt: HostRuntime) {
     check_rows(
         &rt,
         15,
@@ -319,13 +314,13 @@ fn strangers(rt: HostRuntime) -> Result<(), Fail> {
         close 1 => none; rest\n\
         now => 0; rest\n\
         ",
-    )
+    );
 }
 
 // A fixed text is ready at the revision of its acceptance. Each client has numbers of its own, and
 // an edit of one is seen by the other.
 #[test]
-fn fixed_texts(rt: HostRuntime) -> Result<(), Fail> {
+fn fixed_texts(rt: HostRuntime) {
     check_rows(
         &rt,
         18,
@@ -349,12 +344,12 @@ fn fixed_texts(rt: HostRuntime) -> Result<(), Fail> {
         close 0 => 0 7 say hello @1 plain|1 8 Sum a @2 answered 2|2 9 say bye @2 plain|0; rest\n\
         close 1 => 0; rest\n\
         ",
-    )
+    );
 }
 
 // Two runs that demand one key are both answered, one after the other or in turns.
 #[test]
-fn two_runs_of_one_key(rt: HostRuntime) -> Result<(), Fail> {
+fn two_runs_of_one_key(rt: HostRuntime) {
     check_rows(
         &rt,
         17,
@@ -377,12 +372,12 @@ fn two_runs_of_one_key(rt: HostRuntime) -> Result<(), Fail> {
         close 0 => 0 7 Sum a @1 answered 2|0; rest\n\
         close 1 => 0 7 Sum a @1 answered 2|1 8 Sum a @2 answered 3|0; rest\n\
         ",
-    )
+    );
 }
 
 // A ring of files, found by one run.
 #[test]
-fn a_ring(rt: HostRuntime) -> Result<(), Fail> {
+fn a_ring(rt: HostRuntime) {
     check_rows(
         &rt,
         11,
@@ -399,12 +394,12 @@ fn a_ring(rt: HostRuntime) -> Result<(), Fail> {
         release 0 => put 0\n\
         close 0 => 0 7 Sum b @2 answered Sum a;Sum b;|0; rest\n\
         ",
-    )
+    );
 }
 
 // A ring of files, which two runs enter from both sides.
 #[test]
-fn a_ring_in_turns(rt: HostRuntime) -> Result<(), Fail> {
+fn a_ring_in_turns(rt: HostRuntime) {
     check_rows(
         &rt,
         12,
@@ -422,5 +417,5 @@ fn a_ring_in_turns(rt: HostRuntime) -> Result<(), Fail> {
         release 0 => put 1; rest\n\
         close 0 => 0 7 Sum a @3 answered Sum a;Sum b;Sum c;|1 8 Sum b @3 answered Sum a;Sum b;Sum c;|0; rest\n\
         ",
-    )
+    );
 }

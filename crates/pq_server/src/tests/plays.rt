@@ -11,107 +11,102 @@ mod windows;
 mod writer;
 
 use super::cores::lines::{
-    Sample, change_of, client_of, number_of, request_of, shown_replies, shown_request,
+    Sample, add_replies, add_request, change_of, client_of, number_of, request_of,
 };
-use super::support::check_text;
-use pq_core::{Request, RunId};
+use super::support::{Page, check_page};
+use pq_core::{Reply, Request, RunId};
 use pq_play::{Event, Played, play};
-use pq_rules::{Memory, Sums, SumsKey, SumsValue};
-use std::alloc::Global;
+use pq_rules::{Sums, SumsKey, SumsValue};
 use std::process::Abort;
-use std::test::Fail;
 
 /// The number of steps after which a run over small files is over.
 const STEPS: u32 = 60;
 
 /// The event of the client `client`.
-fn client_event<K: Sample>(
-    rt: &(impl Abort + AllocGlobal),
-    name: &str,
-    rest: &str,
-) -> Result<Event<K>, Memory> {
+fn client_event<K: Sample>(rt: &(impl Abort + AllocGlobal), name: &str, rest: &str) -> Event<K> {
     let (client, posted) = rest.split_once(" ").unwrap_or((rest, ""));
     let client = client_of(rt, client);
     match name {
-        "accept" => Ok(Event::Accept(client, request_of(rt, posted)?)),
-        "edit" => Ok(Event::Edit(client, change_of(rt, posted)?)),
-        "release" => Ok(Event::Release(client)),
-        "take" => Ok(Event::Take(client)),
-        _ => Ok(Event::Close(client)),
+        "accept" => Event::Accept(client, request_of(rt, posted)),
+        "edit" => Event::Edit(client, change_of(rt, posted)),
+        "release" => Event::Release(client),
+        "take" => Event::Take(client),
+        _ => Event::Close(client),
     }
 }
 
 /// The event that `line` writes.
-fn event_of<K: Sample>(rt: &(impl Abort + AllocGlobal), line: &str) -> Result<Event<K>, Memory> {
+fn event_of<K: Sample>(rt: &(impl Abort + AllocGlobal), line: &str) -> Event<K> {
     let (name, rest) = line.split_once(" ").unwrap_or((line, ""));
     match name {
-        "open" => Ok(Event::Open),
-        "start" => Ok(Event::Start),
-        "step" => Ok(Event::Step(RunId::new(number_of(rt, rest)))),
-        "give" => Ok(Event::Give(RunId::new(number_of(rt, rest)))),
-        "starve" => Ok(Event::Starve(RunId::new(number_of(rt, rest)))),
+        "open" => Event::Open,
+        "start" => Event::Start,
+        "step" => Event::Step(RunId::new(number_of(rt, rest))),
+        "give" => Event::Give(RunId::new(number_of(rt, rest))),
+        "starve" => Event::Starve(RunId::new(number_of(rt, rest))),
         _ => client_event(rt, name, rest),
     }
 }
 
+/// Adds an event.
+fn add_event<K: Sample>(rt: &impl Abort, events: &mut Vec<Event<K>>, event: Event<K>) {
+    events.push(event).expect(rt, "memory");
+}
+
 /// Adds the steps of a run.
-fn add_steps<K: Sample>(events: &mut Vec<Event<K>>, run: RunId) -> Result<(), Memory> {
+fn add_steps<K: Sample>(rt: &impl Abort, events: &mut Vec<Event<K>>, run: RunId) {
     for _ in 0..STEPS {
-        events.push(Event::Step(run))?;
-        events.push(Event::Give(run))?;
+        add_event(rt, events, Event::Step(run));
+        add_event(rt, events, Event::Give(run));
     }
-    Ok(())
 }
 
 /// The events that the lines of `script` write.
-fn events_of<K: Sample>(
-    rt: &(impl Abort + AllocGlobal),
-    script: &str,
-) -> Result<Vec<Event<K>>, Memory> {
+fn events_of<K: Sample>(rt: &(impl Abort + AllocGlobal), script: &str) -> Vec<Event<K>> {
     let mut events = Vec::new(rt.alloc());
     for line in script.lines() {
         match line.strip_prefix("run ") {
-            Some(run) => add_steps(&mut events, RunId::new(number_of(rt, run)))?,
-            None => events.push(event_of(rt, line)?)?,
+            Some(run) => add_steps(rt, &mut events, RunId::new(number_of(rt, run))),
+            None => add_event(rt, &mut events, event_of(rt, line)),
         }
     }
-    Ok(events)
+    events
 }
 
-/// Requests as lines, each with a bar after it.
-fn shown_requests<K: Sample>(alloc: Global, requests: &[Request<K>]) -> Result<String, Memory> {
-    let mut all = String::new(alloc);
+/// Writes requests as lines, each with a bar after it.
+fn add_requests<K: Sample>(page: &mut Page, requests: &[Request<K>]) {
     for request in requests {
-        all.push_str(shown_request(alloc, request)?.as_str())?;
-        all.push('|')?;
+        add_request(page, request);
+        page.add("|");
     }
-    Ok(all)
 }
 
-/// The requests that each client posted.
-fn shown_accepted<K: Sample>(
-    alloc: Global,
-    accepted: &[Vec<Request<K>>],
-) -> Result<String, Memory> {
-    let mut all = String::new(alloc);
+/// Writes the requests that each client posted.
+fn add_accepted<K: Sample>(page: &mut Page, accepted: &[Vec<Request<K>>]) {
     for requests in accepted {
-        let line = shown_requests(alloc, requests.as_slice())?;
-        all.push_str(format!(in alloc; "accepted {}\n", line.as_str())?.as_str())?;
+        page.add("accepted ");
+        add_requests(page, requests.as_slice());
+        page.add("\n");
     }
-    Ok(all)
 }
 
-/// What playing a list of events gave: a line for the requests of each client, one for the replies
-/// of each, and the revision.
-fn shown_played<K: Sample>(alloc: Global, played: &Played<K, K::Value>) -> Result<String, Memory> {
-    let mut all = shown_accepted(alloc, played.accepted.as_slice())?;
-    for replies in &played.taken {
-        let line = shown_replies::<K>(alloc, replies.as_slice())?;
-        all.push_str(format!(in alloc; "taken {}\n", line.as_str())?.as_str())?;
+/// Writes the replies that each client took.
+fn add_taken<K: Sample>(page: &mut Page, taken: &[Vec<Reply<K, K::Value>>]) {
+    for replies in taken {
+        page.add("taken ");
+        add_replies::<K>(page, replies.as_slice());
+        page.add("\n");
     }
-    let revision = played.revision.number();
-    all.push_str(format!(in alloc; "revision {revision}\n")?.as_str())?;
-    Ok(all)
+}
+
+/// Writes what playing a list of events gave: a line for the requests of each client, one for the
+/// replies of each, and the revision.
+fn add_played<K: Sample>(page: &mut Page, played: &Played<K, K::Value>) {
+    add_accepted(page, played.accepted.as_slice());
+    add_taken::<K>(page, played.taken.as_slice());
+    page.add("revision ");
+    page.wide(played.revision.number());
+    page.add("\n");
 }
 
 /// What the events of `script` give over sums, with outboxes for `room` replies.
@@ -119,27 +114,22 @@ fn played_of(
     rt: &(impl Abort + AllocGlobal),
     room: usize,
     script: &str,
-) -> Result<Played<SumsKey, SumsValue>, Memory> {
-    let events = events_of::<SumsKey>(rt, script)?;
-    play(rt.alloc(), Sums, room, events.as_slice())
+) -> Played<SumsKey, SumsValue> {
+    let events = events_of::<SumsKey>(rt, script);
+    play(rt.alloc(), Sums, room, events.as_slice()).expect(rt, "memory")
 }
 
 /// Checks what the events of `script` give over sums, with outboxes for `room` replies.
-fn check_play(
-    rt: &(impl Abort + AllocGlobal),
-    room: usize,
-    script: &str,
-    want: &str,
-) -> Result<(), Fail> {
-    let played = played_of(rt, room, script)?;
-    let found = shown_played::<SumsKey>(rt.alloc(), &played)?;
-    check_text(rt, found.as_str(), want, script);
-    Ok(())
+fn check_play(rt: &(impl Abort + AllocGlobal), room: usize, script: &str, want: &str) {
+    let played = played_of(rt, room, script);
+    let mut found = Page::new(rt.alloc());
+    add_played::<SumsKey>(&mut found, &played);
+    check_page(rt, &found, want, script);
 }
 
 // Replies are taken in the order of their numbers, whichever run ends first.
 #[test]
-fn replies_in_order(rt: HostRuntime) -> Result<(), Fail> {
+fn replies_in_order(rt: HostRuntime) {
     check_play(
         &rt,
         4,
@@ -166,12 +156,12 @@ fn replies_in_order(rt: HostRuntime) -> Result<(), Fail> {
         taken 0 7 Sum a @1 answered 2|1 8 Sum b @1 answered 1|\n\
         revision 1\n\
         ",
-    )
+    );
 }
 
 // An edit cancels the run that was started before it, with its result given or not.
 #[test]
-fn cancelled_by_an_edit(rt: HostRuntime) -> Result<(), Fail> {
+fn cancelled_by_an_edit(rt: HostRuntime) {
     check_play(
         &rt,
         4,
@@ -203,12 +193,12 @@ fn cancelled_by_an_edit(rt: HostRuntime) -> Result<(), Fail> {
         taken 0 7 Sum a @4 cancelled 3 4|1 8 Sum a @4 cancelled 3 4|2 9 Sum a @4 answered 3|\n\
         revision 4\n\
         ",
-    )
+    );
 }
 
 // A client that closes takes what was put before, and posts nothing more.
 #[test]
-fn full_and_closed(rt: HostRuntime) -> Result<(), Fail> {
+fn full_and_closed(rt: HostRuntime) {
     check_play(
         &rt,
         1,
@@ -238,12 +228,12 @@ fn full_and_closed(rt: HostRuntime) -> Result<(), Fail> {
         taken 0 7 Sum a @0 answered 1|\n\
         revision 0\n\
         ",
-    )
+    );
 }
 
 // A starved request is answered so, and events on nothing are passed over.
 #[test]
-fn starved(rt: HostRuntime) -> Result<(), Fail> {
+fn starved(rt: HostRuntime) {
     check_play(
         &rt,
         2,
@@ -275,5 +265,5 @@ fn starved(rt: HostRuntime) -> Result<(), Fail> {
         taken 0 7 Sum a @0 starved|\n\
         revision 0\n\
         ",
-    )
+    );
 }

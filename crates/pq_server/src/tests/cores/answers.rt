@@ -13,13 +13,11 @@
 //! - `now` is the revision now.
 use super::calls::Calls;
 use super::lines::{change_of, client_of, number_of, request_of};
-use super::shown::{shown_released, yes_or_no};
-use crate::tests::support::joined;
+use super::shown::{add_released, yes_or_no};
+use crate::tests::support::{Page, check_that};
 use pq_core::{ClientId, RunId};
-use pq_rules::{Memory, SumsKey};
-use std::alloc::Global;
+use pq_rules::SumsKey;
 use std::process::Abort;
-use std::test::Fail;
 
 /// The number of steps after which a run that goes on has failed.
 const MOST_STEPS: u32 = 1_000;
@@ -29,131 +27,131 @@ fn is_over(step: &str) -> bool {
     step == "answered" || step == "stopped" || step == "no such run"
 }
 
-/// Takes steps of `run` until it is over. Returns the rules that it started, and its end.
-fn finish<C: Calls>(
-    alloc: Global,
+/// Takes a step of `run`, and writes what it came to on a page of its own. Returns whether the run
+/// is over.
+fn step<C: Calls>(
+    rt: &impl Abort,
+    page: &mut Page,
     core: &mut C,
-    log: &mut String,
+    log: &mut Page,
     run: RunId,
-) -> Result<String, Fail> {
+) -> bool {
+    core.stepped(page, log, run);
+    is_over(page.text(rt))
+}
+
+/// Takes steps of `run` until it is over. Writes the rules that it started, and its end.
+fn finish<C: Calls>(rt: &impl Abort, page: &mut Page, core: &mut C, log: &mut Page, run: RunId) {
     for _ in 0..MOST_STEPS {
-        let found = core.stepped(alloc, log, run)?;
-        if is_over(found.as_str()) {
-            return Ok(joined(alloc, log.as_str(), found.as_str())?);
+        let mut found = Page::new(page.alloc);
+        if step(rt, &mut found, core, log, run) {
+            page.add(log.text(rt));
+            page.add(found.text(rt));
+            return;
         }
     }
-    Err(Fail::from("a run goes on and on"))
+    check_that(rt, false, "a run goes on and on");
 }
 
 /// Takes steps of `run` and `other` in turns until both are over.
 fn turns<C: Calls>(
-    alloc: Global,
+    rt: &impl Abort,
+    page: &mut Page,
     core: &mut C,
-    log: &mut String,
+    log: &mut Page,
     run: RunId,
     other: RunId,
-) -> Result<String, Fail> {
+) {
     for _ in 0..MOST_STEPS {
-        let one = core.stepped(alloc, log, run)?;
-        let two = core.stepped(alloc, log, other)?;
-        if is_over(one.as_str()) && is_over(two.as_str()) {
-            return Ok(String::from_str(alloc, "over")?);
+        let mut one = Page::new(page.alloc);
+        let mut two = Page::new(page.alloc);
+        let is_one_over = step(rt, &mut one, core, log, run);
+        let is_two_over = step(rt, &mut two, core, log, other);
+        if is_one_over && is_two_over {
+            page.add("over");
+            return;
         }
     }
-    Err(Fail::from("two runs go on and on"))
+    check_that(rt, false, "two runs go on and on");
 }
 
 /// Makes a call of the client `client`.
 fn client_answer<C: Calls>(
     rt: &(impl Abort + AllocGlobal),
+    page: &mut Page,
     core: &mut C,
     call: &str,
     client: ClientId,
     rest: &str,
-) -> Result<String, Memory> {
-    let alloc = rt.alloc();
+) {
     match call {
-        "accept" => core.accepted(alloc, client, request_of::<SumsKey>(rt, rest)?),
-        "edit" => core.edited(alloc, client, change_of(rt, rest)?),
-        "release" => shown_released(alloc, core.released(client)),
-        "take" => String::from_str(alloc, yes_or_no(core.taken(client)?)),
-        _ => core.closed(alloc, client),
+        "accept" => core.accepted(page, client, request_of::<SumsKey>(rt, rest)),
+        "edit" => core.edited(page, client, change_of(rt, rest)),
+        "release" => add_released(page, core.released(client)),
+        "take" => page.add(yes_or_no(core.taken(client).expect(rt, "memory"))),
+        _ => core.closed(page, client),
     }
 }
 
 /// Makes a call of the run `run` that hands no work out.
-fn run_answer<C: Calls>(
-    alloc: Global,
-    core: &mut C,
-    call: &str,
-    run: RunId,
-) -> Result<String, Memory> {
+fn run_answer<C: Calls>(page: &mut Page, core: &mut C, call: &str, run: RunId) {
     match call {
-        "look" => core.looked(alloc, run),
-        "starve" => String::from_str(alloc, yes_or_no(core.starved(run))),
-        _ => core.owner(alloc, run),
+        "look" => core.looked(page, run),
+        "starve" => page.add(yes_or_no(core.starved(run))),
+        _ => core.owner(page, run),
     }
 }
 
 /// Makes a call that gives results of the run `run`.
 fn work_answer<C: Calls>(
     rt: &(impl Abort + AllocGlobal),
+    page: &mut Page,
     core: &mut C,
-    log: &mut String,
+    log: &mut Page,
     call: &str,
     run: RunId,
     rest: &str,
-) -> Result<String, Fail> {
-    let alloc = rt.alloc();
+) {
     match call {
-        "finish" => finish(alloc, core, log, run),
-        "late" => Ok(core.given_late(alloc, log, run, change_of(rt, rest)?)?),
-        "turns" => turns(alloc, core, log, run, RunId::new(number_of(rt, rest))),
-        _ => Ok(core.swapped(alloc, log, run, RunId::new(number_of(rt, rest)))?),
+        "finish" => finish(rt, page, core, log, run),
+        "late" => core.given_late(page, log, run, change_of(rt, rest)),
+        "turns" => turns(rt, page, core, log, run, RunId::new(number_of(rt, rest))),
+        _ => core.swapped(page, log, run, RunId::new(number_of(rt, rest))),
     }
 }
 
 /// Makes a call that names no client and no run.
-fn plain_answer<C: Calls>(
-    rt: &(impl Abort + AllocGlobal),
-    core: &mut C,
-    call: &str,
-    rest: &str,
-) -> Result<String, Memory> {
-    let alloc = rt.alloc();
+fn plain_answer<C: Calls>(rt: &impl Abort, page: &mut Page, core: &mut C, call: &str, rest: &str) {
     match call {
-        "open" => core.opened(alloc, number_of(rt, rest) as usize, usize::MAX),
+        "open" => core.opened(page, number_of(rt, rest) as usize, usize::MAX),
         "mute" => {
             let left = number_of(rt, rest) as usize;
-            core.opened(alloc, left, left)
+            core.opened(page, left, left);
         }
-        "start" => core.started(alloc),
-        _ => format!(in alloc; "{}", core.now()),
+        "start" => core.started(page),
+        _ => page.wide(core.now()),
     }
 }
 
-/// Makes the call that `line` writes.
+/// Makes the call that `line` writes, and writes what it answers.
 pub(super) fn answer<C: Calls>(
     rt: &(impl Abort + AllocGlobal),
+    page: &mut Page,
     core: &mut C,
-    log: &mut String,
+    log: &mut Page,
     line: &str,
-) -> Result<String, Fail> {
+) {
     let (call, rest) = line.split_once(" ").unwrap_or((line, ""));
     let (first, more) = rest.split_once(" ").unwrap_or((rest, ""));
     match call {
-        "open" | "mute" | "start" | "now" => Ok(plain_answer(rt, core, call, rest)?),
+        "open" | "mute" | "start" | "now" => plain_answer(rt, page, core, call, rest),
         "look" | "starve" | "request" => {
-            let run = RunId::new(number_of(rt, first));
-            Ok(run_answer(rt.alloc(), core, call, run)?)
+            run_answer(page, core, call, RunId::new(number_of(rt, first)));
         }
         "finish" | "turns" | "late" | "swap" => {
             let run = RunId::new(number_of(rt, first));
-            work_answer(rt, core, log, call, run, more)
+            work_answer(rt, page, core, log, call, run, more);
         }
-        _ => {
-            let client = client_of(rt, first);
-            Ok(client_answer(rt, core, call, client, more)?)
-        }
+        _ => client_answer(rt, page, core, call, client_of(rt, first), more),
     }
 }

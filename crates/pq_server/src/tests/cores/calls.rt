@@ -1,4 +1,4 @@
-//! The calls of a core, each as a text of what it answers.
+//! The calls of a core, each of which writes what it answers.
 //!
 //! The proof of a function that holds a core is dear, since the core's type has an invariant of many
 //! parts. So only the short methods here hold one, and tests know a core by [`Calls`] alone.
@@ -6,10 +6,11 @@ ghost use Rattle.std.specs.Prelude.{◌≡◌, IfOk};
 
 use super::post::Post;
 use super::shown::{
-    add_start, shown_accepted, shown_again, shown_closed, shown_edited, shown_give, shown_look,
-    shown_opened, shown_owner, shown_run,
+    add_accepted, add_again, add_closed, add_edited, add_give, add_look, add_opened, add_owner,
+    add_run, add_start,
 };
 use crate::tests::rules::counted::Counted;
+use crate::tests::support::Page;
 use pq_core::{Change, ClientId, Core, Done, Move, Released, Request, RunId, Work};
 use pq_rules::{Memory, Rules, SumsKey, SumsValue};
 use std::alloc::Global;
@@ -17,51 +18,34 @@ use std::alloc::Global;
 /// The calls of a core. Each rule that a call starts is added to its `log` as `KEY WHY;`.
 pub(super) trait Calls {
     /// Opens a client with room for `room` replies, of which `left` can be put.
-    fn opened(&mut self, alloc: Global, room: usize, left: usize) -> Result<String, Memory>;
+    fn opened(&mut self, page: &mut Page, room: usize, left: usize);
 
     /// Accepts a request.
-    fn accepted(
-        &mut self,
-        alloc: Global,
-        client: ClientId,
-        request: Request<SumsKey>,
-    ) -> Result<String, Memory>;
+    fn accepted(&mut self, page: &mut Page, client: ClientId, request: Request<SumsKey>);
 
     /// Makes an edit.
-    fn edited(&mut self, alloc: Global, client: ClientId, change: Change) -> Result<String, Memory>;
+    fn edited(&mut self, page: &mut Page, client: ClientId, change: Change);
 
     /// Starts a run.
-    fn started(&mut self, alloc: Global) -> Result<String, Memory>;
+    fn started(&mut self, page: &mut Page);
 
     /// Looks at a run. Work is lost.
-    fn looked(&mut self, alloc: Global, run: RunId) -> Result<String, Memory>;
+    fn looked(&mut self, page: &mut Page, run: RunId);
 
     /// Takes a step of a run, and gives it the result of its work.
-    fn stepped(&mut self, alloc: Global, log: &mut String, run: RunId) -> Result<String, Memory>;
+    fn stepped(&mut self, page: &mut Page, log: &mut Page, run: RunId);
 
     /// Gives the result of the work of `run` to `other`, and where it is refused to `run`.
-    fn swapped(
-        &mut self,
-        alloc: Global,
-        log: &mut String,
-        run: RunId,
-        other: RunId,
-    ) -> Result<String, Memory>;
+    fn swapped(&mut self, page: &mut Page, log: &mut Page, run: RunId, other: RunId);
 
     /// Makes a change of client 0 before it gives the result of the work of a run.
-    fn given_late(
-        &mut self,
-        alloc: Global,
-        log: &mut String,
-        run: RunId,
-        change: Change,
-    ) -> Result<String, Memory>;
+    fn given_late(&mut self, page: &mut Page, log: &mut Page, run: RunId, change: Change);
 
     /// Starves a run.
     fn starved(&mut self, run: RunId) -> bool;
 
     /// The request of a run.
-    fn owner(&self, alloc: Global, run: RunId) -> Result<String, Memory>;
+    fn owner(&self, page: &mut Page, run: RunId);
 
     /// Releases the next reply to a client.
     fn released(&mut self, client: ClientId) -> Released;
@@ -70,7 +54,7 @@ pub(super) trait Calls {
     fn taken(&mut self, client: ClientId) -> Result<bool, Memory>;
 
     /// Closes a client.
-    fn closed(&mut self, alloc: Global, client: ClientId) -> Result<String, Memory>;
+    fn closed(&mut self, page: &mut Page, client: ClientId);
 
     /// The revision now.
     fn now(&self) -> u64;
@@ -82,98 +66,75 @@ pub(super) trait Calls {
 /// Carries work out. A rule that is started is added to `log` as `KEY WHY;`.
 fn carried<R: Rules<Key = SumsKey, Value = SumsValue>>(
     alloc: Global,
-    log: &mut String,
+    log: &mut Page,
     work: Work<R>,
-) -> Result<Done<R>, Memory>
+) -> Result<Done<R>, Work<R>>
     ensures { IfOk result (λ done. done ≡ work.done) }
 {
-    add_start(alloc, log, &work)?;
-    match work.carry_out(alloc) {
-        Ok(done) => Ok(done),
-        Err(_) => Err(Memory),
-    }
+    add_start(log, &work);
+    work.carry_out(alloc)
 }
 
 impl<'a> Calls for Core<Counted<'a>, Post> {
-    fn opened(&mut self, alloc: Global, room: usize, left: usize) -> Result<String, Memory> {
-        let outbox = Post::new(alloc, room, left)?;
-        shown_opened(alloc, self.open_client(alloc, outbox))
-    }
-
-    fn accepted(
-        &mut self,
-        alloc: Global,
-        client: ClientId,
-        request: Request<SumsKey>,
-    ) -> Result<String, Memory> {
-        shown_accepted(alloc, self.accept(client, request))
-    }
-
-    fn edited(
-        &mut self,
-        alloc: Global,
-        client: ClientId,
-        change: Change,
-    ) -> Result<String, Memory> {
-        shown_edited(alloc, self.edit(client, change))
-    }
-
-    fn started(&mut self, alloc: Global) -> Result<String, Memory> {
-        shown_run(alloc, self.start())
-    }
-
-    fn looked(&mut self, alloc: Global, run: RunId) -> Result<String, Memory> {
-        shown_look(alloc, self.look(alloc, run))
-    }
-
-    fn stepped(&mut self, alloc: Global, log: &mut String, run: RunId) -> Result<String, Memory> {
-        match self.look(alloc, run) {
-            Ok(Move::Carry(work)) => {
-                let done = carried(alloc, log, work)?;
-                shown_give(alloc, self.give(alloc, run, done))
-            }
-            other => shown_look(alloc, other),
+    fn opened(&mut self, page: &mut Page, room: usize, left: usize) {
+        match Post::new(page.alloc, room, left) {
+            Ok(outbox) => add_opened(page, self.open_client(page.alloc, outbox)),
+            Err(_) => page.cut(),
         }
     }
 
-    fn swapped(
-        &mut self,
-        alloc: Global,
-        log: &mut String,
-        run: RunId,
-        other: RunId,
-    ) -> Result<String, Memory> {
-        match self.look(alloc, run) {
-            Ok(Move::Carry(work)) => {
-                let done = carried(alloc, log, work)?;
-                match self.give(alloc, other, done) {
+    fn accepted(&mut self, page: &mut Page, client: ClientId, request: Request<SumsKey>) {
+        add_accepted(page, self.accept(client, request));
+    }
+
+    fn edited(&mut self, page: &mut Page, client: ClientId, change: Change) {
+        add_edited(page, self.edit(client, change));
+    }
+
+    fn started(&mut self, page: &mut Page) {
+        add_run(page, self.start());
+    }
+
+    fn looked(&mut self, page: &mut Page, run: RunId) {
+        add_look(page, self.look(page.alloc, run));
+    }
+
+    fn stepped(&mut self, page: &mut Page, log: &mut Page, run: RunId) {
+        match self.look(page.alloc, run) {
+            Ok(Move::Carry(work)) => match carried(page.alloc, log, work) {
+                Ok(done) => add_give(page, self.give(page.alloc, run, done)),
+                Err(_) => page.cut(),
+            },
+            other => add_look(page, other),
+        }
+    }
+
+    fn swapped(&mut self, page: &mut Page, log: &mut Page, run: RunId, other: RunId) {
+        match self.look(page.alloc, run) {
+            Ok(Move::Carry(work)) => match carried(page.alloc, log, work) {
+                Ok(done) => match self.give(page.alloc, other, done) {
                     Err(refused) => {
                         let fault = refused.fault;
-                        shown_again(alloc, fault, self.give(alloc, run, refused.done))
+                        add_again(page, fault, self.give(page.alloc, run, refused.done));
                     }
-                    taken => shown_give(alloc, taken),
-                }
-            }
-            other => shown_look(alloc, other),
+                    taken => add_give(page, taken),
+                },
+                Err(_) => page.cut(),
+            },
+            other => add_look(page, other),
         }
     }
 
-    fn given_late(
-        &mut self,
-        alloc: Global,
-        log: &mut String,
-        run: RunId,
-        change: Change,
-    ) -> Result<String, Memory> {
-        match self.look(alloc, run) {
-            Ok(Move::Carry(work)) => {
-                let done = carried(alloc, log, work)?;
-                match self.edit(ClientId::new(0), change) {
-                    Ok(_) => shown_give(alloc, self.give(alloc, run, done)),
-                    refused => shown_edited(alloc, refused),
-                }
-            }
-            other => shown_look(alloc, other),
+    fn given_late(&mut self, page: &mut Page, log: &mut Page, run: RunId, change: Change) {
+        match self.look(page.alloc, run) {
+            Ok(Move::Carry(work)) => match carried(page.alloc, log, work) {
+                Ok(done) => match self.edit(ClientId::new(0), change) {
+                    Ok(_) => add_give(page, self.give(page.alloc, run, done)),
+                    refused => add_edited(page, refused),
+                },
+                Err(_) => page.cut(),
+            },
+            other => add_look(page, other),
         }
     }
 
@@ -181,8 +142,8 @@ impl<'a> Calls for Core<Counted<'a>, Post> {
         self.starve(run)
     }
 
-    fn owner(&self, alloc: Global, run: RunId) -> Result<String, Memory> {
-        shown_owner(alloc, self.request_of(run))
+    fn owner(&self, page: &mut Page, run: RunId) {
+        add_owner(page, self.request_of(run));
     }
 
     fn released(&mut self, client: ClientId) -> Released {
@@ -193,8 +154,8 @@ impl<'a> Calls for Core<Counted<'a>, Post> {
         self.take(client)
     }
 
-    fn closed(&mut self, alloc: Global, client: ClientId) -> Result<String, Memory> {
-        shown_closed(alloc, self.close_client(client))
+    fn closed(&mut self, page: &mut Page, client: ClientId) {
+        add_closed(page, self.close_client(client));
     }
 
     fn now(&self) -> u64 {

@@ -3,7 +3,7 @@
 //! A request is `LABEL KEY` or, for a fixed text, `LABEL say TEXT`. A change is
 //! `DURABILITY NAME=TEXT`, or `DURABILITY NAME` where the file becomes absent. A reply is
 //! `NUMBER REQUEST @REVISION OUTCOME`.
-use crate::tests::support::{durability_of, split_row};
+use crate::tests::support::{Page, durability_of, split_row};
 use pq_core::{Change, ClientId, Label, Outcome, Reply, Request, Want};
 use pq_inputs::Inputs;
 use pq_rules::{Answer, Memory, Text};
@@ -16,13 +16,13 @@ pub(crate) trait Sample: Drop + Sized {
     type Value: Drop;
 
     /// The key that `text` writes.
-    fn written(rt: &(impl Abort + AllocGlobal), text: &str) -> Result<Self, Memory>;
+    fn written(rt: &(impl Abort + AllocGlobal), text: &str) -> Self;
 
-    /// The key as text.
-    fn shown(&self, alloc: Global) -> Result<String, Memory>;
+    /// Writes the key.
+    fn show(&self, page: &mut Page);
 
-    /// An answer as text.
-    fn shown_answer(alloc: Global, answer: &Answer<Self, Self::Value>) -> Result<String, Memory>;
+    /// Writes an answer.
+    fn show_answer(page: &mut Page, answer: &Answer<Self, Self::Value>);
 
     /// The answer of the key from scratch.
     fn scratch(&self, alloc: Global, inputs: &Inputs) -> Result<Answer<Self, Self::Value>, Memory>;
@@ -39,146 +39,122 @@ pub(crate) fn client_of(rt: &impl Abort, word: &str) -> ClientId {
 }
 
 /// The label that `word` writes: `none`, an integer, or else a text.
-fn label_of(alloc: Global, word: &str) -> Result<Label, Memory> {
+fn label_of(rt: &(impl Abort + AllocGlobal), word: &str) -> Label {
     if word == "none" {
-        return Ok(Label::None);
+        return Label::None;
     }
     if let Ok(number) = word.parse::<u64>() {
-        return Ok(Label::Unsigned(number));
+        return Label::Unsigned(number);
     }
     if let Ok(number) = word.parse::<i64>() {
-        return Ok(Label::Negative(number));
+        return Label::Negative(number);
     }
-    Ok(Label::Text(Text::new(alloc, word)?))
+    Label::Text(Text::new(rt.alloc(), word).expect(rt, "memory"))
 }
 
 /// What answers a request: `say TEXT`, or a key.
-fn want_of<K: Sample>(rt: &(impl Abort + AllocGlobal), text: &str) -> Result<Want<K>, Memory> {
+fn want_of<K: Sample>(rt: &(impl Abort + AllocGlobal), text: &str) -> Want<K> {
     match text.strip_prefix("say ") {
-        Some(text) => Ok(Want::Fixed(Text::new(rt.alloc(), text)?)),
-        None => Ok(Want::Demand(K::written(rt, text)?)),
+        Some(text) => Want::Fixed(Text::new(rt.alloc(), text).expect(rt, "memory")),
+        None => Want::Demand(K::written(rt, text)),
     }
 }
 
 /// The request that `text` writes.
-pub(crate) fn request_of<K: Sample>(
-    rt: &(impl Abort + AllocGlobal),
-    text: &str,
-) -> Result<Request<K>, Memory> {
+pub(crate) fn request_of<K: Sample>(rt: &(impl Abort + AllocGlobal), text: &str) -> Request<K> {
     let (label, want) = split_row(rt, text, " ");
-    let label = label_of(rt.alloc(), label)?;
-    let want = want_of(rt, want)?;
-    Ok(Request { label, want })
+    let label = label_of(rt, label);
+    let want = want_of(rt, want);
+    Request { label, want }
+}
+
+/// The text that `text` copies.
+fn text_of(rt: &(impl Abort + AllocGlobal), text: &str) -> String {
+    String::from_str(rt.alloc(), text).expect(rt, "memory")
 }
 
 /// The change that `text` writes.
-pub(crate) fn change_of(rt: &(impl Abort + AllocGlobal), text: &str) -> Result<Change, Memory> {
-    let alloc = rt.alloc();
+pub(crate) fn change_of(rt: &(impl Abort + AllocGlobal), text: &str) -> Change {
     let (durability, file) = split_row(rt, text, " ");
     let durability = durability_of(durability);
     let (name, text) = match file.split_once("=") {
-        Some((name, text)) => (name, Some(String::from_str(alloc, text)?)),
+        Some((name, text)) => (name, Some(text_of(rt, text))),
         None => (file, None),
     };
-    let file = Text::new(alloc, name)?;
-    Ok(Change {
+    let file = Text::new(rt.alloc(), name).expect(rt, "memory");
+    Change {
         file,
         text,
         durability,
-    })
+    }
 }
 
-/// An unsigned number.
-fn unsigned_text(alloc: Global, number: u64) -> Result<String, Memory> {
-    format!(in alloc; "{number}")
-}
-
-/// A negative number.
-fn negative_text(alloc: Global, number: i64) -> Result<String, Memory> {
-    format!(in alloc; "{number}")
-}
-
-/// A label as a line writes it.
-fn shown_label(alloc: Global, label: &Label) -> Result<String, Memory> {
+/// Writes a label as a line has it.
+fn add_label(page: &mut Page, label: &Label) {
     match label {
-        Label::None => String::from_str(alloc, "none"),
-        Label::Unsigned(number) => unsigned_text(alloc, *number),
-        Label::Negative(number) => negative_text(alloc, *number),
-        Label::Text(text) => String::from_str(alloc, text.as_str()),
+        Label::None => page.add("none"),
+        Label::Unsigned(number) => page.wide(*number),
+        Label::Negative(number) => page.signed(*number),
+        Label::Text(text) => page.add(text.as_str()),
     }
 }
 
-/// What answers a request, as a line writes it.
-fn shown_want<K: Sample>(alloc: Global, want: &Want<K>) -> Result<String, Memory> {
+/// Writes what answers a request, as a line has it.
+fn add_want<K: Sample>(page: &mut Page, want: &Want<K>) {
     match want {
-        Want::Demand(key) => key.shown(alloc),
-        Want::Fixed(text) => named(alloc, "say", text.as_str()),
+        Want::Demand(key) => key.show(page),
+        Want::Fixed(text) => {
+            page.add("say ");
+            page.add(text.as_str());
+        }
     }
 }
 
-/// A request as a line writes it.
-pub(crate) fn shown_request<K: Sample>(
-    alloc: Global,
-    request: &Request<K>,
-) -> Result<String, Memory> {
-    let label = shown_label(alloc, &request.label)?;
-    let want = shown_want(alloc, &request.want)?;
-    named(alloc, label.as_str(), want.as_str())
+/// Writes a request as a line has it.
+pub(crate) fn add_request<K: Sample>(page: &mut Page, request: &Request<K>) {
+    add_label(page, &request.label);
+    page.add(" ");
+    add_want(page, &request.want);
 }
 
-/// A cancellation.
-fn cancelled_text(alloc: Global, started: u64, seen: u64) -> Result<String, Memory> {
-    format!(in alloc; "cancelled {started} {seen}")
+/// Writes two numbers with a blank between.
+pub(super) fn add_two(page: &mut Page, first: u64, second: u64) {
+    page.wide(first);
+    page.add(" ");
+    page.wide(second);
 }
 
-/// `name`, and then a text.
-fn named(alloc: Global, name: &str, text: &str) -> Result<String, Memory> {
-    format!(in alloc; "{name} {text}")
-}
-
-/// How a request ended: `answered ANSWER`, `plain`, `cancelled STARTED SEEN` or `starved`.
-fn shown_outcome<K: Sample>(
-    alloc: Global,
-    outcome: &Outcome<K, K::Value>,
-) -> Result<String, Memory> {
+/// Writes how a request ended: `answered ANSWER`, `plain`, `cancelled STARTED SEEN` or `starved`.
+fn add_outcome<K: Sample>(page: &mut Page, outcome: &Outcome<K, K::Value>) {
     match outcome {
         Outcome::Answered(answer) => {
-            let answer = K::shown_answer(alloc, answer.get())?;
-            named(alloc, "answered", answer.as_str())
+            page.add("answered ");
+            K::show_answer(page, answer.get());
         }
-        Outcome::Plain => String::from_str(alloc, "plain"),
+        Outcome::Plain => page.add("plain"),
         Outcome::Cancelled { started, seen } => {
-            cancelled_text(alloc, started.number(), seen.number())
+            page.add("cancelled ");
+            add_two(page, started.number(), seen.number());
         }
-        Outcome::Starved => String::from_str(alloc, "starved"),
+        Outcome::Starved => page.add("starved"),
     }
 }
 
-/// A reply as a line.
-pub(crate) fn shown_reply<K: Sample>(
-    alloc: Global,
-    reply: &Reply<K, K::Value>,
-) -> Result<String, Memory> {
-    let number = reply.number().number();
-    let request = shown_request(alloc, reply.request())?;
-    let revision = reply.revision().number();
-    let outcome = shown_outcome::<K>(alloc, reply.outcome())?;
-    format!(in alloc;
-        "{number} {} @{revision} {}",
-        request.as_str(),
-        outcome.as_str()
-    )
+/// Writes a reply as a line.
+pub(crate) fn add_reply<K: Sample>(page: &mut Page, reply: &Reply<K, K::Value>) {
+    page.wide(reply.number().number());
+    page.add(" ");
+    add_request(page, reply.request());
+    page.add(" @");
+    page.wide(reply.revision().number());
+    page.add(" ");
+    add_outcome::<K>(page, reply.outcome());
 }
 
-/// Replies as lines, each with a bar after it.
-pub(crate) fn shown_replies<K: Sample>(
-    alloc: Global,
-    replies: &[Reply<K, K::Value>],
-) -> Result<String, Memory> {
-    let mut all = String::new(alloc);
+/// Writes replies as lines, each with a bar after it.
+pub(crate) fn add_replies<K: Sample>(page: &mut Page, replies: &[Reply<K, K::Value>]) {
     for reply in replies {
-        all.push_str(shown_reply::<K>(alloc, reply)?.as_str())?;
-        all.push('|')?;
+        add_reply::<K>(page, reply);
+        page.add("|");
     }
-    Ok(all)
 }

@@ -1,138 +1,115 @@
 //! What calls of a core answer, as text.
-use super::lines::{Sample, shown_replies};
+use super::lines::{Sample, add_replies, add_two};
 use super::post::Post;
+use crate::tests::support::Page;
 use pq_core::{
     AcceptRefused, ClientId, Done, EditRefused, GiveFault, GiveRefused, LookFault, Move, Number,
     OpenRefused, Released, RunId, Work,
 };
 use pq_inputs::Revision;
 use pq_memo::Why;
-use pq_rules::{Memory, Rules, SumsKey, SumsValue};
-use std::alloc::Global;
+use pq_rules::{Rules, SumsKey, SumsValue};
+use std::fmt::Display;
 
-/// A client that was opened, as its number, or why not.
-pub(super) fn shown_opened(
-    alloc: Global,
-    answer: Result<ClientId, OpenRefused<Post>>,
-) -> Result<String, Memory> {
-    match answer {
-        Ok(client) => format!(in alloc; "{}", client.number()),
-        Err(refused) => format!(in alloc; "{}", refused.fault),
+/// Writes why a call was refused.
+fn add_fault(page: &mut Page, fault: impl Display + Drop) {
+    match format!(in page.alloc; "{fault}") {
+        Ok(text) => page.add(text.as_str()),
+        Err(_) => page.cut(),
     }
 }
 
-/// A request that was accepted, as its number, or why not.
-pub(super) fn shown_accepted(
-    alloc: Global,
-    answer: Result<Number, AcceptRefused<SumsKey>>,
-) -> Result<String, Memory> {
+/// Writes a client that was opened, as its number, or why not.
+pub(super) fn add_opened(page: &mut Page, answer: Result<ClientId, OpenRefused<Post>>) {
     match answer {
-        Ok(number) => format!(in alloc; "{}", number.number()),
-        Err(refused) => format!(in alloc; "{}", refused.fault),
+        Ok(client) => page.wide(client.number()),
+        Err(refused) => add_fault(page, refused.fault),
     }
 }
 
-/// An edit that was made, as its revision, or why not.
-pub(super) fn shown_edited(
-    alloc: Global,
-    answer: Result<Revision, EditRefused>,
-) -> Result<String, Memory> {
+/// Writes a request that was accepted, as its number, or why not.
+pub(super) fn add_accepted(page: &mut Page, answer: Result<Number, AcceptRefused<SumsKey>>) {
     match answer {
-        Ok(revision) => format!(in alloc; "{}", revision.number()),
-        Err(refused) => format!(in alloc; "{}", refused.fault),
+        Ok(number) => page.wide(number.number()),
+        Err(refused) => add_fault(page, refused.fault),
     }
 }
 
-/// `name`, and then a number.
-fn numbered(alloc: Global, name: &str, number: u64) -> Result<String, Memory> {
-    format!(in alloc; "{name} {number}")
+/// Writes an edit that was made, as its revision, or why not.
+pub(super) fn add_edited(page: &mut Page, answer: Result<Revision, EditRefused>) {
+    match answer {
+        Ok(revision) => page.wide(revision.number()),
+        Err(refused) => add_fault(page, refused.fault),
+    }
 }
 
-/// What a release came to, but for the number of the reply.
-fn release_word(released: Released) -> &'static str {
+/// Writes a release.
+pub(super) fn add_released(page: &mut Page, released: Released) {
     match released {
-        Released::Put(_) => "put",
-        Released::Full => "full",
-        Released::Gone => "gone",
-        Released::Nothing => "nothing",
+        Released::Put(number) => {
+            page.add("put ");
+            page.wide(number.number());
+        }
+        Released::Full => page.add("full"),
+        Released::Gone => page.add("gone"),
+        Released::Nothing => page.add("nothing"),
     }
 }
 
-/// A release.
-pub(super) fn shown_released(alloc: Global, released: Released) -> Result<String, Memory> {
-    if let Released::Put(number) = released {
-        return numbered(alloc, "put", number.number());
-    }
-    String::from_str(alloc, release_word(released))
-}
-
-/// The outbox of a client that was closed, or `none`.
-pub(super) fn shown_closed(alloc: Global, answer: Option<Post>) -> Result<String, Memory> {
+/// Writes the outbox of a client that was closed, or `none`.
+pub(super) fn add_closed(page: &mut Page, answer: Option<Post>) {
     match answer {
         Some(post) => {
             let (replies, taken) = post.into_parts();
-            let replies = shown_replies::<SumsKey>(alloc, replies.as_slice())?;
-            format!(in alloc; "{}{taken}", replies.as_str())
+            add_replies::<SumsKey>(page, replies.as_slice());
+            page.number(taken);
         }
-        None => String::from_str(alloc, "none"),
+        None => page.add("none"),
     }
 }
 
-/// A run that was started, as its number, or `none`.
-pub(super) fn shown_run(alloc: Global, run: Option<RunId>) -> Result<String, Memory> {
+/// Writes a run that was started, as its number, or `none`.
+pub(super) fn add_run(page: &mut Page, run: Option<RunId>) {
     match run {
-        Some(run) => format!(in alloc; "{}", run.number()),
-        None => String::from_str(alloc, "none"),
+        Some(run) => page.wide(run.number()),
+        None => page.add("none"),
     }
 }
 
-/// Two numbers.
-fn two_numbers(alloc: Global, first: u64, second: u64) -> Result<String, Memory> {
-    format!(in alloc; "{first} {second}")
-}
-
-/// The request of a run as `CLIENT NUMBER`, or `none`.
-pub(super) fn shown_owner(
-    alloc: Global,
-    owner: Option<(ClientId, Number)>,
-) -> Result<String, Memory> {
+/// Writes the request of a run as `CLIENT NUMBER`, or `none`.
+pub(super) fn add_owner(page: &mut Page, owner: Option<(ClientId, Number)>) {
     match owner {
-        Some((client, number)) => two_numbers(alloc, client.number(), number.number()),
-        None => String::from_str(alloc, "none"),
+        Some((client, number)) => add_two(page, client.number(), number.number()),
+        None => page.add("none"),
     }
 }
 
-/// Why a rule is started: `fresh`, `ring`, or the read that changed; `on` where it goes on.
-fn shown_why(alloc: Global, why: &Option<Why<SumsKey>>) -> Result<String, Memory> {
+/// Writes why a rule is started: `fresh`, `ring`, or the read that changed; `on` where it goes on.
+fn add_why(page: &mut Page, why: &Option<Why<SumsKey>>) {
     match why {
-        None => String::from_str(alloc, "on"),
-        Some(Why::Fresh) => String::from_str(alloc, "fresh"),
-        Some(Why::Changed(key)) => key.shown(alloc),
-        Some(Why::Ring) => String::from_str(alloc, "ring"),
+        None => page.add("on"),
+        Some(Why::Fresh) => page.add("fresh"),
+        Some(Why::Changed(key)) => key.show(page),
+        Some(Why::Ring) => page.add("ring"),
     }
 }
 
-/// Work as `KEY WHY`.
-fn shown_work<R: Rules<Key = SumsKey, Value = SumsValue>>(
-    alloc: Global,
-    work: &Work<R>,
-) -> Result<String, Memory> {
-    let key = work.key().shown(alloc)?;
-    let why = shown_why(alloc, work.why())?;
-    format!(in alloc; "{} {}", key.as_str(), why.as_str())
+/// Writes work as `KEY WHY`.
+fn add_work<R: Rules<Key = SumsKey, Value = SumsValue>>(page: &mut Page, work: &Work<R>) {
+    work.key().show(page);
+    page.add(" ");
+    add_why(page, work.why());
 }
 
 /// Adds `KEY WHY;` to `log` where work starts a rule.
 pub(super) fn add_start<R: Rules<Key = SumsKey, Value = SumsValue>>(
-    alloc: Global,
-    log: &mut String,
+    log: &mut Page,
     work: &Work<R>,
-) -> Result<(), Memory> {
+) {
     if work.why().is_some() {
-        log.push_str(shown_work(alloc, work)?.as_str())?;
-        log.push(';')?;
+        add_work(log, work);
+        log.add(";");
     }
-    Ok(())
 }
 
 /// What a step came to, but for its work or run.
@@ -146,48 +123,49 @@ fn move_word<W>(step: &Move<W>) -> &'static str {
     }
 }
 
-/// What a step came to. Work is as [`shown_work`] shows it.
-fn shown_move<R: Rules<Key = SumsKey, Value = SumsValue>>(
-    alloc: Global,
-    step: &Move<Work<R>>,
-) -> Result<String, Memory> {
+/// Writes what a step came to. Work is as [`add_work`] writes it.
+fn add_move<R: Rules<Key = SumsKey, Value = SumsValue>>(page: &mut Page, step: &Move<Work<R>>) {
     match step {
-        Move::Carry(work) => shown_work(alloc, work),
-        Move::Blocked(run) => numbered(alloc, "blocked", run.number()),
-        _ => String::from_str(alloc, move_word(step)),
+        Move::Carry(work) => add_work(page, work),
+        Move::Blocked(run) => {
+            page.add("blocked ");
+            page.wide(run.number());
+        }
+        _ => page.add(move_word(step)),
     }
 }
 
-/// What a look came to. Work is lost.
-pub(super) fn shown_look<R: Rules<Key = SumsKey, Value = SumsValue>>(
-    alloc: Global,
+/// Writes what a look came to. Work is lost.
+pub(super) fn add_look<R: Rules<Key = SumsKey, Value = SumsValue>>(
+    page: &mut Page,
     answer: Result<Move<Work<R>>, LookFault>,
-) -> Result<String, Memory> {
+) {
     match answer {
-        Ok(step) => shown_move(alloc, &step),
-        Err(fault) => format!(in alloc; "{fault}"),
+        Ok(step) => add_move(page, &step),
+        Err(fault) => add_fault(page, fault),
     }
 }
 
-/// What the giving of a result came to.
-pub(super) fn shown_give<R: Rules<Key = SumsKey, Value = SumsValue>>(
-    alloc: Global,
+/// Writes what the giving of a result came to.
+pub(super) fn add_give<R: Rules<Key = SumsKey, Value = SumsValue>>(
+    page: &mut Page,
     answer: Result<Move<Work<R>>, GiveRefused<Done<R>>>,
-) -> Result<String, Memory> {
+) {
     match answer {
-        Ok(step) => shown_move(alloc, &step),
-        Err(refused) => format!(in alloc; "{}", refused.fault),
+        Ok(step) => add_move(page, &step),
+        Err(refused) => add_fault(page, refused.fault),
     }
 }
 
-/// What the giving of a result came to that was refused before because of `fault`.
-pub(super) fn shown_again<R: Rules<Key = SumsKey, Value = SumsValue>>(
-    alloc: Global,
+/// Writes what the giving of a result came to that was refused before because of `fault`.
+pub(super) fn add_again<R: Rules<Key = SumsKey, Value = SumsValue>>(
+    page: &mut Page,
     fault: GiveFault,
     answer: Result<Move<Work<R>>, GiveRefused<Done<R>>>,
-) -> Result<String, Memory> {
-    let answer = shown_give(alloc, answer)?;
-    format!(in alloc; "{fault}; {}", answer.as_str())
+) {
+    add_fault(page, fault);
+    page.add("; ");
+    add_give(page, answer);
 }
 
 /// `yes` or `no`.

@@ -10,20 +10,16 @@ use std::process::Abort;
 impl Sample for SumsKey {
     type Value = SumsValue;
 
-    fn written(rt: &(impl Abort + AllocGlobal), text: &str) -> Result<SumsKey, Memory> {
-        Ok(key_of(rt, text))
+    fn written(rt: &(impl Abort + AllocGlobal), text: &str) -> SumsKey {
+        key_of(rt, text)
     }
 
-    fn shown(&self, alloc: Global) -> Result<String, Memory> {
-        let mut page = Page::new(alloc);
-        add_key(&mut page, self);
-        page.into_text()
+    fn show(&self, page: &mut Page) {
+        add_key(page, self);
     }
 
-    fn shown_answer(alloc: Global, answer: &Answer<SumsKey, SumsValue>) -> Result<String, Memory> {
-        let mut page = Page::new(alloc);
-        add_answer(&mut page, answer);
-        page.into_text()
+    fn show_answer(page: &mut Page, answer: &Answer<SumsKey, SumsValue>) {
+        add_answer(page, answer);
     }
 
     fn scratch(

@@ -1,14 +1,12 @@
 //! Played lists against the model.
 use super::model::{Ask, Model};
-use crate::tests::cores::lines::{Sample, shown_reply, shown_request};
-use crate::tests::support::check_text;
+use crate::tests::cores::lines::{Sample, add_reply, add_request};
+use crate::tests::support::{Page, check_number, check_pages, check_that};
 use pq_core::{Change, Outcome, Reply, Request, Want};
 use pq_inputs::Inputs;
 use pq_play::{Event, Played};
-use pq_rules::{Answer, Memory};
-use std::alloc::Global;
+use pq_rules::Answer;
 use std::process::Abort;
-use std::test::Fail;
 
 /// How often each outcome was seen.
 #[derive(Clone, Copy)]
@@ -52,117 +50,141 @@ impl Counts {
 pub(super) struct Case<K> {
     pub(super) events: Vec<Event<K>>,
     pub(super) model: Model,
-    pub(super) script: String,
+    pub(super) script: Page,
+}
+
+/// A copy of the text of a file.
+fn copied(rt: &impl Abort, text: &Option<String>) -> Option<String> {
+    match text {
+        Some(text) => Some(text.clone().expect(rt, "memory")),
+        None => None,
+    }
 }
 
 /// Makes a change.
-fn make(inputs: &mut Inputs, change: &Change) -> Result<(), Fail> {
-    let text = match &change.text {
-        Some(text) => Some(text.clone()?),
-        None => None,
-    };
-    match inputs.set(change.file.as_str(), text, change.durability) {
-        Ok(_revision) => Ok(()),
-        Err(_refused) => Err(Fail::from("a file was not set")),
-    }
+fn make(rt: &impl Abort, inputs: &mut Inputs, change: &Change) {
+    let text = copied(rt, &change.text);
+    let is_set = inputs
+        .set(change.file.as_str(), text, change.durability)
+        .is_ok();
+    check_that(rt, is_set, "a file was not set");
 }
 
 /// The inputs after the first `revision` of the edits.
-fn inputs_at<K: Sample>(alloc: Global, case: &Case<K>, revision: usize) -> Result<Inputs, Fail> {
-    let mut inputs = Inputs::new(alloc)?;
+fn inputs_at<K: Sample>(
+    rt: &(impl Abort + AllocGlobal),
+    case: &Case<K>,
+    revision: usize,
+) -> Inputs {
+    let mut inputs = Inputs::new(rt.alloc()).expect(rt, "memory");
     for place in case.model.edits.iter().take(revision) {
         if let Some(Event::Edit(_, change)) = case.events.get(*place) {
-            make(&mut inputs, change)?;
+            make(rt, &mut inputs, change);
         }
     }
-    Ok(inputs)
+    inputs
 }
 
-/// The answer to a request at a revision from scratch.
-fn answer_at<K: Sample>(
-    alloc: Global,
+/// Writes the answer of a key from scratch.
+fn add_scratch<K: Sample>(page: &mut Page, inputs: &Inputs, key: &K) {
+    match key.scratch(page.alloc, inputs) {
+        Ok(answer) => K::show_answer(page, &answer),
+        Err(_) => page.cut(),
+    }
+}
+
+/// Writes the answer to a request at a revision from scratch.
+fn add_answer_at<K: Sample>(
+    rt: &(impl Abort + AllocGlobal),
+    page: &mut Page,
     case: &Case<K>,
     revision: usize,
     request: &Request<K>,
-) -> Result<String, Fail> {
-    let inputs = inputs_at(alloc, case, revision)?;
+) {
     match &request.want {
-        Want::Demand(key) => {
-            let answer = key.scratch(alloc, &inputs)?;
-            Ok(K::shown_answer(alloc, &answer)?)
-        }
-        Want::Fixed(_) => Ok(String::from_str(alloc, "no key")?),
+        Want::Demand(key) => add_scratch(page, &inputs_at(rt, case, revision), key),
+        Want::Fixed(_) => page.add("no key"),
     }
 }
 
-/// The reply to a demand that was answered: it is that of the revision of the run's start, at which
-/// the run took a step.
-fn answered<K: Sample>(
-    alloc: Global,
+/// Writes `@` and a revision, and then `end`.
+fn add_at(page: &mut Page, revision: usize, end: &str) {
+    page.add("@");
+    page.number(revision);
+    page.add(end);
+}
+
+/// Writes the reply to a demand that was answered: it is that of the revision of the run's start, at
+/// which the run took a step.
+fn add_answered<K: Sample>(
+    rt: &(impl Abort + AllocGlobal),
+    page: &mut Page,
     case: &Case<K>,
     ask: &Ask,
     request: &Request<K>,
-) -> Result<String, Fail> {
+) {
     if !ask.is_demand || !ask.stepped {
-        return Ok(String::from_str(alloc, "no answer")?);
+        page.add("no answer");
+        return;
     }
-    let answer = answer_at(alloc, case, ask.started, request)?;
-    Ok(format!(in alloc; "@{} answered {}", ask.started, answer.as_str())?)
+    add_at(page, ask.started, " answered ");
+    add_answer_at(rt, page, case, ask.started, request);
 }
 
-/// The reply to a fixed request.
-fn plain(alloc: Global, ask: &Ask) -> Result<String, Memory> {
+/// Writes the reply to a fixed request.
+fn add_plain(page: &mut Page, ask: &Ask) {
     if ask.is_demand {
-        return String::from_str(alloc, "no plain reply");
+        page.add("no plain reply");
+        return;
     }
-    format!(in alloc; "@{} plain", ask.accepted)
+    add_at(page, ask.accepted, " plain");
 }
 
-/// The reply to a request whose run was found to be overtaken at the revision `seen`.
-fn cancelled(alloc: Global, ask: &Ask, last: usize, seen: usize) -> Result<String, Memory> {
+/// Writes the reply to a request whose run was found to be overtaken at the revision `seen`.
+fn add_cancelled(page: &mut Page, ask: &Ask, last: usize, seen: usize) {
     if ask.run.is_none() || seen <= ask.started || last < seen {
-        return String::from_str(alloc, "no cancellation");
+        page.add("no cancellation");
+        return;
     }
-    format!(in alloc; "@{seen} cancelled {} {seen}", ask.started)
+    add_at(page, seen, " cancelled ");
+    page.number(ask.started);
+    page.add(" ");
+    page.number(seen);
 }
 
-/// The reply to a request whose run was starved.
-fn starved(alloc: Global, ask: &Ask) -> Result<String, Memory> {
+/// Writes the reply to a request whose run was starved.
+fn add_starved(page: &mut Page, ask: &Ask) {
     match ask.starved {
-        Some(revision) => format!(in alloc; "@{revision} starved"),
-        None => String::from_str(alloc, "no starving"),
+        Some(revision) => add_at(page, revision, " starved"),
+        None => page.add("no starving"),
     }
 }
 
-/// The end of the right reply of this outcome to `ask`.
-fn right_end<K: Sample>(
-    alloc: Global,
+/// Writes the end of the right reply of this outcome to `ask`.
+fn add_right_end<K: Sample>(
+    rt: &(impl Abort + AllocGlobal),
+    page: &mut Page,
     case: &Case<K>,
     ask: &Ask,
     reply: &Reply<K, K::Value>,
-) -> Result<String, Fail> {
+) {
     match reply.outcome() {
-        Outcome::Answered(_) => answered(alloc, case, ask, reply.request()),
-        Outcome::Plain => Ok(plain(alloc, ask)?),
+        Outcome::Answered(_) => add_answered(rt, page, case, ask, reply.request()),
+        Outcome::Plain => add_plain(page, ask),
         Outcome::Cancelled { seen, .. } => {
             let last = case.model.edits.len();
-            Ok(cancelled(alloc, ask, last, seen.number() as usize)?)
+            add_cancelled(page, ask, last, seen.number() as usize);
         }
-        Outcome::Starved => Ok(starved(alloc, ask)?),
+        Outcome::Starved => add_starved(page, ask),
     }
 }
 
-/// The request of an event.
-fn request_at<K: Sample>(alloc: Global, case: &Case<K>, place: usize) -> Result<String, Memory> {
+/// Writes the request of an event.
+fn add_request_at<K: Sample>(page: &mut Page, case: &Case<K>, place: usize) {
     match case.events.get(place) {
-        Some(Event::Accept(_, request)) => shown_request(alloc, request),
-        _ => String::from_str(alloc, "no request"),
+        Some(Event::Accept(_, request)) => add_request(page, request),
+        _ => page.add("no request"),
     }
-}
-
-/// Checks that `found` is `want`.
-pub(super) fn check_count(rt: &impl Abort, found: usize, want: usize, script: &str) {
-    assert_eq!(rt; found, want, "{script}");
 }
 
 /// Checks the reply `number` of a client, whose request was `ask`.
@@ -172,27 +194,44 @@ fn check_reply<K: Sample>(
     ask: &Ask,
     number: usize,
     reply: &Reply<K, K::Value>,
-) -> Result<(), Fail> {
-    let alloc = rt.alloc();
+) {
+    let script = case.script.text(rt);
     let client = reply.client().number() as usize;
-    check_count(rt, client, ask.client as usize, case.script.as_str());
-    let request = request_at(alloc, case, ask.event)?;
-    let end = right_end(alloc, case, ask, reply)?;
-    let want = format!(in alloc; "{number} {} {}", request.as_str(), end.as_str())?;
-    let found = shown_reply::<K>(alloc, reply)?;
-    check_text(rt, found.as_str(), want.as_str(), case.script.as_str());
-    Ok(())
+    check_number(rt, client, ask.client as usize, script);
+    let mut want = Page::new(rt.alloc());
+    want.number(number);
+    want.add(" ");
+    add_request_at(&mut want, case, ask.event);
+    want.add(" ");
+    add_right_end(rt, &mut want, case, ask, reply);
+    let mut found = Page::new(rt.alloc());
+    add_reply::<K>(&mut found, reply);
+    check_pages(rt, &found, &want, script);
 }
 
 /// The requests of `client` in the model, in order.
-fn asks_of(alloc: Global, model: &Model, client: usize) -> Result<Vec<Ask>, Memory> {
-    let mut asks = Vec::new(alloc);
+fn asks_of(rt: &(impl Abort + AllocGlobal), model: &Model, client: usize) -> Vec<Ask> {
+    let mut asks = Vec::new(rt.alloc());
     for ask in &model.asks {
         if ask.client as usize == client {
-            asks.push(*ask)?;
+            asks.push(*ask).expect(rt, "memory");
         }
     }
-    Ok(asks)
+    asks
+}
+
+/// Checks a request that was accepted from a client.
+fn check_request<K: Sample>(
+    rt: &(impl Abort + AllocGlobal),
+    case: &Case<K>,
+    ask: &Ask,
+    request: &Request<K>,
+) {
+    let mut want = Page::new(rt.alloc());
+    add_request_at(&mut want, case, ask.event);
+    let mut found = Page::new(rt.alloc());
+    add_request(&mut found, request);
+    check_pages(rt, &found, &want, case.script.text(rt));
 }
 
 /// Checks the requests that were accepted from a client.
@@ -201,14 +240,11 @@ fn check_accepted<K: Sample>(
     case: &Case<K>,
     asks: &[Ask],
     accepted: &[Request<K>],
-) -> Result<(), Memory> {
-    check_count(rt, accepted.len(), asks.len(), case.script.as_str());
+) {
+    check_number(rt, accepted.len(), asks.len(), case.script.text(rt));
     for (ask, request) in asks.iter().zip(accepted) {
-        let want = request_at(rt.alloc(), case, ask.event)?;
-        let found = shown_request(rt.alloc(), request)?;
-        check_text(rt, found.as_str(), want.as_str(), case.script.as_str());
+        check_request(rt, case, ask, request);
     }
-    Ok(())
 }
 
 /// Checks the replies that a client took, and counts them.
@@ -218,15 +254,14 @@ fn check_taken<K: Sample>(
     asks: &[Ask],
     taken: &[Reply<K, K::Value>],
     counts: &mut Counts,
-) -> Result<(), Fail> {
-    assert!(rt; taken.len() <= asks.len(), "{}", case.script.as_str());
+) {
+    check_that(rt, taken.len() <= asks.len(), case.script.text(rt));
     for (number, reply) in taken.iter().enumerate() {
         if let Some(ask) = asks.get(number) {
-            check_reply(rt, case, ask, number, reply)?;
+            check_reply(rt, case, ask, number, reply);
             counts.add(reply.outcome());
         }
     }
-    Ok(())
 }
 
 /// Checks what was played of `client`, and counts the outcomes. Where it `ends`, it has taken all.
@@ -237,18 +272,17 @@ fn check_client<K: Sample>(
     played: &Played<K, K::Value>,
     ends: bool,
     counts: &mut Counts,
-) -> Result<(), Fail> {
-    let asks = asks_of(rt.alloc(), &case.model, client)?;
+) {
+    let asks = asks_of(rt, &case.model, client);
     if let Some(accepted) = played.accepted.get(client) {
-        check_accepted(rt, case, asks.as_slice(), accepted.as_slice())?;
+        check_accepted(rt, case, asks.as_slice(), accepted.as_slice());
     }
     if let Some(taken) = played.taken.get(client) {
-        check_taken(rt, case, asks.as_slice(), taken.as_slice(), counts)?;
+        check_taken(rt, case, asks.as_slice(), taken.as_slice(), counts);
         if ends {
-            check_count(rt, taken.len(), asks.len(), case.script.as_str());
+            check_number(rt, taken.len(), asks.len(), case.script.text(rt));
         }
     }
-    Ok(())
 }
 
 /// Checks what was played of the list `case`, and counts the outcomes. Where the list `ends`, each
@@ -259,15 +293,19 @@ pub(super) fn check_played<K: Sample>(
     played: &Played<K, K::Value>,
     ends: bool,
     counts: &mut Counts,
-) -> Result<(), Fail> {
-    let script = case.script.as_str();
+) {
+    let script = case.script.text(rt);
     let edits = case.model.edits.len();
     let clients = case.model.open.len();
-    check_count(rt, played.revision.number() as usize, edits, script);
-    check_count(rt, played.accepted.len(), clients, script);
-    check_count(rt, played.taken.len(), clients, script);
+    check_number(rt, played.revision.number() as usize, edits, script);
+    check_number(rt, played.accepted.len(), clients, script);
+    check_number(rt, played.taken.len(), clients, script);
     for (client, open) in case.model.open.iter().enumerate() {
-        check_client(rt, case, client, played, ends && *open, counts)?;
+        check_client(rt, case, client, played, ends && *open, counts);
     }
-    Ok(())
+}
+
+/// Checks that an outcome was seen often: `name` names it.
+pub(super) fn check_often(rt: &impl Abort, name: &str, count: u32) {
+    assert!(rt; count > 50, "{name}: {count}");
 }

@@ -1,9 +1,10 @@
 //! Random lists of events over proto files: what is answered is what the files compile to.
-use super::checks::{Case, Counts, check_played};
+use super::checks::{Case, Counts, check_often, check_played};
 use super::events_of;
 use super::model::model_of;
 use super::writer::{Language, Writer};
 use crate::tests::cores::lines::Sample;
+use crate::tests::support::{Page, check_number};
 use pq_checks::Fault;
 use pq_inputs::Inputs;
 use pq_play::play;
@@ -11,45 +12,46 @@ use pq_proto::{ProtoKey, ProtoRules, ProtoValue, compile};
 use pq_rules::{Answer, Memory, Text};
 use std::alloc::Global;
 use std::process::Abort;
-use std::test::Fail;
 
-/// Diagnostics as `CODE START-END TEXT;` each.
-fn shown_faults(alloc: Global, faults: &[Fault]) -> Result<String, Memory> {
-    let mut all = String::new(alloc);
+/// Writes diagnostics as `CODE START-END TEXT;` each.
+fn add_faults(page: &mut Page, faults: &[Fault]) {
     for fault in faults {
-        let place = format!(in alloc; "{} {}-{} ", fault.code.as_str(), fault.start, fault.end)?;
-        all.push_str(place.as_str())?;
-        all.push_str(fault.text.as_str())?;
-        all.push(';')?;
+        page.add(fault.code.as_str());
+        page.add(" ");
+        page.number(fault.start);
+        page.add("-");
+        page.number(fault.end);
+        page.add(" ");
+        page.add(fault.text.as_str());
+        page.add(";");
     }
-    Ok(all)
 }
 
 // The keys are those of diagnostics, written `Diagnostics NAME`.
 impl Sample for ProtoKey {
     type Value = ProtoValue;
 
-    fn written(rt: &(impl Abort + AllocGlobal), text: &str) -> Result<ProtoKey, Memory> {
+    fn written(rt: &(impl Abort + AllocGlobal), text: &str) -> ProtoKey {
         let name = text.strip_prefix("Diagnostics ").unwrap_or(text);
-        Ok(ProtoKey::Diagnostics(Text::new(rt.alloc(), name)?))
+        ProtoKey::Diagnostics(Text::new(rt.alloc(), name).expect(rt, "memory"))
     }
 
-    fn shown(&self, alloc: Global) -> Result<String, Memory> {
+    fn show(&self, page: &mut Page) {
         match self {
-            ProtoKey::Diagnostics(name) => format!(in alloc; "Diagnostics {}", name.as_str()),
-            _ => String::from_str(alloc, "another key"),
+            ProtoKey::Diagnostics(name) => {
+                page.add("Diagnostics ");
+                page.add(name.as_str());
+            }
+            _ => page.add("another key"),
         }
     }
 
-    fn shown_answer(
-        alloc: Global,
-        answer: &Answer<ProtoKey, ProtoValue>,
-    ) -> Result<String, Memory> {
+    fn show_answer(page: &mut Page, answer: &Answer<ProtoKey, ProtoValue>) {
         match answer {
             Answer::Value(ProtoValue::Diagnostics(checked)) => {
-                shown_faults(alloc, checked.get().faults.as_slice())
+                add_faults(page, checked.get().faults.as_slice());
             }
-            _ => String::from_str(alloc, "another answer"),
+            _ => page.add("another answer"),
         }
     }
 
@@ -65,36 +67,35 @@ impl Sample for ProtoKey {
 /// Plays a list, and checks it.
 fn check_list(
     rt: &(impl Abort + AllocGlobal),
-    script: String,
+    script: Page,
     room: usize,
     ends: bool,
     counts: &mut Counts,
-) -> Result<(), Fail> {
-    let events = events_of::<ProtoKey>(rt, script.as_str())?;
-    let model = model_of(rt.alloc(), events.as_slice())?;
-    let played = play(rt.alloc(), ProtoRules, room, events.as_slice())?;
+) {
+    let events = events_of::<ProtoKey>(rt, script.text(rt));
+    let model = model_of(rt.alloc(), events.as_slice()).expect(rt, "memory");
+    let played = play(rt.alloc(), ProtoRules, room, events.as_slice()).expect(rt, "memory");
     let case = Case {
         events,
         model,
         script,
     };
-    check_played(rt, &case, &played, ends && room > 0, counts)
+    check_played(rt, &case, &played, ends && room > 0, counts);
 }
 
 // Each third list ends. Diagnostics answer no cycle: they tell of it.
 #[test]
-fn random_lists(rt: HostRuntime) -> Result<(), Fail> {
+fn random_lists(rt: HostRuntime) {
     let mut writer = Writer::new(rt.alloc(), Language::Proto, 6);
     let mut counts = Counts::new();
     for n in 0..300u32 {
         let ends = n % 3 == 0;
         let room = writer.below(4);
-        let script = writer.script(rt.alloc(), ends)?;
-        check_list(&rt, script, room, ends, &mut counts)?;
+        let script = writer.script(ends);
+        check_list(&rt, script, room, ends, &mut counts);
     }
-    assert!(rt; counts.values > 50, "values: {}", counts.values);
-    assert!(rt; counts.plain > 50, "plain: {}", counts.plain);
-    assert!(rt; counts.cancelled > 50, "cancelled: {}", counts.cancelled);
-    assert_eq!(rt; counts.cycles, 0);
-    Ok(())
+    check_often(&rt, "values", counts.values);
+    check_often(&rt, "plain", counts.plain);
+    check_often(&rt, "cancelled", counts.cancelled);
+    check_number(&rt, counts.cycles as usize, 0, "cycles");
 }
