@@ -68,11 +68,14 @@ fn carried<R: Rules<Key = SumsKey, Value = SumsValue>>(
     alloc: Global,
     log: &mut Page,
     work: Work<R>,
-) -> Result<Done<R>, Work<R>>
+) -> Result<Done<R>, Memory>
     ensures { IfOk result (λ done. done ≡ work.done) }
 {
     add_start(log, &work);
-    work.carry_out(alloc)
+    match work.carry_out(alloc) {
+        Ok(done) => Ok(done),
+        Err(_) => Err(Memory),
+    }
 }
 
 impl<'a> Calls for Core<Counted<'a>, Post> {
