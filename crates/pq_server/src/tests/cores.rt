@@ -208,8 +208,8 @@ fn rests_while_gone(rt: HostRuntime) {
     );
 }
 
-// The request that waited longest is started first, whichever client posted it. One of a client
-// that was closed is passed over.
+// The request that waited longest is started first, whichever client posted it. None of a client
+// that was closed is started.
 #[test]
 fn started_in_order(rt: HostRuntime) {
     check_rows(

@@ -121,15 +121,6 @@ impl Page {
         assert!(rt; !self.is_cut, "out of memory");
         self.text.as_str()
     }
-
-    /// What is written, if memory did not run out.
-    pub(super) fn into_text(self) -> Result<String, Memory> {
-        let Page { text, is_cut, .. } = self;
-        if is_cut {
-            return Err(Memory);
-        }
-        Ok(text)
-    }
 }
 
 /// Checks that a page has the text `want`; `row` names the row.
