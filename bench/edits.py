@@ -1,0 +1,220 @@
+#!/usr/bin/env python3
+"""Tries the wrong bodies that bench/edits/CRATE.txt lists: the checker has to refuse each of them.
+
+The gate tries the edits in crates/CRATE/must-fail, those that the specification names. All others stand in these lists,
+and whoever changes a crate runs its list before the change lands. A list is plain text. An edit in it looks like this:
+
+    edit: asks_the_same_again
+    verdict: refused
+    clause: `first` (`turn`)
+    file: src/linked.rt
+    -Some(second) => Ok(Turn::Ask(S::linked_key(&second.file)?, ())),
+    +Some(_) => Ok(Turn::Ask(S::linked_key(&import.file)?, ())),
+
+The lines with `-` are the old text, which stands once in the file, and those with `+` are the new text. A text is what
+follows the sign, and can be part of a line or several lines. Lines with `-` after lines with `+` begin another pair, and
+a `file:` line can change the file. A line `+` alone is an empty new text. Blank lines and lines with `#` say nothing.
+
+The verdict is one of:
+    refused                 this script saw the refusal, and `clause` is what the checker said
+    refused in the gate     `rt ci` refused it when it was in the gate; the clause was read from the contract, not seen
+    refused in a review     a reviewer's check refused it, at `clause`
+
+Each edit is tried in a copy of the repository over the work that the last `rt check` of the crate kept: run `rt check`
+in the crate's folder first. So an edit costs a load of the crate and the search for a proof of what it made false.
+Printed are, for each edit, whether it was refused, the processor seconds, and the first goal that was not proved.
+The status is 1 if an edit was let through or could not be tried.
+
+usage: bench/edits.py CRATE [NAME..]     tries all edits of the crate, or those named
+       bench/edits.py --all              tries those of all crates
+       bench/edits.py --apply-only ..    proves nothing: says whether each edit still applies
+"""
+import argparse
+import os
+import re
+import resource
+import shutil
+import subprocess
+import sys
+import tempfile
+
+HERE = os.path.dirname(os.path.realpath(__file__))
+TOP = os.path.dirname(HERE)
+LISTS = os.path.join(HERE, "edits")
+PARTS = ["src", "specs", "proofs"]
+VERDICTS = ["refused", "refused in the gate", "refused in a review"]
+
+
+class Edit:
+    """One edit of a list: its name, its verdict, its clause, and triples of a file, an old and a new text."""
+
+    def __init__(self, name):
+        self.name, self.verdict, self.clause, self.pairs = name, "", "", []
+
+
+def read_list(crate):
+    """The edits of a crate's list. A line that cannot be read ends the script."""
+    path = os.path.join(LISTS, crate + ".txt")
+    if not os.path.isfile(path):
+        sys.exit("there is no list %s" % path)
+    edits, file, sign = [], None, ""
+    with open(path, encoding="utf-8") as it:
+        lines = it.read().split("\n")
+    for number, line in enumerate(lines, 1):
+        word, _, value = line.partition(": ")
+        if line[:1] == "-" and file and edits:
+            if sign == "-":
+                edits[-1].pairs[-1][1] += "\n" + line[1:]
+            else:
+                edits[-1].pairs.append([file, line[1:], None])
+        elif line[:1] == "+" and sign in "+-" and sign:
+            last = edits[-1].pairs[-1]
+            last[2] = line[1:] if last[2] is None else last[2] + "\n" + line[1:]
+        elif word == "edit":
+            edits.append(Edit(value))
+            file = None
+        elif word == "file" and edits:
+            file = value
+        elif word in ("verdict", "clause") and edits:
+            setattr(edits[-1], word, value)
+        elif line.strip() and line[0] != "#":
+            sys.exit("%s:%d: this line has no meaning: %s" % (path, number, line))
+        sign = line[:1] if line[:1] in ("+", "-") else ""
+    for edit in edits:
+        if edit.verdict not in VERDICTS or not edit.clause or not edit.pairs or any(new is None for _, _, new in edit.pairs):
+            sys.exit("%s: %s lacks a verdict, a clause, an old text or a new text" % (path, edit.name))
+    names = [edit.name for edit in edits]
+    if len(set(names)) < len(names):
+        sys.exit("%s: a name stands twice" % path)
+    return edits
+
+
+def changed(edit, folder):
+    """The texts of the files that the edit changes, or why it cannot be applied."""
+    texts = {}
+    for file, old, new in edit.pairs:
+        if file not in texts:
+            if not os.path.isfile(os.path.join(folder, file)):
+                return None, "there is no file %s" % file
+            with open(os.path.join(folder, file), encoding="utf-8") as it:
+                texts[file] = it.read()
+        if texts[file].count(old) != 1:
+            return None, "an old text is in %s %d times" % (file, texts[file].count(old))
+        texts[file] = texts[file].replace(old, new)
+    return texts, ""
+
+
+def written(folder, texts):
+    """Writes texts into files below the folder, and returns what stood there."""
+    before = {}
+    for file, text in texts.items():
+        path = os.path.join(folder, file)
+        with open(path, encoding="utf-8") as it:
+            before[file] = it.read()
+        with open(path, "w", encoding="utf-8") as it:
+            it.write(text)
+    return before
+
+
+def copied(room, crate):
+    """Copies the repository's sources into `room`, with the work that checks kept: links, but for the crate itself."""
+    for name in ["crates.txt", "HANDLES"]:
+        shutil.copy(os.path.join(TOP, name), room)
+    os.mkdir(os.path.join(room, ".git"))
+    for name in sorted(os.listdir(os.path.join(TOP, "crates"))):
+        here, there = os.path.join(TOP, "crates", name), os.path.join(room, "crates", name)
+        for part in PARTS:
+            if os.path.isdir(os.path.join(here, part)):
+                shutil.copytree(os.path.join(here, part), os.path.join(there, part))
+        if os.path.isdir(os.path.join(here, "out")):
+            shutil.copytree(os.path.join(here, "out"), os.path.join(there, "out"), copy_function=shutil.copy2 if name == crate else os.link)
+
+
+def seconds():
+    """The processor seconds of all processes that this one has waited for."""
+    used = resource.getrusage(resource.RUSAGE_CHILDREN)
+    return used.ru_utime + used.ru_stime
+
+
+def said_first(lines):
+    """The first goal that the checker did not prove; one that a proof file cannot name comes last."""
+    said = [it for it in lines if re.match(r"(note: )?\S+:\d+:\d+:", it)]
+    said = [it for it in said if ": error" in it or it.startswith("note: ")] or said
+    by_name = r"(\./)?proofs/.*(has no field|is not in scope|has no `|was not admitted)"
+    goals = [it for it in said if not re.match(by_name, it)]
+    if said and not goals:
+        return "by a name alone: " + said[0]
+    return (goals or [it for it in lines if it.strip()][-1:] or ["it said nothing"])[0]
+
+
+def tried(folder, edit):
+    """Whether the checker refuses the crate with the edit, and what it said first."""
+    texts, why = changed(edit, folder)
+    if texts is None:
+        return False, "it cannot be applied: " + why
+    before = written(folder, texts)
+    try:
+        ran = subprocess.run(["rt", "check", "--jobs", "1"], cwd=folder, stdin=subprocess.DEVNULL, stdout=subprocess.PIPE, stderr=subprocess.STDOUT, text=True, errors="replace")
+    finally:
+        written(folder, before)
+    lines = ran.stdout.split("\n")
+    if any(it.startswith("logic=proved") for it in lines):
+        return False, "LET THROUGH"
+    said = said_first(lines)[:300]
+    if not any(it.startswith("logic=not-proved") for it in lines):
+        return False, "it did not reach the checker: " + said
+    return True, said
+
+
+def apply_all(crate, edits):
+    """Says which edits do not apply, and returns how many."""
+    failed = 0
+    for edit in edits:
+        texts, why = changed(edit, os.path.join(TOP, "crates", crate))
+        if texts is None:
+            print("%s: %s: %s" % (crate, edit.name, why))
+            failed += 1
+    print("%s: %d edits, %d do not apply" % (crate, len(edits), failed))
+    return failed
+
+
+def try_all(crate, edits):
+    """Tries the edits one after another, and returns how many were not refused."""
+    failed = 0
+    rooms = os.path.join(HERE, "out")
+    os.makedirs(rooms, exist_ok=True)
+    with tempfile.TemporaryDirectory(prefix="edits-", dir=rooms) as room:
+        copied(room, crate)
+        for edit in edits:
+            start = seconds()
+            well, said = tried(os.path.join(room, "crates", crate), edit)
+            failed += not well
+            print("%-10s %-45s %-8s %6.1f s  %s" % (crate, edit.name, "refused" if well else "NOT SO", seconds() - start, said), flush=True)
+    return failed
+
+
+def main():
+    words = argparse.ArgumentParser(usage=__doc__[__doc__.index("usage: ") + 7:])
+    words.add_argument("crate", nargs="?")
+    words.add_argument("names", nargs="*")
+    words.add_argument("--all", action="store_true")
+    words.add_argument("--apply-only", action="store_true")
+    words = words.parse_args()
+    if not words.crate and not words.all:
+        words.crate, words.all = None, words.apply_only
+        if not words.all:
+            sys.exit(__doc__)
+    crates = sorted(it[:-len(".txt")] for it in os.listdir(LISTS) if it.endswith(".txt")) if words.all else [words.crate]
+    failed = 0
+    for crate in crates:
+        edits = read_list(crate)
+        absent = [it for it in words.names if it not in {edit.name for edit in edits}]
+        if absent:
+            sys.exit("%s has no edit %s" % (crate, ", ".join(absent)))
+        edits = [it for it in edits if it.name in words.names] if words.names else edits
+        failed += (apply_all if words.apply_only else try_all)(crate, edits)
+    return 1 if failed else 0
+
+
+if __name__ == "__main__":
+    sys.exit(main())
