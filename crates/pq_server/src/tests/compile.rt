@@ -2,13 +2,9 @@
 //!
 //! A set of files has a line for each file: `NAME: TEXT`, which follows a line of the syntax
 //! statement, or `NAME= TEXT`, which is whole. `|` means a line feed.
-mod descriptors;
-mod diagnostics;
 mod edits;
 mod keys;
-mod places;
 mod random;
-mod symbols;
 
 use pq_inputs::{Durability, Inputs};
 use pq_proto::{ProtoKey, ProtoValue, compile};
