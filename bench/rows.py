@@ -72,7 +72,7 @@ def file_named(asked, files, place):
 def file_beside(asked, files, place):
     """Reads a row that has a file of its own beside the set."""
     name, text = file_of(asked, place)
-    return dict(files, **{name: text}), name, None
+    return {**files, name: text}, name, None
 
 
 def place_named(asked, files, place):
