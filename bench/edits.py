@@ -20,14 +20,20 @@ The verdict is one of:
     refused in the gate     `rt ci` refused it when it was in the gate; the clause was read from the contract, not seen
     refused in a review     a reviewer's check refused it, at `clause`
 
-Each edit is tried in a copy of the repository over the work that the last `rt check` of the crate kept: run `rt check`
-in the crate's folder first. So an edit costs a load of the crate and the search for a proof of what it made false.
-Printed are, for each edit, whether it was refused, the processor seconds, and the first goal that was not proved.
+The edits are tried in a copy of the repository, over the work that the last `rt check` of the crate kept: run `rt check`
+in the crate's folder first. Edits of different functions are tried together, in one `rt check --allow-holes`. A goal is
+stated by the contracts of what a function calls, so no edit hides another. An edit counts as refused there if the checker
+names a goal or an answer of the very function that it changes. Each other edit is tried alone, and is let through if the
+whole crate is proved with it.
+
+Printed are, for each edit, whether it was refused, the processor seconds, and what was refused first.
 The status is 1 if an edit was let through or could not be tried.
 
 usage: bench/edits.py CRATE [NAME..]     tries all edits of the crate, or those named
        bench/edits.py --all              tries those of all crates
        bench/edits.py --apply-only ..    proves nothing: says whether each edit still applies
+       bench/edits.py --alone ..         tries each edit alone
+       bench/edits.py --note ..          writes the verdict and the clause of each refused edit into the list
 """
 import argparse
 import os
@@ -136,34 +142,107 @@ def seconds():
     return used.ru_utime + used.ru_stime
 
 
+def check(folder, *flags):
+    """The lines of a check of the crate in the folder."""
+    words = ["rt", "check", "--jobs", "1", *flags]
+    ran = subprocess.run(words, cwd=folder, stdin=subprocess.DEVNULL, stdout=subprocess.PIPE, stderr=subprocess.STDOUT, text=True, errors="replace")
+    return ran.stdout.split("\n")
+
+
+def function_of(edit, folder):
+    """The file and the name of the one function that the edit changes, or None."""
+    found = set()
+    for file, old, _ in edit.pairs:
+        with open(os.path.join(folder, file), encoding="utf-8") as it:
+            text = it.read()
+        begun = text[: text.find(old)]
+        names = list(re.finditer(r"^( *)(?:pub(?:\([a-z]+\))? )?fn (\w+)", begun, re.M))
+        # a closing brace as far to the left as the function's head ends it
+        if not file.startswith("src/") or not names or re.search(r"^%s\}" % names[-1][1], begun[names[-1].start():], re.M) or re.search(r"^ *(pub(\([a-z]+\))? )?fn ", old, re.M):
+            return None
+        found.add((file, names[-1][2]))
+    return found.pop() if len(found) == 1 else None
+
+
+def own_refusal(lines, crate, function):
+    """What the checker said of the function itself, or None where it said nothing, or spoke only of what it calls."""
+    file, name = function
+    module = re.sub(r"/main\.rt$|/lib\.rt$|\.rt$", "", file[len("src/"):]).replace("/", "::")
+    place = "%s::%s" % (crate, module)
+    said = [re.match(r"fn (\S+): (.*)", it) for it in lines]
+    said = [it for it in said if it and it[1].startswith(place) and it[1].endswith("::" + name)]
+    if len(said) != 1 or not said[0][2].startswith("no proof: "):
+        return None
+    goals = re.findall(r"`search` did not prove ((?:`[^`]+`(?:, | and )?)+)", said[0][2])
+    if goals:
+        return "`%s` (%s)" % (said[0][1][len(crate) + 2:], goals[0].split(",")[0].split(" and ")[0].strip())
+    proof = re.search(r"proofs/\S+", said[0][2])
+    return None if not proof else named_error(lines, said[0][1][len(crate) + 2:])
+
+
+def named_error(lines, function):
+    """The first error in the answers of a function, unless all its errors are of names that the edit took away."""
+    folder = "proofs/%s/" % function.replace("::", "/")
+    said = [it for it in lines if folder in it.partition(": ")[0] and ": error" in it]
+    goals = [it for it in said if not re.search(BY_NAME, it)]
+    return "`%s`, an equation of its answers" % function if goals else None
+
+
+BY_NAME = r"has no field|is not in scope|has no `|was not admitted"
+
+
 def said_first(lines):
     """The first goal that the checker did not prove; one that a proof file cannot name comes last."""
     said = [it for it in lines if re.match(r"(note: )?\S+:\d+:\d+:", it)]
     said = [it for it in said if ": error" in it or it.startswith("note: ")] or said
-    by_name = r"(\./)?proofs/.*(has no field|is not in scope|has no `|was not admitted)"
-    goals = [it for it in said if not re.match(by_name, it)]
+    goals = [it for it in said if not (re.match(r"(\./)?proofs/", it) and re.search(BY_NAME, it))]
     if said and not goals:
         return "by a name alone: " + said[0]
     return (goals or [it for it in lines if it.strip()][-1:] or ["it said nothing"])[0]
 
 
-def tried(folder, edit):
+def tried(folder, crate, edit):
     """Whether the checker refuses the crate with the edit, and what it said first."""
     texts, why = changed(edit, folder)
     if texts is None:
         return False, "it cannot be applied: " + why
+    function = function_of(edit, folder)
     before = written(folder, texts)
     try:
-        ran = subprocess.run(["rt", "check", "--jobs", "1"], cwd=folder, stdin=subprocess.DEVNULL, stdout=subprocess.PIPE, stderr=subprocess.STDOUT, text=True, errors="replace")
+        lines = check(folder)
     finally:
         written(folder, before)
-    lines = ran.stdout.split("\n")
     if any(it.startswith("logic=proved") for it in lines):
         return False, "LET THROUGH"
     said = said_first(lines)[:300]
     if not any(it.startswith("logic=not-proved") for it in lines):
         return False, "it did not reach the checker: " + said
-    return True, said
+    return True, function and own_refusal(lines, crate, function) or said
+
+
+def of_different_functions(folder, edits):
+    """The first edit of each function, by the function; those that change no single function are left out."""
+    chosen = {}
+    for edit in edits:
+        function = function_of(edit, folder)
+        if function and function not in chosen and changed(edit, folder)[0]:
+            chosen[function] = edit
+    return chosen
+
+
+def tried_together(folder, crate, chosen):
+    """What was refused of each edit of a function of its own, by name, in one check."""
+    before = {}
+    try:
+        for edit in chosen.values():
+            texts = changed(edit, folder)[0]
+            if texts:
+                before = {**written(folder, texts), **before}
+        lines = check(folder, "--allow-holes")
+    finally:
+        written(folder, before)
+    found = {edit.name: own_refusal(lines, crate, function) for function, edit in chosen.items()}
+    return {name: said for name, said in found.items() if said}
 
 
 def apply_all(crate, edits):
@@ -178,18 +257,39 @@ def apply_all(crate, edits):
     return failed
 
 
-def try_all(crate, edits):
-    """Tries the edits one after another, and returns how many were not refused."""
+def note(crate, edit, clause):
+    """Writes into the list that the edit was refused, and at which clause."""
+    path = os.path.join(LISTS, crate + ".txt")
+    with open(path, encoding="utf-8") as it:
+        text = it.read()
+    head = "edit: %s\n" % edit.name
+    was = "%sverdict: %s\nclause: %s\n" % (head, edit.verdict, edit.clause)
+    with open(path, "w", encoding="utf-8") as it:
+        it.write(text.replace(was, "%sverdict: refused\nclause: %s\n" % (head, clause)))
+
+
+def try_all(crate, edits, alone, notes):
+    """Tries the edits, and returns how many were not refused."""
     failed = 0
     rooms = os.path.join(HERE, "out")
     os.makedirs(rooms, exist_ok=True)
     with tempfile.TemporaryDirectory(prefix="edits-", dir=rooms) as room:
         copied(room, crate)
+        folder = os.path.join(room, "crates", crate)
+        start, together, left = seconds(), {}, [] if alone else edits
+        while left:
+            chosen = of_different_functions(folder, left)
+            left = [it for it in left if it not in chosen.values()] if len(chosen) > 1 else []
+            together.update(tried_together(folder, crate, chosen) if len(chosen) > 1 else {})
+        share = (seconds() - start) / max(len(together), 1)
         for edit in edits:
             start = seconds()
-            well, said = tried(os.path.join(room, "crates", crate), edit)
+            well, said = (True, together[edit.name]) if edit.name in together else tried(folder, crate, edit)
             failed += not well
-            print("%-10s %-45s %-8s %6.1f s  %s" % (crate, edit.name, "refused" if well else "NOT SO", seconds() - start, said), flush=True)
+            used = share if edit.name in together else seconds() - start
+            print("%-10s %-45s %-8s %6.1f s  %s" % (crate, edit.name, "refused" if well else "NOT SO", used, said), flush=True)
+            if notes and well:
+                note(crate, edit, said)
     return failed
 
 
@@ -198,7 +298,8 @@ def main():
     words.add_argument("crate", nargs="?")
     words.add_argument("names", nargs="*")
     words.add_argument("--all", action="store_true")
-    words.add_argument("--apply-only", action="store_true")
+    for it in ["--apply-only", "--alone", "--note"]:
+        words.add_argument(it, action="store_true")
     words = words.parse_args()
     if not words.crate and not words.all:
         words.crate, words.all = None, words.apply_only
@@ -212,7 +313,7 @@ def main():
         if absent:
             sys.exit("%s has no edit %s" % (crate, ", ".join(absent)))
         edits = [it for it in edits if it.name in words.names] if words.names else edits
-        failed += (apply_all if words.apply_only else try_all)(crate, edits)
+        failed += apply_all(crate, edits) if words.apply_only else try_all(crate, edits, words.alone, words.note)
     return 1 if failed else 0
 
 

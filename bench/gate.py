@@ -1,16 +1,20 @@
 #!/usr/bin/env python3
-"""Runs the gate, `rt ci`, and prints where its processor time went.
+"""Prints what the gate, `rt ci`, takes by crate, with the budget beside it, and runs it on demand.
 
-The gate runs at the top of the repository, best of a clean clone, and what it prints is passed on. Meanwhile this
-script looks at the processes below it, a few times a second, and adds the processor time of each to a crate and a phase:
-its proof, its tests or its must-fail edits. A process is told by its words: the prover is given the crate's name, and
-`--test` for tests; an edit is tried in a folder of its own, `rt-edit-..`. Any other process counts as its parent does.
+Without `--run` it proves nothing: it prints a Markdown table of the processor minutes that gate_times.tsv has for each
+crate, with the memory that the gate plans for it and its budget, and the wall time that gate_model.py predicts. It warns
+of a crate past its budget or past the memory at which it loses its lane, and then its status is 1.
 
-Printed at the end is a Markdown table in processor minutes, the row `rest` being what no process was seen to use (work of
-`rt` itself, and the last moments of each process), and then the whole run's processor and wall minutes. The status is
-that of `rt ci`.
+With `--run` it runs the gate at the top of the repository, best of a clean clone, and what the gate prints is passed on.
+Meanwhile it looks at the processes below the gate, a few times a second, and adds the processor time of each to a crate
+and a phase: its proof, its tests or its must-fail edits. It tells a process by its words: the prover is given the crate's
+name, and `--test` for tests; an edit is tried in a folder of its own, `rt-edit-..`. Any other process counts as its parent
+does. At the end it prints the same table of this run, the row `rest` being what no process was seen to use (work of `rt`
+itself, and the last moments of each process), the run's processor and wall minutes, and rows for gate_times.tsv. The
+status is that of `rt ci`.
 
-usage: bench/gate.py [--top FOLDER] [--every SECONDS]
+usage: bench/gate.py [--top FOLDER]
+       bench/gate.py --run [--top FOLDER] [--every SECONDS]
 """
 import argparse
 import os
@@ -19,6 +23,8 @@ import subprocess
 import sys
 import threading
 import time
+
+import gate_model
 
 HERE = os.path.dirname(os.path.abspath(__file__))
 TICK = os.sysconf("SC_CLK_TCK")
@@ -53,6 +59,15 @@ def time_of(pid):
     return int(fields[1]), int(fields[19]), (int(fields[11]) + int(fields[12])) / TICK
 
 
+def memory_of(pid):
+    """The most memory that a process had at once, in GB."""
+    try:
+        with open("/proc/%d/status" % pid) as it:
+            return next((int(line.split()[1]) / 1e6 for line in it if line.startswith("VmHWM:")), 0.0)
+    except OSError:
+        return 0.0
+
+
 class Watch:
     """The processes below one process: the seconds of each, and what they are for."""
 
@@ -60,6 +75,7 @@ class Watch:
         self.root = root
         self.seconds = {}
         self.places = {}
+        self.memory = {}
         self.over = threading.Event()
 
     def look(self):
@@ -93,6 +109,8 @@ class Watch:
         if (pid, started) not in self.places or place:
             self.places[pid, started] = place
         self.seconds[pid, started] = seconds
+        if place:
+            self.memory[place[0]] = max(self.memory.get(place[0], 0.0), memory_of(pid))
         return place
 
     def run(self, every):
@@ -109,33 +127,67 @@ class Watch:
         return sums
 
 
-def row(name, values):
-    return "| %s | %s |" % (name, " | ".join("%.1f" % (it / 60) if it else "" for it in values))
+def cells(values):
+    """Minutes as cells of a row; nothing for none."""
+    return " | ".join("%.1f" % it if it > 0.04 else "" for it in values)
 
 
-def printed(sums, total, wall):
-    """Prints the table, the dearest crate first."""
-    crates = sorted({crate for crate, _ in sums}, key=lambda it: -sum(sums.get((it, phase), 0) for phase in PHASES))
-    print("| Crate | %s | sum |" % " | ".join(PHASES))
-    print("|---|%s" % ("---|" * (len(PHASES) + 1)))
-    for crate in crates:
-        values = [sums.get((crate, phase), 0) for phase in PHASES]
-        print(row(crate, values + [sum(values)]))
-    values = [sum(sums.get((crate, phase), 0) for crate in crates) for phase in PHASES]
-    print(row("rest", [0] * len(PHASES) + [max(0.0, total - sum(values))]))
-    print(row("all", values + [total]))
-    print("\n%.1f processor minutes, %.1f minutes, on %d processors" % (total / 60, wall / 60, len(os.sched_getaffinity(0))))
+def table(minutes, crates):
+    """Prints the table, the dearest crate first. The minutes are those of each crate and phase."""
+    print("| Crate | planned GB | %s | sum | budget |" % " | ".join(PHASES))
+    print("|%s" % ("---|" * (len(PHASES) + 4)))
+    sums = {name: [minutes.get((name, phase), 0.0) for phase in PHASES] for name in crates}
+    for name in sorted(crates, key=lambda it: -sum(sums[it])):
+        print("| `%s` | %.1f | %s | %.0f |" % (name, gate_model.planned(crates, name), cells(sums[name] + [sum(sums[name])]), crates[name].budget))
+    whole = [sum(it[at] for it in sums.values()) for at in range(len(PHASES))]
+    print("| all | | %s | %.0f |" % (cells(whole + [sum(whole)]), sum(it.budget for it in crates.values())))
+    return {name: sum(it) for name, it in sums.items()}
 
 
-def main():
-    words = argparse.ArgumentParser()
-    words.add_argument("--top", default=os.path.join(HERE, ".."), help="the top of the repository")
-    words.add_argument("--every", type=float, default=0.25, help="seconds between two looks at the processes")
-    words = words.parse_args()
+def warn(sums, crates):
+    """Says which crates are past their budget or lose their lane, and returns how many."""
+    found = 0
+    for name, it in crates.items():
+        if sums[name] > it.budget + 0.05:
+            found += 1
+            print("warning: %s takes %.1f processor minutes, and its budget is %.0f" % (name, sums[name], it.budget))
+        if gate_model.planned(crates, name) > gate_model.MOST:
+            found += 1
+            print("warning: the gate plans %.1f GB for %s, more than %.1f" % (gate_model.planned(crates, name), name, gate_model.MOST))
+    return found
+
+
+def predicted(top):
+    """Prints the table of the figures in gate_times.tsv and the model's wall time, and returns how many warnings there were."""
+    times = os.path.join(HERE, "gate_times.tsv")
+    crates = gate_model.read(top, times)
+    minutes = {}
+    for name, it in crates.items():
+        minutes.update(zip([(name, phase) for phase in PHASES], [it.proof, it.tests, it.edit_minutes()]))
+    sums = table(minutes, crates)
+    print()
+    gate_model.say(crates, gate_model.MACHINES)
+    coming = gate_model.read(top, times)
+    gate_model.with_coming(coming, times)
+    print("with the three crates to come:")
+    gate_model.say(coming, gate_model.MACHINES)
+    return warn(sums, crates)
+
+
+def rows(watch, sums, crates):
+    """Prints what was seen as rows of gate_times.tsv."""
+    for name, it in crates.items():
+        proof, tests, edits = [sums.get((name, phase), 0.0) for phase in PHASES]
+        edit = max(0.0, (edits - proof - 60 * gate_model.LAST) / it.edits) if it.edits > 1 else 60 * it.edit
+        print("%s\t%.0f\t%.0f\t%.0f\t%.1f\t%.0f" % (name, proof, tests, edit, watch.memory.get(name, 0.0), it.budget))
+
+
+def measured(top, every):
+    """Runs the gate, prints what it took, and returns its status."""
     before = time.monotonic()
-    gate = subprocess.Popen(["rt", "ci"], cwd=words.top, stdin=subprocess.DEVNULL)
+    gate = subprocess.Popen(["rt", "ci"], cwd=top, stdin=subprocess.DEVNULL)
     watch = Watch(gate.pid)
-    watcher = threading.Thread(target=watch.run, args=(words.every,), daemon=True)
+    watcher = threading.Thread(target=watch.run, args=(every,), daemon=True)
     watcher.start()
     try:
         status = gate.wait()
@@ -144,10 +196,28 @@ def main():
         status = gate.wait()
     watch.over.set()
     watcher.join()
+    wall = (time.monotonic() - before) / 60
     used = resource.getrusage(resource.RUSAGE_CHILDREN)
+    total = (used.ru_utime + used.ru_stime) / 60
     print(flush=True)
-    printed(watch.table(), used.ru_utime + used.ru_stime, time.monotonic() - before)
+    crates, sums = gate_model.read(top, os.path.join(HERE, "gate_times.tsv")), watch.table()
+    seen = table({key: it / 60 for key, it in sums.items()}, crates)
+    print("| rest | | | | | %.1f | |" % max(0.0, total - sum(sums.values()) / 60))
+    print("\n%.1f processor minutes, %.1f minutes, on %d processors\n" % (total, wall, len(os.sched_getaffinity(0))))
+    rows(watch, sums, crates)
+    warn(seen, crates)
     return status
+
+
+def main():
+    words = argparse.ArgumentParser(usage=__doc__[__doc__.index("usage: ") + 7:])
+    words.add_argument("--top", default=os.path.join(HERE, ".."), help="the top of the repository")
+    words.add_argument("--run", action="store_true", help="run the gate and time it")
+    words.add_argument("--every", type=float, default=0.25, help="seconds between two looks at the processes")
+    words = words.parse_args()
+    if words.run:
+        return measured(words.top, words.every)
+    return 1 if predicted(words.top) else 0
 
 
 if __name__ == "__main__":

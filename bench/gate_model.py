@@ -1,0 +1,230 @@
+#!/usr/bin/env python3
+"""Predicts the wall time of the gate, `rt ci`, by the rules by which it starts its tasks.
+
+A crate has three tasks: its proof, its tests and its must-fail edits. A proof waits for the proofs of all crates below,
+tests wait for the same, and edits wait for the proof and the tests of their own crate. The gate starts a task once a
+processor is idle and the memory that it plans for the task is free, or once nothing else runs. First come the tasks with
+the most lines of .rt in a chain behind them. A proof or a test takes idle processors as further jobs, as far as planned
+memory goes; edits take one.
+
+The gate plans memory by lines: 1 GB, 1 MB a line of .rt (tests, comments and blank lines too), 0.2 MB a line of .antt,
+0.08 MB a line of .rt of each crate below, and for libraries of the kit five times what they load, at most 2.5 GB.
+All tasks together may plan 85 % of the memory that is free.
+
+The script reads lines, edits and what stands on what from the repository, and processor seconds from gate_times.tsv. The
+model was compared with the toolchain's own function over the same table: 160.8 and 162.8 minutes, 214.8 and 214.9.
+
+usage: bench/gate_model.py [--top FOLDER] [--times FILE] [--machine PROCESSORS,GIGABYTES].. [--scale FACTOR]
+    --coming   as if the three crates stood that are still to come, with their edits and tests
+    --plan     also prints the plan: for each crate its memory, lines, edits and minutes
+    --trace    also prints when each task starts and ends
+"""
+import argparse
+import os
+import subprocess
+
+HERE = os.path.dirname(os.path.abspath(__file__))
+SERIAL = 0.4   # minutes of a check that no second job shortens: loading, reading, the end
+SHARED = 0.75  # what a further job adds to the first
+LAST = 0.6     # minutes of the check of the unedited crate that follows two or more edits
+MOST = 6.4     # planned GB of a crate past which two do not run side by side on 16 GB, nor three on 24
+MACHINES = ["4,23", "2,23"]  # what is free of 24 GB
+# libraries of the kit that the plan does not count
+SEALED = {"core", "std", "std_alloc", "std_collections", "std_heap", "std_io", "io", "libc", "os"}
+# crates that do not stand yet: what each stands on, the crates that will stand on it, lines of .rt and .antt, edits
+COMING = [
+    ("pq_claims", ["pq_memo"], ["pq_core"], 1500, 2000, 1),
+    ("pq_mail", ["pq_core"], [], 1800, 2500, 1),
+    ("pq_hall", ["pq_mail"], ["pq_session"], 2500, 3500, 3),
+]
+COMING_TESTS = ("tests_hall", ["pq_hall"], 3500, 12.0)
+
+
+class Crate:
+    """What the model knows of a crate: what it uses, its lines, its edits, and processor minutes."""
+
+    def __init__(self, name, deps, kit, lines, antt, edits):
+        self.name, self.deps, self.kit, self.lines, self.antt, self.edits = name, deps, kit, lines, antt, edits
+        self.proof, self.tests, self.edit, self.memory, self.budget = 1.0, 0.0, 0.7, 0.0, 0.0
+
+    def edit_minutes(self):
+        """The minutes of all edits. The first pays for a second proof; one edit alone ends within it."""
+        if not self.edits:
+            return 0.0
+        return self.proof if self.edits == 1 else self.proof + self.edits * self.edit + LAST
+
+    def minutes(self):
+        """The minutes of the proof, the tests and the edits."""
+        return self.proof + self.tests + self.edit_minutes()
+
+    def take(self, row):
+        """Takes a row of the table of times."""
+        self.proof, self.tests, self.edit = [float(it) / 60 for it in row[:3]]
+        self.memory, self.budget = float(row[3]), float(row[4])
+
+
+def lines_below(folder, ending):
+    """The lines of all files with an ending, below a folder."""
+    found = 0
+    for at, _, names in os.walk(folder):
+        if "/out" not in at and "/must-fail" not in at:
+            for name in names:
+                if name.endswith(ending):
+                    with open(os.path.join(at, name), "rb") as it:
+                        found += it.read().count(b"\n")
+    return found
+
+
+def rows_of(times):
+    """The rows of the table of times, by crate."""
+    with open(times, encoding="utf-8") as it:
+        rows = [line.partition("#")[0].split() for line in it]
+    return {row[0]: row[1:] for row in rows if row}
+
+
+def read(top, times):
+    """The crates of the repository, by name."""
+    crates, rows = {}, rows_of(times)
+    with open(os.path.join(top, "crates.txt"), encoding="utf-8") as it:
+        lines = [line.partition("#")[0].strip().partition(":") for line in it]
+    lines = [(head.split()[0], uses.split()) for head, _, uses in lines if head]
+    names = {name for name, _ in lines}
+    for name, uses in lines:
+        folder = os.path.join(top, "crates", name)
+        fails = os.path.join(folder, "must-fail")
+        edits = len([it for it in os.listdir(fails) if it.endswith(".edit")]) if os.path.isdir(fails) else 0
+        deps, kit = [it for it in uses if it in names], {it for it in uses if it not in names} | {"std"}
+        crates[name] = Crate(name, deps, kit, lines_below(folder, ".rt"), lines_below(folder, ".antt"), edits)
+        if name in rows:
+            crates[name].take(rows[name])
+    return crates
+
+
+def with_coming(crates, times):
+    """Adds the crates that are still to come."""
+    rows = rows_of(times)
+    for name, deps, over, lines, antt, edits in COMING:
+        if name not in crates:
+            crates[name] = Crate(name, deps, {"std"}, lines, antt, edits)
+            crates[name].take(rows[name])
+            for it in over:
+                crates[it].deps = crates[it].deps + [name]
+    name, deps, lines, tests = COMING_TESTS
+    crates[name] = Crate(name, deps, {"std"}, lines, 0, 0)
+    crates[name].proof, crates[name].tests = 0.5, tests
+
+
+def below(crates, name, found=None):
+    """All crates below a crate, those at the bottom first."""
+    found = [] if found is None else found
+    for dep in crates[name].deps:
+        below(crates, dep, found)
+        if dep not in found:
+            found.append(dep)
+    return found
+
+
+SIZES = {}
+
+
+def kit_gigabytes(names):
+    """What the plan adds for libraries of the kit."""
+    if not SIZES:
+        try:
+            kit = os.path.dirname(subprocess.run(["rt", "doc"], stdout=subprocess.PIPE, text=True).stdout.strip())
+        except OSError:
+            kit = ""
+        folder = os.path.join(kit, "rlibs")
+        for name in os.listdir(folder) if os.path.isdir(folder) else []:
+            file = os.path.join(folder, name, "toolchain", "checked.a")
+            SIZES[name[: -len(".rlib")]] = os.path.getsize(file) / 1e9 if os.path.isfile(file) else 0.0
+        SIZES[""] = 0.0
+    return min(5 * sum(SIZES.get(it, 0.0) for it in names - SEALED), 2.5)
+
+
+def planned(crates, name):
+    """The gigabytes that the gate plans for each task of a crate."""
+    it, under = crates[name], below(crates, name)
+    kit = set().union(it.kit, *[crates[low].kit for low in under])
+    return 1.0 + 0.001 * it.lines + 0.0002 * it.antt + 0.00008 * sum(crates[low].lines for low in under) + kit_gigabytes(kit)
+
+
+def wall(cpu, jobs):
+    """The wall minutes of a task by its processor minutes and its jobs."""
+    serial = min(cpu, SERIAL)
+    return serial + (cpu - serial) / (1 + SHARED * (jobs - 1))
+
+
+def tasks_of(crates):
+    """The tasks: what each waits for, its lines, its memory and its processor minutes; and the lines in a chain behind each."""
+    tasks = {}
+    for name in sorted(crates, key=lambda it: len(below(crates, it))):
+        it, waits, needs = crates[name], [(low, "proof") for low in below(crates, name)], planned(crates, name)
+        tasks[name, "proof"] = waits, it.lines, needs, it.proof
+        tasks[name, "tests"] = waits, it.lines * bool(it.tests), needs, it.tests
+        tasks[name, "edits"] = [(name, "proof"), (name, "tests")], it.lines * bool(it.edits), needs, it.edit_minutes()
+    behind = {key: 0 for key in tasks}
+    for key in reversed([*tasks]):
+        behind[key] += tasks[key][1]
+        for low in tasks[key][0]:
+            behind[low] = max(behind[low], behind[key])
+    return tasks, behind
+
+
+def run(crates, processors, gigabytes, trace=False):
+    """Returns the wall minutes, the processor minutes, and the minutes with at most one processor busy."""
+    tasks, behind = tasks_of(crates)
+    memory, left, running, given = 0.85 * gigabytes, sorted(tasks, key=lambda it: -behind[it]), {}, set()
+    now = total = lonely = 0.0
+    while left or running:
+        ready = [it for it in left if all(low in given for low in tasks[it][0])]
+        for at, key in enumerate(ready):
+            needs, cpu = tasks[key][2], tasks[key][3]
+            room = memory - sum(it[1] for it in running.values())
+            idle = processors - sum(it[2] for it in running.values())
+            if idle > 0 and (not running or needs <= room):
+                left.remove(key)
+                jobs = max(1, 1 if key[1] == "edits" else min(4, idle // (len(ready) - at), 1 + int((room / needs - 1) / 0.6)))
+                running[key] = now + wall(cpu, jobs), needs * (1 + 0.6 * (jobs - 1)), jobs
+                total += cpu
+                if trace and cpu:
+                    print("%6.1f  %-15s %-5s jobs %d  until %6.1f  planned %4.1f GB" % (now, *key, jobs, running[key][0], needs))
+        ended = min(it[0] for it in running.values())
+        lonely += (ended - now) * (sum(it[2] for key, it in running.items() if tasks[key][3]) <= 1)
+        now = ended
+        for key in [it for it in running if running[it][0] <= now + 1e-9]:
+            given.add(key)
+            del running[key]
+    return now, total, lonely
+
+
+def say(crates, machines, trace=False):
+    """Prints what the model predicts for each machine."""
+    for text in machines:
+        processors, gigabytes = text.split(",")
+        minutes, total, lonely = run(crates, int(processors), float(gigabytes), trace)
+        print("%d crates on %s processors with %s GB free: %.0f minutes, %.0f processor minutes, %.0f with at most one processor busy" % (len(crates), processors, gigabytes, minutes, total, lonely))
+
+
+def main():
+    words = argparse.ArgumentParser(usage=__doc__[__doc__.index("usage: ") + 7:])
+    words.add_argument("--top", default=os.path.join(HERE, ".."))
+    words.add_argument("--times", default=os.path.join(HERE, "gate_times.tsv"))
+    words.add_argument("--machine", action="append", default=[])
+    words.add_argument("--scale", type=float, default=1.0)
+    for it in ["--coming", "--plan", "--trace"]:
+        words.add_argument(it, action="store_true")
+    words = words.parse_args()
+    crates = read(words.top, words.times)
+    if words.coming:
+        with_coming(crates, words.times)
+    for it in crates.values():
+        it.proof, it.tests, it.edit = it.proof * words.scale, it.tests * words.scale, it.edit * words.scale
+    if words.plan:
+        for name, it in crates.items():
+            print("%-15s %4.1f GB  .rt %5d  .antt %5d  edits %2d  proof %5.1f  tests %5.1f  edits %5.1f" % (name, planned(crates, name), it.lines, it.antt, it.edits, it.proof, it.tests, it.edit_minutes()))
+    say(crates, words.machine or MACHINES, words.trace)
+
+
+if __name__ == "__main__":
+    main()
