@@ -13,11 +13,16 @@ does. At the end it prints the same table of this run, the row `rest` being what
 itself, and the last moments of each process), the run's processor and wall minutes, and rows for gate_times.tsv. The
 status is that of `rt ci`.
 
-usage: bench/gate.py [--top FOLDER]
+With `--page` it writes the table and the prediction into docs/GATE.md, between its two lines of comment.
+
+usage: bench/gate.py [--page] [--top FOLDER]
        bench/gate.py --run [--top FOLDER] [--every SECONDS]
 """
 import argparse
+import contextlib
+import io
 import os
+import re
 import resource
 import subprocess
 import sys
@@ -158,7 +163,7 @@ def warn(sums, crates):
 
 
 def predicted(top):
-    """Prints the table of the figures in gate_times.tsv and the model's wall time, and returns how many warnings there were."""
+    """Prints the table of the figures in gate_times.tsv and the model's wall time, and returns the sums and the crates."""
     times = os.path.join(HERE, "gate_times.tsv")
     crates = gate_model.read(top, times)
     minutes = {}
@@ -169,9 +174,21 @@ def predicted(top):
     gate_model.say(crates, gate_model.MACHINES)
     coming = gate_model.read(top, times)
     gate_model.with_coming(coming, times)
-    print("with the three crates to come:")
-    gate_model.say(coming, gate_model.MACHINES)
-    return warn(sums, crates)
+    gate_model.say(coming, gate_model.MACHINES, " with the three that are still to come")
+    return sums, crates
+
+
+def page(top):
+    """Writes the table and the prediction into docs/GATE.md, between its two lines of comment."""
+    wrote = io.StringIO()
+    with contextlib.redirect_stdout(wrote):
+        predicted(top)
+    path = os.path.join(top, "docs", "GATE.md")
+    with open(path, encoding="utf-8") as it:
+        text = it.read()
+    text = re.sub(r"(<!-- by bench/gate.py -->\n).*?(<!-- end -->)", lambda it: it[1] + wrote.getvalue() + it[2], text, flags=re.S)
+    with open(path, "w", encoding="utf-8") as it:
+        it.write(text)
 
 
 def rows(watch, sums, crates):
@@ -213,11 +230,14 @@ def main():
     words = argparse.ArgumentParser(usage=__doc__[__doc__.index("usage: ") + 7:])
     words.add_argument("--top", default=os.path.join(HERE, ".."), help="the top of the repository")
     words.add_argument("--run", action="store_true", help="run the gate and time it")
+    words.add_argument("--page", action="store_true", help="write the table into docs/GATE.md")
     words.add_argument("--every", type=float, default=0.25, help="seconds between two looks at the processes")
     words = words.parse_args()
     if words.run:
         return measured(words.top, words.every)
-    return 1 if predicted(words.top) else 0
+    if words.page:
+        page(words.top)
+    return 1 if warn(*predicted(words.top)) else 0
 
 
 if __name__ == "__main__":

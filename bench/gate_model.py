@@ -198,12 +198,12 @@ def run(crates, processors, gigabytes, trace=False):
     return now, total, lonely
 
 
-def say(crates, machines, trace=False):
+def say(crates, machines, which="", trace=False):
     """Prints what the model predicts for each machine."""
     for text in machines:
         processors, gigabytes = text.split(",")
         minutes, total, lonely = run(crates, int(processors), float(gigabytes), trace)
-        print("%d crates on %s processors with %s GB free: %.0f minutes, %.0f processor minutes, %.0f with at most one processor busy" % (len(crates), processors, gigabytes, minutes, total, lonely))
+        print("- %d crates%s, %s processors, %s GB free: %.0f minutes of wall time, %.0f processor minutes; at most one processor is busy for %.0f minutes." % (len(crates), which, processors, gigabytes, minutes, total, lonely))
 
 
 def main():
@@ -223,7 +223,7 @@ def main():
     if words.plan:
         for name, it in crates.items():
             print("%-15s %4.1f GB  .rt %5d  .antt %5d  edits %2d  proof %5.1f  tests %5.1f  edits %5.1f" % (name, planned(crates, name), it.lines, it.antt, it.edits, it.proof, it.tests, it.edit_minutes()))
-    say(crates, words.machine or MACHINES, words.trace)
+    say(crates, words.machine or MACHINES, trace=words.trace)
 
 
 if __name__ == "__main__":
