@@ -9,10 +9,11 @@ mod places;
 mod shown;
 mod trees;
 
-use super::support::{Page, check_page, lexical_name};
+use crate::checks::check_page;
 use pq_lex::Span;
 use pq_syntax::{Code, Parsed, parse};
 use std::process::Abort;
+use test_support::{Page, lexical_name};
 
 /// The name of a syntax error.
 fn code_name(code: Code) -> &'static str {

@@ -1,7 +1,8 @@
 //! pq_lex: tokens and errors with their spans, values of tokens, lines and columns.
-use super::support::{Page, check_page, check_table, check_that, lexical_name};
+use crate::checks::{check_page, check_table, check_that};
 use pq_lex::{Kind, Lexed, LineIndex, Position, Token, integer_value, lex, text_value};
 use std::process::Abort;
+use test_support::{Page, lexical_name};
 
 /// The name of a sort of tokens.
 fn kind_name(kind: Kind) -> &'static str {

@@ -1,9 +1,10 @@
 //! Keywords in the place of names, where they are names like any other.
 use super::shown::add_tree;
-use crate::tests::support::{Page, check_number, check_page, check_that};
+use crate::checks::{check_number, check_page, check_that, text_of};
 use pq_syntax::Memory;
 use std::alloc::Global;
 use std::process::Abort;
+use test_support::Page;
 
 /// A text with `word` in each place where the grammar allows any name.
 fn with_word(alloc: Global, word: &str) -> Result<String, Memory> {
@@ -34,10 +35,10 @@ fn check_name(rt: &(impl Abort + AllocGlobal), word: &str) {
     let mut plain = Page::new(rt.alloc());
     plain.repeat("q", word.len());
     let mut tree = Page::new(rt.alloc());
-    add_with_word(&mut tree, plain.text(rt));
+    add_with_word(&mut tree, text_of(rt, &plain));
     let mut read = Page::new(rt.alloc());
     add_with_word(&mut read, word);
-    let want = with_name(rt, tree.text(rt), plain.text(rt), word);
+    let want = with_name(rt, text_of(rt, &tree), text_of(rt, &plain), word);
     check_page(rt, &read, want.as_str(), word);
 }
 

@@ -1,8 +1,9 @@
 //! Texts without statements, and the values of constants, numbers and strings.
 use super::shown::check_tree;
-use crate::tests::support::{Page, check_row_count, check_that, split_row};
+use crate::checks::{check_row_count, check_that, split_row, text_of};
 use pq_syntax::{Node, Parsed, Statement, parse};
 use std::process::Abort;
+use test_support::Page;
 
 #[test]
 fn no_statements(rt: HostRuntime) {
@@ -30,7 +31,7 @@ fn check_constant(rt: &(impl Abort + AllocGlobal), written: &str, want: &str) {
     tree.add(" in 23-");
     tree.number(end);
     tree.add("\n");
-    check_tree(rt, text.text(rt), tree.text(rt));
+    check_tree(rt, text_of(rt, &text), text_of(rt, &tree));
 }
 
 /// Checks the `count` rows `WRITTEN => KIND TEXT` by [`check_constant`].
@@ -97,7 +98,7 @@ fn check_number(rt: &(impl Abort + AllocGlobal), written: &str, value: &str) {
     tree.add(" 34-");
     tree.number(end);
     tree.add("\n");
-    check_tree(rt, text.text(rt), tree.text(rt));
+    check_tree(rt, text_of(rt, &text), text_of(rt, &tree));
 }
 
 /// Checks the `count` rows `WRITTEN => VALUE` by [`check_number`].

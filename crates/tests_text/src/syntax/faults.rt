@@ -1,8 +1,9 @@
 //! Statements with a token replaced, removed or last; errors of the syntax line and of tokens.
 use super::{add_error, add_outcome, check_parses, code_name};
-use crate::tests::support::{Page, check_page, check_row_count, page_of, split_row};
+use crate::checks::{check_page, check_row_count, split_row, text_of};
 use pq_syntax::Code;
 use std::process::Abort;
+use test_support::{Page, page_of};
 
 /// Writes the outcomes of parsing `tokens` with each in turn replaced by `other`.
 fn add_outcomes(page: &mut Page, tokens: &str, other: &str) {
@@ -54,7 +55,7 @@ fn check_ends(rt: &(impl Abort + AllocGlobal), tokens: &str) {
     let mut last = Page::new(rt.alloc());
     last.number(tokens.split_whitespace().count().saturating_sub(1));
     last.add(" none");
-    check_page(rt, &found, last.text(rt), tokens);
+    check_page(rt, &found, text_of(rt, &last), tokens);
 }
 
 /// Checks the outcomes of `tokens` with each in turn replaced by `other`.
@@ -77,7 +78,7 @@ fn check_outcomes(rt: &(impl Abort + AllocGlobal), tokens: &str, replaced: &str,
 fn check_row(rt: &(impl Abort + AllocGlobal), tokens: &str, left_out: &str) {
     let mut numbers = Page::new(rt.alloc());
     add_counted(&mut numbers, tokens);
-    check_outcomes(rt, tokens, numbers.text(rt), left_out);
+    check_outcomes(rt, tokens, text_of(rt, &numbers), left_out);
 }
 
 /// Checks the `count` rows `TOKENS => REMOVED` by [`check_row`].
@@ -94,7 +95,7 @@ fn check_error(rt: &(impl Abort + AllocGlobal), code: Code, text: &str, place: &
     let want = page_of(rt.alloc(), code_name(code), " ", place);
     let mut found = Page::new(rt.alloc());
     add_error(&mut found, text);
-    check_page(rt, &found, want.text(rt), text);
+    check_page(rt, &found, text_of(rt, &want), text);
 }
 
 /// Checks the `count` rows `TEXT => START-END` by [`check_error`].

@@ -1,10 +1,11 @@
 //! The nesting limits: messages and brackets may be 64 deep, counting the outermost.
 use super::{add_code, add_error, check_parses};
-use crate::tests::support::{Page, check_pages, check_row_count, check_that, page_of, split_row};
+use crate::checks::{check_pages, check_row_count, check_that, split_row, text_of};
 use pq_lex::Span;
 use pq_syntax::{Code, Parsed, parse};
 use std::alloc::Global;
 use std::process::Abort;
+use test_support::{Page, page_of};
 
 /// A text that opens `count` messages, each in the one before.
 fn opened_messages(alloc: Global, count: usize) -> Page {
@@ -31,7 +32,7 @@ fn check_all_parse(
     check_row_count(rt, count, rows);
     for row in rows.lines() {
         let text = page_of(rt.alloc(), before, row, after);
-        check_parses(rt, text.text(rt), row);
+        check_parses(rt, text_of(rt, &text), row);
     }
 }
 
@@ -49,7 +50,7 @@ fn check_code(rt: &(impl Abort + AllocGlobal), code: Code, before: &str, token: 
     let text = page_of(rt.alloc(), before, token, after);
     let start = before.len();
     let end = start.wrapping_add(token.len());
-    check_found(rt, code, Span { start, end }, text.text(rt));
+    check_found(rt, code, Span { start, end }, text_of(rt, &text));
 }
 
 /// Checks the `count` rows `TOKEN|REST` between `before` and `after` by [`check_code`].
@@ -65,7 +66,7 @@ fn check_codes(
     for row in rows.lines() {
         let (token, rest) = split_row(rt, row, "|");
         let rest = page_of(rt.alloc(), rest, after, "");
-        check_code(rt, code, before, token, rest.text(rt));
+        check_code(rt, code, before, token, text_of(rt, &rest));
     }
 }
 
@@ -84,8 +85,8 @@ fn messages_that_are_read(rt: HostRuntime) {
     let closed = repeated(rt.alloc(), "}", 64);
     check_all_parse(
         &rt,
-        opened.text(&rt),
-        closed.text(&rt),
+        text_of(&rt, &opened),
+        text_of(&rt, &closed),
         11,
         "\
         \n\
@@ -101,8 +102,8 @@ fn messages_that_are_read(rt: HostRuntime) {
         option message=message;\n\
         ",
     );
-    let text = two_innermost(rt.alloc(), closed.text(&rt));
-    check_parses(&rt, text.text(&rt), "two innermost messages");
+    let text = two_innermost(rt.alloc(), text_of(&rt, &closed));
+    check_parses(&rt, text_of(&rt, &text), "two innermost messages");
 }
 
 /// Checks that a message after `before` is too deep, whatever follows its keyword.
@@ -110,9 +111,9 @@ fn check_too_deep(rt: &(impl Abort + AllocGlobal), before: &str) {
     let closed = repeated(rt.alloc(), "}", 1_064);
     let mut deep = page_of(rt.alloc(), " M{", "", "");
     deep.repeat("message M{", 1_000);
-    deep.add(closed.text(rt));
-    check_code(rt, Code::TooDeep, before, "message", closed.text(rt));
-    check_code(rt, Code::TooDeep, before, "message", deep.text(rt));
+    deep.add(text_of(rt, &closed));
+    check_code(rt, Code::TooDeep, before, "message", text_of(rt, &closed));
+    check_code(rt, Code::TooDeep, before, "message", text_of(rt, &deep));
     check_codes(
         rt,
         Code::TooDeep,
@@ -136,14 +137,14 @@ fn check_too_deep(rt: &(impl Abort + AllocGlobal), before: &str) {
 #[test]
 fn messages_too_deep(rt: HostRuntime) {
     let opened = opened_messages(rt.alloc(), 64);
-    check_too_deep(&rt, opened.text(&rt));
+    check_too_deep(&rt, text_of(&rt, &opened));
     let later = "optional message x=1;oneof o{};";
-    let later = page_of(rt.alloc(), opened.text(&rt), later, "");
-    check_too_deep(&rt, later.text(&rt));
+    let later = page_of(rt.alloc(), text_of(&rt, &opened), later, "");
+    check_too_deep(&rt, text_of(&rt, &later));
     check_codes(
         &rt,
         Code::UnexpectedToken,
-        opened.text(&rt),
+        text_of(&rt, &opened),
         "",
         5,
         "\
@@ -172,7 +173,7 @@ fn check_depth(rt: &(impl Abort + AllocGlobal), body: &str, depth: u8) {
     let mut text = opened_messages(rt.alloc(), 64);
     text.add(body);
     text.repeat("}", 64);
-    let parsed = parse(rt.alloc(), text.text(rt)).expect(rt, "memory");
+    let parsed = parse(rt.alloc(), text_of(rt, &text)).expect(rt, "memory");
     check_that(rt, ends_at(&parsed, depth), body);
 }
 
@@ -258,7 +259,7 @@ fn check_all_brackets(
         let (before, after) = split_row(rt, row, "|");
         let before = opened_brackets(rt.alloc(), opened, before);
         let after = closed_brackets(rt.alloc(), after, closed);
-        check_brackets(rt, before.text(rt), after.text(rt));
+        check_brackets(rt, text_of(rt, &before), text_of(rt, &after));
     }
 }
 
@@ -293,8 +294,8 @@ fn brackets(rt: HostRuntime) {
     let closed = repeated(rt.alloc(), "}", 64);
     check_all_brackets(
         &rt,
-        opened.text(&rt),
-        closed.text(&rt),
+        text_of(&rt, &opened),
+        text_of(&rt, &closed),
         3,
         "\
         extend A|\n\
@@ -309,7 +310,13 @@ fn check_thousand_too_deep(rt: &(impl Abort + AllocGlobal), place: &str, token: 
     let mut before = page_of(rt.alloc(), "syntax='proto3';", place, "{");
     before.repeat(token, 63);
     let inner = repeated(rt.alloc(), token, 1_000);
-    check_code(rt, Code::TooDeep, before.text(rt), token, inner.text(rt));
+    check_code(
+        rt,
+        Code::TooDeep,
+        text_of(rt, &before),
+        token,
+        text_of(rt, &inner),
+    );
 }
 
 /// Checks each of the `count` places by [`check_thousand_too_deep`].
@@ -337,7 +344,7 @@ fn a_thousand_brackets(rt: HostRuntime) {
         Code::UnexpectedToken,
         "syntax='proto3';message M{}",
         "}",
-        closed.text(&rt),
+        text_of(&rt, &closed),
     );
 }
 
@@ -348,7 +355,7 @@ fn check_thousand(rt: &(impl Abort + AllocGlobal), row: &str) {
     let mut text = page_of(rt.alloc(), "syntax='proto3';", before, "");
     text.repeat(one, 1_000);
     text.add(after);
-    check_parses(rt, text.text(rt), row);
+    check_parses(rt, text_of(rt, &text), row);
 }
 
 /// Checks the `count` rows by [`check_thousand`].

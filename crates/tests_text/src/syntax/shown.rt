@@ -1,11 +1,12 @@
 //! A tree as lines of text, with each span.
 use super::add_code;
-use crate::tests::support::{Page, check_page};
+use crate::checks::check_page;
 use pq_syntax::{
     Constant, ConstantKind, ImportKind, Label, MethodType, Name, NamePart, Node, Number, Parsed,
     Range, RangeEnd, Setting, Statement, Strings, parse,
 };
 use std::process::Abort;
+use test_support::Page;
 
 /// Writes a name and its span.
 fn add_name(page: &mut Page, name: &Name) {

@@ -1,7 +1,8 @@
 //! Texts with equal trees, and pairs that differ in one detail.
-use crate::tests::support::{check_row_count, check_that, page_of, split_row};
+use crate::checks::{check_row_count, check_that, split_row, text_of};
 use pq_syntax::{Parsed, parse};
 use std::process::Abort;
+use test_support::page_of;
 
 /// Whether two outcomes are trees that are equal exactly if `want`.
 fn are_trees(one: &Parsed, other: &Parsed, want: bool) -> bool {
@@ -14,7 +15,7 @@ fn are_trees(one: &Parsed, other: &Parsed, want: bool) -> bool {
 /// The outcome of parsing `text` after a syntax line.
 fn parsed(rt: &(impl Abort + AllocGlobal), text: &str) -> Parsed {
     let whole = page_of(rt.alloc(), "syntax = 'proto3'; ", text, "");
-    parse(rt.alloc(), whole.text(rt)).expect(rt, "memory")
+    parse(rt.alloc(), text_of(rt, &whole)).expect(rt, "memory")
 }
 
 /// Checks that `one` and `other` have trees that are equal exactly if `want`.

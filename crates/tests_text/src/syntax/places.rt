@@ -1,8 +1,9 @@
 //! Lists of tokens, and the outcome of parsing each: `ok`, `end` for an unexpected end, or the
 //! number of the unexpected token.
 use super::add_outcome;
-use crate::tests::support::{Page, check_page, check_row_count, page_of, split_row};
+use crate::checks::{check_page, check_row_count, split_row, text_of};
 use std::process::Abort;
+use test_support::{Page, page_of};
 
 /// Checks that the outcome of parsing `tokens` is `want`.
 fn check_outcome(rt: &(impl Abort + AllocGlobal), tokens: &str, want: &str) {
@@ -23,7 +24,7 @@ fn check_outcomes(
     for row in rows.lines() {
         let (tokens, want) = split_row(rt, row, " => ");
         let tokens = page_of(rt.alloc(), before, tokens, after);
-        check_outcome(rt, tokens.text(rt), want);
+        check_outcome(rt, text_of(rt, &tokens), want);
     }
 }
 

@@ -1,0 +1,16 @@
+//! Tests of the lexer, the names and the parser: rows worked out by hand.
+//!
+//! They cover what no contract says: printed text, and that calls succeed with ample memory. The
+//! crates that they test have no tests: a crate with tests is proved twice.
+//!
+//! Modules: `checks` (what tests assert), `lex`, `names`, `syntax`.
+#![tactic(auto)]
+
+#[cfg(test)]
+mod checks;
+#[cfg(test)]
+mod lex;
+#[cfg(test)]
+mod names;
+#[cfg(test)]
+mod syntax;
