@@ -48,6 +48,8 @@ HERE = os.path.dirname(os.path.realpath(__file__))
 TOP = os.path.dirname(HERE)
 LISTS = os.path.join(HERE, "edits")
 PARTS = ["src", "specs", "proofs"]
+# what the checker says of a proof file that names what an edit took away
+BY_NAME = r"has no field|is not in scope|has no `|was not admitted"
 VERDICTS = ["refused", "refused in the gate", "refused in a review"]
 
 
@@ -149,18 +151,29 @@ def check(folder, *flags):
     return ran.stdout.split("\n")
 
 
+def owner_of(begun):
+    """The type of the last `impl` of a text, and the trait after it, as the checker names the two: `LinkedQueryQuery`."""
+    heads = re.findall(r"^(?:impl|trait)\b[^{]*\{", begun, re.M)
+    head, shorter = heads[-1] if heads else "", None
+    while head != shorter:
+        shorter, head = head, re.sub(r"<[^<>]*>", "", head)
+    words = re.findall(r"\w+", head.partition(" where")[0])[1:]
+    return words[2] + words[0] if len(words) > 2 and words[1] == "for" else (words or [""])[0]
+
+
 def function_of(edit, folder):
-    """The file and the name of the one function that the edit changes, or None."""
+    """The file and the name of the one function that the edit changes, with its type, or None."""
     found = set()
     for file, old, _ in edit.pairs:
         with open(os.path.join(folder, file), encoding="utf-8") as it:
             text = it.read()
+        head = r"^( *)(?:pub(?:\([a-z]+\))? )?fn (\w+)"
         begun = text[: text.find(old)]
-        names = list(re.finditer(r"^( *)(?:pub(?:\([a-z]+\))? )?fn (\w+)", begun, re.M))
+        names = list(re.finditer(head, begun, re.M))
         # a closing brace as far to the left as the function's head ends it
-        if not file.startswith("src/") or not names or re.search(r"^%s\}" % names[-1][1], begun[names[-1].start():], re.M) or re.search(r"^ *(pub(\([a-z]+\))? )?fn ", old, re.M):
+        if not file.startswith("src/") or not names or re.search(r"^%s\}" % names[-1][1], begun[names[-1].start():], re.M) or re.search(head, old, re.M):
             return None
-        found.add((file, names[-1][2]))
+        found.add((file, (owner_of(begun) + "::" if names[-1][1] else "") + names[-1][2]))
     return found.pop() if len(found) == 1 else None
 
 
@@ -168,27 +181,24 @@ def own_refusal(lines, crate, function):
     """What the checker said of the function itself, or None where it said nothing, or spoke only of what it calls."""
     file, name = function
     module = re.sub(r"/main\.rt$|/lib\.rt$|\.rt$", "", file[len("src/"):]).replace("/", "::")
-    place = "%s::%s" % (crate, module)
-    said = [re.match(r"fn (\S+): (.*)", it) for it in lines]
-    said = [it for it in said if it and it[1].startswith(place) and it[1].endswith("::" + name)]
-    if len(said) != 1 or not said[0][2].startswith("no proof: "):
+    said = [re.match(r"fn %s::(\S+): (.*)" % crate, it) for it in lines]
+    said = [it for it in said if it and ("::" + it[1]).endswith("::" + name)]
+    # a method can stand in another module than its type
+    said = [it for it in said if it[1].startswith(module + "::")] or said
+    if len(said) != 1 or not re.match(r"no proof|not proved", said[0][2]):
         return None
-    goals = re.findall(r"`search` did not prove ((?:`[^`]+`(?:, | and )?)+)", said[0][2])
+    goals = re.search(r"`search` did not prove (`[^`]+`)", said[0][2])
     if goals:
-        return "`%s` (%s)" % (said[0][1][len(crate) + 2:], goals[0].split(",")[0].split(" and ")[0].strip())
-    proof = re.search(r"proofs/\S+", said[0][2])
-    return None if not proof else named_error(lines, said[0][1][len(crate) + 2:])
+        return "`%s` (%s)" % (said[0][1], goals[1])
+    return named_error(lines, said[0][1])
 
 
 def named_error(lines, function):
     """The first error in the answers of a function, unless all its errors are of names that the edit took away."""
     folder = "proofs/%s/" % function.replace("::", "/")
-    said = [it for it in lines if folder in it.partition(": ")[0] and ": error" in it]
-    goals = [it for it in said if not re.search(BY_NAME, it)]
-    return "`%s`, an equation of its answers" % function if goals else None
-
-
-BY_NAME = r"has no field|is not in scope|has no `|was not admitted"
+    said = [it for it in lines if folder in it.partition(": ")[0] and ": error" in it and not re.search(BY_NAME, it)]
+    said = [re.search(r": error: (`[^`]+`)", it) for it in said]
+    return "`%s` (%s, an equation of its answers)" % (function, said[0][1]) if said and said[0] else None
 
 
 def said_first(lines):
@@ -198,6 +208,7 @@ def said_first(lines):
     goals = [it for it in said if not (re.match(r"(\./)?proofs/", it) and re.search(BY_NAME, it))]
     if said and not goals:
         return "by a name alone: " + said[0]
+    goals = [re.sub(r"^note: (src/\S+?):\d.*?\((`[^`]+`)\).*", r"a goal in \1 (\2)", it) for it in goals]
     return (goals or [it for it in lines if it.strip()][-1:] or ["it said nothing"])[0]
 
 
@@ -301,10 +312,9 @@ def main():
     for it in ["--apply-only", "--alone", "--note"]:
         words.add_argument(it, action="store_true")
     words = words.parse_args()
+    words.all = words.all or words.apply_only and not words.crate
     if not words.crate and not words.all:
-        words.crate, words.all = None, words.apply_only
-        if not words.all:
-            sys.exit(__doc__)
+        sys.exit(__doc__)
     crates = sorted(it[:-len(".txt")] for it in os.listdir(LISTS) if it.endswith(".txt")) if words.all else [words.crate]
     failed = 0
     for crate in crates:
