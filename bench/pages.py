@@ -28,7 +28,7 @@ HANDLES = {"pq_mail", "pq_hall", "pq_server"}
 HANDLE = re.compile(r"\b(?:std::thread|std::net|Mutex|RwLock|Condvar|mpsc|TcpListener|TcpStream)\b")
 TESTS = re.compile(r"^(?:test_support|stored_sessions|tests_\w+)$")
 # These come and go: crates of tests, rows of cases, lists of wrong bodies.
-OPTIONAL = re.compile(r"^(?:cases/|bench/(?:edits|cases)|crates/(?:test_support|stored_sessions|tests_\w+)|crates/pq_server/(?:stdin|stdout))")
+OPTIONAL = re.compile(r"^(?:cases/|bench/(?:edits|cases|gate_|steps)|crates/(?:test_support|stored_sessions|tests_\w+)|crates/pq_server/(?:stdin|stdout))")
 TO_COME = {"pq_claims", "pq_mail", "pq_hall"}
 GATE_LINES = 60
 MACHINE = re.compile(r"(?<![\w.])/(?:home|work|opt|farm|tmp|root|mnt)/")
