@@ -222,7 +222,8 @@ class Repository:
             self.say("docs/GATE.md", "%d lines, more than %d" % (lines, GATE_LINES))
 
     def check_links(self):
-        pages = ["README.md", "CONTRIBUTING.md"] + ["docs/" + name for name in sorted(os.listdir(os.path.join(self.top, "docs")))]
+        pages = ["README.md", "CONTRIBUTING.md"] + [
+            "docs/" + name for name in sorted(os.listdir(os.path.join(self.top, "docs"))) if name.endswith(".md")]
         pages += ["cases/README.md"] if os.path.exists(os.path.join(self.top, "cases", "README.md")) else []
         for page in pages:
             for number, line in enumerate(text_of(self.top, page).splitlines(), 1):
