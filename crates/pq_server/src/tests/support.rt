@@ -5,7 +5,7 @@
 //! their own here.
 use pq_frame::{Memory, frame};
 use pq_inputs::{Durability, Inputs};
-use pq_lex::{Code, Span};
+use pq_lex::Span;
 use std::alloc::Global;
 use std::process::Abort;
 
@@ -81,14 +81,6 @@ impl Page {
         }
     }
 
-    /// Writes `bytes`, with a mark for what is not UTF-8.
-    pub(super) fn bytes(&mut self, bytes: &[u8]) {
-        match String::from_utf8_lossy(self.alloc, bytes) {
-            Ok(text) => self.add(text.as_str()),
-            Err(_) => self.cut(),
-        }
-    }
-
     /// Writes `piece` `count` times.
     pub(super) fn repeat(&mut self, piece: &str, count: usize) {
         for _ in 0..count {
@@ -133,15 +125,6 @@ pub(super) fn check_pages(rt: &impl Abort, found: &Page, want: &Page, row: &str)
     check_text(rt, found.text(rt), want.text(rt), row);
 }
 
-/// A page with the text of three pieces.
-pub(super) fn page_of(alloc: Global, first: &str, second: &str, third: &str) -> Page {
-    let mut page = Page::new(alloc);
-    page.add(first);
-    page.add(second);
-    page.add(third);
-    page
-}
-
 /// Checks that `holds` is true; `row` names the row.
 pub(super) fn check_that(rt: &impl Abort, holds: bool, row: &str) {
     assert!(rt; holds, "{row}");
@@ -150,24 +133,6 @@ pub(super) fn check_that(rt: &impl Abort, holds: bool, row: &str) {
 /// Checks that the number `found` is `want`; `row` names the row.
 pub(super) fn check_number(rt: &impl Abort, found: usize, want: usize, row: &str) {
     assert_eq!(rt; found, want, "{row}");
-}
-
-/// Checks the `count` rows `ASKED => WANT`: `show` writes what it finds for `ASKED`.
-pub(super) fn check_table(
-    rt: &(impl Abort + AllocGlobal),
-    count: usize,
-    rows: &str,
-    show: fn(&mut Page, &str),
-)
-    requires { IsAlwaysCallable show }
-{
-    check_row_count(rt, count, rows);
-    for row in rows.lines() {
-        let (asked, want) = split_row(rt, row, " => ");
-        let mut page = Page::new(rt.alloc());
-        show(&mut page, asked);
-        check_page(rt, &page, want, row);
-    }
 }
 
 /// `before` and then `text`.
@@ -196,22 +161,6 @@ pub(super) fn durability_of(word: &str) -> Durability {
         "medium" => Durability::Medium,
         _ => Durability::Low,
     }
-}
-
-/// The name of a lexical error.
-pub(super) fn lexical_name(code: Code) -> &'static str {
-    match code {
-        Code::UnclosedComment => "UnclosedComment",
-        Code::UnclosedString => "UnclosedString",
-        Code::BadEscape => "BadEscape",
-        Code::NumberRunsOn => "NumberRunsOn",
-        Code::OtherCharacter => "OtherCharacter",
-    }
-}
-
-/// Whether values of type `T` may be sent to another thread.
-pub(super) fn is_sendable<T: Send>() -> bool {
-    true
 }
 
 /// The frames of `bodies`, one after the other.

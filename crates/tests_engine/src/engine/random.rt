@@ -1,7 +1,8 @@
 //! Random scripts over four files, rings among them. Each demand is checked as `check_demand` does.
-use super::super::support::{Page, Random};
 use super::check_script;
+use crate::checks::text_of;
 use std::process::Abort;
+use test_support::{Page, Random};
 
 /// The name of a file.
 fn name(random: &mut Random) -> &'static str {
@@ -63,7 +64,7 @@ fn check_scripts(rt: &(impl Abort + AllocGlobal), state: usize) {
     for _ in 0..2_000u32 {
         let mut script = Page::new(rt.alloc());
         add_script(&mut script, &mut random);
-        check_script(rt, script.text(rt));
+        check_script(rt, text_of(rt, &script));
     }
 }
 

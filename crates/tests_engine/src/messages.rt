@@ -1,8 +1,9 @@
 //! pq_frame: messages of each kind, and bodies that are none.
-use super::support::{Page, check_page, check_row_count, check_that, split_row};
+use crate::checks::{check_page, check_row_count, check_that, split_row, text_of};
 use pq_frame::{Label, Message, equal_labels};
 use serde_json::Value;
 use std::process::Abort;
+use test_support::Page;
 
 /// Writes a label: `none`, a number, or a text between quotes.
 fn add_label(page: &mut Page, label: &Label) {
@@ -131,7 +132,7 @@ fn check_nested(rt: &(impl Abort + AllocGlobal), depth: usize, want: &str) {
     let mut body = Page::new(rt.alloc());
     body.repeat("[", depth);
     body.repeat("]", depth);
-    check_message(rt, body.text(rt).as_bytes(), want);
+    check_message(rt, text_of(rt, &body).as_bytes(), want);
 }
 
 #[test]

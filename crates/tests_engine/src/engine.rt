@@ -5,16 +5,14 @@
 //! demand, with `KEY REVISION WHY;` for each rule that it carries.
 mod random;
 
-use super::rules::counted::Counted;
-use super::rules::{add_answer, add_key, add_sum, key_of};
-use super::support::{
-    Page, check_number, check_page, check_pages, check_row_count, check_that, durability_of,
-};
+use crate::checks::{check_number, check_page, check_pages, check_row_count, check_that};
+use crate::rules::key_of;
 use pq_inputs::{Durability, Inputs};
 use pq_memo::{Carried, Demanded, Engine, Why};
 use pq_rules::{Rules, SumsKey, SumsValue};
 use std::cell::Cell;
 use std::process::Abort;
+use test_support::{Counted, Page, add_answer, add_key, add_sum, durability_of};
 
 /// Sets a file.
 fn set<R: Rules<Key = SumsKey, Value = SumsValue>>(
