@@ -16,9 +16,10 @@ fn served<R: Read>(alloc: Global, reader: &mut Counted<R>) -> (Vec<u8>, Result<u
     requires reads_left { reads_of reader.old < 2 ^ 63 }
     requires reader_left { failed_of reader.old < 2 ^ 63 }
     // The script theorem, for the bytes and the outcome that are returned.
-    ensures { (bytes : List ℕ)
-        × Scripts (IsAtEnd (R.remaining (inner_of reader.new))) (reads_of reader.new ≡ reads_of reader.old + max_reads) bytes result.0.items result.1
-        × Consumes (R.remaining (inner_of reader.old)) (R.remaining (inner_of reader.new)) bytes }
+    ensures { (bytes : List ℕ) × (out : List ℕ)
+        × Scripts (IsAtEnd (R.remaining (inner_of reader.new))) (reads_of reader.new ≡ reads_of reader.old + max_reads) bytes out result.1
+        × Consumes (R.remaining (inner_of reader.old)) (R.remaining (inner_of reader.new)) bytes
+        × (result.0.items ≡ out) }
 {
     let mut output = Vec::new(alloc);
     let outcome = {

@@ -12,9 +12,9 @@ pub(crate) struct Stored<'a> {
     pub(crate) bytes: &'a [u8],
 }
 
-/// The name and the length that a header line has.
+/// The name and the length that a header line has; `line` ends with its line feed.
 fn header(line: &[u8]) -> Option<(&str, usize)> {
-    let line = str::from_utf8(line).ok()?;
+    let line = str::from_utf8(line).ok()?.strip_suffix('\n')?;
     let (name, length) = line.split_once(' ')?;
     let length = length.parse().ok()?;
     Some((name, length))
@@ -38,9 +38,8 @@ pub(crate) fn first_of(input: &[u8]) -> Option<(Stored<'_>, &[u8])>
     ensures less { IfSome result (λ parts. length parts.1.now < length input.now) }
 {
     let end = input.iter().position(|byte| *byte == b'\n')?;
-    let (line, body) = split(input, end)?;
+    let (line, body) = split(input, end.checked_add(1)?)?;
     let (name, length) = header(line)?;
-    let (_line_feed, body) = split(body, 1)?;
     let (bytes, rest) = split(body, length)?;
     Some((Stored { name, bytes }, rest))
 }
