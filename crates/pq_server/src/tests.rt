@@ -11,4 +11,3 @@ mod rules;
 mod schema;
 mod session;
 mod support;
-mod wire;

@@ -1,9 +1,6 @@
-//! pq_session: scripts from bytes to bytes, by the worked sessions.
+//! pq_session: what needs calls. What only sends bytes is a row of `cases/sessions/`.
 mod devices;
-mod edits;
-mod findings;
 mod items;
-mod phases;
 mod replies;
 mod scripts;
 mod uris;
@@ -27,20 +24,6 @@ const DIAGNOSTIC: &str =
 const SHUTDOWN: &str = r#"{"id":2,"jsonrpc":"2.0","method":"shutdown"}"#;
 
 const SHUT_DOWN: &str = r#"{"id":2,"jsonrpc":"2.0","result":null}"#;
-
-const EXIT: &str = r#"{"jsonrpc":"2.0","method":"exit"}"#;
-
-/// The diagnostic of a text of `length` characters on one line that does not begin with a `syntax`
-/// statement.
-fn item_of_length(alloc: Global, length: &str) -> Result<String, Memory> {
-    format!(in alloc;
-        r#"{{"code":"P010","message":"only syntax = \"proto3\" is read","range":{{"end":{{"character":{length},"line":0}},"start":{{"character":0,"line":0}}}},"severity":1,"source":"proto"}}"#
-    )
-}
-
-/// The diagnostic of the text `hi`.
-const HI: &str =
-    r#"{"code":"P010","message":"only syntax = \"proto3\" is read","range":{"end":{"character":2,"line":0},"start":{"character":0,"line":0}},"severity":1,"source":"proto"}"#;
 
 /// A notification that opens `a.proto` with `text`, which is written as JSON writes it.
 fn open(alloc: Global, text: &str) -> Result<String, Memory> {

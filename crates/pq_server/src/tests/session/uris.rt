@@ -1,6 +1,5 @@
 //! The files that URIs name below a root, and the URIs that are printed of them (RFC 3986, sections
 //! 2.1 and 2.3; RFC 8089, section 2; LSP 3.17, "URI").
-use super::{check_replies, item_of_length, report};
 use crate::tests::support::{check_row_count, check_text, split_row};
 use pq_session::{Memory, Root};
 use std::alloc::Global;
@@ -69,38 +68,4 @@ fn files_of_uris(rt: HostRuntime) -> Result<(), Fail> {
     check_files(&rt, Some("http://h/a"), 1, by_itself)?;
     let escaped = "file:///%C3%A9/a => a => file:///%C3%A9/a";
     check_files(&rt, Some("file:///é"), 1, escaped)
-}
-
-/// Checks that a session with this `rootUri` takes `uri` and `other` for one file.
-fn check_one_file(
-    rt: &(impl Abort + AllocGlobal),
-    root_uri: &str,
-    uri: &str,
-    other: &str,
-) -> Result<(), Fail> {
-    let alloc = rt.alloc();
-    let initialize = format!(in alloc;
-        r#"{{"id":0,"jsonrpc":"2.0","method":"initialize","params":{{"rootUri":{root_uri}}}}}"#
-    )?;
-    let open = format!(in alloc;
-        r#"{{"jsonrpc":"2.0","method":"textDocument/didOpen","params":{{"textDocument":{{"uri":"{uri}","text":"hi"}}}}}}"#
-    )?;
-    let ask = format!(in alloc;
-        r#"{{"id":1,"jsonrpc":"2.0","method":"textDocument/diagnostic","params":{{"textDocument":{{"uri":"{other}"}}}}}}"#
-    )?;
-    let reply = report(alloc, item_of_length(alloc, "2")?.as_str(), "1")?;
-    let bodies = [initialize.as_str(), open.as_str(), ask.as_str()];
-    check_replies(rt, &bodies, &[super::INITIALIZED, reply.as_str()], "1", uri)
-}
-
-#[test]
-fn the_root_of_a_session(rt: HostRuntime) -> Result<(), Fail> {
-    check_one_file(
-        &rt,
-        r#""file:///home/u/p""#,
-        "file:///home/u/p/x%20y.proto",
-        "file:///home/u/p//x y.proto",
-    )?;
-    check_one_file(&rt, "null", "file:///p/x", "file:////p/x")?;
-    check_one_file(&rt, "7", "file:///p/x", "file:////p/x")
 }
