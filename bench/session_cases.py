@@ -25,8 +25,9 @@ MARKS = "marks.txt"
 # A row of a case file: the file, the line's number from 1, and the text as it is written.
 Row = namedtuple("Row", "file line text")
 
-# A session: its name, the row that it comes from, the bytes of the client, those of the server, and the outcome.
-Session = namedtuple("Session", "name row sent wanted outcome")
+# A session: its name, the row that it comes from, the rows of the server's frames where they are rows of their own, the bytes
+# of the client, those of the server, and the outcome.
+Session = namedtuple("Session", "name row replies sent wanted outcome")
 
 # The words for an outcome: a status, or the name of an error.
 OUTCOMES = ("0", "1", "3", "HeaderTooLong", "NoLength", "BadLength", "TooLong", "Cut", "TextTooLong", "TooManyFiles",
@@ -173,7 +174,7 @@ def bytes_of(line, marks):
     return frame(repeated(marks.get(line[2:], line[2:])))
 
 
-def session_of(name, row, lines, marks):
+def session_of(name, row, replies, lines, marks):
     """The session of lines `> `, `>| `, `< `, `<| `, and a last line `= OUTCOME`."""
     if not lines or not lines[-1].startswith("= ") or lines[-1][2:] not in OUTCOMES:
         raise Malformed(row, "the last line of a session is '= OUTCOME'")
@@ -181,7 +182,7 @@ def session_of(name, row, lines, marks):
         if not re.match(r"[<>](\|)? ", line):
             raise Malformed(row, "a line of a session begins with '> ', '>| ', '< ' or '<| ': %s" % line)
     sent, wanted = (b"".join(bytes_of(line, marks) for line in lines if line[0] == side) for side in "><")
-    return Session(name, row, sent, wanted, lines[-1][2:])
+    return Session(name, row, replies, sent, wanted, lines[-1][2:])
 
 
 def blocks_of(rows):
@@ -214,7 +215,7 @@ def table_sessions(head, rows, tables, marks):
             lines = before + FORMS[words[2]](row.text)
         except (ValueError, KeyError, AttributeError) as error:
             raise Malformed(row, "a row of the form '%s': %s" % (words[2], FORMS[words[2]].__doc__)) from error
-        yield session_of("%s.%d" % (words[1], at), row, lines, marks)
+        yield session_of("%s.%d" % (words[1], at), row, [], lines, marks)
 
 
 def file_sessions(top, name, marks):
@@ -224,7 +225,8 @@ def file_sessions(top, name, marks):
         if head.text.startswith("table "):
             yield from table_sessions(head, rows, tables, marks)
         else:
-            yield session_of(head.text[len("session "):], head, [row.text for row in rows], marks)
+            replies = [row for row in rows if row.text.startswith("<")]
+            yield session_of(head.text[len("session "):], head, replies, [row.text for row in rows], marks)
 
 
 def example_sessions(top):
@@ -233,7 +235,7 @@ def example_sessions(top):
     for name in sorted(name[:-3] for name in os.listdir(folder) if name.endswith(".in")):
         with open(os.path.join(folder, name + ".in"), "rb") as sent, open(os.path.join(folder, name + ".out"), "rb") as wanted:
             row = Row(os.path.join("examples", name + ".in"), 1, "the whole file")
-            yield Session("examples/" + name, row, sent.read(), wanted.read(), "0")
+            yield Session("examples/" + name, row, [], sent.read(), wanted.read(), "0")
 
 
 def sessions_of(top):
@@ -303,20 +305,26 @@ def found_entry(output):
     return words[0], words[1], rest[:int(words[2])]
 
 
+def named(session, row):
+    """The lines that name a session and one of its rows, as it is written."""
+    return ["%s:%d: session %s" % (row.file, row.line, session.name), "    " + row.text]
+
+
 def difference(session, output):
     """What the output has in the place of a session's entry."""
     name, outcome, found = found_entry(output)
-    lines = ["%s:%d: session %s" % (session.row.file, session.row.line, session.name), "    " + session.row.text]
     if name != session.name:
-        return lines + ["wanted: session %s" % session.name, "found:  %s" % (name or "nothing")]
+        return named(session, session.row) + ["wanted: session %s" % session.name, "found:  %s" % (name or "nothing")]
+    ending = []
     if outcome != session.outcome:
-        lines += ["wanted: outcome %s" % session.outcome, "found:  outcome %s" % outcome]
+        ending = ["wanted: outcome %s" % session.outcome, "found:  outcome %s" % outcome]
     wanted, given = pieces(session.wanted), pieces(found)
     for at in range(max(len(wanted), len(given))):
         pair = [side[at] if at < len(side) else "nothing" for side in (wanted, given)]
         if pair[0] != pair[1]:
-            return lines + ["wanted: %r" % pair[0], "found:  %r" % pair[1]]
-    return lines
+            row = session.replies[at - 1] if 0 < at <= len(session.replies) else session.row
+            return named(session, row) + ["wanted: %r" % pair[0], "found:  %r" % pair[1]] + ending
+    return named(session, session.row) + ending
 
 
 def compare(top, output):
