@@ -1,39 +1,21 @@
 //! Runs stored sessions, and writes the outcome and the output of each.
-ghost use Rattle.std.specs.Prelude.{◌≡◌, ◌+◌, ◌<◌, ◌^◌, ℕ, List, Result};
-ghost use Rattle.std.specs.Io.KnownBytes.{Consumes, IsAtEnd};
-ghost use Rattle.pq_session.specs.Counts.{inner_of, failed_of, reads_of};
-ghost use Rattle.pq_session.specs.Script.{Scripts, max_reads};
 
 use crate::outcomes::word_of;
 use crate::stored::{Stored, first_of};
-use pq_session::{Counted, ScriptFault, script};
+use pq_session::{Counted, script};
 use std::alloc::Global;
 use std::io;
-use std::io::{ErrorKind, Read, Write};
+use std::io::{ErrorKind, Write};
 
-/// Serves the client of `reader`: what the script writes, and its outcome.
-fn served<R: Read>(alloc: Global, reader: &mut Counted<R>) -> (Vec<u8>, Result<u8, ScriptFault>)
-    requires reads_left { reads_of reader.old < 2 ^ 63 }
-    requires reader_left { failed_of reader.old < 2 ^ 63 }
-    // The script theorem, for the bytes and the outcome that are returned.
-    ensures { (bytes : List ℕ) × (out : List ℕ)
-        × Scripts (IsAtEnd (R.remaining (inner_of reader.new))) (reads_of reader.new ≡ reads_of reader.old + max_reads) bytes out result.1
-        × Consumes (R.remaining (inner_of reader.old)) (R.remaining (inner_of reader.new)) bytes
-        × (result.0.items ≡ out) }
-{
-    let mut output = Vec::new(alloc);
-    let outcome = {
-        let mut writer = Counted::new(&mut output);
-        script(alloc, reader, &mut writer)
-    };
-    (output, outcome)
-}
-
-/// Runs one session, and writes its line and its output.
+/// Runs one session by `script`, whose contract is the script theorem, and writes its line and its
+/// output.
 fn write_session<W: Write>(alloc: Global, stored: Stored<'_>, output: &mut W) -> io::Result<()> {
+    let mut written = Vec::new(alloc);
     let mut reader = Counted::new(stored.bytes);
-    let (written, outcome) = served(alloc, &mut reader);
-    let line = format!(in alloc; "{} {} {}\n", stored.name, word_of(outcome), written.len())?;
+    let mut writer = Counted::new(&mut written);
+    let outcome = script(alloc, &mut reader, &mut writer);
+    let word = word_of(outcome);
+    let line = format!(in alloc; "{} {word} {}\n", stored.name, written.len())?;
     output.write_all(line.as_bytes())?;
     output.write_all(written.as_slice())
 }
