@@ -1,5 +1,7 @@
 //! Scripts with the longest text, and with one that is too long.
-use super::{DIAGNOSTIC, INITIALIZE, INITIALIZED, SHUT_DOWN, SHUTDOWN, check_replies, open, report};
+use super::{
+    DIAGNOSTIC, INITIALIZE, INITIALIZED, SHUT_DOWN, SHUTDOWN, check_replies, open, report,
+};
 use std::test::Fail;
 
 #[test]
