@@ -1,5 +1,5 @@
 #!/usr/bin/env python3
-"""Makes the stored session of the program from the rows of cases/.
+"""Makes the stored session of the program from the rows of cases/, and by session_cases.py those of cases/sessions.
 
 The session is crates/pq_server/stdin, and what the program has to write is crates/pq_server/stdout. The gate runs the program
 on the one and compares what it writes with the other, byte for byte, as two compilers build it. So a row is tested without a
@@ -21,12 +21,8 @@ import sys
 
 import replies
 import rows
+import session_cases
 from messages import asked, bodies_of, changed, frame, notice, opened
-
-try:
-    import session_cases
-except ImportError:
-    session_cases = None
 
 HERE = os.path.dirname(os.path.abspath(__file__))
 PROGRAM = os.path.join("crates", "pq_server")
@@ -225,21 +221,20 @@ def run(program, session):
 
 def check_all(top, session):
     """Checks all stored sessions; the status."""
-    wrong = check(top, session) + (session_cases.check(top) if session_cases else [])
+    wrong = check(top, session) + session_cases.check(top)
     for line in wrong:
         print("bench/cases.py: " + line)
     if wrong:
         print("bench/cases.py: `python3 bench/cases.py` writes the stored sessions anew from the rows")
         return 1
-    print("the stored session is what %d rows make" % len(session.bodies))
+    print("the stored sessions are what their rows make, of which the program's has %d" % len(session.bodies))
     return 0
 
 
 def write_all(top, session):
     """Writes all stored sessions; the status."""
     write(top, session)
-    if session_cases:
-        session_cases.write(top)
+    session_cases.write(top)
     print("%d rows, %d bytes of input, %d of output" % (len(session.bodies), len(joined(session.sent)), len(joined(session.wanted))))
     return 0
 

@@ -191,10 +191,10 @@ def read_text(path, text):
 
 
 def paths(top):
-    """The files of rows below cases/, in the order of their names."""
+    """The files of rows below cases/, in the order of their names. Those of cases/sessions are of session_cases.py."""
     found = [os.path.relpath(os.path.join(folder, name), top).replace(os.sep, "/")
              for folder, _, names in os.walk(os.path.join(top, "cases")) for name in names if name.endswith(".txt")]
-    return sorted(found)
+    return sorted(path for path in found if not path.startswith("cases/sessions/"))
 
 
 def read_rows(top):
