@@ -52,6 +52,18 @@ def expanded(token):
     return [part.split("::")[-1] for part in parts]
 
 
+def clauses_of(code):
+    """The names of the clauses of each function, by its name, and under `all` those of a whole crate, ghosts included."""
+    found, now = collections.defaultdict(set), "all"
+    for line in code.splitlines():
+        function = re.match(r"\s*(?:pub(?:\([a-z]+\))? )?(?:const )?fn (\w+)", line)
+        now = function.group(1) if function else now
+        for name in re.findall(r"\b(?:ensures|invariant|ghost) (%s) ?[:{=(]" % NAME, line):
+            found[now].add(name)
+            found["all"].add(name)
+    return found
+
+
 class Repository:
     def __init__(self, top):
         self.top, self.findings = top, []
@@ -163,19 +175,25 @@ class Repository:
                 self.say(page, "crates.txt has no %s" % crate)
                 continue
             code = "".join(text_of(path) for path in self.sources(crate))
-            terms = code + "".join(text_of(path) for path in glob.glob(
+            terms = "".join(text_of(path) for path in glob.glob(
                 os.path.join(self.top, "crates", crate, "specs", "**", "*.antt"), recursive=True))
+            clauses = clauses_of(code)
             for line in section:
                 cells = [cell.strip() for cell in line.strip("|").split("|")]
                 if not line.startswith("|") or len(cells) != 3 or cells[0] in ("Function", "---"):
                     continue
-                for token in in_backticks(cells[0]):
-                    for name in expanded(token):
-                        if not re.search(r"\b(?:fn|struct|enum|trait|type) %s\b" % re.escape(name), code):
-                            self.say(page, "%s has no function or type `%s`" % (crate, name))
+                names = [name for token in in_backticks(cells[0]) for name in expanded(token)]
+                for name in names:
+                    if not re.search(r"\b(?:fn|struct|enum|trait|type) %s\b" % re.escape(name), code):
+                        self.say(page, "%s has no function or type `%s`" % (crate, name))
+                # A clause belongs to a function of its row; one of a type or a trait, or of `each call`, to the crate.
+                wide = not names or any(name[0].isupper() for name in names)
                 for token in in_backticks(cells[1]):
-                    if not re.search(r"\b(?:ensures|ghost|invariant|pub|data|record|abbrev)(?: pub)? %s\b" % re.escape(token), terms):
-                        self.say(page, "%s has no clause `%s`" % (crate, token))
+                    there = [clauses["all"]] if wide else [clauses.get(name, set()) for name in names]
+                    is_word = re.search(r"^ *(?:abbrev |unfoldable |pub )*(?:data|record|abbrev|pub|unfoldable)(?: pub)? %s\b"
+                                        % re.escape(token), terms, re.M)
+                    if not any(token in one for one in there) and not (is_word and token[0].isupper()):
+                        self.say(page, "%s has no clause `%s` of %s" % (crate, token, cells[0]))
 
     # The map
 
