@@ -28,7 +28,7 @@ HANDLES = {"pq_mail", "pq_hall", "pq_server"}
 HANDLE = re.compile(r"\b(?:std::thread|std::net|Mutex|RwLock|Condvar|mpsc|TcpListener|TcpStream)\b")
 TESTS = re.compile(r"^(?:test_support|stored_sessions|tests_\w+)$")
 # These come and go: crates of tests, rows of cases, lists of wrong bodies.
-OPTIONAL = re.compile(r"^(?:cases/|bench/(?:edits|cases|gate_|steps)|crates/(?:test_support|stored_sessions|tests_\w+)|crates/pq_server/(?:stdin|stdout))")
+OPTIONAL = re.compile(r"^(?:cases/|bench/(?:edits|cases|session_cases|gate_|steps)|crates/(?:test_support|stored_sessions|tests_\w+)|crates/pq_server/(?:stdin|stdout))")
 TO_COME = {"pq_claims", "pq_mail", "pq_hall"}
 GATE_LINES = 60
 MACHINE = re.compile(r"(?<![\w.])/(?:home|work|opt|farm|tmp|root|mnt)/")
@@ -242,7 +242,8 @@ class Repository:
     def check_links(self):
         pages = ["README.md", "CONTRIBUTING.md"] + [
             "docs/" + name for name in sorted(os.listdir(os.path.join(self.top, "docs"))) if name.endswith(".md")]
-        pages += ["cases/README.md"] if os.path.exists(os.path.join(self.top, "cases", "README.md")) else []
+        pages += [page for page in ("cases/README.md", "cases/sessions/README.md", "examples/README.md")
+                  if os.path.exists(os.path.join(self.top, page))]
         for page in pages:
             for number, line in enumerate(text_of(self.top, page).splitlines(), 1):
                 if MACHINE.search(line):
