@@ -32,8 +32,11 @@ OPENED = "textDocument/didOpen"
 
 def read(path):
     """The bytes of a file."""
-    with open(path, "rb") as it:
-        return it.read()
+    try:
+        with open(path, "rb") as it:
+            return it.read()
+    except OSError as error:
+        sys.exit("bench/cases.py: %s cannot be read: %s" % (path, error.strerror))
 
 
 class Session:
