@@ -1,5 +1,5 @@
 //! The form of stored sessions: a header line `NAME LENGTH`, and LENGTH bytes.
-ghost use Rattle.std.specs.Prelude.{◌≡◌, ◌++◌, ◌<◌, ℕ, List, length, IfSome};
+ghost use Rattle.std.specs.Prelude.{◌≡◌, ◌++◌, ◌<◌, length, IfSome};
 
 use std::str;
 
