@@ -4,10 +4,7 @@
 //! that calls succeed with ample memory. The crates below have no tests: a crate with tests is proved
 //! twice. Those of the lower crates are in crates of tests alone, `tests_text` and `tests_engine`.
 mod compile;
-mod cores;
-mod plays;
 mod program;
-mod rules;
 mod schema;
 mod session;
 mod support;

@@ -3,12 +3,13 @@
 //! A request is `LABEL KEY` or, for a fixed text, `LABEL say TEXT`. A change is
 //! `DURABILITY NAME=TEXT`, or `DURABILITY NAME` where the file becomes absent. A reply is
 //! `NUMBER REQUEST @REVISION OUTCOME`.
-use crate::tests::support::{Page, durability_of, split_row};
+use crate::checks::split_row;
 use pq_core::{Change, ClientId, Label, Outcome, Reply, Request, Want};
 use pq_inputs::Inputs;
 use pq_rules::{Answer, Memory, Text};
 use std::alloc::Global;
 use std::process::Abort;
+use test_support::{Page, durability_of};
 
 /// Keys of a rule set that lines can write, and their answers.
 pub(crate) trait Sample: Drop + Sized {
@@ -69,7 +70,7 @@ pub(crate) fn request_of<K: Sample>(rt: &(impl Abort + AllocGlobal), text: &str)
 }
 
 /// The text that `text` copies.
-fn text_of(rt: &(impl Abort + AllocGlobal), text: &str) -> String {
+fn string_of(rt: &(impl Abort + AllocGlobal), text: &str) -> String {
     String::from_str(rt.alloc(), text).expect(rt, "memory")
 }
 
@@ -78,7 +79,7 @@ pub(crate) fn change_of(rt: &(impl Abort + AllocGlobal), text: &str) -> Change {
     let (durability, file) = split_row(rt, text, " ");
     let durability = durability_of(durability);
     let (name, text) = match file.split_once("=") {
-        Some((name, text)) => (name, Some(text_of(rt, text))),
+        Some((name, text)) => (name, Some(string_of(rt, text))),
         None => (file, None),
     };
     let file = Text::new(rt.alloc(), name).expect(rt, "memory");

@@ -1,7 +1,7 @@
 //! A writer of random lists of events over a few small files.
-use crate::tests::support::{Page, Random};
 use std::alloc::Global;
 use std::mem::replace;
+use test_support::{Page, Random};
 
 /// The most requests of a list, fewer than a window has.
 const MOST_REQUESTS: usize = 24;

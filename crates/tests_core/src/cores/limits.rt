@@ -1,7 +1,8 @@
 //! Limits of a core: clients, windows, texts, and the steps of a run.
 use super::check_script;
-use crate::tests::support::{Page, check_number};
+use crate::checks::{check_number, text_of};
 use pq_core::{MAX_CLIENTS, WINDOW};
+use test_support::Page;
 
 /// Writes the lines `call => N` for each N up to `count`, each with `end` after it.
 fn add_numbered(script: &mut Page, call: &str, count: usize, end: &str) {
@@ -36,7 +37,7 @@ fn windows(rt: HostRuntime) {
         accept 0 7 Sum a => too many requests of the client are owed a reply\n\
         ",
     );
-    check_script(&rt, script.text(&rt));
+    check_script(&rt, text_of(&rt, &script));
 }
 
 // A client is refused while 64 are open. The number of a closed client is not given again.
@@ -57,7 +58,7 @@ fn clients(rt: HostRuntime) {
         accept 65 7 Sum a => no such client\n\
         ",
     );
-    check_script(&rt, script.text(&rt));
+    check_script(&rt, text_of(&rt, &script));
 }
 
 // An edit that the inputs refuse makes no revision, and stops no run.
@@ -81,7 +82,7 @@ fn long_texts(rt: HostRuntime) {
         close 0 => 0 7 Sum a @1 answered 2|0; rest\n\
         ",
     );
-    check_script(&rt, script.text(&rt));
+    check_script(&rt, text_of(&rt, &script));
 }
 
 /// Writes edits of the files `n100` to `n199`, each of which names the next and the last the first.
@@ -126,5 +127,5 @@ fn stepped_for_ever(rt: HostRuntime) {
     );
     add_keys(&mut script);
     script.add("|1 8 Total n180 @100 answered 0|0; rest\n");
-    check_script(&rt, script.text(&rt));
+    check_script(&rt, text_of(&rt, &script));
 }

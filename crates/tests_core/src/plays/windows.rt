@@ -1,9 +1,10 @@
 //! Windows of clients, and the number of clients.
 use super::{check_play, played_of};
-use crate::tests::support::{Page, Random, check_number};
+use crate::checks::{check_number, text_of};
 use pq_play::Played;
 use pq_rules::{SumsKey, SumsValue};
 use std::process::Abort;
+use test_support::{Page, Random};
 
 /// Writes what the list of [`limits`] gives.
 fn add_limits(want: &mut Page) {
@@ -25,7 +26,7 @@ fn limits(rt: HostRuntime) {
     script.add("start\nrun 0\nrelease 0\naccept 0 8 Sum b\naccept 0 9 Sum b\ntake 0\n");
     let mut want = Page::new(rt.alloc());
     add_limits(&mut want);
-    check_play(&rt, 1, script.text(&rt), want.text(&rt));
+    check_play(&rt, 1, text_of(&rt, &script), text_of(&rt, &want));
 }
 
 /// Counts of the requests of one client that were accepted, put and taken. Each is ready at once.
@@ -104,7 +105,7 @@ fn check_list(rt: &(impl Abort + AllocGlobal), random: &mut Random, room: usize)
     let mut script = Page::new(rt.alloc());
     script.add("open\n");
     add_events(&mut lane, &mut script, random);
-    let script = script.text(rt);
+    let script = text_of(rt, &script);
     lane.check(rt, &played_of(rt, room, script), script);
 }
 

@@ -14,10 +14,11 @@
 use super::calls::Calls;
 use super::lines::{change_of, client_of, number_of, request_of};
 use super::shown::{add_released, yes_or_no};
-use crate::tests::support::{Page, check_that};
+use crate::checks::{check_that, text_of};
 use pq_core::{ClientId, RunId};
 use pq_rules::SumsKey;
 use std::process::Abort;
+use test_support::Page;
 
 /// The number of steps after which a run that goes on has failed.
 const MOST_STEPS: u32 = 1_000;
@@ -37,7 +38,7 @@ fn step<C: Calls>(
     run: RunId,
 ) -> bool {
     core.stepped(page, log, run);
-    is_over(page.text(rt))
+    is_over(text_of(rt, page))
 }
 
 /// Takes steps of `run` until it is over. Writes the rules that it started, and its end.
@@ -45,8 +46,8 @@ fn finish<C: Calls>(rt: &impl Abort, page: &mut Page, core: &mut C, log: &mut Pa
     for _ in 0..MOST_STEPS {
         let mut found = Page::new(page.alloc);
         if step(rt, &mut found, core, log, run) {
-            page.add(log.text(rt));
-            page.add(found.text(rt));
+            page.add(text_of(rt, log));
+            page.add(text_of(rt, &found));
             return;
         }
     }

@@ -3,8 +3,8 @@ use super::checks::{Case, Counts, check_often, check_played};
 use super::events_of;
 use super::model::model_of;
 use super::writer::{Language, Writer};
-use crate::tests::cores::lines::Sample;
-use crate::tests::support::{Page, check_number};
+use crate::checks::{check_number, text_of};
+use crate::cores::lines::Sample;
 use pq_checks::Fault;
 use pq_inputs::Inputs;
 use pq_play::play;
@@ -12,6 +12,7 @@ use pq_proto::{ProtoKey, ProtoRules, ProtoValue, compile};
 use pq_rules::{Answer, Memory, Text};
 use std::alloc::Global;
 use std::process::Abort;
+use test_support::Page;
 
 /// Writes diagnostics as `CODE START-END TEXT;` each.
 fn add_faults(page: &mut Page, faults: &[Fault]) {
@@ -72,7 +73,7 @@ fn check_list(
     ends: bool,
     counts: &mut Counts,
 ) {
-    let events = events_of::<ProtoKey>(rt, script.text(rt));
+    let events = events_of::<ProtoKey>(rt, text_of(rt, &script));
     let model = model_of(rt.alloc(), events.as_slice()).expect(rt, "memory");
     let played = play(rt.alloc(), ProtoRules, room, events.as_slice()).expect(rt, "memory");
     let case = Case {

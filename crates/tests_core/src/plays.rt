@@ -13,11 +13,12 @@ mod writer;
 use super::cores::lines::{
     Sample, add_replies, add_request, change_of, client_of, number_of, request_of,
 };
-use super::support::{Page, check_page};
+use crate::checks::check_page;
 use pq_core::{Reply, Request, RunId};
 use pq_play::{Event, Played, play};
 use pq_rules::{Sums, SumsKey, SumsValue};
 use std::process::Abort;
+use test_support::Page;
 
 /// The number of steps after which a run over small files is over.
 const STEPS: u32 = 60;

@@ -10,8 +10,7 @@ mod post;
 mod shown;
 mod sums;
 
-use super::rules::counted::Counted;
-use super::support::{Page, check_number, check_page, check_row_count, split_row};
+use crate::checks::{check_number, check_page, check_row_count, split_row, text_of};
 use answers::answer;
 use calls::Calls;
 use post::Post;
@@ -20,6 +19,7 @@ use pq_inputs::Inputs;
 use pq_rules::{Rules, SumsKey, SumsValue};
 use std::cell::Cell;
 use std::process::Abort;
+use test_support::{Counted, Page};
 
 /// Checks what the call of `line` answers, and whether the core is at rest then. Returns how many
 /// rules were started.
@@ -32,7 +32,7 @@ fn check_line<C: Calls>(rt: &(impl Abort + AllocGlobal), core: &mut C, line: &st
         found.add("; rest");
     }
     check_page(rt, &found, want, line);
-    log.text(rt).matches(';').count()
+    text_of(rt, &log).matches(';').count()
 }
 
 /// Runs a script on `core`, whose rules count in `starts`: work has a cause where a rule starts.

@@ -9,11 +9,10 @@ use super::shown::{
     add_accepted, add_again, add_closed, add_edited, add_give, add_look, add_opened, add_owner,
     add_run, add_start,
 };
-use crate::tests::rules::counted::Counted;
-use crate::tests::support::Page;
 use pq_core::{Change, ClientId, Core, Done, Move, Released, Request, RunId, Work};
 use pq_rules::{Memory, Rules, SumsKey, SumsValue};
 use std::alloc::Global;
+use test_support::{Counted, Page};
 
 /// The calls of a core. Each rule that a call starts is added to its `log` as `KEY WHY;`.
 pub(super) trait Calls {

@@ -3,10 +3,11 @@ use super::checks::{Case, Counts, check_often, check_played};
 use super::events_of;
 use super::model::model_of;
 use super::writer::{Language, Writer};
-use crate::tests::support::Page;
+use crate::checks::text_of;
 use pq_play::play;
 use pq_rules::{Sums, SumsKey};
 use std::process::Abort;
+use test_support::Page;
 
 /// Plays a list, and checks it.
 fn check_list(
@@ -16,7 +17,7 @@ fn check_list(
     ends: bool,
     counts: &mut Counts,
 ) {
-    let events = events_of::<SumsKey>(rt, script.text(rt));
+    let events = events_of::<SumsKey>(rt, text_of(rt, &script));
     let model = model_of(rt.alloc(), events.as_slice()).expect(rt, "memory");
     let played = play(rt.alloc(), Sums, room, events.as_slice()).expect(rt, "memory");
     let case = Case {

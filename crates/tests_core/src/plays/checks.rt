@@ -1,12 +1,13 @@
 //! Played lists against the model.
 use super::model::{Ask, Model};
-use crate::tests::cores::lines::{Sample, add_reply, add_request};
-use crate::tests::support::{Page, check_number, check_pages, check_that};
+use crate::checks::{check_number, check_pages, check_that, text_of};
+use crate::cores::lines::{Sample, add_reply, add_request};
 use pq_core::{Change, Outcome, Reply, Request, Want};
 use pq_inputs::Inputs;
 use pq_play::{Event, Played};
 use pq_rules::Answer;
 use std::process::Abort;
+use test_support::Page;
 
 /// How often each outcome was seen.
 #[derive(Clone, Copy)]
@@ -195,7 +196,7 @@ fn check_reply<K: Sample>(
     number: usize,
     reply: &Reply<K, K::Value>,
 ) {
-    let script = case.script.text(rt);
+    let script = text_of(rt, &case.script);
     let client = reply.client().number() as usize;
     check_number(rt, client, ask.client as usize, script);
     let mut want = Page::new(rt.alloc());
@@ -231,7 +232,7 @@ fn check_request<K: Sample>(
     add_request_at(&mut want, case, ask.event);
     let mut found = Page::new(rt.alloc());
     add_request(&mut found, request);
-    check_pages(rt, &found, &want, case.script.text(rt));
+    check_pages(rt, &found, &want, text_of(rt, &case.script));
 }
 
 /// Checks the requests that were accepted from a client.
@@ -241,7 +242,7 @@ fn check_accepted<K: Sample>(
     asks: &[Ask],
     accepted: &[Request<K>],
 ) {
-    check_number(rt, accepted.len(), asks.len(), case.script.text(rt));
+    check_number(rt, accepted.len(), asks.len(), text_of(rt, &case.script));
     for (ask, request) in asks.iter().zip(accepted) {
         check_request(rt, case, ask, request);
     }
@@ -255,7 +256,7 @@ fn check_taken<K: Sample>(
     taken: &[Reply<K, K::Value>],
     counts: &mut Counts,
 ) {
-    check_that(rt, taken.len() <= asks.len(), case.script.text(rt));
+    check_that(rt, taken.len() <= asks.len(), text_of(rt, &case.script));
     for (number, reply) in taken.iter().enumerate() {
         if let Some(ask) = asks.get(number) {
             check_reply(rt, case, ask, number, reply);
@@ -280,7 +281,7 @@ fn check_client<K: Sample>(
     if let Some(taken) = played.taken.get(client) {
         check_taken(rt, case, asks.as_slice(), taken.as_slice(), counts);
         if ends {
-            check_number(rt, taken.len(), asks.len(), case.script.text(rt));
+            check_number(rt, taken.len(), asks.len(), text_of(rt, &case.script));
         }
     }
 }
@@ -294,7 +295,7 @@ pub(super) fn check_played<K: Sample>(
     ends: bool,
     counts: &mut Counts,
 ) {
-    let script = case.script.text(rt);
+    let script = text_of(rt, &case.script);
     let edits = case.model.edits.len();
     let clients = case.model.open.len();
     check_number(rt, played.revision.number() as usize, edits, script);

@@ -1,7 +1,6 @@
 //! What calls of a core answer, as text.
 use super::lines::{Sample, add_replies, add_two};
 use super::post::Post;
-use crate::tests::support::Page;
 use pq_core::{
     AcceptRefused, ClientId, Done, EditRefused, GiveFault, GiveRefused, LookFault, Move, Number,
     OpenRefused, Released, RunId, Work,
@@ -10,6 +9,7 @@ use pq_inputs::Revision;
 use pq_memo::Why;
 use pq_rules::{Rules, SumsKey, SumsValue};
 use std::fmt::Display;
+use test_support::Page;
 
 /// Writes why a call was refused.
 fn add_fault(page: &mut Page, fault: impl Display + Drop) {
