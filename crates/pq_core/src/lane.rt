@@ -3,7 +3,7 @@
 //! The requests of a client are numbered from 0, and replies leave in this order. So the lane keeps
 //! the count of the replies put and a queue of the requests after those. Each call takes constant
 //! time, and only `accept` allocates.
-ghost use Rattle.std.specs.Prelude.{◌≡◌, ◌+◌, ◌<◌, ◌≤◌, ◌⊎◌, ◌^◌, ◌↔◌, [], false, length, slice_get, slice_set, Some, None, IsTrue, IfSome, IfNone, IfOk, IfErr, OnErr};
+ghost use Rattle.std.specs.Prelude.{◌≡◌, ◌+◌, ◌<◌, ◌≤◌, ◌⊎◌, ◌^◌, ◌↔◌, [], false, drop, length, slice_get, slice_set, Some, None, IsTrue, IfSome, IfNone, IfOk, IfErr, OnErr};
 ghost use Rattle.pq_core.specs.Replies.{ReplyView};
 ghost use Rattle.pq_core.specs.Moves.{window};
 ghost use Rattle.pq_core.specs.aux.Lanes.{IsOwed, with_owed, pushed, first_owed, LetsOut, LaneReleases, LaneTakes};
@@ -243,6 +243,20 @@ fn owed_first<K, V>(
     }
 }
 
+/// Puts `reply` into `item`.
+fn restore<K: Drop, V: Drop>(item: &mut Owed<K, V>, reply: Reply<K, V>)
+    ensures { item.new ≡ OwedReady reply }
+{
+    *item = Owed::Ready(reply);
+}
+
+/// Drops the first of `owed`.
+fn drop_first<K: Drop, V: Drop>(owed: &mut VecDeque<Owed<K, V>>)
+    ensures { owed.new.items ≡ drop 1 owed.old.items }
+{
+    let _first = owed.pop_front();
+}
+
 /// Puts the first reply that is owed, which has the number `put`, into `outbox` if it is ready.
 fn let_out<K: Drop, V: Drop, O: Outbox<K, V>>(
     owed: &mut VecDeque<Owed<K, V>>,
@@ -261,15 +275,15 @@ fn let_out<K: Drop, V: Drop, O: Outbox<K, V>>(
         None => return Released::Nothing,
         Some(reply) => match outbox.put(reply) {
             Ok(()) => {
-                let _put = owed.pop_front();
+                drop_first(owed);
                 return Released::Put(Number::new(put));
             }
             Err(PutFault::Full(reply)) => {
-                *item = Owed::Ready(reply);
+                restore(item, reply);
                 return Released::Full;
             }
             Err(PutFault::Gone(reply)) => {
-                *item = Owed::Ready(reply);
+                restore(item, reply);
                 return Released::Gone;
             }
         },
