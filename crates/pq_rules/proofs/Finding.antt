@@ -1,5 +1,6 @@
 -- The table of answers: what looking up, adding and pointing do to the keys and their answers.
 use Rattle.std.proofs.Common.{◌≡◌, ℕ, zero, suc, ◌⊎◌, ◌<◌, List, [], ◌∷◌, ◌++◌, length, slice_get, refl, sym, ap, subst, ◌∙◌, inl, inr, arith, length-append, Bool, true, false, Option, Some, None}
+use Rattle.std.proofs.lemmas.Bool.{cases_Bool}
 use Rattle.std.specs.Map.{lookup}
 use Rattle.std.specs.BTreeMap.{is_at, insert_entry}
 use Rattle.std.specs.Cmp.{Equal-is, tied_itself}
@@ -15,12 +16,8 @@ use Rattle.pq_rules.specs.aux.Evaluator.{Grows}
 use Rattle.pq_rules.proofs.Rings.{each_in}
 use Rattle.pq_rules.proofs.Characterisation.{each_append}
 use Rattle.pq_rules.specs.aux.Lists.{in_append, in_append_left, in_append_right}
-use Rattle.pq_rules.proofs.ListLemmas.{each_from, done_keys_append}
+use Rattle.pq_rules.proofs.ListLemmas.{each_from, get_last, done_keys_append}
 use Rattle.pq_rules.proofs.Weight.{Exact}
-
-either : (b : Bool) → (b ≡ true) ⊎ (b ≡ false)
-either true = inl refl
-either false = inr refl
 
 -- an entry of the list
 entry_in : {K V : Type 0} (k : K) (a : Answer K V) (o : Option (Answer K V)) (fs : List (Finished K V)) → o ≡ Some a
@@ -33,7 +30,7 @@ pub found_in : {K V : Type 0} (order : K → K → Ordering) → Exact order →
     → lookup (is_at (order k)) places ≡ Some i → slice_get answers i ≡ Some a
     → In (record { key = k; answer = a }) (finished_in places answers)
 found_in order o k i a [] answers l s = cc
-found_in {K} {V} order o k i a (e ∷ es) answers l s = elim (either (is_eq (order k e.0))) [
+found_in {K} {V} order o k i a (e ∷ es) answers l s = elim (cases_Bool (is_eq (order k e.0))) [
   | inl h ↦ let place : Some e.1 ≡ Some i = rw h at l in
       let same : e.1 ≡ i = cc in
       let key : k ≡ e.0 = o.exact k e.0 ((Equal-is (order k e.0)).0 h) in
@@ -53,7 +50,7 @@ pub not_found : {K V : Type 0} (order : K → K → Ordering) → Exact order �
     (places : List (K × ℕ)) (answers : List (Answer K V))
     → lookup (is_at (order k)) places ≡ None → In k (done_keys (finished_in places answers)) → ⊥
 not_found order o k [] answers l i = i
-not_found {K} {V} order o k (e ∷ es) answers l i = elim (either (is_eq (order k e.0))) [
+not_found {K} {V} order o k (e ∷ es) answers l i = elim (cases_Bool (is_eq (order k e.0))) [
   | inl h ↦ let some : Some e.1 ≡ None = rw h at l in cc
   | inr h ↦ elim (in_append k (done_keys (finished_at e.0 (slice_get answers e.1))) (done_keys (finished_in es answers))
       (subst (λ (ks : List K). In k ks) (done_keys_append (finished_at e.0 (slice_get answers e.1)) (finished_in es answers)) i)) [
@@ -68,10 +65,6 @@ get_append : {A : Type 0} (xs ys : List A) (i : ℕ) → i < length xs → slice
 get_append [] ys i h = absurd (omega arith)
 get_append (x ∷ xs) ys zero h = refl
 get_append (x ∷ xs) ys (suc i) h = get_append xs ys i (omega arith)
-
-pub get_last : {A : Type 0} (xs : List A) (x : A) → slice_get (xs ++ x ∷ []) (length xs) ≡ Some x
-get_last [] x = refl
-get_last (y ∷ xs) x = get_last xs x
 
 -- an answer more gives no key an answer
 pub more_answers : {K V : Type 0} (places : List (K × ℕ)) (answers : List (Answer K V)) (a : Answer K V)
@@ -197,7 +190,7 @@ module _ {K V : Type 0} (order : K → K → Ordering) (o : Exact order) (k : K)
 pub lookup_within : {K V : Type 0} (test : K → Bool) (places : List (K × ℕ)) (answers : List (Answer K V)) (i : ℕ)
     → Within places answers → Some i ≡ lookup test places → i < length answers
 lookup_within test [] answers i w l = cc
-lookup_within test (e ∷ es) answers i w l = elim (either (test e.0)) [
+lookup_within test (e ∷ es) answers i w l = elim (cases_Bool (test e.0)) [
   | inl h ↦ let place : Some i ≡ Some e.1 = rw h at l in
       let same : i ≡ e.1 = cc in subst (λ (x : ℕ). x < length answers) (sym same) w.0
   | inr h ↦ lookup_within test es answers i w.1 (rw h at l)

@@ -1,6 +1,6 @@
 -- Lists: elements, splits and frames; and the lists of std, which speak of indexes (`each_all`,
 -- `in_contains`, and back).
-use Rattle.std.proofs.Common.{◌≡◌, ℕ, zero, suc, ◌<◌, List, [], ◌∷◌, ◌++◌, length, take, drop, get_or, refl, sym, ap, subst, ◌∙◌, inl, inr, arith, append_assoc, Bool, true, false}
+use Rattle.std.proofs.Common.{◌≡◌, ℕ, zero, suc, ◌+◌, ◌<◌, Some, slice_get, length-append, List, [], ◌∷◌, ◌++◌, length, take, drop, get_or, refl, sym, ap, subst, ◌∙◌, inl, inr, arith, append_assoc, Bool, true, false}
 use Rattle.std.specs.List.{All, Contains}
 use Rattle.std.proofs.lemmas.List.Elements.{All-nil, All-cons, All-head, All-tail}
 use Rattle.pq_rules.specs.aux.AnswerTable.{Finished, done_keys}
@@ -19,6 +19,14 @@ pub in_at : {A : Type 0} (xs : List A) (i : ℕ) (d : A) → i < length xs → I
 in_at [] i d h = absurd (omega arith)
 in_at (x ∷ xs) zero d h = inl refl
 in_at (x ∷ xs) (suc i) d h = inr (in_at xs i d (omega arith))
+
+-- a list with one item more
+pub last_length : {A : Type 0} (xs : List A) (x : A) → length (xs ++ x ∷ []) ≡ length xs + 1
+last_length xs x = length-append xs (x ∷ [])
+
+pub get_last : {A : Type 0} (xs : List A) (x : A) → slice_get (xs ++ x ∷ []) (length xs) ≡ Some x
+get_last [] x = refl
+get_last (y ∷ xs) x = get_last xs x
 
 pub frame_keys_append : {K P : Type 0} (xs ys : List (Frame K P)) → frame_keys (xs ++ ys) ≡ frame_keys xs ++ frame_keys ys
 frame_keys_append [] ys = refl

@@ -1,5 +1,6 @@
 -- The places of the frames' keys, when keys are started and frames are added, popped and replaced.
 use Rattle.std.proofs.Common.{◌≡◌, ℕ, zero, suc, ◌<◌, ◌⊎◌, List, [], ◌∷◌, ◌++◌, length, slice_get, get_or, arith, refl, sym, ap, subst, ◌∙◌, inl, inr, Bool, true, false, Some, None}
+use Rattle.std.proofs.lemmas.Bool.{cases_Bool}
 use Rattle.std.specs.Map.{lookup}
 use Rattle.std.specs.BTreeMap.{is_at, insert_entry}
 use Rattle.std.specs.Cmp.{Equal-is, tied_itself}
@@ -16,10 +17,6 @@ use Rattle.pq_rules.specs.aux.Evaluator.{frame_keys, Applies}
 use Rattle.pq_rules.proofs.ListLemmas.{frame_keys_append}
 use Rattle.pq_rules.proofs.Weight.{Exact}
 
-either : (b : Bool) → (b ≡ true) ⊎ (b ≡ false)
-either true = inl refl
-either false = inr refl
-
 -- a key that is put into a map is found there
 lookup_same : {K : Type 0} (order : K → K → Ordering) → Exact order → (k : K) (v : ℕ) (es : List (K × ℕ))
     → lookup (is_at (order k)) (insert_entry order es k v) ≡ Some v
@@ -33,7 +30,7 @@ lookup_same order o k v (e ∷ es) = by (order k e.0) refl (lookup_same order o 
     by Greater h further = rw (h, h) further
 
 apart : {K : Type 0} (order : K → K → Ordering) → Exact order → (q k : K) → (q ≡ k → ⊥) → is_eq (order q k) ≡ false
-apart order o q k n = elim (either (is_eq (order q k))) [
+apart order o q k n = elim (cases_Bool (is_eq (order q k))) [
   | inl e ↦ absurd (n (o.exact q k ((Equal-is (order q k)).0 e)))
   | inr e ↦ e
 ]

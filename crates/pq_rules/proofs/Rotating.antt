@@ -9,7 +9,7 @@ use Rattle.pq_rules.specs.aux.Evaluator.{frame_keys, IsLeastAt, RotatedToLeast, 
 use Rattle.pq_rules.specs.aux.Lists.{in_append, in_append_left, in_append_right}
 use Rattle.pq_rules.proofs.ListLemmas.{split, frame_keys_append, each_from, in_index, in_keys, distinct_middle}
 
-below : (o : Ordering) → is_gt o ≡ false → (o ≡ Equal → ⊥) → o ≡ Less
+pub below : (o : Ordering) → is_gt o ≡ false → (o ≡ Equal → ⊥) → o ≡ Less
 below Less h n = refl
 below Equal h n = absurd (n refl)
 below Greater h n = cc

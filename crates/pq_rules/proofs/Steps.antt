@@ -14,7 +14,7 @@ use Rattle.pq_rules.specs.aux.Evaluator.{frame_keys, seen, IsInvariant, GoesOn, 
 use Rattle.pq_rules.proofs.Characterisation.{means_done, comes_start, comes_on, each_append}
 use Rattle.pq_rules.proofs.Rings.{each_in}
 use Rattle.pq_rules.specs.aux.Lists.{in_append, in_append_left, in_append_right}
-use Rattle.pq_rules.proofs.ListLemmas.{each_from, frame_keys_append, done_keys_append}
+use Rattle.pq_rules.proofs.ListLemmas.{each_from, last_length, frame_keys_append, done_keys_append}
 use Rattle.pq_rules.proofs.Weight.{Exact, unseen_le, unseen_lt, top_is, weight_lt}
 use Rattle.pq_rules.proofs.Stack.{linked_front, linked_last, linked_swap, linked_push, distinct_front, distinct_push, each_front}
 
@@ -54,9 +54,6 @@ less_then a b c h j = omega arith
 
 then_less : (a b c : ℕ) → a < b → b ≤ c → a < c
 then_less a b c h j = omega arith
-
-last_length : {A : Type 0} (xs : List A) (x : A) → length (xs ++ x ∷ []) ≡ length xs + 1
-last_length xs x = simp length-append
 
 module _ {K P V : Type 0} (m : Instance K P V) (reach : K → List K) (laws : Laws m reach) (exact : Exact m.order) (root : K) where
   pub covered_going : (before after : List (Finished K V)) (stack : List (Frame K P)) → Covers before after

@@ -1,5 +1,6 @@
 -- The number that each step of the evaluator lowers.
 use Rattle.std.proofs.Common.{◌≡◌, ℕ, ◌+◌, ◌*◌, ◌^◌, ◌<◌, ◌≤◌, ◌⊎◌, List, [], ◌∷◌, ◌++◌, length, refl, sym, subst, inl, inr, arith, Bool, true, false, cond}
+use Rattle.std.proofs.lemmas.Bool.{cases_Bool}
 use Rattle.std.specs.Cmp.{IsTotalOrder, Equal-is, tied_itself}
 use Rattle.std.specs.declared.cmp.Ordering.{Ordering}
 use Rattle.std.specs.declared.cmp.Ordering.TheVariants.{Equal}
@@ -14,24 +15,20 @@ pub record Exact {K : Type 0} (order : K → K → Ordering) : Type 0 where
   pub total : IsTotalOrder order
   pub exact : (a b : K) → order a b ≡ Equal → a ≡ b
 
-either : (b : Bool) → (b ≡ true) ⊎ (b ≡ false)
-either true = inl refl
-either false = inr refl
-
-in_has : {K : Type 0} (order : K → K → Ordering) → Exact order → (x : K) (ys : List K) → In x ys → has order x ys ≡ true
+pub in_has : {K : Type 0} (order : K → K → Ordering) → Exact order → (x : K) (ys : List K) → In x ys → has order x ys ≡ true
 unfolding has
 in_has order o x [] i = absurd i
 in_has {K} order o x (y ∷ ys) (inl p) =
     let t : order x y ≡ Equal = subst (λ (z : K). order x z ≡ Equal) p (tied_itself o.total x) in
     let e : is_eq (order x y) ≡ true = (Equal-is (order x y)).1 t in rw e refl
 in_has order o x (y ∷ ys) (inr i) =
-    elim (either (is_eq (order x y))) [ inl e ↦ rw e refl | inr e ↦ rw e (in_has order o x ys i) ]
+    elim (cases_Bool (is_eq (order x y))) [ inl e ↦ rw e refl | inr e ↦ rw e (in_has order o x ys i) ]
 
-has_in : {K : Type 0} (order : K → K → Ordering) → Exact order → (x : K) (ys : List K) → has order x ys ≡ true → In x ys
+pub has_in : {K : Type 0} (order : K → K → Ordering) → Exact order → (x : K) (ys : List K) → has order x ys ≡ true → In x ys
 unfolding has
 has_in order o x [] h = cc
 has_in order o x (y ∷ ys) h =
-    elim (either (is_eq (order x y))) [
+    elim (cases_Bool (is_eq (order x y))) [
       | inl e ↦ inl (o.exact x y ((Equal-is (order x y)).0 e))
       | inr e ↦ inr (has_in order o x ys (rw e at h))
     ]
@@ -39,7 +36,7 @@ has_in order o x (y ∷ ys) h =
 cost : Bool → ℕ
 cost b = cond b 0 1
 
-one_le : (a b : Bool) → (a ≡ true → b ≡ true) → cond b 0 1 ≤ cond a 0 1
+pub one_le : (a b : Bool) → (a ≡ true → b ≡ true) → cond b 0 1 ≤ cond a 0 1
 one_le true true f = omega arith
 one_le true false f = let e : false ≡ true = f refl in cc
 one_le false true f = omega arith
@@ -61,7 +58,7 @@ unseen_lt {K} order o (x ∷ xs) ys zs q f (inl p) n j =
     let b = unseen_le order o xs ys zs f in
     let there : has order x zs ≡ true = in_has order o x zs (subst (λ (k : K). In k zs) p j) in
     let not_here : has order x ys ≡ false =
-    elim (either (has order x ys)) [
+    elim (cases_Bool (has order x ys)) [
       | inl e ↦ absurd (n (subst (λ (k : K). In k ys) (sym p) (has_in order o x ys e)))
       | inr e ↦ e
     ] in
@@ -77,7 +74,7 @@ top_is m [] f = refl
 top_is m (x ∷ []) f = refl
 top_is m (x ∷ (y ∷ ys)) f = top_is m (y ∷ ys) f
 
-number_below : (a b : ℕ) → a < 2 ^ 32 → b < 2 ^ 64 → a * (2 ^ 64) + b < 2 ^ 97
+pub number_below : (a b : ℕ) → a < 2 ^ 32 → b < 2 ^ 64 → a * (2 ^ 64) + b < 2 ^ 97
 number_below a b h j = omega arith
 
 pub top_below : {K P V : Type 0} (m : Instance K P V) (stack : List (Frame K P)) → Linked m stack → top_left m stack < 2 ^ 97

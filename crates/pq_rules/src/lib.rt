@@ -5,13 +5,14 @@
 //! `specs/Value` (the answer of a key), `specs/Laws` and `specs/Embedding` (a query as one of a rule
 //! set). Modules: `turn` (turns and answers), `query` (one query), `rules` (a rule set and its laws),
 //! `shared` (values that copies share), `answers` (copies and equality of answers), `scratch` (the
-//! evaluator) over `answer_table`, `laws` (laws of answers), `sums` (the example: a sum of two
-//! queries).
+//! evaluator) over `answer_table`, `lists` (a push that answers `Memory`), `laws` (laws of answers),
+//! `sums` (the example: a sum of two queries).
 #![tactic(auto)]
 
 mod answer_table;
 mod answers;
 mod laws;
+mod lists;
 mod query;
 mod rules;
 mod scratch;
@@ -21,6 +22,7 @@ mod turn;
 
 pub use answers::{copy_answer, is_same_key, same_answer};
 pub use laws::{cycle_passes_on, cycle_waits_round, keys_that_wait_round, lists_of_std, one_value};
+pub use lists::push;
 pub use pq_names::Text;
 pub use query::Query;
 pub use rules::Rules;

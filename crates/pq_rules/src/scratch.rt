@@ -25,6 +25,7 @@ ghost use Rattle.pq_rules.specs.aux.Evaluator.{frame_keys, IsLeastAt, RotatedToL
 
 use crate::answer_table::AnswerTable;
 use crate::answers::is_same_key;
+use crate::lists::push;
 use crate::rules::Rules;
 use crate::turn::{Answer, Memory, Ring, Turn};
 use pq_inputs::Inputs;
@@ -36,14 +37,6 @@ pub(crate) struct Frame<K, P> {
     key: K,
     asked: K,
     part: P,
-}
-
-/// Adds `item` at the end of `items`.
-fn push<T: Drop>(items: &mut Vec<T>, item: T) -> Result<(), Memory>
-    ensures { IfOk result (λ _. items.new.items ≡ items.old.items ++ item ∷ []) }
-{
-    items.push(item)?;
-    Ok(())
 }
 
 /// Finds the frame of `key` in the stack, in logarithmic time.

@@ -12,7 +12,7 @@ returns-in-Ask-clause-applied g c =
     IfOk-weaker c.push.result _ _ (λ _ pushed files.
     applies_ask (over g.R.Key.Ord.cmp (g.R.Rules.machine c.args.rules.now) files) c.args.key c.args.turn c.in-Ask.asked c.in-Ask.part
     (finished c.args.found.now) c.args.stack.now.items c.push.new.items.items (c.left-left.result.0, c.left-left.result.1)
-    c.in-Ask.is c.left-left.ensures.left high low pushed) c.push.ensures
+    c.in-Ask.is c.left-left.ensures.left high low pushed) c.push.ensures.added
 
 pub returns-in-Done-clause-applied : goal.returns-in-Done-clause-applied
 returns-in-Done-clause-applied g c =

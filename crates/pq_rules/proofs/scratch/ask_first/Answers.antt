@@ -17,7 +17,7 @@ use Rattle.pq_rules.proofs.scratch.ask_first.Goals as goal
 
 pub ring_of-requires-clause-distinct : goal.ring_of-requires-clause-distinct
 ring_of-requires-clause-distinct g c =
-    let same : c.deref-in-Some.result.now ≡ c.args.stack.now.items ++ c.args.frame ∷ [] = c.deref-in-Some.ensures.value ∙ c.in_ok-push.ensures {u = tt} in
+    let same : c.deref-in-Some.result.now ≡ c.args.stack.now.items ++ c.args.frame ∷ [] = c.deref-in-Some.ensures.value ∙ (c.in_ok-push.ensures {u = tt}).added in
     let cut : take (length c.deref-in-Some.result.now - c.in-Some.place) (drop c.in-Some.place c.deref-in-Some.result.now) ≡ drop c.in-Some.place (c.args.stack.now.items ++ c.args.frame ∷ []) = grind (arith, common_steps, same) in
     rw cut (distinct_dropped c.in-Some.place (c.args.stack.now.items ++ c.args.frame ∷ []) c.requires.going.invariant.distinct)
 
@@ -49,11 +49,11 @@ returns-in_ok-answer-in-Some g c =
     record {
       goes = closed m (g.R.Rules.reach c.args.rules.now c.args._inputs.now.files) laws exact c.args._root.now
           (finished c.args.found.now) (finished c.finish_ring.new.found) c.args.stack.now.items all c.finish_ring.new.stack.items c.args.frame
-          c.in_ok-asked.asked c.in-Some.place ring c.requires.going.invariant (c.in_ok-asked.ensures {u = tt}).copy (c.in_ok-push.ensures {u = tt})
+          c.in_ok-asked.asked c.in-Some.place ring c.requires.going.invariant (c.in_ok-asked.ensures {u = tt}).copy (c.in_ok-push.ensures {u = tt}).added
           within at turned ended;
       placed = placed_frames g.R.Key.Ord.cmp c.args.found.now.started c.finish_ring.new.found.started c.finish_ring.new.stack.items ended.popped
           (c.args.stack.now.items ++ c.args.frame ∷ []) (c.finish_ring.ensures.started ∙ c.in_ok-answer-in-Some.ensures.started)
-          (sym (c.in_ok-push.ensures {u = tt}) ∙ ended.whole) c.requires.going.placed;
+          (sym (c.in_ok-push.ensures {u = tt}).added ∙ ended.whole) c.requires.going.placed;
     }) c.finish_ring.ensures.done
 
 pub returns-in_ok-begin-in-None : goal.returns-in_ok-begin-in-None
@@ -66,7 +66,7 @@ returns-in_ok-begin-in-None g c =
     let none : In c.in_ok-asked.asked (frame_keys all) → ⊥ =
     subst (λ (fs : List (Frame g.row.R-Key.Denot g.row.R-Part.Denot)). In c.in_ok-asked.asked (frame_keys fs) → ⊥) here c.in-None.ensures.none in
     let begins = c.in_ok-begin-in-None.ensures {u = tt} in
-    let pushed : all ≡ c.args.stack.now.items ++ c.args.frame ∷ [] = c.in_ok-push.ensures {u = tt} in
+    let pushed : all ≡ c.args.stack.now.items ++ c.args.frame ∷ [] = (c.in_ok-push.ensures {u = tt}).added in
     record {
       goes = begun m (g.R.Rules.reach c.args.rules.now c.args._inputs.now.files) laws exact c.args._root.now
           (finished c.args.found.now) (finished c.begin.new.found) c.args.stack.now.items all c.begin.new.stack.items c.args.frame

@@ -1,6 +1,7 @@
 -- Auxiliary: the example keeps the laws of a rule set, by the laws of its queries (used by proofs
 -- and invariants only).
 use Rattle.std.proofs.Common.{ℕ, ◌≡◌, ◌⊎◌, ◌+◌, ◌≤◌, List, [], ◌∷◌, ◌++◌, min, map, unwrap_or, refl, sym, ap, subst, ◌∙◌, inl, inr, arith, Bool, true, false}
+use Rattle.std.proofs.lemmas.Bool.{cases_Bool}
 use Rattle.std.specs.Str.{bytes_eq}
 use Rattle.std.specs.declared.cmp.Ordering.{Ordering}
 use Rattle.std.specs.declared.cmp.Ordering.TheVariants.{Equal}
@@ -26,10 +27,6 @@ use Rattle.pq_rules.specs.aux.sums.Falls.{next_is, sum_falls}
 use Rattle.pq_rules.specs.sums.RuleSet.{text_read, number_read, sum_turn, total_turn, sums, sums_level, sums_advance, sums_left, sums_reach, all_names, own_name}
 use Rattle.pq_rules.specs.aux.Runs.{along, input_means}
 use Rattle.pq_rules.specs.aux.Lists.{in_append, in_append_left, in_append_right}
-
-either : (b : Bool) → (b ≡ true) ⊎ (b ≡ false)
-either true = inl refl
-either false = inr refl
 
 -- a turn of the sum of queries that asks is a query's turn that asks
 asks_sum : (t : Turn SumsKey SumPart ℕ) (q : SumsKey) (p : SumsPart) → sum_turn t ≡ Ask q p
@@ -60,7 +57,7 @@ Stands f ns q Taking = ⊥
 file_names : (files : Sources) (name w : List ℕ) → In w (names_of (file_in files name).text) → In w (all_names files)
 unfolding file_in
 file_names [] name w i = i
-file_names (x ∷ xs) name w i = elim (either (bytes_eq x.0 name)) [
+file_names (x ∷ xs) name w i = elim (cases_Bool (bytes_eq x.0 name)) [
   | inl h ↦ in_append_left w (names_of x.1.text) (all_names xs) (rw h at i)
   | inr h ↦ in_append_right w (names_of x.1.text) (all_names xs) (file_names xs name w (rw h at i))
 ]
