@@ -4,19 +4,20 @@ use Rattle.std.specs.declared.cmp.Ordering.{Ordering}
 use Rattle.std.specs.Ordering.{is_eq}
 use Rattle.std.specs.Cmp.{Equal-is, tied_itself}
 use Rattle.std.proofs.lemmas.Option.{same_Some}
+use Rattle.std.proofs.lemmas.Bool.{cases_Bool}
 use Rattle.pq_rules.proofs.Weight.{Exact}
-use Rattle.pq_memo.proofs.Makes.{either}
 use Rattle.pq_rules.specs.Relations.{In}
 use Rattle.pq_memo.specs.declared.frame.Frame.{Frame}
 use Rattle.pq_memo.specs.Frames.{frame_keys}
 use Rattle.pq_memo.specs.aux.Stack.{place_in, IsNoted, nth, IsMapped}
+use Rattle.pq_memo.proofs.Stacked.{keys_append}
 
 -- a place that was put
 pub noted_by : {K : Type 0} (order : K → K → Ordering) → Exact order → (before after : List (K × ℕ)) (k copy : K) (place : ℕ) → copy ≡ k
     → ((q : K) → place_in order after q ≡ cond (is_eq (order copy q)) (Some place) (place_in order before q)) → IsNoted order before k place after
 noted_by {K} order exact before after k copy place same puts = record {
   here = puts k ∙ ap (λ (b : Bool). cond b (Some place) (place_in order before k)) tied;
-  others = λ q other. elim (either (is_eq (order copy q))) [
+  others = λ q other. elim (cases_Bool (is_eq (order copy q))) [
     | inl is ↦ absurd (other (sym (exact.exact copy q ((Equal-is (order copy q)).0 is)) ∙ same))
     | inr not ↦ puts q ∙ ap (λ (b : Bool). cond b (Some place) (place_in order before q)) not
   ];
@@ -70,10 +71,6 @@ nth_frame (g ∷ gs) (suc i) f h is = nth_frame gs i f (omega arith) is
 pub keys_length : {K P : Type 0} (fs : List (Frame K P)) → length (frame_keys fs) ≡ length fs
 keys_length [] = refl
 keys_length (f ∷ fs) = ap (λ (n : ℕ). suc n) (keys_length fs)
-
-pub keys_append : {K P : Type 0} (fs gs : List (Frame K P)) → frame_keys (fs ++ gs) ≡ frame_keys fs ++ frame_keys gs
-keys_append [] gs = refl
-keys_append {K} (f ∷ fs) gs = ap (λ (l : List K). f.key ∷ l) (keys_append fs gs)
 
 module _ {K : Type 0} (order : K → K → Ordering) where
   pub mapped_none : (places : List (K × ℕ)) (ks : List K) → ks ≡ [] → IsMapped order places 0 ks

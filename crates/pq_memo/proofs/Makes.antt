@@ -6,6 +6,7 @@ use Rattle.std.specs.declared.cmp.Ordering.TheVariants.{Equal}
 use Rattle.std.specs.Ordering.{is_eq}
 use Rattle.std.specs.Cmp.{Equal-is, tied_itself}
 use Rattle.std.proofs.lemmas.Option.{same_Some, slice_get-get_or}
+use Rattle.std.proofs.lemmas.Bool.{cases_Bool}
 use Rattle.pq_inputs.specs.declared.durability.Durability.{Durability}
 use Rattle.pq_inputs.specs.Sources.{Sources}
 use Rattle.pq_inputs.proofs.Histories.{same_since}
@@ -28,10 +29,6 @@ use Rattle.pq_memo.proofs.Still.{input_same}
 use Rattle.pq_memo.proofs.Leasts as leasts
 use Rattle.pq_memo.proofs.Leasts.{IsLeastOf}
 
-pub either : (b : Bool) → (b ≡ true) ⊎ (b ≡ false)
-either true = inl refl
-either false = inr refl
-
 -- the one new memo
 abbrev pub Only : {K V : Type 0} → K → Memo K V → K → Memo K V → Type 0
 Only k memo q n = (q ≡ k) × (n ≡ memo)
@@ -40,7 +37,7 @@ pub written_put : {K V : Type 0} (order : K → K → Ordering) → Exact order 
     → ((q : K) → after q ≡ cond (is_eq (order k q)) (Some memo) (before q))
     → Written (HasIn before) (HasIn after) (Only k memo)
 written_put {K} {V} order exact before after k memo puts = record {
-  after = λ q n h. elim (either (is_eq (order k q))) [
+  after = λ q n h. elim (cases_Bool (is_eq (order k q))) [
     | inl is ↦ (let same : k ≡ q = exact.exact k q ((Equal-is (order k q)).0 is) in
         let there : after q ≡ Some memo = puts q ∙ ap (λ (b : Bool). cond b (Some memo) (before q)) is in
         inl (sym same, same_Some n memo (sym h ∙ there)))
@@ -49,11 +46,11 @@ written_put {K} {V} order exact before after k memo puts = record {
   ];
   news = λ q n new. (let tied : order k q ≡ Equal = subst (λ (x : K). order k x ≡ Equal) (sym new.0) (tied_itself exact.total k) in
       puts q ∙ ap (λ (b : Bool). cond b (Some memo) (before q)) ((Equal-is (order k q)).1 tied) ∙ ap (λ (x : Memo K V). Some x) (sym new.1));
-  others = λ q n h not_new. elim (either (is_eq (order k q))) [
+  others = λ q n h not_new. elim (cases_Bool (is_eq (order k q))) [
     | inl is ↦ absurd (not_new memo (sym (exact.exact k q ((Equal-is (order k q)).0 is)), refl))
     | inr other ↦ puts q ∙ ap (λ (b : Bool). cond b (Some memo) (before q)) other ∙ h
   ];
-  decide = λ q. elim (either (is_eq (order k q))) [
+  decide = λ q. elim (cases_Bool (is_eq (order k q))) [
     | inl is ↦ inl (memo, (sym (exact.exact k q ((Equal-is (order k q)).0 is)), refl))
     | inr other ↦ inr (λ n new. differs q other new.0)
   ];

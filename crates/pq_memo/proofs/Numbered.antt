@@ -6,8 +6,8 @@ use Rattle.std.specs.Cmp.{Equal-is, tied_itself}
 use Rattle.std.specs.Map.{lookup}
 use Rattle.std.specs.BTreeMap.{is_at}
 use Rattle.std.proofs.lemmas.Option.{same_Some}
+use Rattle.std.proofs.lemmas.Bool.{cases_Bool}
 use Rattle.pq_rules.proofs.Weight.{Exact}
-use Rattle.pq_memo.proofs.Makes.{either}
 use Rattle.pq_memo.specs.aux.Stack.{place_in}
 use Rattle.pq_memo.specs.aux.Slots.{key_at, value_at, with_at, IsNumbered}
 
@@ -92,7 +92,7 @@ module _ {K : Type 0} (order : K → K → Ordering) (exact : Exact order) where
     lookup_there [] n k h only = absurd (none_some k h)
     lookup_there (e ∷ es) zero k h only =
         ap (λ (b : Bool). cond b (Some e.1) (lookup (is_at (order k)) es)) (tied k e.0 (sym (same_Some e.0 k h)))
-    lookup_there (e ∷ es) (suc n) k h only = elim (either (is_eq (order k e.0))) [
+    lookup_there (e ∷ es) (suc n) k h only = elim (cases_Bool (is_eq (order k e.0))) [
       | inl is ↦ absurd (suc_zero n (only 0 (ap (λ (y : K). Some y) (sym (same_key k e.0 is)))))
       | inr not ↦ ap (λ (b : Bool). cond b (Some e.1) (lookup (is_at (order k)) es)) not
           ∙ lookup_there es n k h (λ i g. suc_same i n (only (suc i) g))
@@ -100,7 +100,7 @@ module _ {K : Type 0} (order : K → K → Ordering) (exact : Exact order) where
 
     pub lookup_none : (slots : List (K × X)) (k : K) → ((n : ℕ) → key_at slots n ≡ Some k → ⊥) → lookup (is_at (order k)) slots ≡ None
     lookup_none [] k out = refl
-    lookup_none (e ∷ es) k out = elim (either (is_eq (order k e.0))) [
+    lookup_none (e ∷ es) k out = elim (cases_Bool (is_eq (order k e.0))) [
       | inl is ↦ absurd (out 0 (ap (λ (y : K). Some y) (sym (same_key k e.0 is))))
       | inr not ↦ ap (λ (b : Bool). cond b (Some e.1) (lookup (is_at (order k)) es)) not ∙ lookup_none es k (λ n h. out (suc n) h)
     ]
@@ -109,7 +109,7 @@ module _ {K : Type 0} (order : K → K → Ordering) (exact : Exact order) where
     lookup_other : (slots : List (K × X)) (n : ℕ) (x : X) (k q : K) → key_at slots n ≡ Some k → (q ≡ k → ⊥)
         → lookup (is_at (order q)) (with_at slots n x) ≡ lookup (is_at (order q)) slots
     lookup_other [] n x k q h other = refl
-    lookup_other (e ∷ es) zero x k q h other = elim (either (is_eq (order q e.0))) [
+    lookup_other (e ∷ es) zero x k q h other = elim (cases_Bool (is_eq (order q e.0))) [
       | inl is ↦ absurd (other (same_key q e.0 is ∙ same_Some e.0 k h))
       | inr not ↦ ap (λ (b : Bool). cond b (Some x) (lookup (is_at (order q)) es)) not
           ∙ sym (ap (λ (b : Bool). cond b (Some e.1) (lookup (is_at (order q)) es)) not)
@@ -119,7 +119,7 @@ module _ {K : Type 0} (order : K → K → Ordering) (exact : Exact order) where
 
     lookup_more : (slots : List (K × X)) (k q : K) (x : X) → (q ≡ k → ⊥)
         → lookup (is_at (order q)) (slots ++ (k, x) ∷ []) ≡ lookup (is_at (order q)) slots
-    lookup_more [] k q x other = elim (either (is_eq (order q k))) [
+    lookup_more [] k q x other = elim (cases_Bool (is_eq (order q k))) [
       | inl is ↦ absurd (other (same_key q k is))
       | inr not ↦ ap (λ (b : Bool). cond b (Some x) None) not
     ]
@@ -145,7 +145,7 @@ module _ {K : Type 0} (order : K → K → Ordering) (exact : Exact order) where
 
       pub lookup_with : (k : K) (n : ℕ) (x : X) → key_at slots n ≡ Some k → (q : K)
           → lookup (is_at (order q)) (with_at slots n x) ≡ cond (is_eq (order k q)) (Some x) (lookup (is_at (order q)) slots)
-      lookup_with k n x there q = elim (either (is_eq (order k q))) [
+      lookup_with k n x there q = elim (cases_Bool (is_eq (order k q))) [
         | inl eq ↦ (let e : k ≡ q = same_key k q eq in
             subst (λ (y : K). lookup (is_at (order y)) (with_at slots n x) ≡ Some x) e
             (lookup_there (with_at slots n x) n k (key_with slots n x n ∙ there)
@@ -160,7 +160,7 @@ module _ {K : Type 0} (order : K → K → Ordering) (exact : Exact order) where
           → ((q : K) → place_in order after q ≡ cond (is_eq (order k q)) (Some (length slots)) (place_in order index q))
           → IsNumbered order after (slots ++ (k, x) ∷ [])
       numbered_more after k x none puts = record {
-        found = λ q n e. elim (either (is_eq (order k q))) [
+        found = λ q n e. elim (cases_Bool (is_eq (order k q))) [
           | inl eq ↦ (let here : Some (length slots) ≡ Some n = sym (ap (λ (b : Bool). cond b (Some (length slots)) (place_in order index q)) eq) ∙ sym (puts q) ∙ e in
               subst (λ (y : K). key_at (slots ++ (k, x) ∷ []) n ≡ Some y) (same_key k q eq)
               (subst (λ (i : ℕ). key_at (slots ++ (k, x) ∷ []) i ≡ Some k) (same_Some (length slots) n here) (key_last slots k x)))
@@ -174,14 +174,14 @@ module _ {K : Type 0} (order : K → K → Ordering) (exact : Exact order) where
       }
         where
           apart : (q : K) (n : ℕ) → key_at slots n ≡ Some q → is_eq (order k q) ≡ false
-          apart q n j = elim (either (is_eq (order k q))) [
+          apart q n j = elim (cases_Bool (is_eq (order k q))) [
             | inl eq ↦ absurd (none_some n (sym none ∙ is.known k n (subst (λ (y : K). key_at slots n ≡ Some y) (sym (same_key k q eq)) j)))
             | inr ne ↦ ne
           ]
 
       pub lookup_added : (k : K) (x : X) → place_in order index k ≡ None → (q : K)
           → lookup (is_at (order q)) (slots ++ (k, x) ∷ []) ≡ cond (is_eq (order k q)) (Some x) (lookup (is_at (order q)) slots)
-      lookup_added k x none q = elim (either (is_eq (order k q))) [
+      lookup_added k x none q = elim (cases_Bool (is_eq (order k q))) [
         | inl eq ↦ subst (λ (y : K). lookup (is_at (order y)) (slots ++ (k, x) ∷ []) ≡ Some x) (same_key k q eq) (here slots (λ n h. none_some n (sym none ∙ is.known k n h)))
             ∙ sym (ap (λ (b : Bool). cond b (Some x) (lookup (is_at (order q)) slots)) eq)
         | inr ne ↦ lookup_more slots k q x (λ e. true_false (is_eq (order k q)) (tied k q (sym e)) ne)
@@ -190,7 +190,7 @@ module _ {K : Type 0} (order : K → K → Ordering) (exact : Exact order) where
         where
           here : (l : List (K × X)) → ((n : ℕ) → key_at l n ≡ Some k → ⊥) → lookup (is_at (order k)) (l ++ (k, x) ∷ []) ≡ Some x
           here [] out = ap (λ (b : Bool). cond b (Some x) None) (tied k k refl)
-          here (e ∷ es) out = elim (either (is_eq (order k e.0))) [
+          here (e ∷ es) out = elim (cases_Bool (is_eq (order k e.0))) [
             | inl is ↦ absurd (out 0 (ap (λ (y : K). Some y) (sym (same_key k e.0 is))))
             | inr not ↦ ap (λ (b : Bool). cond b (Some e.1) (lookup (is_at (order k)) (es ++ (k, x) ∷ []))) not ∙ here es (λ n h. out (suc n) h)
           ]

@@ -4,6 +4,7 @@ use Rattle.std.specs.declared.cmp.Ordering.{Ordering}
 use Rattle.std.specs.Ordering.{is_eq}
 use Rattle.std.specs.Cmp.{Equal-is, tied_itself}
 use Rattle.std.proofs.lemmas.Option.{same_Some}
+use Rattle.std.proofs.lemmas.Bool.{cases_Bool}
 use Rattle.pq_inputs.specs.declared.durability.Durability.{Durability}
 use Rattle.pq_inputs.specs.Sources.{Sources}
 use Rattle.pq_inputs.specs.Changes.{level}
@@ -23,7 +24,6 @@ use Rattle.pq_memo.specs.Table.{HasIn}
 use Rattle.pq_memo.specs.Writes.{IsDated, ring_keys, fronts, RingWritten}
 use Rattle.pq_memo.specs.aux.Durabilities.{HasDurability, IsLeastRead, IsFront, IsFrontRead}
 use Rattle.pq_memo.specs.aux.Written.{IsPrepared, ArePrepared, HasRoom, AllHaveRoom, memo_of, memos_of, put, put_back, memo_keys}
-use Rattle.pq_memo.proofs.Makes.{either}
 use Rattle.pq_memo.proofs.Written.{kept_written}
 use Rattle.pq_memo.proofs.RingMade as made
 use Rattle.pq_memo.proofs.RingMade.{entry_of, key_in}
@@ -38,7 +38,7 @@ module _ {K : Type 0} (order : K → K → Ordering) (exact : Exact order) where
   -- whether a list has the key
   pub decide_in : (ks : List K) (q : K) → In q ks ⊎ (In q ks → ⊥)
   decide_in [] q = inr (λ i. i)
-  decide_in (k ∷ ks) q = elim (either (is_eq (order q k))) [
+  decide_in (k ∷ ks) q = elim (cases_Bool (is_eq (order q k))) [
     | inl is ↦ inl (inl (same_key q k is))
     | inr not ↦ elim (decide_in ks q) [
       | inl i ↦ inl (inr i)
@@ -54,7 +54,7 @@ module _ {K V : Type 0} (order : K → K → Ordering) (exact : Exact order) whe
   put_here k memo table = ap (λ (b : Bool). cond b (Some memo) (table k)) (tied order exact k)
 
   pub put_elsewhere : (k : K) (memo : Memo K V) (table : K → Option (Memo K V)) (q : K) → (q ≡ k → ⊥) → put order (k, memo) table q ≡ table q
-  put_elsewhere k memo table q other = elim (either (is_eq (order k q))) [
+  put_elsewhere k memo table q other = elim (cases_Bool (is_eq (order k q))) [
     | inl is ↦ absurd (other (sym (same_key order exact k q is)))
     | inr not ↦ ap (λ (b : Bool). cond b (Some memo) (table q)) not
   ]

@@ -11,6 +11,7 @@ use Rattle.pq_rules.specs.Relations.{Each, In}
 use Rattle.pq_rules.specs.aux.Evaluator.{Distinct}
 use Rattle.pq_rules.specs.aux.Lists.{in_append, in_append_left, in_append_right}
 use Rattle.pq_rules.proofs.ListLemmas.{split, each_from, in_index, distinct_middle}
+use Rattle.pq_rules.proofs.Rotating.{below}
 use Rattle.pq_rules.proofs.Stack.{distinct_back}
 use Rattle.pq_memo.specs.declared.frame.Frame.{Frame}
 use Rattle.pq_memo.specs.Sound.{Memo}
@@ -25,11 +26,6 @@ in_frames : {K P : Type 0} (k : K) (fs : List (Frame K P)) → In k (frame_keys 
 in_frames k [] i = absurd i
 in_frames k (f ∷ fs) (inl p) = (f, inl refl, sym p)
 in_frames k (f ∷ fs) (inr i) = let r = in_frames k fs i in (r.0, inr r.1, r.2)
-
-below : (o : Ordering) → is_gt o ≡ false → (o ≡ Equal → ⊥) → o ≡ Less
-below Less h n = refl
-below Equal h n = absurd (n refl)
-below Greater h n = cc
 
 -- the keys of frames that are turned
 pub turned_in : {K P : Type 0} (i : ℕ) (fs : List (Frame K P)) (k : K) → i < length fs → In k (frame_keys fs) → In k (frame_keys (drop i fs ++ take i fs))

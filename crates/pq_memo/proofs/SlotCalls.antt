@@ -1,12 +1,12 @@
 -- The calls of the slots of a table, over the list that contracts see.
 use Rattle.std.proofs.Common.{◌≡◌, ℕ, zero, suc, ◌<◌, List, [], ◌∷◌, ◌++◌, length, get_or, slice_set, Option, Some, None, IsSome, refl, sym, ◌∙◌, ap, subst, inl, inr, arith, Bool, true, false, cond}
+use Rattle.std.proofs.lemmas.Bool.{cases_Bool}
 use Rattle.std.specs.declared.cmp.Ordering.{Ordering}
 use Rattle.std.specs.Ordering.{is_eq}
 use Rattle.std.specs.Option.{IfNone}
 use Rattle.std.specs.Map.{lookup}
 use Rattle.std.specs.BTreeMap.{is_at}
 use Rattle.pq_rules.proofs.Weight.{Exact}
-use Rattle.pq_memo.proofs.Makes.{either}
 use Rattle.pq_memo.proofs.Numbered.{found_value, not_found, has_slot, numbered_with, lookup_with, numbered_more, lookup_added, key_within, same_key, tied}
 use Rattle.pq_memo.specs.Sound.{Memo}
 use Rattle.pq_memo.specs.Table.{memo_at, joined, IsPut, IsSameTable}
@@ -144,7 +144,7 @@ module _ {K V : Type 0} (order : K → K → Ordering) (exact : Exact order) (be
 
   module _ (added : (q : K) → lookup (is_at (order q)) after ≡ cond (is_eq (order k q)) (Some None) (lookup (is_at (order q)) before)) where
     pub same_added : lookup (is_at (order k)) before ≡ None → IsSameTable (memo_at order before) (memo_at order after)
-    same_added absent q = elim (either (is_eq (order k q))) [
+    same_added absent q = elim (cases_Bool (is_eq (order k q))) [
       | inl eq ↦ ap (λ (o : Option (Option (Memo K V))). joined o) (added q) ∙ joined_cond (is_eq (order k q)) None (lookup (is_at (order q)) before)
           ∙ ap (λ (b : Bool). cond b None (memo_at order before q)) eq
           ∙ sym (ap (λ (o : Option (Option (Memo K V))). joined o) (subst (λ (y : K). lookup (is_at (order y)) before ≡ None) (same_key order exact k q eq) absent))

@@ -5,11 +5,13 @@ use Rattle.std.specs.declared.cmp.Ordering.{Ordering}
 use Rattle.std.specs.declared.cmp.Ordering.TheVariants.{Equal}
 use Rattle.std.specs.Ordering.{is_eq}
 use Rattle.std.proofs.lemmas.Bool.{eqb-true, eq-eqb}
+use Rattle.std.proofs.lemmas.Bool.{cases_Bool}
 use Rattle.pq_inputs.specs.Sources.{Table}
 use Rattle.pq_rules.specs.Turns.{Machine}
 use Rattle.pq_rules.specs.Relations.{In}
 use Rattle.pq_rules.specs.aux.Evaluator.{has}
-use Rattle.pq_rules.proofs.Weight.{Exact}
+use Rattle.pq_rules.proofs.ListLemmas.{last_length}
+use Rattle.pq_rules.proofs.Weight.{Exact, has_in, in_has, number_below, one_le}
 use Rattle.pq_memo.specs.declared.frame.Frame.{Frame}
 use Rattle.pq_memo.specs.declared.frame.Stage.{Stage}
 use Rattle.pq_memo.specs.declared.frame.Stage.TheVariants.{Walking, Waiting}
@@ -17,29 +19,6 @@ use Rattle.pq_memo.specs.Sound.{Memo}
 use Rattle.pq_memo.specs.Frames.{frame_keys}
 use Rattle.pq_memo.specs.Demand.{IsVerified}
 use Rattle.pq_memo.specs.aux.Demand.{Fits, Linked, is_now, is_seen, unseen, rank, top_rank, weight}
-use Rattle.pq_memo.proofs.Makes.{either}
-
-in_has : {K : Type 0} (order : K → K → Ordering) → Exact order → (x : K) (ys : List K) → In x ys → has order x ys ≡ true
-unfolding has
-in_has o e x [] i = absurd i
-in_has {K} o e x (y ∷ ys) (inl p) =
-    let t : o x y ≡ Equal = subst (λ (z : K). o x z ≡ Equal) p (tied_itself e.total x) in
-    let b : is_eq (o x y) ≡ true = (Equal-is (o x y)).1 t in rw b refl
-in_has o e x (y ∷ ys) (inr i) = elim (either (is_eq (o x y))) [ inl b ↦ rw b refl | inr b ↦ rw b (in_has o e x ys i) ]
-
-has_in : {K : Type 0} (order : K → K → Ordering) → Exact order → (x : K) (ys : List K) → has order x ys ≡ true → In x ys
-unfolding has
-has_in o e x [] h = cc
-has_in o e x (y ∷ ys) h = elim (either (is_eq (o x y))) [
-  | inl b ↦ inl (e.exact x y ((Equal-is (o x y)).0 b))
-  | inr b ↦ inr (has_in o e x ys (rw b at h))
-]
-
-one_le : (a b : Bool) → (a ≡ true → b ≡ true) → cond b 0 1 ≤ cond a 0 1
-one_le true true f = omega arith
-one_le true false f = let e : false ≡ true = f refl in cc
-one_le false true f = omega arith
-one_le false false f = omega arith
 
 count_le : {K : Type 0} (p q : K → Bool) → ((k : K) → p k ≡ true → q k ≡ true) → (xs : List K) → unseen q xs ≤ unseen p xs
 unfolding unseen
@@ -104,11 +83,8 @@ module _ {K P V : Type 0} (order : K → K → Ordering) (exact : Exact order) (
         → unseen (is_seen order now after rest) reach < unseen (is_seen order now before stack) reach
     unseen_lt reach x i new there =
         count_lt (is_seen order now before stack) (is_seen order now after rest) grown reach x i
-        (elim (either (is_seen order now before stack x)) [ inl e ↦ absurd (new (is_seen_so before stack x e)) | inr e ↦ e ])
+        (elim (cases_Bool (is_seen order now before stack x)) [ inl e ↦ absurd (new (is_seen_so before stack x e)) | inr e ↦ e ])
         (seen_is after rest x there)
-
-number_below : (a b : ℕ) → a < 2 ^ 32 → b < 2 ^ 64 → a * (2 ^ 64) + b < 2 ^ 97
-number_below a b h j = omega arith
 
 rank_below : {K P V : Type 0} (m : Machine K P V) (stage : Stage K P) → Fits m stage → rank m stage < 2 ^ 97 + 1
 rank_below m (Walking place) f = omega arith
@@ -140,9 +116,6 @@ unfolding weight
 weight_lt order m inputs reach before after stack rest h l =
     less_work (unseen (is_seen order inputs.revision before stack) reach) (length stack) (top_rank m stack)
     (unseen (is_seen order inputs.revision after rest) reach) (length rest) (top_rank m rest) h (top_below order m inputs after rest l)
-
-last_length : {A : Type 0} (xs : List A) (x : A) → length (xs ++ x ∷ []) ≡ length xs + 1
-last_length xs x = length-append xs (x ∷ [])
 
 -- no more keys, and the last frame has less to do
 pub weight_top : {K P V : Type 0} (order : K → K → Ordering) (m : Machine K P V) (now : ℕ) (reach : List K)

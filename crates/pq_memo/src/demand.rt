@@ -17,11 +17,10 @@ use crate::demanded::Carried;
 use crate::frame::{Frame, Stage, Step};
 use crate::look::Why;
 use crate::memos::Memos;
-use crate::ring::push;
 use crate::slots::Near;
 use crate::stack::Stack;
 use pq_inputs::Inputs;
-use pq_rules::{Answer, Memory, Rules, Shared, Turn};
+use pq_rules::{Answer, Memory, Rules, Shared, Turn, push};
 use std::alloc::Global;
 
 /// The place of the frame with the least key.

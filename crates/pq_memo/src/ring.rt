@@ -25,7 +25,7 @@ use crate::slots::NOWHERE;
 use crate::unpublished::UnpublishedRing;
 use crate::writes::lower;
 use pq_inputs::{Durability, Inputs};
-use pq_rules::{Answer, Memory, Ring, Rules, Shared};
+use pq_rules::{Answer, Memory, Ring, Rules, Shared, push};
 use std::alloc::Global;
 
 /// Where to look first for a key of a ring, and for its reads.
@@ -49,16 +49,6 @@ fn reads_at(hints: &[Hint], i: usize) -> &[usize] {
         return &hints[i].reads;
     }
     &[]
-}
-
-/// Adds `item` to the end of `items`.
-pub(crate) fn push<T: Drop>(items: &mut Vec<T>, item: T) -> Result<(), Memory>
-    ensures { IfOk result (λ _. items.new.items ≡ items.old.items ++ item ∷ []) }
-{
-    match items.push(item) {
-        Ok(()) => Ok(()),
-        Err(_) => Err(Memory),
-    }
 }
 
 /// Copies the keys of `members`.

@@ -17,9 +17,8 @@ use crate::entry::number_at;
 use crate::frame::{Frame, Stage};
 use crate::member::Member;
 use crate::memos::Memos;
-use crate::ring::push;
 use pq_inputs::Inputs;
-use pq_rules::{Memory, Rules};
+use pq_rules::{Memory, Rules, push};
 use std::alloc::Global;
 
 /// Copies `keys`.

@@ -10,9 +10,8 @@ ghost use Rattle.pq_memo.specs.Frames.{frame_keys};
 ghost use Rattle.pq_memo.specs.aux.Stack.{place_in, nth, IsMapped, IsNoted};
 
 use crate::frame::Frame;
-use crate::ring::push;
 use crate::slots::NOWHERE;
-use pq_rules::{Memory, Rules, is_same_key};
+use pq_rules::{Memory, Rules, is_same_key, push};
 use std::alloc::Global;
 use std::collections::BTreeMap;
 use std::marker::Model;

@@ -19,11 +19,10 @@ ghost use Rattle.pq_memo.specs.aux.Written.{HasRoom};
 
 use crate::entry::{Entry, number_at};
 use crate::memos::Memos;
-use crate::ring::push;
 use crate::slots::NOWHERE;
 use crate::unpublished::Unpublished;
 use pq_inputs::{Durability, Inputs};
-use pq_rules::{Answer, Memory, Rules, Shared, same_answer};
+use pq_rules::{Answer, Memory, Rules, Shared, push, same_answer};
 use std::alloc::Global;
 
 /// The lower of `a` and `b`.

@@ -28,7 +28,7 @@ members-preserved g c = record {
   done = prepared_next c.args.now (memo_at g.R.Key.Ord.cmp c.args.self.now.places) (memo_at g.R.Key.Ord.cmp c.members.self.places) c.members.invariant.same
       c.args.answer.now c.args.members.now c.members.i c.index-members-i.result c.key-key.result.now c.members.prepared.items c.push.new.items.items
       (c.in_ok-share.share, c.compared-again.result.1)
-      c.members-test.true c.index-members-i.is c.key-key.ensures (c.in_ok-push.ensures {u = tt})
+      c.members-test.true c.index-members-i.is c.key-key.ensures (c.in_ok-push.ensures {u = tt}).added
       (record {
         answer_is = c.in_ok-share.ensures.copy;
         dated = subst (λ (a : Answer g.row.R-Key.Denot g.row.R-Value.Denot). IsDated c.args.now (HasIn (memo_at g.R.Key.Ord.cmp c.members.self.places)) c.key-key.result.now a c.compared-again.result.1)
