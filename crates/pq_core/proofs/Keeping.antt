@@ -4,7 +4,8 @@ use Rattle.std.specs.Prelude.{Ok, Err, Result}
 use Rattle.pq_inputs.specs.Sources.{Sources, Table}
 use Rattle.pq_rules.specs.declared.turn.Answer.{Answer}
 use Rattle.pq_core.specs.Replies.{ReplyView}
-use Rattle.pq_core.proofs.Lists.{get_set, get_append, get_longer, get_last, get_within, get_map, set_long, append_long, map_long}
+use Rattle.pq_rules.proofs.ListLemmas.{get_last}
+use Rattle.pq_core.proofs.Lists.{get_set, get_append, get_longer, get_within, get_map, set_long, append_long, map_long}
 use Rattle.pq_core.specs.Ledger.{Out, Place, Waiting, Running, Ready, Put, Dropped, Entry, Client, Ledger, with_client, with_entry, moved_to, opened, with_outbox, place_closed, entry_closed}
 use Rattle.pq_core.specs.RightReply.{IsTrueOutcome, IsRightFor}
 use Rattle.pq_core.specs.Moves.{Opens, Accepts, Edits, Starts, LooksFor, Gives, Starves, Releases, Closes, TakesOut, RunAt, Runs, IsOvertaken, new_entry, first_place, changed, reply_at, ended, with_out, out_of, place_ended}

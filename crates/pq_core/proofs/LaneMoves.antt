@@ -17,7 +17,8 @@ use Rattle.pq_core.specs.declared.moves.Released.TheVariants.{Put as ReleasedPut
 use Rattle.pq_core.specs.declared.lane.Owed.{Owed}
 use Rattle.pq_core.specs.declared.lane.Owed.TheVariants.{Waiting as OwedWaiting, Running as OwedRunning, Ready as OwedReady}
 use Rattle.pq_core.specs.aux.Lanes.{LaneView, IsOwed, with_owed, pushed, lane_with, first_owed, LaneReleases, LaneTakes, OwedStands, OwedAt, LaneStands}
-use Rattle.pq_core.proofs.Lists.{get_set, get_append, get_longer, get_last, get_within, get_there, set_same, set_other, set_long, append_long, same_or_other}
+use Rattle.pq_rules.proofs.ListLemmas.{get_last}
+use Rattle.pq_core.proofs.Lists.{get_set, get_append, get_longer, get_within, get_there, set_same, set_other, set_long, append_long, same_or_other}
 use Rattle.pq_core.proofs.Writes.{nothing_there, set_back, drop_get, drop_long, one_entry}
 
 -- ---- items and entries

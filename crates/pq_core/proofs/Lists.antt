@@ -33,10 +33,6 @@ get_longer [] ys j y h = absurd (none_some y h)
 get_longer (a ∷ xs) ys zero y h = h
 get_longer (a ∷ xs) ys (suc j) y h = get_longer xs ys j y h
 
-pub get_last : {A : Type 0} (xs : List A) (x : A) → slice_get (xs ++ x ∷ []) (length xs) ≡ Some x
-get_last [] x = refl
-get_last (a ∷ xs) x = get_last xs x
-
 pub get_within : {A : Type 0} (xs : List A) (j : ℕ) (y : A) → slice_get xs j ≡ Some y → j < length xs
 get_within [] j y h = absurd (none_some y h)
 get_within (a ∷ xs) zero y h = omega arith

@@ -5,7 +5,8 @@ use Rattle.std.specs.List.{items_where_true}
 use Rattle.std.specs.List.Retain.{IsFiltered, ReturnsInTurn}
 use Rattle.std.proofs.lemmas.Bool.{ne_eqb, eq-eqb}
 use Rattle.pq_rules.specs.Relations.{In}
-use Rattle.pq_core.proofs.Lists.{some_one, none_some, same_or_other, get_set, get_append, get_longer, get_last, get_within, set_other}
+use Rattle.pq_rules.proofs.ListLemmas.{get_last}
+use Rattle.pq_core.proofs.Lists.{some_one, none_some, same_or_other, get_set, get_append, get_longer, get_within, set_other}
 use Rattle.pq_core.proofs.Writes.{drop_get}
 use Rattle.pq_core.proofs.Changing.{if_at, if_other}
 use Rattle.pq_core.specs.Replies.{ReplyView}
