@@ -12,7 +12,8 @@ use Rattle.pq_links.specs.Once.{each_once}
 use Rattle.pq_links.specs.Visibility.{firsts}
 use Rattle.pq_links.specs.aux.Adding.{has, add_first, add_firsts, Sees, same_name}
 
-either : (b : Bool) (P : Bool → Type 0) → (b ≡ true → P true) → (b ≡ false → P false) → P b
+-- what holds at each answer of a test holds of the test
+pub either : (b : Bool) (P : Bool → Type 0) → (b ≡ true → P true) → (b ≡ false → P false) → P b
 either true P f g = f refl
 either false P f g = g refl
 

@@ -2,6 +2,7 @@
 -- the same.
 use Rattle.std.proofs.Common.{◌≡◌, ℕ, Bool, true, false, cond, ◌&&◌, not, List, [], ◌∷◌, ◌++◌, Option, Some, None, refl, sym, ap, ◌∙◌}
 use Rattle.std.specs.Prelude.{bytes_eq, option_to_list}
+use Rattle.std.specs.Cmp.Derive.{both_true as and_true}
 use Rattle.std.specs.List.{cons_option}
 use Rattle.std.specs.Ordering.{eq_by_cmp}
 use Rattle.std.proofs.lemmas.Slice.Eq.{bytes_eq-Decides}
@@ -31,18 +32,6 @@ pub import_none : (b : Bool) (file : List ℕ) (p : Bool) → None ≡ cond b (S
 import_none true file p e = cc
 import_none false file p e = refl
 
-pub cond_true : {A : Type 0} (b : Bool) (x y : A) → b ≡ true → cond b x y ≡ x
-cond_true true x y e = refl
-cond_true false x y e = cc
-
-pub cond_false : {A : Type 0} (b : Bool) (x y : A) → b ≡ false → cond b x y ≡ y
-cond_false true x y e = cc
-cond_false false x y e = refl
-
-pub not_true : (b : Bool) → (b ≡ true → ⊥) → b ≡ false
-not_true true f = absurd (f refl)
-not_true false f = refl
-
 more : (o : Option Import) (is : List Import) → cons_option o is ≡ option_to_list o ++ is
 more None is = refl
 more (Some i) is = refl
@@ -69,10 +58,6 @@ and_right : (a b : Bool) → (a && b) ≡ true → b ≡ true
 and_right true b e = e
 and_right false b e = cc
 
-and_both : (a b : Bool) → a ≡ true → b ≡ true → (a && b) ≡ true
-and_both true b e f = f
-and_both false b e f = cc
-
 -- imports are the same exactly if they are equal
 pub import_exact : (a b : Import) → same_import a b ≡ true → a ≡ b
 import_exact a b e =
@@ -82,7 +67,7 @@ import_exact a b e =
 
 pub import_equal : (a b : Import) → a ≡ b → same_import a b ≡ true
 import_equal a b e =
-    and_both (bytes_eq a.file b.file) (cond a.is_public b.is_public (not b.is_public))
+    and_true
     ((bytes_eq-Decides a.file b.file).1 (ap (λ i. i.file) e))
     (ap (λ (i : Import). cond a.is_public i.is_public (not i.is_public)) (sym e) ∙ same_flag a.is_public)
 

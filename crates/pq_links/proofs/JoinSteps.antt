@@ -8,7 +8,7 @@ use Rattle.pq_links.specs.aux.Joined.{join_read}
 use Rattle.pq_links.specs.declared.links.Import.{Import}
 use Rattle.pq_links.specs.declared.links.Links.{Links}
 
-drop_at : {A : Type 0} (n : ℕ) (xs : List A) (x : A) → slice_get xs n ≡ Some x → drop n xs ≡ x ∷ drop (suc n) xs
+pub drop_at : {A : Type 0} (n : ℕ) (xs : List A) (x : A) → slice_get xs n ≡ Some x → drop n xs ≡ x ∷ drop (suc n) xs
 drop_at zero [] x e = cc
 drop_at zero (y ∷ ys) x e = let is : y ≡ x = cc in ap (λ z. z ∷ ys) is
 drop_at (suc n) [] x e = cc

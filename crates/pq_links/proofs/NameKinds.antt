@@ -5,6 +5,7 @@ use Rattle.std.proofs.Common.{ℕ, Bool, true, false, cond, not, List, [], ◌�
 use Rattle.std.specs.Prelude.{bytes_eq, filter}
 use Rattle.pq_rules.specs.Relations.{Each}
 use Rattle.pq_rules.proofs.Preserved.{TurnIn}
+use Rattle.pq_rules.proofs.Characterisation.{each_append}
 use Rattle.pq_links.specs.ImportGraph.{file_of}
 use Rattle.pq_links.specs.Once.{each_once}
 use Rattle.pq_links.specs.Visibility.{firsts, passed_on, shown, reached, links_by, no_links}
@@ -33,10 +34,6 @@ pub record LinksIn (N : List ℕ → Type 0) (l : Links) : Type 0 where
 abbrev pub LinkingIn : (List ℕ → Type 0) → Linking → Type 0
 LinkingIn N (Reading f) = N f
 LinkingIn N (Joining f (left, pairs)) = N f × ImportsIn N left × Each (λ e. LinksIn N e.1) pairs
-
-pub each_append : {A : Type 0} (P : A → Type 0) (xs ys : List A) → Each P xs → Each P ys → Each P (xs ++ ys)
-each_append P [] ys a b = b
-each_append P (x ∷ xs) ys a b = (a.0, each_append P xs ys a.1 b)
 
 each_kept : {A : Type 0} (P : A → Type 0) (b : Bool) (x : A) (xs : List A) → P x → Each P xs → Each P (cond b (x ∷ xs) xs)
 each_kept P true x xs h t = (h, t)

@@ -7,13 +7,11 @@ use Rattle.pq_rules.specs.aux.Lists.{in_append_left, in_append_right}
 use Rattle.pq_links.specs.ImportGraph.{Graph}
 use Rattle.pq_links.specs.Once.{each_once}
 use Rattle.pq_links.specs.Visibility.{firsts, passed_on, shown, reached, links_by, links_or_none, links_within}
-use Rattle.pq_links.proofs.NameKinds.{each_append, firsts_in}
+use Rattle.pq_rules.proofs.Characterisation.{each_append}
+use Rattle.pq_links.proofs.NameKinds.{firsts_in}
 use Rattle.pq_links.specs.declared.links.Import.{Import}
 use Rattle.pq_links.specs.declared.links.Links.{Links}
-
-either : (b : Bool) (P : Bool → Type 0) → (b ≡ true → P true) → (b ≡ false → P false) → P b
-either true P f g = f refl
-either false P f g = g refl
+use Rattle.pq_links.proofs.Adding.{either}
 
 in_filter : (p : List ℕ → Bool) (x : List ℕ) (xs : List (List ℕ)) → p x ≡ true → In x xs → In x (filter p xs)
 in_filter p x [] t i = i
