@@ -9,6 +9,7 @@ use Rattle.std.proofs.lemmas.List.{at_drop_all, at_drop_more, length-append}
 use Rattle.std.proofs.lemmas.Map.Text.{is_eq-slice_cmp}
 use Rattle.std.proofs.lemmas.Slice.Eq.{bytes_eq-Decides}
 use Rattle.pq_links.specs.declared.links.Links.{Links}
+use Rattle.pq_links.proofs.JoinSteps.{drop_at}
 use Rattle.pq_schema.specs.Contents.{Defs}
 use Rattle.pq_syntax.specs.Places.{places_after}
 use Rattle.pq_schema.specs.Answers.{picked}
@@ -122,17 +123,6 @@ unfolding package_of places_after
 defs_of_nothing = refl
 
 -- ---- the part of a scope
-
-drop_at : {A : Type 0} (n : ℕ) (xs : List A) (x : A) → slice_get xs n ≡ Some x → drop n xs ≡ x ∷ drop (suc n) xs
-drop_at zero [] x e = cc
-drop_at zero (y ∷ ys) x e = let is : y ≡ x = cc in ap (λ z. z ∷ ys) is
-drop_at (suc n) [] x e = cc
-drop_at (suc n) (y ∷ ys) x e = drop_at n ys x e
-
-pub first_left : {A : Type 0} (n : ℕ) (xs : List A) → slice_get xs n ≡ slice_get (drop n xs) 0
-first_left zero xs = refl
-first_left (suc n) [] = refl
-first_left (suc n) (y ∷ ys) = first_left n ys
 
 pub read_next : (links : Links) (files : List FileDefs) (n : List ℕ) (d : Defs) → slice_get links.reach (length files) ≡ Some n
     → collected_view links (files ++ named n d ∷ []) ≡ collect_read (collected_view links files) d

@@ -6,7 +6,8 @@ use Rattle.std.specs.Prelude.{bytes_eq, find}
 use Rattle.std.specs.List.{cons_option}
 use Rattle.pq_rules.specs.Relations.{Each}
 use Rattle.pq_rules.proofs.Preserved.{TurnIn}
-use Rattle.pq_links.proofs.NameKinds.{LinksIn, each_append}
+use Rattle.pq_rules.proofs.Characterisation.{each_append}
+use Rattle.pq_links.proofs.NameKinds.{LinksIn}
 use Rattle.pq_links.specs.declared.links.Links.{Links}
 use Rattle.pq_schema.specs.Contents.{Defs}
 use Rattle.pq_schema.specs.ScopeContents.{Scope}

@@ -1,7 +1,8 @@
 use Rattle.std.proofs.Common.{◌≡◌, Some, sym, ap, ◌∙◌, length, [], ◌∷◌, ◌++◌}
 use Rattle.std.specs.Prelude.{slice_get}
 use Rattle.pq_schema.specs.aux.Collecting.{Collecting, collect_read, collected_view, named}
-use Rattle.pq_schema.proofs.Gathering.{read_next, first_left}
+use Rattle.pq_links.proofs.JoinSteps.{first_left}
+use Rattle.pq_schema.proofs.Gathering.{read_next}
 use Rattle.pq_schema.proofs.collected.Collected.read.Goals as goal
 
 pub returns-clause-read : goal.returns-clause-read
