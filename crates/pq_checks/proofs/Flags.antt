@@ -10,17 +10,18 @@ use Rattle.pq_checks.specs.aux.Lines.{key_cmp, stair_of, field_lines, value_line
 use Rattle.pq_checks.specs.aux.Sets.{is_number}
 use Rattle.pq_checks.specs.declared.members.Reserved.{Reserved}
 use Rattle.pq_checks.proofs.Ties.{twice_is, covered_is}
-use Rattle.pq_checks.proofs.Taken.{map_at, map_length}
+use Rattle.std.proofs.lemmas.List.{length-map}
+use Rattle.pq_checks.proofs.Taken.{map_at}
 
 -- what contracts see of the thing at `i`
 pub seen_at : {X A : Type 0} (h : X → A) (xs : List X) (i : ℕ) (x : X) → i < length xs → x ≡ get_or xs i x → h x ≡ get_or (map h xs) i (h x)
 seen_at h xs i x lt at = sym (map_at h xs i (h x) x lt ∙ ap h (sym at))
 
 pub seen_within : {X A : Type 0} (h : X → A) (xs : List X) (i : ℕ) → i < length xs → i < length (map h xs)
-seen_within h xs i lt = omega (arith, map_length h xs)
+seen_within h xs i lt = omega (arith, length-map xs h)
 
 pub seen_past : {X A : Type 0} (h : X → A) (xs : List X) (i : ℕ) → length xs ≤ i → length (map h xs) ≤ i
-seen_past h xs i past = omega (arith, map_length h xs)
+seen_past h xs i past = omega (arith, length-map xs h)
 
 -- ---- lines
 

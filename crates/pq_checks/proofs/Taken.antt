@@ -5,7 +5,3 @@ pub map_at : {A B : Type 0} (h : A → B) (xs : List A) (i : ℕ) (d : B) (e : A
 map_at h [] i d e lt = absurd (omega arith)
 map_at h (x ∷ xs) zero d e lt = refl
 map_at h (x ∷ xs) (suc i) d e lt = map_at h xs i d e (omega arith)
-
-pub map_length : {A B : Type 0} (h : A → B) (xs : List A) → length (map h xs) ≡ length xs
-map_length h [] = refl
-map_length h (x ∷ xs) = ap (λ n. suc n) (map_length h xs)
