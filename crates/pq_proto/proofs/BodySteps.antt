@@ -2,17 +2,10 @@
 use Rattle.std.proofs.Common.{◌≡◌, ℕ, suc, ◌+◌, ◌<◌, ◌≤◌, Bool, true, false, cond, nat_lt, nat_eq, length, get_or, drop, List, [], ◌∷◌, refl, sym, ap, ◌∙◌, arith, ◌-◌, take, add-zero, add-one, length-drop}
 use Rattle.std.proofs.lemmas.Bool.Decides.{nat_tests}
 use Rattle.std.proofs.lemmas.List.{drop_all, drop_more, get_or_default, take_all}
+use Rattle.std.proofs.lemmas.Bool.{cond-true, cond-false}
 use Rattle.pq_syntax.specs.declared.tree.Node.{Node}
 use Rattle.pq_proto.specs.Bodies.{Body, Empty, Holds, body_at}
 use Rattle.pq_proto.specs.aux.Rests.{IsLast, IsNext}
-
-cond_true : {X : Type 0} (b : Bool) (x y : X) → b ≡ true → cond b x y ≡ x
-cond_true true x y e = refl
-cond_true false x y e = cc
-
-cond_false : {X : Type 0} (b : Bool) (x y : X) → b ≡ false → cond b x y ≡ y
-cond_false true x y e = cc
-cond_false false x y e = refl
 
 -- `SkippedTo d nodes i` is that the first `i` of `nodes` are deeper than `d`
 pub record SkippedTo (d : ℕ) (nodes : List Node) (i : ℕ) : Type 0 where
@@ -30,13 +23,13 @@ unfolding body_at
 body_deeper d n s ss more =
     let not_less : nat_lt s.depth d ≡ false = grind (arith, nat_tests) in
     let not_same : nat_eq s.depth d ≡ false = grind (arith, nat_tests) in
-    cond_false (nat_lt s.depth d) _ _ not_less ∙ cond_false (nat_eq s.depth d) _ _ not_same
+    cond-false (nat_lt s.depth d) _ _ not_less ∙ cond-false (nat_eq s.depth d) _ _ not_same
 
 less : (d n : ℕ) (s : Node) (ss : List Node) → s.depth < d → body_at d n (s ∷ ss) ≡ Empty
 unfolding body_at
 less d n s ss h =
     let is_less : nat_lt s.depth d ≡ true = grind (arith, nat_tests) in
-    cond_true (nat_lt s.depth d) _ _ is_less
+    cond-true (nat_lt s.depth d) _ _ is_less
 
 same : (d n : ℕ) (s : Node) (ss : List Node) → s.depth ≡ d
     → body_at d n (s ∷ ss) ≡ Holds (record { number = n; node = s }) (body_at (suc d) (suc n) ss) (body_at d (suc n) ss)
@@ -44,7 +37,7 @@ unfolding body_at
 same d n s ss h =
     let not_less : nat_lt s.depth d ≡ false = grind (arith, nat_tests) in
     let is_same : nat_eq s.depth d ≡ true = grind (arith, nat_tests) in
-    cond_false (nat_lt s.depth d) _ _ not_less ∙ cond_true (nat_eq s.depth d) _ _ is_same
+    cond-false (nat_lt s.depth d) _ _ not_less ∙ cond-true (nat_eq s.depth d) _ _ is_same
 
 pub skipped_more : (d : ℕ) (nodes : List Node) (i : ℕ) (s : Node) → i < length nodes → s ≡ get_or nodes i s → d < s.depth
     → SkippedTo d nodes i → SkippedTo d nodes (i + 1)

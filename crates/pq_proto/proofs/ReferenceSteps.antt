@@ -2,7 +2,7 @@
 use Rattle.std.proofs.Common.{◌≡◌, ℕ, ◌+◌, ◌<◌, ◌≤◌, true, false, cond, ◌&&◌, nat_eq, length, get_or, drop, List, [], ◌∷◌, refl, sym, ap, ◌∙◌}
 use Rattle.std.specs.Prelude.{None}
 use Rattle.std.proofs.lemmas.List.{at_drop_all, at_drop_more}
-use Rattle.pq_links.proofs.ImportSteps.{cond_true, cond_false}
+use Rattle.std.proofs.lemmas.Bool.{cond-true, cond-false}
 use Rattle.pq_syntax.specs.declared.tree.Node.{Node}
 use Rattle.pq_schema.specs.declared.references.TypePart.{TypePart}
 use Rattle.pq_schema.specs.declared.resolved.ResolvedReference.{ResolvedReference}
@@ -27,13 +27,13 @@ pub definition_here : (nodes : List Node) (offset : ℕ) (rs : List ResolvedRefe
     → holds (span_of nodes r) offset ≡ true → type_item r.resolution ≡ definition_at nodes offset (drop i rs)
 definition_here nodes offset rs i r within is holds_it =
     sym (definition_step nodes offset rs i r within is
-    ∙ cond_true (holds (span_of nodes r) offset) (type_item r.resolution) (definition_at nodes offset (drop (i + 1) rs)) holds_it)
+    ∙ cond-true (holds (span_of nodes r) offset) (type_item r.resolution) (definition_at nodes offset (drop (i + 1) rs)) holds_it)
 
 pub definition_later : (nodes : List Node) (offset : ℕ) (rs : List ResolvedReference) (i : ℕ) (r : ResolvedReference) → i < length rs → r ≡ get_or rs i r
     → holds (span_of nodes r) offset ≡ false → definition_at nodes offset (drop (i + 1) rs) ≡ definition_at nodes offset (drop i rs)
 definition_later nodes offset rs i r within is passes =
     sym (definition_step nodes offset rs i r within is
-    ∙ cond_false (holds (span_of nodes r) offset) (type_item r.resolution) (definition_at nodes offset (drop (i + 1) rs)) passes)
+    ∙ cond-false (holds (span_of nodes r) offset) (type_item r.resolution) (definition_at nodes offset (drop (i + 1) rs)) passes)
 
 definition_empty : (nodes : List Node) (offset : ℕ) → definition_at nodes offset [] ≡ None
 unfolding definition_at
@@ -62,13 +62,13 @@ pub referred_here : (rs : List ResolvedReference) (n : ℕ) (p : TypePart) (i : 
     → (nat_eq r.item n && is_part r.part p) ≡ true → referred (drop i rs) n p ≡ type_to r.resolution
 referred_here rs n p i r within is holds_it =
     referred_step rs n p i r within is
-    ∙ cond_true (nat_eq r.item n && is_part r.part p) (type_to r.resolution) (referred (drop (i + 1) rs) n p) holds_it
+    ∙ cond-true (nat_eq r.item n && is_part r.part p) (type_to r.resolution) (referred (drop (i + 1) rs) n p) holds_it
 
 pub referred_later : (rs : List ResolvedReference) (n : ℕ) (p : TypePart) (i : ℕ) (r : ResolvedReference) → i < length rs → r ≡ get_or rs i r
     → (nat_eq r.item n && is_part r.part p) ≡ false → referred (drop (i + 1) rs) n p ≡ referred (drop i rs) n p
 referred_later rs n p i r within is passes =
     sym (referred_step rs n p i r within is
-    ∙ cond_false (nat_eq r.item n && is_part r.part p) (type_to r.resolution) (referred (drop (i + 1) rs) n p) passes)
+    ∙ cond-false (nat_eq r.item n && is_part r.part p) (type_to r.resolution) (referred (drop (i + 1) rs) n p) passes)
 
 referred_empty : (n : ℕ) (p : TypePart) → referred [] n p ≡ no_type
 unfolding referred

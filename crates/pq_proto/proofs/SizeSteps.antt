@@ -2,7 +2,7 @@
 use Rattle.std.proofs.Common.{◌≡◌, ℕ, suc, ◌+◌, ◌-◌, ◌<◌, ◌≤◌, Bool, true, false, nat_lt, length, get_or, drop, List, [], ◌∷◌, refl, sym, ap, ◌∙◌, arith, add-zero, zero-add, length-drop, set}
 use Rattle.std.proofs.lemmas.Bool.Decides.{nat_tests}
 use Rattle.std.proofs.lemmas.List.{drop_all, drop_more, drop-drop, get_or_default, get_or-drop, get_or-set_same, get_or-set_other, length-set}
-use Rattle.pq_links.proofs.ImportSteps.{cond_true, cond_false}
+use Rattle.std.proofs.lemmas.Bool.{cond-true, cond-false}
 use Rattle.pq_syntax.specs.declared.tree.Node.{Node}
 use Rattle.pq_syntax.proofs.Walk.{item_at}
 use Rattle.pq_proto.specs.Bodies.{Body, Holds, body_at}
@@ -14,13 +14,13 @@ deeper_yes : (d : ℕ) (s : Node) (ss : List Node) → d < s.depth → deeper d 
 unfolding deeper
 deeper_yes d s ss h =
     let t : nat_lt d s.depth ≡ true = grind (arith, nat_tests) in
-    cond_true (nat_lt d s.depth) (suc (deeper d ss)) 0 t
+    cond-true (nat_lt d s.depth) (suc (deeper d ss)) 0 t
 
 deeper_no : (d : ℕ) (s : Node) (ss : List Node) → s.depth ≤ d → deeper d (s ∷ ss) ≡ 0
 unfolding deeper
 deeper_no d s ss h =
     let f : nat_lt d s.depth ≡ false = grind (arith, nat_tests) in
-    cond_false (nat_lt d s.depth) (suc (deeper d ss)) 0 f
+    cond-false (nat_lt d s.depth) (suc (deeper d ss)) 0 f
 
 deeper_empty : (d : ℕ) → deeper d [] ≡ 0
 unfolding deeper

@@ -1,15 +1,15 @@
 use Rattle.std.proofs.Common.{Some, None, ap, sym, ◌∙◌}
 use Rattle.std.specs.Str.{is_utf8}
 use Rattle.std.proofs.lemmas.Str.{is_utf8-from_IsUtf8, IsUtf8-from_is_utf8}
-use Rattle.pq_links.proofs.ImportSteps.{cond_true, cond_false, not_true}
+use Rattle.std.proofs.lemmas.Bool.{cond-true, cond-false, false_from_ne_true}
 use Rattle.pq_proto.proofs.descriptor.reserved.as_text.Goals as goal
 
 pub returns-in-Ok : goal.returns-in-Ok
 returns-in-Ok c = record {
-  text = ap Some c.in-Ok.ensures.cases.0 ∙ sym (cond_true (is_utf8 c.args.bytes.now) (Some c.args.bytes.now) None (is_utf8-from_IsUtf8 c.args.bytes.now c.in-Ok.ensures.cases.1));
+  text = ap Some c.in-Ok.ensures.cases.0 ∙ sym (cond-true (is_utf8 c.args.bytes.now) (Some c.args.bytes.now) None (is_utf8-from_IsUtf8 c.args.bytes.now c.in-Ok.ensures.cases.1));
 }
 
 pub returns-in-Err : goal.returns-in-Err
 returns-in-Err c = record {
-  text = sym (cond_false (is_utf8 c.args.bytes.now) (Some c.args.bytes.now) None (not_true (is_utf8 c.args.bytes.now) (λ e. c.in-Err.ensures.cases.0 (IsUtf8-from_is_utf8 c.args.bytes.now e))));
+  text = sym (cond-false (is_utf8 c.args.bytes.now) (Some c.args.bytes.now) None (false_from_ne_true (is_utf8 c.args.bytes.now) (λ e. c.in-Err.ensures.cases.0 (IsUtf8-from_is_utf8 c.args.bytes.now e))));
 }
