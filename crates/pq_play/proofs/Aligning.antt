@@ -19,17 +19,13 @@ use Rattle.pq_core.specs.declared.moves.Move.TheVariants.{Carry, Blocked, Steppe
 use Rattle.pq_core.specs.declared.moves.Released.{Released}
 use Rattle.pq_core.specs.declared.moves.Released.TheVariants.{Put as ReleasedPut, Full as ReleasedFull, Gone as ReleasedGone, Nothing as ReleasedNothing}
 use Rattle.pq_core.proofs.Lists.{some_one, get_set, get_append, get_within, get_there, set_long, append_long}
+use Rattle.pq_core.proofs.Writes.{set_back}
 use Rattle.pq_play.specs.World.{replies_of}
 use Rattle.pq_play.specs.Results.{request_of, accepted_of}
 use Rattle.pq_play.specs.aux.Seats.{SeatView, free_seat, with_request, with_left, Seated, Aligned}
 
 not_both : (b : Bool) → b ≡ true → b ≡ false → ⊥
 not_both b e f = cc
-
-pub set_back : {A : Type 0} (xs : List A) (i : ℕ) (x : A) → slice_get xs i ≡ Some x → slice_set xs i x ≡ xs
-set_back [] i x h = refl
-set_back (a ∷ xs) zero x h = ap (λ (y : _). y ∷ xs) (sym (some_one a x h))
-set_back (a ∷ xs) (suc i) x h = ap (λ ys. a ∷ ys) (set_back xs i x h)
 
 at_set : {A : Type 0} (xs : List A) (i : ℕ) (x : A) (d : ℕ) (y : A) → slice_get (slice_set xs i x) d ≡ Some y → d ≡ i → y ≡ x
 at_set xs i x d y h e = elim (get_set xs i x d y h) [ inl u ↦ u.1 | inr u ↦ absurd (u.0 e) ]

@@ -22,7 +22,8 @@ use Rattle.pq_play.specs.Steps.{Steps, OpenAnswered, EditAnswered, empty_list}
 use Rattle.pq_play.specs.aux.Seats.{SeatView, free_seat, with_request, with_left, Seated, Aligned, SetsSeat, SeatLeaves, TakesLeft, LeavesNone}
 use Rattle.pq_play.specs.aux.Running.{OutOf, IsPut, IsSame, KeepsMove}
 use Rattle.pq_play.specs.aux.Playing.{Stood, Carried}
-use Rattle.pq_play.proofs.Aligning.{set_back, aligned_opens, aligned_accepts, aligned_edits, aligned_starts, aligned_looks, aligned_gives, aligned_starves, aligned_releases, aligned_closes, aligned_takes, aligned_takes_left, seated_at}
+use Rattle.pq_core.proofs.Writes.{set_back}
+use Rattle.pq_play.proofs.Aligning.{aligned_opens, aligned_accepts, aligned_edits, aligned_starts, aligned_looks, aligned_gives, aligned_starves, aligned_releases, aligned_closes, aligned_takes, aligned_takes_left, seated_at}
 use Rattle.pq_play.proofs.Running.{Ran, ran_same, ran_looks, ran_gives, ran_starves, ran_starts, runs_opens, runs_accepts, runs_edits, runs_releases, runs_closes, runs_takes, same_as, given_of, made_of, none_given}
 use Rattle.pq_play.proofs.Leading.{true_or_false}
 use Rattle.pq_play.specs.declared.event.Event.{Event}
