@@ -30,6 +30,7 @@ pub use laws::{
 pub use protocol::answers::reply_text;
 pub use protocol::root::Root;
 pub use run::{MAX_READS, script};
+pub use send::write_all;
 pub use state::items::Item;
 pub use state::notifications::UNREADABLE_PARAMETERS;
 pub use state::sessions::Session;

@@ -1,7 +1,7 @@
 use Rattle.std.proofs.Common.{◌≡◌, ℕ, List, ◌++◌, length}
 use Rattle.std.specs.Io.KnownBytes.{Appends}
 use Rattle.pq_session.specs.Counts.{inner_of, failed_of}
-use Rattle.pq_session.proofs.send.send.Given as goal
+use Rattle.pq_session.proofs.send.write_all.Given as goal
 
 -- some bytes were taken, and the rest is left
 abbrev pub invariant-bytes : goal.invariant-bytes

@@ -1,6 +1,6 @@
 use Rattle.std.proofs.Common.{◌++◌, take, ◌∙◌}
 use Rattle.pq_session.proofs.Known.{appends_more, sent_more, none_failed}
-use Rattle.pq_session.proofs.send.send.Goals as goal
+use Rattle.pq_session.proofs.send.write_all.Goals as goal
 
 pub bytes-preserved : goal.bytes-preserved
 bytes-preserved g c =
