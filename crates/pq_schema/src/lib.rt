@@ -54,6 +54,7 @@ pub use laws::{
     defs_by_answers, equal_defs, resolved_by_answers, rings_are_bad, schema_in_rules,
     schema_values, scope_by_answers,
 };
+pub use map_entries::entry_name;
 pub use pq_rules::{Shared, Text};
 pub use pq_syntax::Items;
 pub use references::{Reference, TypePart, references_in};

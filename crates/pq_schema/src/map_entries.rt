@@ -6,7 +6,7 @@ use crate::{Memory, Text};
 use std::alloc::Global;
 
 /// The name of the entry message of the map field `field`.
-pub(crate) fn entry_name(alloc: Global, field: &str) -> Result<Text, Memory>
+pub fn entry_name(alloc: Global, field: &str) -> Result<Text, Memory>
     ensures { IfOk result (λ t. t ≡ entry_name field.now) }
 {
     let mut camel = Camel {

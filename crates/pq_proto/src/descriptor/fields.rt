@@ -14,13 +14,14 @@ ghost use Rattle.pq_proto.specs.aux.Views.{field_of, oneof_named, type_of};
 
 use crate::Memory;
 use crate::bodies::{Body, Held};
-use crate::descriptor::names::{entry_name, qualified};
+use crate::descriptor::names::qualified;
 use crate::descriptor::references::References;
 use crate::descriptor::reserved::print_integer;
 use crate::descriptor::settings::print_options;
 use crate::descriptor::types::{TypeName, field_type, message_type};
 use crate::printing::lists::{Part, print_each, print_list};
 use crate::printing::printer::Printer;
+use pq_schema::entry_name;
 use pq_syntax::{Label, Name, Number, Setting, Statement};
 use std::alloc::Global;
 

@@ -13,13 +13,14 @@ use crate::Memory;
 use crate::bodies::{Body, Held};
 use crate::descriptor::enums::print_enums;
 use crate::descriptor::fields::{FieldParts, print_field, print_fields, print_oneofs};
-use crate::descriptor::names::{entry_name, qualified};
+use crate::descriptor::names::qualified;
 use crate::descriptor::references::References;
 use crate::descriptor::reserved::{print_names_in, print_ranges_in};
 use crate::descriptor::settings::print_options_in;
 use crate::descriptor::types::{TypeName, field_type, key_type};
 use crate::printing::printer::Printer;
 use pq_lex::Span;
+use pq_schema::entry_name;
 use pq_syntax::{Name, Number, Statement};
 use std::alloc::Global;
 
