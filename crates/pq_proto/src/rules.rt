@@ -1,9 +1,9 @@
 //! The rule set of proto3 files: the queries of links, of schemas, of checks and of this crate, put
 //! together.
 //!
-//! `embedded` says once how a query's turns are turns of the rule set, and `reads` how the queries
-//! below make their keys and read their answers. `compilation` compiles one key from scratch, and
-//! `laws` has what the rule set means.
+//! `embedded` says how the parts and values of each query are parts and values of the rule set, and
+//! `reads` how the queries below make their keys and read their answers. `compilation` compiles one
+//! key from scratch, and `laws` has what the rule set means.
 ghost use Rattle.std.specs.Prelude.{◌≡◌, IfOk, IfErr, option_copied};
 
 pub(crate) mod compilation;
@@ -16,11 +16,10 @@ use crate::key::ProtoKey;
 use crate::queries::{
     DefinitionPart, DefinitionQuery, DescriptorPart, DescriptorQuery, SymbolsQuery,
 };
-use crate::rules::embedded::{advance_of, start_of};
 use crate::value::{Location, ProtoValue};
 use pq_checks::{CheckPart, ChecksQuery, DiagnosticsQuery};
 use pq_links::{ImportsQuery, LinkedQuery, Linking, ParseQuery};
-use pq_rules::{Answer, Query, Rules, Text, Turn};
+use pq_rules::{Answer, Query, Rules, Sum, Text, Turn, advance_of, start_of};
 use pq_schema::{DefsQuery, ResolvedPart, ResolvedQuery, ScopePart, ScopeQuery};
 use std::alloc::Global;
 
@@ -54,6 +53,14 @@ pub enum ProtoPart {
 /// The rule set of proto3 files (the law `proto_values`).
 #[derive(Clone, Copy)]
 pub struct ProtoRules;
+
+impl Sum for ProtoRules {
+    type Key = ProtoKey;
+
+    type Part = ProtoPart;
+
+    type Value = ProtoValue;
+}
 
 /// Copies `location`.
 fn copy_location(location: &Location) -> Result<Location, Memory>
@@ -126,20 +133,48 @@ impl Rules for ProtoRules {
     ) -> Result<Turn<ProtoKey, ProtoPart, ProtoValue>, Memory> {
         match key {
             ProtoKey::Input(_) => Ok(Turn::Done(ProtoValue::Source(None))),
-            ProtoKey::Parse(file) => start_of(alloc, &ParseQuery::<ProtoRules>::new(), file),
-            ProtoKey::Imports(file) => start_of(alloc, &ImportsQuery::<ProtoRules>::new(), file),
-            ProtoKey::Linked(file) => start_of(alloc, &LinkedQuery::<ProtoRules>::new(), file),
-            ProtoKey::Defs(file) => start_of(alloc, &DefsQuery::<ProtoRules>::new(), file),
-            ProtoKey::Scope(file) => start_of(alloc, &ScopeQuery::<ProtoRules>::new(), file),
-            ProtoKey::Resolved(file) => start_of(alloc, &ResolvedQuery::<ProtoRules>::new(), file),
-            ProtoKey::Checks(file) => start_of(alloc, &ChecksQuery::<ProtoRules>::new(), file),
+            ProtoKey::Parse(file) => start_of::<ProtoRules, _>(
+                alloc,
+                &ParseQuery::<ProtoRules>::new(),
+                file,
+            ),
+            ProtoKey::Imports(file) => start_of::<ProtoRules, _>(
+                alloc,
+                &ImportsQuery::<ProtoRules>::new(),
+                file,
+            ),
+            ProtoKey::Linked(file) => start_of::<ProtoRules, _>(
+                alloc,
+                &LinkedQuery::<ProtoRules>::new(),
+                file,
+            ),
+            ProtoKey::Defs(file) => start_of::<ProtoRules, _>(
+                alloc,
+                &DefsQuery::<ProtoRules>::new(),
+                file,
+            ),
+            ProtoKey::Scope(file) => start_of::<ProtoRules, _>(
+                alloc,
+                &ScopeQuery::<ProtoRules>::new(),
+                file,
+            ),
+            ProtoKey::Resolved(file) => start_of::<ProtoRules, _>(
+                alloc,
+                &ResolvedQuery::<ProtoRules>::new(),
+                file,
+            ),
+            ProtoKey::Checks(file) => start_of::<ProtoRules, _>(
+                alloc,
+                &ChecksQuery::<ProtoRules>::new(),
+                file,
+            ),
             ProtoKey::Diagnostics(file) => {
-                start_of(alloc, &DiagnosticsQuery::<ProtoRules>::new(), file)
+                start_of::<ProtoRules, _>(alloc, &DiagnosticsQuery::<ProtoRules>::new(), file)
             }
-            ProtoKey::Descriptor(file) => start_of(alloc, &DescriptorQuery, file),
-            ProtoKey::Symbols(file) => start_of(alloc, &SymbolsQuery, file),
+            ProtoKey::Descriptor(file) => start_of::<ProtoRules, _>(alloc, &DescriptorQuery, file),
+            ProtoKey::Symbols(file) => start_of::<ProtoRules, _>(alloc, &SymbolsQuery, file),
             ProtoKey::Definition(file, place) => {
-                start_of(alloc, &DefinitionQuery, &(file.copy()?, *place))
+                start_of::<ProtoRules, _>(alloc, &DefinitionQuery, &(file.copy()?, *place))
             }
         }
     }
@@ -152,32 +187,52 @@ impl Rules for ProtoRules {
     ) -> Result<Turn<ProtoKey, ProtoPart, ProtoValue>, ProtoPart> {
         match part {
             ProtoPart::Parsing => {
-                advance_of(alloc, &ParseQuery::<ProtoRules>::new(), (), answer)
+                advance_of::<ProtoRules, _>(alloc, &ParseQuery::<ProtoRules>::new(), (), answer)
             }
             ProtoPart::Importing => {
-                advance_of(alloc, &ImportsQuery::<ProtoRules>::new(), (), answer)
+                advance_of::<ProtoRules, _>(alloc, &ImportsQuery::<ProtoRules>::new(), (), answer)
             }
             ProtoPart::LinkingFiles(part) => {
-                advance_of(alloc, &LinkedQuery::<ProtoRules>::new(), part, answer)
+                advance_of::<ProtoRules, _>(alloc, &LinkedQuery::<ProtoRules>::new(), part, answer)
             }
             ProtoPart::Defining => {
-                advance_of(alloc, &DefsQuery::<ProtoRules>::new(), (), answer)
+                advance_of::<ProtoRules, _>(alloc, &DefsQuery::<ProtoRules>::new(), (), answer)
             }
             ProtoPart::Scoping(part) => {
-                advance_of(alloc, &ScopeQuery::<ProtoRules>::new(), part, answer)
+                advance_of::<ProtoRules, _>(alloc, &ScopeQuery::<ProtoRules>::new(), part, answer)
             }
             ProtoPart::Resolving(part) => {
-                advance_of(alloc, &ResolvedQuery::<ProtoRules>::new(), part, answer)
+                advance_of::<ProtoRules, _>(
+                    alloc,
+                    &ResolvedQuery::<ProtoRules>::new(),
+                    part,
+                    answer,
+                )
             }
             ProtoPart::Checking(part) => {
-                advance_of(alloc, &ChecksQuery::<ProtoRules>::new(), part, answer)
+                advance_of::<ProtoRules, _>(alloc, &ChecksQuery::<ProtoRules>::new(), part, answer)
             }
             ProtoPart::Diagnosing => {
-                advance_of(alloc, &DiagnosticsQuery::<ProtoRules>::new(), (), answer)
+                advance_of::<ProtoRules, _>(
+                    alloc,
+                    &DiagnosticsQuery::<ProtoRules>::new(),
+                    (),
+                    answer,
+                )
             }
-            ProtoPart::Describing(part) => advance_of(alloc, &DescriptorQuery, part, answer),
-            ProtoPart::Listing => advance_of(alloc, &SymbolsQuery, (), answer),
-            ProtoPart::Locating(part) => advance_of(alloc, &DefinitionQuery, part, answer),
+            ProtoPart::Describing(part) => advance_of::<ProtoRules, _>(
+                alloc,
+                &DescriptorQuery,
+                part,
+                answer,
+            ),
+            ProtoPart::Listing => advance_of::<ProtoRules, _>(alloc, &SymbolsQuery, (), answer),
+            ProtoPart::Locating(part) => advance_of::<ProtoRules, _>(
+                alloc,
+                &DefinitionQuery,
+                part,
+                answer,
+            ),
         }
     }
 

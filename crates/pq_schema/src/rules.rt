@@ -1,6 +1,10 @@
 //! The rule set of a schema: the queries of links and of this crate, put together.
+//!
+//! `embedded` says how the parts and values of each query are parts and values of the rule set.
 ghost use Rattle.std.specs.Prelude.{◌≡◌, Option, None, IfOk, option_copied, unwrap_or};
-ghost use Rattle.pq_schema.specs.aux.RuleSet.{parse_turn, imports_turn, linked_turn, defs_turn, scope_turn, resolved_turn, text_read, parsed_read, imports_read, links_read, defs_read, scope_read};
+ghost use Rattle.pq_schema.specs.aux.RuleSet.{text_read, parsed_read, imports_read, links_read, defs_read, scope_read};
+
+mod embedded;
 
 use crate::defined::DefsQuery;
 use crate::definitions::Defs;
@@ -11,7 +15,7 @@ use crate::scopes::{ScopePart, ScopeQuery};
 use pq_links::{
     Import, ImportsQuery, LinkKeys, LinkedQuery, Linking, Links, ParseQuery, ParsedFile,
 };
-use pq_rules::{Answer, Memory, Query, Rules, Shared, Text, Turn};
+use pq_rules::{Answer, Memory, Query, Rules, Shared, Sum, Text, Turn, advance_of, start_of};
 use pq_syntax::Items;
 use std::alloc::Global;
 
@@ -73,6 +77,14 @@ pub enum SchemaPart {
 /// The rule set of a schema (the law `schema_values`).
 #[derive(Clone, Copy)]
 pub struct SchemaRules;
+
+impl Sum for SchemaRules {
+    type Key = SchemaKey;
+
+    type Part = SchemaPart;
+
+    type Value = SchemaValue;
+}
 
 impl LinkKeys for SchemaRules {
     ghost use Rattle.pq_schema.specs.declared.rules.SchemaKey.TheVariants.{Input, Parse, Imports, Linked};
@@ -178,76 +190,6 @@ impl SchemaKeys for SchemaRules {
     }
 }
 
-/// Makes a turn of the query of parses one of the rule set.
-fn of_parse(
-    turn: Turn<SchemaKey, (), Shared<ParsedFile>>,
-) -> Turn<SchemaKey, SchemaPart, SchemaValue>
-    ensures turn { result ≡ parse_turn turn }
-{
-    match turn {
-        Turn::Ask(key, ()) => Turn::Ask(key, SchemaPart::Parsing),
-        Turn::Done(value) => Turn::Done(SchemaValue::Parse(value)),
-    }
-}
-
-/// Makes a turn of the query of imports one of the rule set.
-fn of_imports(
-    turn: Turn<SchemaKey, (), Option<Shared<Items<Import>>>>,
-) -> Turn<SchemaKey, SchemaPart, SchemaValue>
-    ensures turn { result ≡ imports_turn turn }
-{
-    match turn {
-        Turn::Ask(key, ()) => Turn::Ask(key, SchemaPart::Importing),
-        Turn::Done(value) => Turn::Done(SchemaValue::Imports(value)),
-    }
-}
-
-/// Makes a turn of the query of links one of the rule set.
-fn of_linked(
-    turn: Turn<SchemaKey, Linking, Shared<Links>>,
-) -> Turn<SchemaKey, SchemaPart, SchemaValue>
-    ensures turn { result ≡ linked_turn turn }
-{
-    match turn {
-        Turn::Ask(key, part) => Turn::Ask(key, SchemaPart::LinkingFiles(part)),
-        Turn::Done(value) => Turn::Done(SchemaValue::Linked(value)),
-    }
-}
-
-/// Makes a turn of the query of definitions one of the rule set.
-fn of_defs(turn: Turn<SchemaKey, (), Shared<Defs>>) -> Turn<SchemaKey, SchemaPart, SchemaValue>
-    ensures turn { result ≡ defs_turn turn }
-{
-    match turn {
-        Turn::Ask(key, ()) => Turn::Ask(key, SchemaPart::Defining),
-        Turn::Done(value) => Turn::Done(SchemaValue::Defs(value)),
-    }
-}
-
-/// Makes a turn of the query of scopes one of the rule set.
-fn of_scope(
-    turn: Turn<SchemaKey, ScopePart, Shared<Scope>>,
-) -> Turn<SchemaKey, SchemaPart, SchemaValue>
-    ensures turn { result ≡ scope_turn turn }
-{
-    match turn {
-        Turn::Ask(key, part) => Turn::Ask(key, SchemaPart::Scoping(part)),
-        Turn::Done(value) => Turn::Done(SchemaValue::Scope(value)),
-    }
-}
-
-/// Makes a turn of the query of resolved references one of the rule set.
-fn of_resolved(
-    turn: Turn<SchemaKey, ResolvedPart, Shared<Items<ResolvedReference>>>,
-) -> Turn<SchemaKey, SchemaPart, SchemaValue>
-    ensures turn { result ≡ resolved_turn turn }
-{
-    match turn {
-        Turn::Ask(key, part) => Turn::Ask(key, SchemaPart::Resolving(part)),
-        Turn::Done(value) => Turn::Done(SchemaValue::Resolved(value)),
-    }
-}
-
 impl Rules for SchemaRules {
     ghost use Rattle.pq_schema.specs.aux.RuleSet.{schema_rules, schema_reach};
     ghost use Rattle.pq_schema.specs.aux.SchemaLaws.{schema_lawful, schema_inputs};
@@ -302,24 +244,24 @@ impl Rules for SchemaRules {
     ) -> Result<Turn<SchemaKey, SchemaPart, SchemaValue>, Memory> {
         match key {
             SchemaKey::Input(_) => Ok(Turn::Done(SchemaValue::Source(None))),
-            SchemaKey::Parse(name) => Ok(of_parse(ParseQuery::<SchemaRules>::new().start(
-                alloc, name,
-            )?)),
-            SchemaKey::Imports(name) => Ok(of_imports(ImportsQuery::<SchemaRules>::new().start(
-                alloc, name,
-            )?)),
-            SchemaKey::Linked(name) => Ok(of_linked(LinkedQuery::<SchemaRules>::new().start(
-                alloc, name,
-            )?)),
-            SchemaKey::Defs(name) => Ok(of_defs(DefsQuery::<SchemaRules>::new().start(
-                alloc, name,
-            )?)),
-            SchemaKey::Scope(name) => Ok(of_scope(ScopeQuery::<SchemaRules>::new().start(
-                alloc, name,
-            )?)),
-            SchemaKey::Resolved(name) => Ok(of_resolved(ResolvedQuery::<SchemaRules>::new().start(
-                alloc, name,
-            )?)),
+            SchemaKey::Parse(file) => {
+                start_of::<SchemaRules, _>(alloc, &ParseQuery::<SchemaRules>::new(), file)
+            }
+            SchemaKey::Imports(file) => {
+                start_of::<SchemaRules, _>(alloc, &ImportsQuery::<SchemaRules>::new(), file)
+            }
+            SchemaKey::Linked(file) => {
+                start_of::<SchemaRules, _>(alloc, &LinkedQuery::<SchemaRules>::new(), file)
+            }
+            SchemaKey::Defs(file) => {
+                start_of::<SchemaRules, _>(alloc, &DefsQuery::<SchemaRules>::new(), file)
+            }
+            SchemaKey::Scope(file) => {
+                start_of::<SchemaRules, _>(alloc, &ScopeQuery::<SchemaRules>::new(), file)
+            }
+            SchemaKey::Resolved(file) => {
+                start_of::<SchemaRules, _>(alloc, &ResolvedQuery::<SchemaRules>::new(), file)
+            }
         }
     }
 
@@ -330,48 +272,34 @@ impl Rules for SchemaRules {
         answer: &Answer<SchemaKey, SchemaValue>,
     ) -> Result<Turn<SchemaKey, SchemaPart, SchemaValue>, SchemaPart> {
         match part {
-            SchemaPart::Parsing => match ParseQuery::<SchemaRules>::new().advance(
-                alloc,
-                (),
-                answer,
-            ) {
-                Ok(turn) => Ok(of_parse(turn)),
-                Err(()) => Err(SchemaPart::Parsing),
-            },
-            SchemaPart::Importing => match ImportsQuery::<SchemaRules>::new().advance(
-                alloc,
-                (),
-                answer,
-            ) {
-                Ok(turn) => Ok(of_imports(turn)),
-                Err(()) => Err(SchemaPart::Importing),
-            },
-            SchemaPart::LinkingFiles(part) => match LinkedQuery::<SchemaRules>::new().advance(
-                alloc, part, answer,
-            ) {
-                Ok(turn) => Ok(of_linked(turn)),
-                Err(part) => Err(SchemaPart::LinkingFiles(part)),
-            },
-            SchemaPart::Defining => match DefsQuery::<SchemaRules>::new().advance(
-                alloc,
-                (),
-                answer,
-            ) {
-                Ok(turn) => Ok(of_defs(turn)),
-                Err(()) => Err(SchemaPart::Defining),
-            },
-            SchemaPart::Scoping(part) => match ScopeQuery::<SchemaRules>::new().advance(
-                alloc, part, answer,
-            ) {
-                Ok(turn) => Ok(of_scope(turn)),
-                Err(part) => Err(SchemaPart::Scoping(part)),
-            },
-            SchemaPart::Resolving(part) => match ResolvedQuery::<SchemaRules>::new().advance(
-                alloc, part, answer,
-            ) {
-                Ok(turn) => Ok(of_resolved(turn)),
-                Err(part) => Err(SchemaPart::Resolving(part)),
-            },
+            SchemaPart::Parsing => {
+                advance_of::<SchemaRules, _>(alloc, &ParseQuery::<SchemaRules>::new(), (), answer)
+            }
+            SchemaPart::Importing => {
+                advance_of::<SchemaRules, _>(alloc, &ImportsQuery::<SchemaRules>::new(), (), answer)
+            }
+            SchemaPart::LinkingFiles(part) => {
+                advance_of::<SchemaRules, _>(
+                    alloc,
+                    &LinkedQuery::<SchemaRules>::new(),
+                    part,
+                    answer,
+                )
+            }
+            SchemaPart::Defining => {
+                advance_of::<SchemaRules, _>(alloc, &DefsQuery::<SchemaRules>::new(), (), answer)
+            }
+            SchemaPart::Scoping(part) => {
+                advance_of::<SchemaRules, _>(alloc, &ScopeQuery::<SchemaRules>::new(), part, answer)
+            }
+            SchemaPart::Resolving(part) => {
+                advance_of::<SchemaRules, _>(
+                    alloc,
+                    &ResolvedQuery::<SchemaRules>::new(),
+                    part,
+                    answer,
+                )
+            }
         }
     }
 

@@ -1,89 +1,26 @@
 //! The queries of the rule set, as parts of it.
-ghost use Rattle.std.specs.Prelude.{◌≡◌, IfErr, IfOk};
-ghost use Rattle.pq_rules.specs.Embedding.{embedded};
-ghost use Rattle.pq_proto.specs.declared.rules.ProtoPart.{ProtoPart as PartContents};
 ghost use Rattle.pq_proto.specs.declared.rules.ProtoPart.TheVariants.{Parsing, Importing, LinkingFiles, Defining, Scoping, Resolving, Checking, Diagnosing, Describing, Listing, Locating};
-ghost use Rattle.pq_proto.specs.declared.value.ProtoValue.{ProtoValue as ValueContents};
 ghost use Rattle.pq_proto.specs.declared.value.ProtoValue.TheVariants as values;
 
-use crate::Memory;
 use crate::key::ProtoKey;
 use crate::queries::{
     DefinitionPart, DefinitionQuery, DescriptorPart, DescriptorQuery, SymbolsQuery,
 };
-use crate::rules::ProtoPart;
+use crate::rules::{ProtoPart, ProtoRules};
 use crate::value::{Location, ProtoValue};
 use pq_checks::{CheckKeys, CheckPart, Checked, ChecksQuery, DiagnosticsQuery};
 use pq_links::{
     Import, ImportsQuery, LinkKeys, LinkedQuery, Linking, Links, ParseQuery, ParsedFile,
 };
 use pq_names::Text;
-use pq_rules::{Answer, Query, Shared, Turn};
+use pq_rules::{Answer, EmbeddedIn, Shared};
 use pq_schema::{
     Defs, DefsQuery, ResolvedPart, ResolvedQuery, ResolvedReference, SchemaKeys, Scope, ScopePart,
     ScopeQuery,
 };
 use pq_syntax::Items;
-use std::alloc::Global;
 
-/// A query of the rule set: its parts and values are parts and values of the rule set.
-pub(crate) trait Embedded: Query<AnyKey = ProtoKey, AnyAnswer = Answer<ProtoKey, ProtoValue>> {
-    /// A part of the query as one of the rule set.
-    ghost as_part: { Self.Part → PartContents };
-
-    /// A value of the query as one of the rule set.
-    ghost as_value: { Self.Value → ValueContents };
-
-    /// Makes `part` one of the rule set.
-    fn part(part: Self::Part) -> ProtoPart
-        ensures part { result ≡ as_part part };
-
-    /// Makes `value` one of the rule set.
-    fn value(value: Self::Value) -> ProtoValue
-        ensures value { result ≡ as_value value };
-}
-
-/// Makes a turn of the query `Q` one of the rule set.
-fn turn_of<Q: Embedded>(
-    turn: Turn<ProtoKey, Q::Part, Q::Value>,
-) -> Turn<ProtoKey, ProtoPart, ProtoValue>
-    ensures turn { result ≡ embedded Q.as_part Q.as_value turn }
-{
-    match turn {
-        Turn::Ask(key, part) => Turn::Ask(key, Q::part(part)),
-        Turn::Done(value) => Turn::Done(Q::value(value)),
-    }
-}
-
-/// Starts the rule of the key `key` of `query`: its first turn.
-pub(crate) fn start_of<Q: Embedded>(
-    alloc: Global,
-    query: &Q,
-    key: &Q::Key,
-) -> Result<Turn<ProtoKey, ProtoPart, ProtoValue>, Memory>
-    ensures turn { IfOk result (λ t. t ≡ embedded Q.as_part Q.as_value (Q.starts query.now key.now)) }
-{
-    Ok(turn_of::<Q>(query.start(alloc, key)?))
-}
-
-/// Goes on from `part` of `query` with the answer to the key that it asked: the next turn. If an
-/// allocation fails, the part comes back unchanged.
-pub(crate) fn advance_of<Q: Embedded>(
-    alloc: Global,
-    query: &Q,
-    part: Q::Part,
-    answer: &Answer<ProtoKey, ProtoValue>,
-) -> Result<Turn<ProtoKey, ProtoPart, ProtoValue>, ProtoPart>
-    ensures turn { IfOk result (λ t. t ≡ embedded Q.as_part Q.as_value (Q.advances query.now part answer.now)) }
-    ensures back { IfErr result (λ p. p ≡ Q.as_part part) }
-{
-    match query.advance(alloc, part, answer) {
-        Ok(turn) => Ok(turn_of::<Q>(turn)),
-        Err(part) => Err(Q::part(part)),
-    }
-}
-
-impl<S: LinkKeys<Key = ProtoKey, Answer = Answer<ProtoKey, ProtoValue>>> Embedded
+impl<S: LinkKeys<Key = ProtoKey, Answer = Answer<ProtoKey, ProtoValue>>> EmbeddedIn<ProtoRules>
     for ParseQuery<S> {
     ghost as_part = { λ q. Parsing };
 
@@ -98,7 +35,7 @@ impl<S: LinkKeys<Key = ProtoKey, Answer = Answer<ProtoKey, ProtoValue>>> Embedde
     }
 }
 
-impl<S: LinkKeys<Key = ProtoKey, Answer = Answer<ProtoKey, ProtoValue>>> Embedded
+impl<S: LinkKeys<Key = ProtoKey, Answer = Answer<ProtoKey, ProtoValue>>> EmbeddedIn<ProtoRules>
     for ImportsQuery<S> {
     ghost as_part = { λ q. Importing };
 
@@ -113,7 +50,7 @@ impl<S: LinkKeys<Key = ProtoKey, Answer = Answer<ProtoKey, ProtoValue>>> Embedde
     }
 }
 
-impl<S: LinkKeys<Key = ProtoKey, Answer = Answer<ProtoKey, ProtoValue>>> Embedded
+impl<S: LinkKeys<Key = ProtoKey, Answer = Answer<ProtoKey, ProtoValue>>> EmbeddedIn<ProtoRules>
     for LinkedQuery<S> {
     ghost as_part = { λ q. LinkingFiles q };
 
@@ -128,7 +65,7 @@ impl<S: LinkKeys<Key = ProtoKey, Answer = Answer<ProtoKey, ProtoValue>>> Embedde
     }
 }
 
-impl<S: SchemaKeys<Key = ProtoKey, Answer = Answer<ProtoKey, ProtoValue>>> Embedded
+impl<S: SchemaKeys<Key = ProtoKey, Answer = Answer<ProtoKey, ProtoValue>>> EmbeddedIn<ProtoRules>
     for DefsQuery<S> {
     ghost as_part = { λ q. Defining };
 
@@ -143,7 +80,7 @@ impl<S: SchemaKeys<Key = ProtoKey, Answer = Answer<ProtoKey, ProtoValue>>> Embed
     }
 }
 
-impl<S: SchemaKeys<Key = ProtoKey, Answer = Answer<ProtoKey, ProtoValue>>> Embedded
+impl<S: SchemaKeys<Key = ProtoKey, Answer = Answer<ProtoKey, ProtoValue>>> EmbeddedIn<ProtoRules>
     for ScopeQuery<S> {
     ghost as_part = { λ q. Scoping q };
 
@@ -158,7 +95,7 @@ impl<S: SchemaKeys<Key = ProtoKey, Answer = Answer<ProtoKey, ProtoValue>>> Embed
     }
 }
 
-impl<S: SchemaKeys<Key = ProtoKey, Answer = Answer<ProtoKey, ProtoValue>>> Embedded
+impl<S: SchemaKeys<Key = ProtoKey, Answer = Answer<ProtoKey, ProtoValue>>> EmbeddedIn<ProtoRules>
     for ResolvedQuery<S> {
     ghost as_part = { λ q. Resolving q };
 
@@ -173,7 +110,7 @@ impl<S: SchemaKeys<Key = ProtoKey, Answer = Answer<ProtoKey, ProtoValue>>> Embed
     }
 }
 
-impl<S: CheckKeys<Key = ProtoKey, Answer = Answer<ProtoKey, ProtoValue>>> Embedded
+impl<S: CheckKeys<Key = ProtoKey, Answer = Answer<ProtoKey, ProtoValue>>> EmbeddedIn<ProtoRules>
     for ChecksQuery<S> {
     ghost as_part = { λ q. Checking q };
 
@@ -188,7 +125,7 @@ impl<S: CheckKeys<Key = ProtoKey, Answer = Answer<ProtoKey, ProtoValue>>> Embedd
     }
 }
 
-impl<S: CheckKeys<Key = ProtoKey, Answer = Answer<ProtoKey, ProtoValue>>> Embedded
+impl<S: CheckKeys<Key = ProtoKey, Answer = Answer<ProtoKey, ProtoValue>>> EmbeddedIn<ProtoRules>
     for DiagnosticsQuery<S> {
     ghost as_part = { λ q. Diagnosing };
 
@@ -203,7 +140,7 @@ impl<S: CheckKeys<Key = ProtoKey, Answer = Answer<ProtoKey, ProtoValue>>> Embedd
     }
 }
 
-impl Embedded for DescriptorQuery {
+impl EmbeddedIn<ProtoRules> for DescriptorQuery {
     ghost as_part = { λ q. Describing q };
 
     ghost as_value = { λ v. values.Descriptor v };
@@ -217,7 +154,7 @@ impl Embedded for DescriptorQuery {
     }
 }
 
-impl Embedded for SymbolsQuery {
+impl EmbeddedIn<ProtoRules> for SymbolsQuery {
     ghost as_part = { λ q. Listing };
 
     ghost as_value = { λ v. values.Symbols v };
@@ -231,7 +168,7 @@ impl Embedded for SymbolsQuery {
     }
 }
 
-impl Embedded for DefinitionQuery {
+impl EmbeddedIn<ProtoRules> for DefinitionQuery {
     ghost as_part = { λ q. Locating q };
 
     ghost as_value = { λ v. values.Definition v };
