@@ -133,48 +133,28 @@ impl Rules for ProtoRules {
     ) -> Result<Turn<ProtoKey, ProtoPart, ProtoValue>, Memory> {
         match key {
             ProtoKey::Input(_) => Ok(Turn::Done(ProtoValue::Source(None))),
-            ProtoKey::Parse(file) => start_of::<ProtoRules, _>(
+            ProtoKey::Parse(file) => start_of::<Self, _>(alloc, &ParseQuery::<Self>::new(), file),
+            ProtoKey::Imports(file) => start_of::<Self, _>(
                 alloc,
-                &ParseQuery::<ProtoRules>::new(),
+                &ImportsQuery::<Self>::new(),
                 file,
             ),
-            ProtoKey::Imports(file) => start_of::<ProtoRules, _>(
+            ProtoKey::Linked(file) => start_of::<Self, _>(alloc, &LinkedQuery::<Self>::new(), file),
+            ProtoKey::Defs(file) => start_of::<Self, _>(alloc, &DefsQuery::<Self>::new(), file),
+            ProtoKey::Scope(file) => start_of::<Self, _>(alloc, &ScopeQuery::<Self>::new(), file),
+            ProtoKey::Resolved(file) => start_of::<Self, _>(
                 alloc,
-                &ImportsQuery::<ProtoRules>::new(),
+                &ResolvedQuery::<Self>::new(),
                 file,
             ),
-            ProtoKey::Linked(file) => start_of::<ProtoRules, _>(
-                alloc,
-                &LinkedQuery::<ProtoRules>::new(),
-                file,
-            ),
-            ProtoKey::Defs(file) => start_of::<ProtoRules, _>(
-                alloc,
-                &DefsQuery::<ProtoRules>::new(),
-                file,
-            ),
-            ProtoKey::Scope(file) => start_of::<ProtoRules, _>(
-                alloc,
-                &ScopeQuery::<ProtoRules>::new(),
-                file,
-            ),
-            ProtoKey::Resolved(file) => start_of::<ProtoRules, _>(
-                alloc,
-                &ResolvedQuery::<ProtoRules>::new(),
-                file,
-            ),
-            ProtoKey::Checks(file) => start_of::<ProtoRules, _>(
-                alloc,
-                &ChecksQuery::<ProtoRules>::new(),
-                file,
-            ),
+            ProtoKey::Checks(file) => start_of::<Self, _>(alloc, &ChecksQuery::<Self>::new(), file),
             ProtoKey::Diagnostics(file) => {
-                start_of::<ProtoRules, _>(alloc, &DiagnosticsQuery::<ProtoRules>::new(), file)
+                start_of::<Self, _>(alloc, &DiagnosticsQuery::<Self>::new(), file)
             }
-            ProtoKey::Descriptor(file) => start_of::<ProtoRules, _>(alloc, &DescriptorQuery, file),
-            ProtoKey::Symbols(file) => start_of::<ProtoRules, _>(alloc, &SymbolsQuery, file),
+            ProtoKey::Descriptor(file) => start_of::<Self, _>(alloc, &DescriptorQuery, file),
+            ProtoKey::Symbols(file) => start_of::<Self, _>(alloc, &SymbolsQuery, file),
             ProtoKey::Definition(file, place) => {
-                start_of::<ProtoRules, _>(alloc, &DefinitionQuery, &(file.copy()?, *place))
+                start_of::<Self, _>(alloc, &DefinitionQuery, &(file.copy()?, *place))
             }
         }
     }
@@ -187,47 +167,37 @@ impl Rules for ProtoRules {
     ) -> Result<Turn<ProtoKey, ProtoPart, ProtoValue>, ProtoPart> {
         match part {
             ProtoPart::Parsing => {
-                advance_of::<ProtoRules, _>(alloc, &ParseQuery::<ProtoRules>::new(), (), answer)
+                advance_of::<Self, _>(alloc, &ParseQuery::<Self>::new(), (), answer)
             }
             ProtoPart::Importing => {
-                advance_of::<ProtoRules, _>(alloc, &ImportsQuery::<ProtoRules>::new(), (), answer)
+                advance_of::<Self, _>(alloc, &ImportsQuery::<Self>::new(), (), answer)
             }
             ProtoPart::LinkingFiles(part) => {
-                advance_of::<ProtoRules, _>(alloc, &LinkedQuery::<ProtoRules>::new(), part, answer)
+                advance_of::<Self, _>(alloc, &LinkedQuery::<Self>::new(), part, answer)
             }
             ProtoPart::Defining => {
-                advance_of::<ProtoRules, _>(alloc, &DefsQuery::<ProtoRules>::new(), (), answer)
+                advance_of::<Self, _>(alloc, &DefsQuery::<Self>::new(), (), answer)
             }
             ProtoPart::Scoping(part) => {
-                advance_of::<ProtoRules, _>(alloc, &ScopeQuery::<ProtoRules>::new(), part, answer)
+                advance_of::<Self, _>(alloc, &ScopeQuery::<Self>::new(), part, answer)
             }
             ProtoPart::Resolving(part) => {
-                advance_of::<ProtoRules, _>(
-                    alloc,
-                    &ResolvedQuery::<ProtoRules>::new(),
-                    part,
-                    answer,
-                )
+                advance_of::<Self, _>(alloc, &ResolvedQuery::<Self>::new(), part, answer)
             }
             ProtoPart::Checking(part) => {
-                advance_of::<ProtoRules, _>(alloc, &ChecksQuery::<ProtoRules>::new(), part, answer)
+                advance_of::<Self, _>(alloc, &ChecksQuery::<Self>::new(), part, answer)
             }
             ProtoPart::Diagnosing => {
-                advance_of::<ProtoRules, _>(
-                    alloc,
-                    &DiagnosticsQuery::<ProtoRules>::new(),
-                    (),
-                    answer,
-                )
+                advance_of::<Self, _>(alloc, &DiagnosticsQuery::<Self>::new(), (), answer)
             }
-            ProtoPart::Describing(part) => advance_of::<ProtoRules, _>(
+            ProtoPart::Describing(part) => advance_of::<Self, _>(
                 alloc,
                 &DescriptorQuery,
                 part,
                 answer,
             ),
-            ProtoPart::Listing => advance_of::<ProtoRules, _>(alloc, &SymbolsQuery, (), answer),
-            ProtoPart::Locating(part) => advance_of::<ProtoRules, _>(
+            ProtoPart::Listing => advance_of::<Self, _>(alloc, &SymbolsQuery, (), answer),
+            ProtoPart::Locating(part) => advance_of::<Self, _>(
                 alloc,
                 &DefinitionQuery,
                 part,

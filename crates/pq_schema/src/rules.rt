@@ -245,22 +245,20 @@ impl Rules for SchemaRules {
         match key {
             SchemaKey::Input(_) => Ok(Turn::Done(SchemaValue::Source(None))),
             SchemaKey::Parse(file) => {
-                start_of::<SchemaRules, _>(alloc, &ParseQuery::<SchemaRules>::new(), file)
+                start_of::<Self, _>(alloc, &ParseQuery::<Self>::new(), file)
             }
             SchemaKey::Imports(file) => {
-                start_of::<SchemaRules, _>(alloc, &ImportsQuery::<SchemaRules>::new(), file)
+                start_of::<Self, _>(alloc, &ImportsQuery::<Self>::new(), file)
             }
             SchemaKey::Linked(file) => {
-                start_of::<SchemaRules, _>(alloc, &LinkedQuery::<SchemaRules>::new(), file)
+                start_of::<Self, _>(alloc, &LinkedQuery::<Self>::new(), file)
             }
-            SchemaKey::Defs(file) => {
-                start_of::<SchemaRules, _>(alloc, &DefsQuery::<SchemaRules>::new(), file)
-            }
+            SchemaKey::Defs(file) => { start_of::<Self, _>(alloc, &DefsQuery::<Self>::new(), file) }
             SchemaKey::Scope(file) => {
-                start_of::<SchemaRules, _>(alloc, &ScopeQuery::<SchemaRules>::new(), file)
+                start_of::<Self, _>(alloc, &ScopeQuery::<Self>::new(), file)
             }
             SchemaKey::Resolved(file) => {
-                start_of::<SchemaRules, _>(alloc, &ResolvedQuery::<SchemaRules>::new(), file)
+                start_of::<Self, _>(alloc, &ResolvedQuery::<Self>::new(), file)
             }
         }
     }
@@ -273,32 +271,22 @@ impl Rules for SchemaRules {
     ) -> Result<Turn<SchemaKey, SchemaPart, SchemaValue>, SchemaPart> {
         match part {
             SchemaPart::Parsing => {
-                advance_of::<SchemaRules, _>(alloc, &ParseQuery::<SchemaRules>::new(), (), answer)
+                advance_of::<Self, _>(alloc, &ParseQuery::<Self>::new(), (), answer)
             }
             SchemaPart::Importing => {
-                advance_of::<SchemaRules, _>(alloc, &ImportsQuery::<SchemaRules>::new(), (), answer)
+                advance_of::<Self, _>(alloc, &ImportsQuery::<Self>::new(), (), answer)
             }
             SchemaPart::LinkingFiles(part) => {
-                advance_of::<SchemaRules, _>(
-                    alloc,
-                    &LinkedQuery::<SchemaRules>::new(),
-                    part,
-                    answer,
-                )
+                advance_of::<Self, _>(alloc, &LinkedQuery::<Self>::new(), part, answer)
             }
             SchemaPart::Defining => {
-                advance_of::<SchemaRules, _>(alloc, &DefsQuery::<SchemaRules>::new(), (), answer)
+                advance_of::<Self, _>(alloc, &DefsQuery::<Self>::new(), (), answer)
             }
             SchemaPart::Scoping(part) => {
-                advance_of::<SchemaRules, _>(alloc, &ScopeQuery::<SchemaRules>::new(), part, answer)
+                advance_of::<Self, _>(alloc, &ScopeQuery::<Self>::new(), part, answer)
             }
             SchemaPart::Resolving(part) => {
-                advance_of::<SchemaRules, _>(
-                    alloc,
-                    &ResolvedQuery::<SchemaRules>::new(),
-                    part,
-                    answer,
-                )
+                advance_of::<Self, _>(alloc, &ResolvedQuery::<Self>::new(), part, answer)
             }
         }
     }
