@@ -21,7 +21,7 @@ ghost use Rattle.pq_server.specs.Status.{status_of, line_of, frame_line, edit_li
 
 use pq_frame::FrameFault;
 use pq_inputs::InputFault;
-use pq_session::{Counted, ScriptFault, UNREADABLE_PARAMETERS, script};
+use pq_session::{Counted, ScriptFault, UNREADABLE_PARAMETERS, script, write_all};
 use std::alloc::Global;
 use std::io::{ErrorKind, Read, Write};
 
@@ -111,12 +111,9 @@ fn write_line<E: Write>(errors: &mut Counted<E>, line: &[u8])
     requires { failed_of errors.old < 2 ^ 63 }
     ensures { failed_of errors.new ≡ failed_of errors.old → Appends (E.contents (inner_of errors.old)) (E.contents (inner_of errors.new)) line.now }
 {
-    let mut rest = line;
-    'bytes: while !rest.is_empty() {
-        match errors.write(rest) {
-            Ok(count) if count > 0 => rest = &rest[count..],
-            _ => return,
-        }
+    match write_all(errors, line) {
+        Ok(()) => return,
+        Err(_) => {}
     }
 }
 
