@@ -6,8 +6,7 @@
 //! set). Modules: `turn` (turns and answers), `query` (one query), `embed` (a query as one of a sum),
 //! `rules` (a rule set and its laws), `shared` (values that copies share), `answers` (copies and
 //! equality of answers), `scratch` (the evaluator) over `answer_table`, `lists` (a push that answers
-//! `Memory`), `laws` (laws of answers),
-//! `sums` (the example: a sum of two queries).
+//! `Memory`), `laws` (laws of answers), `sums` (the example: a sum of two queries).
 #![tactic(auto)]
 
 mod answer_table;
