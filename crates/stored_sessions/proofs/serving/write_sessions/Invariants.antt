@@ -1,4 +1,4 @@
-use Rattle.std.proofs.Common.{ℕ, length}
+use Rattle.std.proofs.Common.{length}
 use Rattle.stored_sessions.proofs.serving.write_sessions.Given as goal
 
 abbrev pub decreases-sessions : goal.decreases-sessions
