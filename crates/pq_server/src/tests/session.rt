@@ -1,7 +1,4 @@
 //! pq_session: what needs calls. What only sends bytes is a row of `cases/sessions/`.
-mod devices;
-mod items;
-mod replies;
 mod scripts;
 mod uris;
 

@@ -1,11 +1,9 @@
 //! Random scripts over four files, rings of imports among them. An edit draws one part of a file
 //! anew: its durability, comment, imports, name or type.
 use super::check_script;
-use crate::tests::support::Random;
-use pq_rules::Memory;
-use std::alloc::Global;
+use crate::checks::text_of;
 use std::process::Abort;
-use std::test::Fail;
+use test_support::{Page, Random};
 
 /// What a file says, by its choices.
 #[derive(Clone, Copy)]
@@ -112,19 +110,29 @@ fn field(choice: usize) -> &'static str {
     }
 }
 
-/// The edit that sets the file with a number to what `draft` says. One file in eight is absent.
-fn edit(alloc: Global, file: usize, draft: Draft) -> Result<String, Memory> {
-    let name = file_name(file);
-    let durability = durability(draft.durability);
-    if draft.name % 8 == 7 {
-        return format!(in alloc; "{durability} {name}\n");
+/// Writes the file that `draft` says, as a line has it.
+fn add_file(page: &mut Page, draft: Draft) {
+    page.add(comment(draft.comment));
+    page.add(import(draft.imports));
+    page.add("|");
+    page.add(import(draft.imports >> 3));
+    page.add(beginning(draft.name));
+    page.add(" { ");
+    page.add(field(draft.kind));
+    page.add(" }|");
+}
+
+/// Writes the edit that sets the file with a number to what `draft` says. One file in eight is
+/// absent.
+fn add_edit(page: &mut Page, file: usize, draft: Draft) {
+    page.add(durability(draft.durability));
+    page.add(" ");
+    page.add(file_name(file));
+    if draft.name % 8 != 7 {
+        page.add(": ");
+        add_file(page, draft);
     }
-    let comment = comment(draft.comment);
-    let first = import(draft.imports);
-    let second = import(draft.imports >> 3);
-    let beginning = beginning(draft.name);
-    let field = field(draft.kind);
-    format!(in alloc; "{durability} {name}: {comment}{first}|{second}{beginning} {{ {field} }}|\n")
+    page.add("\n");
 }
 
 /// A query.
@@ -145,27 +153,30 @@ fn query(choice: usize) -> &'static str {
     }
 }
 
-/// A demand. Only that of a definition reads the place.
-fn demand(alloc: Global, random: &mut Random) -> Result<String, Memory> {
-    let query = query(random.below(16));
-    let name = file_name(random.below(4));
-    let line = random.below(4);
-    let character = random.below(40);
-    format!(in alloc; "{query} {name} {line}:{character}\n")
+/// Writes a demand. Only that of a definition reads the place.
+fn add_demand(page: &mut Page, random: &mut Random) {
+    page.add(query(random.below(16)));
+    page.add(" ");
+    page.add(file_name(random.below(4)));
+    page.add(" ");
+    page.number(random.below(4));
+    page.add(":");
+    page.number(random.below(40));
+    page.add("\n");
 }
 
-/// An edit of one of the files of `drafts`, or a demand.
-fn event(alloc: Global, drafts: &mut [Draft], random: &mut Random) -> Result<String, Memory> {
+/// Writes an edit of one of the files of `drafts`, or a demand.
+fn add_event(page: &mut Page, drafts: &mut [Draft], random: &mut Random) {
     let file = random.below(4);
     if random.below(2) == 0 {
-        return demand(alloc, random);
+        return add_demand(page, random);
     }
     match drafts.get_mut(file) {
         Some(draft) => {
             *draft = redrawn(*draft, random);
-            edit(alloc, file, *draft)
+            add_edit(page, file, *draft);
         }
-        None => demand(alloc, random),
+        None => add_demand(page, random),
     }
 }
 
@@ -180,37 +191,38 @@ fn first_draft(random: &mut Random) -> Draft {
     }
 }
 
-/// A script that sets four files, and then has 8 to 23 events.
-fn script(alloc: Global, random: &mut Random) -> Result<String, Memory> {
-    let mut drafts = Vec::new(alloc);
-    let mut all = String::new(alloc);
-    for file in 0..4usize {
-        let draft = first_draft(random);
-        drafts.push(draft)?;
-        all.push_str(edit(alloc, file, draft)?.as_str())?;
+/// Writes a script that sets four files, and then has 8 to 23 events.
+fn add_script(page: &mut Page, random: &mut Random) {
+    let mut drafts = [
+        first_draft(random),
+        first_draft(random),
+        first_draft(random),
+        first_draft(random),
+    ];
+    for (file, draft) in drafts.iter().enumerate() {
+        add_edit(page, file, *draft);
     }
     for _ in 0..random.below(16).wrapping_add(8) {
-        all.push_str(event(alloc, &mut drafts, random)?.as_str())?;
+        add_event(page, &mut drafts, random);
     }
-    Ok(all)
 }
 
 /// Checks 1,000 scripts, which the state `state` begins.
-fn check_scripts(rt: &(impl Abort + AllocGlobal), state: usize) -> Result<(), Fail> {
+fn check_scripts(rt: &(impl Abort + AllocGlobal), state: usize) {
     let mut random = Random::new(state);
     for _ in 0..1_000u32 {
-        let script = script(rt.alloc(), &mut random)?;
-        check_script(rt, script.as_str())?;
+        let mut script = Page::new(rt.alloc());
+        add_script(&mut script, &mut random);
+        check_script(rt, text_of(rt, &script));
     }
-    Ok(())
 }
 
 #[test]
-fn first_random_edits(rt: HostRuntime) -> Result<(), Fail> {
-    check_scripts(&rt, 1)
+fn first_random_edits(rt: HostRuntime) {
+    check_scripts(&rt, 1);
 }
 
 #[test]
-fn second_random_edits(rt: HostRuntime) -> Result<(), Fail> {
-    check_scripts(&rt, 2)
+fn second_random_edits(rt: HostRuntime) {
+    check_scripts(&rt, 2);
 }

@@ -6,24 +6,25 @@ mod file;
 mod reading;
 mod writer;
 
-use super::{SYNTAX_LINE, answer_of};
-use crate::tests::support::{Page, check_page, joined, set_text};
+use crate::checks::{check_page, check_that, text_of};
+use crate::sets::SYNTAX_LINE;
 use file::{File, add_line};
 use pq_checks::Fault;
 use pq_inputs::Inputs;
 use pq_lex::Span;
-use pq_proto::{ProtoKey, ProtoValue};
+use pq_proto::{ProtoKey, ProtoValue, compile};
 use pq_rules::{Answer, Memory, Text};
 use reading::read;
 use std::alloc::Global;
 use std::process::Abort;
+use test_support::{Page, is_set, joined};
 use writer::Writer;
 
 /// Sets the files of a set.
 fn set_files(rt: &(impl Abort + AllocGlobal), inputs: &mut Inputs, set: &[File]) {
     for file in set {
-        let text = joined(rt.alloc(), SYNTAX_LINE, file.text.text(rt));
-        set_text(rt, inputs, file.name(), text);
+        let text = joined(rt.alloc(), SYNTAX_LINE, text_of(rt, &file.text));
+        check_that(rt, is_set(inputs, file.name(), text), file.name());
     }
 }
 
@@ -55,7 +56,7 @@ fn diagnostics_of(
     file: &str,
 ) -> Result<Answer<ProtoKey, ProtoValue>, Memory> {
     let key = ProtoKey::Diagnostics(Text::new(alloc, file)?);
-    answer_of(alloc, inputs, &key)
+    compile(alloc, inputs, &key)
 }
 
 /// Writes the diagnostics of `file` as lines.
@@ -96,8 +97,8 @@ fn add_sorted(lines: &mut Page, text: &str) {
 /// Checks that the lines `found` are those of `said` in order, each once.
 fn check_lines(rt: &(impl Abort + AllocGlobal), found: &Page, said: &Page, row: &str) {
     let mut want = Page::new(rt.alloc());
-    add_sorted(&mut want, said.text(rt));
-    check_page(rt, found, want.text(rt), row);
+    add_sorted(&mut want, text_of(rt, &said));
+    check_page(rt, found, text_of(rt, &want), row);
 }
 
 /// Checks the diagnostics of a file of the set `set`.
@@ -106,7 +107,7 @@ fn check_file(rt: &(impl Abort + AllocGlobal), inputs: &Inputs, set: &[File], fi
     add_found(&mut found, inputs, file.name());
     let mut said = Page::new(rt.alloc());
     read(&mut said, set, file);
-    check_lines(rt, &found, &said, file.text.text(rt));
+    check_lines(rt, &found, &said, text_of(rt, &file.text));
 }
 
 /// Checks each file of a set.

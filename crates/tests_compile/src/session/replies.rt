@@ -1,14 +1,14 @@
 //! The texts of replies, by how their requests ended.
-use crate::tests::support::check_text;
+use crate::checks::{check_text, check_that};
 use pq_core::{ClientId, Label, Number, Reply, Request, Want};
-use pq_inputs::{Durability, Inputs, Revision};
+use pq_inputs::{Inputs, Revision};
 use pq_names::Text;
 use pq_proto::{Place, ProtoKey, ProtoValue, compile};
 use pq_rules::Shared;
 use pq_session::{Memory, Root, reply_text};
 use std::alloc::Global;
 use std::process::Abort;
-use std::test::Fail;
+use test_support::is_set;
 
 /// The client of each reply.
 fn client() -> ClientId {
@@ -20,13 +20,16 @@ fn number() -> Number {
     Number::new(1)
 }
 
+/// No files.
+fn no_files(rt: &(impl Abort + AllocGlobal)) -> Inputs {
+    Inputs::new(rt.alloc()).expect(rt, "memory")
+}
+
 /// Sets `a.proto`, and returns the revision after that.
-fn set(alloc: Global, inputs: &mut Inputs) -> Result<Revision, Fail> {
-    let text = String::from_str(alloc, "syntax='proto3';message M{M m=1;}")?;
-    match inputs.set("a.proto", Some(text), Durability::Low) {
-        Ok(revision) => Ok(revision),
-        Err(_refused) => Err(Fail::from("a file was not set")),
-    }
+fn set(rt: &(impl Abort + AllocGlobal), inputs: &mut Inputs) -> Revision {
+    let text = String::from_str(rt.alloc(), "syntax='proto3';message M{M m=1;}");
+    check_that(rt, is_set(inputs, "a.proto", text), "a.proto");
+    inputs.now()
 }
 
 /// The text of a reply to a client whose root is `/p`.
@@ -36,76 +39,72 @@ fn shown_reply(alloc: Global, reply: &Reply<ProtoKey, ProtoValue>) -> Result<Str
 }
 
 /// Checks the text of a reply.
-fn check_reply(
-    rt: &(impl Abort + AllocGlobal),
-    reply: &Reply<ProtoKey, ProtoValue>,
-    want: &str,
-) -> Result<(), Memory> {
-    let found = shown_reply(rt.alloc(), reply)?;
+fn check_reply(rt: &(impl Abort + AllocGlobal), reply: &Reply<ProtoKey, ProtoValue>, want: &str) {
+    let found = shown_reply(rt.alloc(), reply).expect(rt, "memory");
     check_text(rt, found.as_str(), want, want);
-    Ok(())
+}
+
+/// A name, or a text of a label.
+fn text(rt: &(impl Abort + AllocGlobal), name: &str) -> Text {
+    Text::new(rt.alloc(), name).expect(rt, "memory")
 }
 
 /// The request 7 for the diagnostics of `a.proto`.
-fn diagnostics(alloc: Global) -> Result<Request<ProtoKey>, Memory> {
-    let key = ProtoKey::Diagnostics(Text::new(alloc, "a.proto")?);
-    Ok(Request {
+fn diagnostics(rt: &(impl Abort + AllocGlobal)) -> Request<ProtoKey> {
+    let key = ProtoKey::Diagnostics(text(rt, "a.proto"));
+    Request {
         label: Label::Unsigned(7),
         want: Want::Demand(key),
-    })
+    }
 }
 
-/// The reply to a request that was stopped. It is an error if `seen` is not after `started`.
+/// The reply to a request that was stopped, if `seen` is after `started`.
 fn cancelled(
     request: Request<ProtoKey>,
     started: Revision,
     seen: Revision,
-) -> Result<Reply<ProtoKey, ProtoValue>, Fail> {
+) -> Option<Reply<ProtoKey, ProtoValue>> {
     if started < seen {
-        Ok(Reply::cancelled(client(), number(), request, started, seen))
+        Some(Reply::cancelled(client(), number(), request, started, seen))
     } else {
-        Err(Fail::from("the revisions do not rise"))
+        None
     }
 }
 
 #[test]
-fn a_cancelled_request(rt: HostRuntime) -> Result<(), Fail> {
-    let mut inputs = Inputs::new(rt.alloc())?;
-    set(rt.alloc(), &mut inputs)?;
-    set(rt.alloc(), &mut inputs)?;
-    let started = set(rt.alloc(), &mut inputs)?;
-    let seen = set(rt.alloc(), &mut inputs)?;
-    let reply = cancelled(diagnostics(rt.alloc())?, started, seen)?;
+fn a_cancelled_request(rt: HostRuntime) {
+    let mut inputs = no_files(&rt);
+    set(&rt, &mut inputs);
+    set(&rt, &mut inputs);
+    let started = set(&rt, &mut inputs);
+    let seen = set(&rt, &mut inputs);
+    let reply = cancelled(diagnostics(&rt), started, seen).expect(&rt, "revisions rise");
     check_reply(
         &rt,
         &reply,
         r#"{"error":{"code":-32801,"data":{"seen":4,"started":3},"message":"content modified"},"id":7,"jsonrpc":"2.0"}"#,
-    )?;
-    Ok(())
+    );
 }
 
 #[test]
-fn a_starved_request(rt: HostRuntime) -> Result<(), Fail> {
-    let inputs = Inputs::new(rt.alloc())?;
-    let request = diagnostics(rt.alloc())?;
-    let reply = Reply::starved(client(), number(), request, inputs.now());
+fn a_starved_request(rt: HostRuntime) {
+    let inputs = no_files(&rt);
+    let reply = Reply::starved(client(), number(), diagnostics(&rt), inputs.now());
     check_reply(
         &rt,
         &reply,
         r#"{"error":{"code":-32603,"message":"out of memory"},"id":7,"jsonrpc":"2.0"}"#,
-    )?;
-    Ok(())
+    );
 }
 
 #[test]
-fn a_fixed_text(rt: HostRuntime) -> Result<(), Fail> {
-    let inputs = Inputs::new(rt.alloc())?;
-    let want = Want::Fixed(Text::new(rt.alloc(), "{}")?);
+fn a_fixed_text(rt: HostRuntime) {
+    let inputs = no_files(&rt);
+    let want = Want::Fixed(text(&rt, "{}"));
     let label = Label::None;
     let request = Request { label, want };
     let reply = Reply::plain(client(), number(), request, inputs.now());
-    check_reply(&rt, &reply, "{}")?;
-    Ok(())
+    check_reply(&rt, &reply, "{}");
 }
 
 /// The reply to a request with the answer of `key` at the sources.
@@ -128,58 +127,52 @@ fn check_answer(
     label: Label,
     key: ProtoKey,
     want: &str,
-) -> Result<(), Memory> {
-    let reply = answered(rt.alloc(), inputs, label, key)?;
-    check_reply(rt, &reply, want)
+) {
+    let reply = answered(rt.alloc(), inputs, label, key).expect(rt, "memory");
+    check_reply(rt, &reply, want);
 }
 
 #[test]
-fn answers(rt: HostRuntime) -> Result<(), Fail> {
-    let alloc = rt.alloc();
-    let mut inputs = Inputs::new(alloc)?;
-    set(alloc, &mut inputs)?;
+fn answers(rt: HostRuntime) {
+    let mut inputs = no_files(&rt);
+    set(&rt, &mut inputs);
     check_answer(
         &rt,
         &inputs,
         Label::Negative(-7),
-        ProtoKey::Diagnostics(Text::new(alloc, "a.proto")?),
+        ProtoKey::Diagnostics(text(&rt, "a.proto")),
         r#"{"id":-7,"jsonrpc":"2.0","result":{"items":[],"kind":"full","resultId":"1"}}"#,
-    )?;
+    );
     check_answer(
         &rt,
         &inputs,
-        Label::Text(Text::new(alloc, "x\n")?),
-        ProtoKey::Descriptor(Text::new(alloc, "b.proto")?),
+        Label::Text(text(&rt, "x\n")),
+        ProtoKey::Descriptor(text(&rt, "b.proto")),
         r#"{"id":"x\n","jsonrpc":"2.0","result":{"file":null,"revision":"1"}}"#,
-    )?;
+    );
     check_answer(
         &rt,
         &inputs,
         Label::Unsigned(0),
-        ProtoKey::Symbols(Text::new(alloc, "b.proto")?),
+        ProtoKey::Symbols(text(&rt, "b.proto")),
         r#"{"id":0,"jsonrpc":"2.0","result":[]}"#,
-    )?;
-    Ok(())
+    );
 }
 
 // The URI of a definition is below the root of the client.
 #[test]
-fn definitions_below_the_root(rt: HostRuntime) -> Result<(), Fail> {
-    let alloc = rt.alloc();
-    let mut inputs = Inputs::new(alloc)?;
-    set(alloc, &mut inputs)?;
+fn definitions_below_the_root(rt: HostRuntime) {
+    let mut inputs = no_files(&rt);
+    set(&rt, &mut inputs);
+    let place = Place {
+        line: 0,
+        character: 26,
+    };
     check_answer(
         &rt,
         &inputs,
         Label::Unsigned(7),
-        ProtoKey::Definition(
-            Text::new(alloc, "a.proto")?,
-            Place {
-                line: 0,
-                character: 26,
-            },
-        ),
+        ProtoKey::Definition(text(&rt, "a.proto"), place),
         r#"{"id":7,"jsonrpc":"2.0","result":{"range":{"end":{"character":25,"line":0},"start":{"character":24,"line":0}},"uri":"file:///p/a.proto"}}"#,
-    )?;
-    Ok(())
+    );
 }

@@ -1,9 +1,9 @@
 //! Random files.
 use super::file::{Body, File, Import, Member, Owner, Range, ReservedName, file_name};
-use crate::tests::support::Random;
 use pq_lex::Span;
 use pq_rules::Memory;
 use std::alloc::Global;
+use test_support::Random;
 
 /// Numbers near the bounds of fields and of ranges, some of them twice.
 const FIELD_NUMBERS: &str =

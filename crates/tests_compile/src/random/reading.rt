@@ -3,7 +3,7 @@ use super::file::{
     Definition, File, Import, Member, Owner, Range, add_line, add_name, begin_line, file_name,
     simple_name,
 };
-use crate::tests::support::Page;
+use test_support::Page;
 
 /// The least and the greatest number of the members of a message or an enum.
 fn limits(owner: Owner) -> (i64, i64) {

@@ -1,10 +1,10 @@
 //! A file as text and as lists.
 //!
 //! A dotted name is a number whose hexadecimal digits are simple names, and 0 is the empty name.
-use super::super::SYNTAX_LINE;
-use crate::tests::support::Page;
+use crate::sets::SYNTAX_LINE;
 use pq_lex::Span;
 use std::alloc::Global;
+use test_support::Page;
 
 /// The simple names of the digits from 0 on. The entry of a map field is 4 after the field.
 const NAMES: &str = "|A|B|p|x|AEntry|BEntry|PEntry|XEntry";

@@ -1,14 +1,54 @@
 //! Scripts between a reader and a writer of one log, which fail at a call that the test chooses.
-use super::shown_outcome;
-use crate::tests::support::check_text;
-use pq_frame::frame;
+use crate::checks::{check_number, check_page, check_that};
+use pq_frame::{FrameFault, frame};
+use pq_inputs::InputFault;
 use pq_session::{Counted, Memory, ScriptFault, script};
 use std::alloc::Global;
 use std::cell::RefCell;
 use std::io;
 use std::io::{Read, Write};
 use std::process::Abort;
-use std::test::Fail;
+use test_support::Page;
+
+/// The name of a script's error.
+fn fault_name(fault: &ScriptFault) -> &'static str {
+    match fault {
+        ScriptFault::Frame(FrameFault::HeaderTooLong) => "HeaderTooLong",
+        ScriptFault::Frame(FrameFault::NoLength) => "NoLength",
+        ScriptFault::Frame(FrameFault::BadLength) => "BadLength",
+        ScriptFault::Frame(FrameFault::TooLong) => "TooLong",
+        ScriptFault::Frame(FrameFault::Memory) => "Frame(Memory)",
+        ScriptFault::Cut => "Cut",
+        ScriptFault::Edit(InputFault::TextTooLong) => "TextTooLong",
+        ScriptFault::Edit(InputFault::TooManyFiles) => "TooManyFiles",
+        ScriptFault::Edit(InputFault::RevisionsUsedUp) => "RevisionsUsedUp",
+        ScriptFault::Edit(InputFault::Memory) => "Edit(Memory)",
+        ScriptFault::Read => "Read",
+        ScriptFault::TooManyReads => "TooManyReads",
+        ScriptFault::Write => "Write",
+        ScriptFault::Memory => "Memory",
+    }
+}
+
+/// Writes a script's outcome: its status, or its error.
+fn add_outcome(page: &mut Page, outcome: &Result<u8, ScriptFault>) {
+    match outcome {
+        Ok(status) => page.number(usize::from(*status)),
+        Err(fault) => page.add(fault_name(fault)),
+    }
+}
+
+/// Checks that a script's outcome is `want`; `row` names the row.
+fn check_outcome(
+    rt: &(impl Abort + AllocGlobal),
+    outcome: &Result<u8, ScriptFault>,
+    want: &str,
+    row: &str,
+) {
+    let mut page = Page::new(rt.alloc());
+    add_outcome(&mut page, outcome);
+    check_page(rt, &page, want, row);
+}
 
 /// The calls so far: `r` for a read, `w` for a write, `f` for a flush.
 #[derive(Drop)]
@@ -32,11 +72,11 @@ impl Log {
         Ok(())
     }
 
-    /// The calls as text.
-    fn shown(&self, alloc: Global) -> Result<String, Memory> {
+    /// Writes the calls.
+    fn show(&self, page: &mut Page) {
         match self.calls.try_borrow() {
-            Ok(calls) => String::from_utf8_lossy(alloc, calls.as_slice()),
-            Err(_) => String::from_str(alloc, "borrowed"),
+            Ok(calls) => page.bytes(calls.as_slice()),
+            Err(_) => page.add("borrowed"),
         }
     }
 }
@@ -160,9 +200,16 @@ fn run(
     (sink.got, result)
 }
 
+/// Checks that the calls of a log are `want`; `row` names the row.
+fn check_calls(rt: &(impl Abort + AllocGlobal), log: &Log, want: &str, row: &str) {
+    let mut page = Page::new(rt.alloc());
+    log.show(&mut page);
+    check_page(rt, &page, want, row);
+}
+
 /// Runs a script over `pieces`, the devices failing as said, and checks its outcome and its calls.
 ///
-/// The answer is what was written.
+/// The answer is how many bytes were written.
 fn check_run(
     rt: &(impl Abort + AllocGlobal),
     pieces: &[Vec<u8>],
@@ -170,43 +217,47 @@ fn check_run(
     bad: Bad,
     want: &str,
     calls: &str,
-) -> Result<Vec<u8>, Fail> {
-    let alloc = rt.alloc();
-    let log = Log::new(alloc);
-    let (output, outcome) = run(alloc, &log, pieces, bad_read, MOST, bad);
-    let outcome = shown_outcome(alloc, outcome)?;
-    check_text(rt, outcome.as_str(), want, calls);
-    let found = log.shown(alloc)?;
-    check_text(rt, found.as_str(), calls, want);
-    Ok(output)
+) -> usize {
+    let log = Log::new(rt.alloc());
+    let (output, outcome) = run(rt.alloc(), &log, pieces, bad_read, MOST, bad);
+    check_outcome(rt, &outcome, want, calls);
+    check_calls(rt, &log, calls, want);
+    output.len()
+}
+
+/// The pieces of that session.
+fn pieces_of(rt: &(impl Abort + AllocGlobal)) -> Vec<Vec<u8>> {
+    session_pieces(rt.alloc()).expect(rt, "memory")
 }
 
 #[test]
-fn each_reply_is_flushed_before_the_next_read(rt: HostRuntime) -> Result<(), Fail> {
-    let pieces = session_pieces(rt.alloc())?;
-    let _output = check_run(&rt, &pieces, None, Bad::Never, "0", "rwfrrwfrwfr")?;
-    Ok(())
+fn each_reply_is_flushed_before_the_next_read(rt: HostRuntime) {
+    let pieces = pieces_of(&rt);
+    let _length = check_run(&rt, &pieces, None, Bad::Never, "0", "rwfrrwfrwfr");
 }
 
-#[test]
-fn an_error_after_a_reply_needs_no_read(rt: HostRuntime) -> Result<(), Fail> {
-    let alloc = rt.alloc();
+/// A piece with a frame, and then what is no header.
+fn frame_and_error(alloc: Global) -> Result<Vec<Vec<u8>>, Memory> {
     let mut piece = frame(alloc, br#"{"id":0,"jsonrpc":"2.0","method":"initialize"}"#)?;
     piece.extend_from_slice(b"\r\n")?;
     let mut pieces = Vec::new(alloc);
     pieces.push(piece)?;
-    let _output = check_run(&rt, &pieces, None, Bad::Never, "NoLength", "rwf")?;
-    Ok(())
+    Ok(pieces)
 }
 
 #[test]
-fn a_failed_read_keeps_the_replies_before_it(rt: HostRuntime) -> Result<(), Fail> {
-    let pieces = session_pieces(rt.alloc())?;
+fn an_error_after_a_reply_needs_no_read(rt: HostRuntime) {
+    let pieces = frame_and_error(rt.alloc()).expect(&rt, "memory");
+    let _length = check_run(&rt, &pieces, None, Bad::Never, "NoLength", "rwf");
+}
+
+#[test]
+fn a_failed_read_keeps_the_replies_before_it(rt: HostRuntime) {
+    let pieces = pieces_of(&rt);
     let logs = "r\nrwfr\nrwfrr\nrwfrrwfr\nrwfrrwfrwfr";
     for (read, calls) in logs.lines().enumerate() {
-        let _output = check_run(&rt, &pieces, Some(read), Bad::Never, "Read", calls)?;
+        let _length = check_run(&rt, &pieces, Some(read), Bad::Never, "Read", calls);
     }
-    Ok(())
 }
 
 /// Checks that a script whose writer fails as `bad` says has written the first `length` bytes of
@@ -217,44 +268,42 @@ fn check_prefix(
     whole: &[u8],
     bad: Bad,
     length: usize,
-) -> Result<(), Fail> {
+) {
     let log = Log::new(rt.alloc());
     let (output, outcome) = run(rt.alloc(), &log, pieces, None, 100, bad);
-    let outcome = shown_outcome(rt.alloc(), outcome)?;
-    check_text(rt, outcome.as_str(), "Write", "a failed write");
-    assert!(rt; whole.starts_with(output.as_slice()), "{length} bytes");
-    assert_eq!(rt; output.len(), length);
-    Ok(())
+    check_outcome(rt, &outcome, "Write", "a failed write");
+    check_that(rt, whole.starts_with(output.as_slice()), "a prefix");
+    check_number(rt, output.len(), length, "a failed write");
 }
 
 // 323, 97 and 60 bytes are taken in 4, 1 and 1 writes of at most 100 bytes.
 #[test]
-fn a_failed_write_leaves_a_prefix(rt: HostRuntime) -> Result<(), Fail> {
-    let pieces = session_pieces(rt.alloc())?;
+fn a_failed_write_leaves_a_prefix(rt: HostRuntime) {
+    let pieces = pieces_of(&rt);
     let log = Log::new(rt.alloc());
     let (whole, _outcome) = run(rt.alloc(), &log, &pieces, None, 100, Bad::Never);
     for (write, length) in [0, 100, 200, 300, 323, 420].into_iter().enumerate() {
-        check_prefix(&rt, &pieces, &whole, Bad::FailedWrite(write), length)?;
-        check_prefix(&rt, &pieces, &whole, Bad::EmptyWrite(write), length)?;
+        check_prefix(&rt, &pieces, &whole, Bad::FailedWrite(write), length);
+        check_prefix(&rt, &pieces, &whole, Bad::EmptyWrite(write), length);
     }
-    Ok(())
+}
+
+/// Checks that a script whose flush `flush` fails makes `calls`, and has written `length` bytes.
+fn check_flush(
+    rt: &(impl Abort + AllocGlobal),
+    pieces: &[Vec<u8>],
+    flush: usize,
+    calls: &str,
+    length: usize,
+) {
+    let found = check_run(rt, pieces, None, Bad::FailedFlush(flush), "Write", calls);
+    check_number(rt, found, length, calls);
 }
 
 #[test]
-fn a_failed_flush_leaves_a_prefix(rt: HostRuntime) -> Result<(), Fail> {
-    let pieces = session_pieces(rt.alloc())?;
-    let first = check_run(&rt, &pieces, None, Bad::FailedFlush(0), "Write", "rwf")?;
-    assert_eq!(rt; first.len(), 323);
-    let second = check_run(&rt, &pieces, None, Bad::FailedFlush(1), "Write", "rwfrrwf")?;
-    assert_eq!(rt; second.len(), 420);
-    let third = check_run(
-        &rt,
-        &pieces,
-        None,
-        Bad::FailedFlush(2),
-        "Write",
-        "rwfrrwfrwf",
-    )?;
-    assert_eq!(rt; third.len(), 480);
-    Ok(())
+fn a_failed_flush_leaves_a_prefix(rt: HostRuntime) {
+    let pieces = pieces_of(&rt);
+    check_flush(&rt, &pieces, 0, "rwf", 323);
+    check_flush(&rt, &pieces, 1, "rwfrrwf", 420);
+    check_flush(&rt, &pieces, 2, "rwfrrwfrwf", 480);
 }

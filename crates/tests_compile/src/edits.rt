@@ -7,17 +7,16 @@
 //! `KEY REVISION WHY;` for each rule that the demand carries.
 mod random;
 
-use super::SYNTAX_LINE;
-use super::keys::{key_in, query_of};
-use crate::tests::support::{check_row_count, check_text};
+use crate::checks::{check_row_count, check_text, check_that, text_of};
+use crate::keys::{add_key, key_in};
+use crate::sets::{SYNTAX_LINE, whole_text};
 use pq_checks::Fault;
 use pq_inputs::{Durability, Inputs};
 use pq_memo::{Carried, Demanded, Engine, Why};
 use pq_proto::{ProtoKey, ProtoRules, ProtoValue, compile};
-use pq_rules::{Answer, Memory, same_answer};
-use std::alloc::Global;
+use pq_rules::{Answer, same_answer};
 use std::process::Abort;
-use std::test::Fail;
+use test_support::Page;
 
 /// The durability that a word names, `None` of another word.
 fn durability_of(word: &str) -> Option<Durability> {
@@ -31,92 +30,86 @@ fn durability_of(word: &str) -> Option<Durability> {
 
 /// Sets a file.
 fn set(
+    rt: &impl Abort,
     engine: &mut Engine<ProtoRules>,
     name: &str,
     text: Option<String>,
     durability: Durability,
-) -> Result<(), Fail> {
-    match engine.set(name, text, durability) {
-        Ok(_revision) => Ok(()),
-        Err(_refused) => Err(Fail::from("a file was not set")),
-    }
+) {
+    let is_set = engine.set(name, text, durability).is_ok();
+    check_that(rt, is_set, name);
 }
 
-/// `before` and then `text`, in which `|` means a line feed.
-fn whole_text(alloc: Global, before: &str, text: &str) -> Result<String, Memory> {
-    let mut whole = String::from_str(alloc, before)?;
-    whole.push_str(text.replace(alloc, "|", "\n")?.as_str())?;
-    Ok(whole)
+/// Sets a file to `before` and then `text`, in which `|` means a line feed.
+fn set_text(
+    rt: &(impl Abort + AllocGlobal),
+    engine: &mut Engine<ProtoRules>,
+    name: &str,
+    before: &str,
+    text: &str,
+    durability: Durability,
+) {
+    let whole = whole_text(rt.alloc(), before, text).expect(rt, "memory");
+    set(rt, engine, name, Some(whole), durability);
 }
 
 /// Makes the edit `file` of the durability `durability`.
 fn edit(
-    alloc: Global,
+    rt: &(impl Abort + AllocGlobal),
     engine: &mut Engine<ProtoRules>,
     durability: Durability,
     file: &str,
-) -> Result<(), Fail> {
+) {
     if let Some((name, text)) = file.split_once(": ") {
-        let text = whole_text(alloc, SYNTAX_LINE, text)?;
-        return set(engine, name, Some(text), durability);
+        return set_text(rt, engine, name, SYNTAX_LINE, text, durability);
     }
     match file.split_once("= ") {
-        Some((name, text)) => {
-            let text = whole_text(alloc, "", text)?;
-            set(engine, name, Some(text), durability)
-        }
-        None => set(engine, file, None, durability),
+        Some((name, text)) => set_text(rt, engine, name, "", text, durability),
+        None => set(rt, engine, file, None, durability),
     }
 }
 
-/// Why a rule was started: `fresh`, `ring`, or the read that changed.
-fn shown_why(alloc: Global, why: &Why<ProtoKey>) -> Result<String, Memory> {
+/// Writes why a rule was started: `fresh`, `ring`, or the read that changed.
+fn add_why(page: &mut Page, why: &Why<ProtoKey>) {
     match why {
-        Why::Fresh => String::from_str(alloc, "fresh"),
-        Why::Changed(key) => query_of(alloc, key),
-        Why::Ring => String::from_str(alloc, "ring"),
+        Why::Fresh => page.add("fresh"),
+        Why::Changed(key) => add_key(page, key),
+        Why::Ring => page.add("ring"),
     }
 }
 
-/// A rule that was started, as `KEY REVISION WHY;`.
-fn shown_start(alloc: Global, start: &Carried<ProtoKey>) -> Result<String, Memory> {
-    let key = query_of(alloc, &start.key)?;
-    let why = shown_why(alloc, &start.why)?;
-    let revision = start.revision.number();
-    format!(in alloc; "{} {revision} {};", key.as_str(), why.as_str())
+/// Writes a rule that was started, as `KEY REVISION WHY;`.
+fn add_start(page: &mut Page, start: &Carried<ProtoKey>) {
+    add_key(page, &start.key);
+    page.add(" ");
+    page.wide(start.revision.number());
+    page.add(" ");
+    add_why(page, &start.why);
+    page.add(";");
 }
 
-/// Adds the codes of `faults`, each with a blank after it.
-fn push_codes(shown: &mut String, faults: &[Fault]) -> Result<(), Memory> {
+/// Writes the codes of `faults`, each with a blank after it.
+fn add_codes(page: &mut Page, faults: &[Fault]) {
     for fault in faults {
-        shown.push_str(fault.code.as_str())?;
-        shown.push(' ')?;
-    }
-    Ok(())
-}
-
-/// Adds the codes of an answer, none of one that is not of diagnostics.
-fn push_answer(shown: &mut String, answer: &Answer<ProtoKey, ProtoValue>) -> Result<(), Memory> {
-    match answer {
-        Answer::Value(ProtoValue::Diagnostics(checked)) => {
-            push_codes(shown, checked.get().faults.as_slice())
-        }
-        _ => Ok(()),
+        page.add(fault.code.as_str());
+        page.add(" ");
     }
 }
 
-/// The codes of an answer and the rules that were started for it, as `CODES | CARRIED`.
-fn shown_demanded(
-    alloc: Global,
-    demanded: &Demanded<ProtoKey, ProtoValue>,
-) -> Result<String, Memory> {
-    let mut shown = String::new(alloc);
-    push_answer(&mut shown, demanded.answer.get())?;
-    shown.push_str("| ")?;
+/// Writes the codes of an answer, none of one that is not of diagnostics.
+fn add_answer(page: &mut Page, answer: &Answer<ProtoKey, ProtoValue>) {
+    if let Answer::Value(ProtoValue::Diagnostics(checked)) = answer {
+        add_codes(page, checked.get().faults.as_slice());
+    }
+}
+
+/// Writes the codes of an answer and the rules that were started for it, as `CODES | CARRIED`.
+fn add_demanded(page: &mut Page, demanded: &Demanded<ProtoKey, ProtoValue>) {
+    add_answer(page, demanded.answer.get());
+    page.add("| ");
     for start in &demanded.carried {
-        shown.push_str(shown_start(alloc, start)?.as_str())?;
+        add_start(page, start);
     }
-    Ok(shown)
 }
 
 /// Checks that `found` is what `key` compiles to.
@@ -126,10 +119,9 @@ fn check_answer(
     key: &ProtoKey,
     found: &Answer<ProtoKey, ProtoValue>,
     script: &str,
-) -> Result<(), Memory> {
-    let want = compile(rt.alloc(), inputs, key)?;
-    assert!(rt; same_answer(&ProtoRules, found, &want), "{script}");
-    Ok(())
+) {
+    let want = compile(rt.alloc(), inputs, key).expect(rt, "memory");
+    check_that(rt, same_answer(&ProtoRules, found, &want), script);
 }
 
 /// Checks that no rule is started for `key` when nothing changed.
@@ -138,10 +130,9 @@ fn check_again(
     engine: &mut Engine<ProtoRules>,
     key: &ProtoKey,
     script: &str,
-) -> Result<(), Memory> {
-    let demanded = engine.demand(rt.alloc(), key)?;
-    assert!(rt; demanded.carried.is_empty(), "{script}");
-    Ok(())
+) {
+    let demanded = engine.demand(rt.alloc(), key).expect(rt, "memory");
+    check_that(rt, demanded.carried.is_empty(), script);
 }
 
 /// Demands `key`, checks the answer, and returns it as text.
@@ -150,10 +141,12 @@ fn check_demand(
     engine: &mut Engine<ProtoRules>,
     key: &ProtoKey,
     script: &str,
-) -> Result<String, Memory> {
-    let demanded = engine.demand(rt.alloc(), key)?;
-    check_answer(rt, engine.inputs(), key, demanded.answer.get(), script)?;
-    shown_demanded(rt.alloc(), &demanded)
+) -> Page {
+    let demanded = engine.demand(rt.alloc(), key).expect(rt, "memory");
+    check_answer(rt, engine.inputs(), key, demanded.answer.get(), script);
+    let mut found = Page::new(rt.alloc());
+    add_demanded(&mut found, &demanded);
+    found
 }
 
 /// Checks that `found`, which is `CODES | CARRIED`, is `want`, or that its codes are.
@@ -172,39 +165,39 @@ fn check_line(
     engine: &mut Engine<ProtoRules>,
     line: &str,
     script: &str,
-) -> Result<(), Memory> {
+) {
     let (asked, want) = line.split_once(" => ").unwrap_or((line, ""));
-    let key = key_in(rt, asked)?;
-    let found = check_demand(rt, engine, &key, script)?;
+    let key = key_in(rt, asked);
+    let found = check_demand(rt, engine, &key, script);
     if line.contains(" => ") {
-        check_shown(rt, found.as_str(), want, line);
+        check_shown(rt, text_of(rt, &found), want, line);
     }
-    check_again(rt, engine, &key, script)
+    check_again(rt, engine, &key, script);
 }
 
 /// Runs a script, each of its demands checked.
-fn check_script(rt: &(impl Abort + AllocGlobal), script: &str) -> Result<(), Fail> {
-    let mut engine = Engine::new(rt.alloc(), ProtoRules, Inputs::new(rt.alloc())?);
+fn check_script(rt: &(impl Abort + AllocGlobal), script: &str) {
+    let inputs = Inputs::new(rt.alloc()).expect(rt, "memory");
+    let mut engine = Engine::new(rt.alloc(), ProtoRules, inputs);
     for line in script.lines() {
         let (word, rest) = line.split_once(" ").unwrap_or((line, ""));
         match durability_of(word) {
-            Some(durability) => edit(rt.alloc(), &mut engine, durability, rest)?,
-            None => check_line(rt, &mut engine, line, script)?,
+            Some(durability) => edit(rt, &mut engine, durability, rest),
+            None => check_line(rt, &mut engine, line, script),
         }
     }
-    Ok(())
 }
 
 /// Runs the script `rows` of `count` lines.
-fn check_rows(rt: &(impl Abort + AllocGlobal), count: usize, rows: &str) -> Result<(), Fail> {
+fn check_rows(rt: &(impl Abort + AllocGlobal), count: usize, rows: &str) {
     check_row_count(rt, count, rows);
-    check_script(rt, rows)
+    check_script(rt, rows);
 }
 
 // A comment of the same length is parsed again, and nothing else. A text that is set again is a
 // revision, and starts no rule.
 #[test]
-fn comments_and_equal_texts(rt: HostRuntime) -> Result<(), Fail> {
+fn comments_and_equal_texts(rt: HostRuntime) {
     check_rows(
         &rt,
         7,
@@ -217,12 +210,12 @@ fn comments_and_equal_texts(rt: HostRuntime) -> Result<(), Fail> {
         Diagnostics a.proto => |\n\
         Checks a.proto => |\n\
         ",
-    )
+    );
 }
 
 // A durability that is lowered and a text that is emptied count like each other edit.
 #[test]
-fn lowered_durability(rt: HostRuntime) -> Result<(), Fail> {
+fn lowered_durability(rt: HostRuntime) {
     check_rows(
         &rt,
         6,
@@ -234,12 +227,12 @@ fn lowered_durability(rt: HostRuntime) -> Result<(), Fail> {
         low lib.proto: \n\
         Diagnostics lib.proto => \n\
         ",
-    )
+    );
 }
 
 // A ring of imports that is cut and closed again.
 #[test]
-fn import_ring(rt: HostRuntime) -> Result<(), Fail> {
+fn import_ring(rt: HostRuntime) {
     check_rows(
         &rt,
         13,
@@ -258,5 +251,5 @@ fn import_ring(rt: HostRuntime) -> Result<(), Fail> {
         Diagnostics b.proto => P105\n\
         Diagnostics a.proto => P105\n\
         ",
-    )
+    );
 }

@@ -1,16 +1,15 @@
 //! The answer of each key, by its kind, and the order of keys.
 //!
 //! A row is `QUERY FILE => ANSWER`.
-use super::{answer_of, inputs_of};
-use crate::tests::support::{check_row_count, check_text, split_row};
+use crate::checks::{check_page, check_row_count, check_that, split_row};
+use crate::sets::inputs_of;
 use pq_inputs::Inputs;
 use pq_links::ParsedFile;
-use pq_proto::{Place, ProtoKey, ProtoValue};
-use pq_rules::{Answer, Memory, Text};
+use pq_proto::{Place, ProtoKey, ProtoValue, compile};
+use pq_rules::{Answer, Text};
 use pq_syntax::Parsed;
-use std::alloc::Global;
 use std::process::Abort;
-use std::test::Fail;
+use test_support::Page;
 
 /// The key of the query `query` of the file `name`, at `place` if it is of a definition.
 fn key_of(query: &str, name: Text, place: Place) -> ProtoKey {
@@ -40,10 +39,11 @@ fn place_of(word: &str) -> Place {
 }
 
 /// The key that the line `QUERY FILE` or `QUERY FILE LINE:CHARACTER` writes.
-pub(super) fn key_in(rt: &(impl Abort + AllocGlobal), line: &str) -> Result<ProtoKey, Memory> {
+pub(crate) fn key_in(rt: &(impl Abort + AllocGlobal), line: &str) -> ProtoKey {
     let (query, rest) = split_row(rt, line, " ");
     let (file, place) = rest.split_once(" ").unwrap_or((rest, "0:0"));
-    Ok(key_of(query, Text::new(rt.alloc(), file)?, place_of(place)))
+    let name = Text::new(rt.alloc(), file).expect(rt, "memory");
+    key_of(query, name, place_of(place))
 }
 
 /// The query of a key, and its file.
@@ -64,59 +64,90 @@ fn query_and_file(key: &ProtoKey) -> (&'static str, &str) {
     }
 }
 
-/// A key as `QUERY FILE`.
-pub(super) fn query_of(alloc: Global, key: &ProtoKey) -> Result<String, Memory> {
+/// Writes a key as `QUERY FILE`.
+pub(crate) fn add_key(page: &mut Page, key: &ProtoKey) {
     let (query, file) = query_and_file(key);
-    format!(in alloc; "{query} {file}")
+    page.add(query);
+    page.add(" ");
+    page.add(file);
 }
 
-/// What a file is read as.
-fn shown_file(alloc: Global, file: &ParsedFile) -> Result<String, Memory> {
-    match file {
-        ParsedFile::Absent => String::from_str(alloc, "absent"),
-        ParsedFile::Present { parsed, .. } => match parsed {
-            Parsed::Tree(nodes) => format!(in alloc; "{} statements", nodes.as_slice().len()),
-            Parsed::Fault { .. } => String::from_str(alloc, "an error"),
-        },
+/// Writes `count` and what is counted.
+fn add_count(page: &mut Page, count: usize, word: &str) {
+    page.number(count);
+    page.add(word);
+}
+
+/// Writes what a text is parsed to.
+fn add_parsed(page: &mut Page, parsed: &Parsed) {
+    match parsed {
+        Parsed::Tree(nodes) => add_count(page, nodes.as_slice().len(), " statements"),
+        Parsed::Fault { .. } => page.add("an error"),
     }
 }
 
-/// A value: how long its list is, or its text.
-fn shown_value(alloc: Global, value: &ProtoValue) -> Result<String, Memory> {
-    let (count, word) = match value {
-        ProtoValue::Source(None) | ProtoValue::Imports(None) => (0, "absent"),
-        ProtoValue::Source(Some(text)) => (text.as_str().len(), "bytes"),
-        ProtoValue::Parse(file) => return shown_file(alloc, file.get()),
-        ProtoValue::Imports(Some(imports)) => (imports.get().as_slice().len(), "imports"),
-        ProtoValue::Linked(links) => (links.get().visible.as_slice().len(), "visible"),
-        ProtoValue::Defs(defs) => (defs.get().definitions().len(), "definitions"),
-        ProtoValue::Scope(scope) => (scope.get().reach().len(), "reached"),
-        ProtoValue::Resolved(all) => (all.get().as_slice().len(), "references"),
-        ProtoValue::Checks(checked) => (checked.get().faults.as_slice().len(), "errors"),
-        ProtoValue::Diagnostics(checked) => (checked.get().faults.as_slice().len(), "diagnostics"),
-        ProtoValue::Descriptor(text) => return String::from_str(alloc, text.as_str()),
-        ProtoValue::Symbols(text) => return String::from_str(alloc, text.as_str()),
-        ProtoValue::Definition(None) => (0, "locations"),
-        ProtoValue::Definition(Some(_)) => (1, "locations"),
-    };
-    format!(in alloc; "{count} {word}")
+/// Writes what a file is read as.
+fn add_file(page: &mut Page, file: &ParsedFile) {
+    match file {
+        ParsedFile::Absent => page.add("absent"),
+        ParsedFile::Present { parsed, .. } => add_parsed(page, parsed),
+    }
 }
 
-/// The answer of `key`.
-fn shown_key(alloc: Global, inputs: &Inputs, key: &ProtoKey) -> Result<String, Memory> {
-    match &answer_of(alloc, inputs, key)? {
-        Answer::Value(value) => shown_value(alloc, value),
-        Answer::Cycle(ring) => format!(in alloc; "a ring of {}", ring.keys().len()),
+/// Writes a value: how long its list is, or its text.
+fn add_value(page: &mut Page, value: &ProtoValue) {
+    match value {
+        ProtoValue::Source(None) | ProtoValue::Imports(None) => add_count(page, 0, " absent"),
+        ProtoValue::Source(Some(text)) => add_count(page, text.as_str().len(), " bytes"),
+        ProtoValue::Parse(file) => add_file(page, file.get()),
+        ProtoValue::Imports(Some(imports)) => {
+            add_count(page, imports.get().as_slice().len(), " imports");
+        }
+        ProtoValue::Linked(links) => {
+            add_count(page, links.get().visible.as_slice().len(), " visible");
+        }
+        ProtoValue::Defs(defs) => add_count(page, defs.get().definitions().len(), " definitions"),
+        ProtoValue::Scope(scope) => add_count(page, scope.get().reach().len(), " reached"),
+        ProtoValue::Resolved(all) => add_count(page, all.get().as_slice().len(), " references"),
+        ProtoValue::Checks(checked) => {
+            add_count(page, checked.get().faults.as_slice().len(), " errors");
+        }
+        ProtoValue::Diagnostics(checked) => {
+            add_count(page, checked.get().faults.as_slice().len(), " diagnostics");
+        }
+        ProtoValue::Descriptor(text) => page.add(text.as_str()),
+        ProtoValue::Symbols(text) => page.add(text.as_str()),
+        ProtoValue::Definition(None) => add_count(page, 0, " locations"),
+        ProtoValue::Definition(Some(_)) => add_count(page, 1, " locations"),
+    }
+}
+
+/// Writes an answer: a value, or how long a cycle is.
+fn add_answer(page: &mut Page, answer: &Answer<ProtoKey, ProtoValue>) {
+    match answer {
+        Answer::Value(value) => add_value(page, value),
+        Answer::Cycle(ring) => {
+            page.add("a ring of ");
+            page.number(ring.keys().len());
+        }
+    }
+}
+
+/// Writes the answer of `key`.
+fn add_found(page: &mut Page, inputs: &Inputs, key: &ProtoKey) {
+    match compile(page.alloc, inputs, key) {
+        Ok(answer) => add_answer(page, &answer),
+        Err(_) => page.cut(),
     }
 }
 
 /// Checks the row `QUERY FILE => ANSWER`.
-fn check_row(rt: &(impl Abort + AllocGlobal), inputs: &Inputs, row: &str) -> Result<(), Fail> {
+fn check_row(rt: &(impl Abort + AllocGlobal), inputs: &Inputs, row: &str) {
     let (asked, want) = split_row(rt, row, " => ");
-    let key = key_in(rt, asked)?;
-    let found = shown_key(rt.alloc(), inputs, &key)?;
-    check_text(rt, found.as_str(), want, row);
-    Ok(())
+    let key = key_in(rt, asked);
+    let mut page = Page::new(rt.alloc());
+    add_found(&mut page, inputs, &key);
+    check_page(rt, &page, want, row);
 }
 
 const FILES: &str = r#"a: import "b"; import "b"; message M { B x = 1; M x = 1; C y = 2; }
@@ -159,21 +190,19 @@ Definition a => 0 locations"#;
 
 // The list of a file's imports has a name once. P103, P110 and P122 are the errors of `a`.
 #[test]
-fn each_key(rt: HostRuntime) -> Result<(), Fail> {
+fn each_key(rt: HostRuntime) {
     check_row_count(&rt, 29, ANSWERS);
-    let inputs = inputs_of(rt.alloc(), FILES)?;
+    let inputs = inputs_of(&rt, FILES);
     for row in ANSWERS.lines() {
-        check_row(&rt, &inputs, row)?;
+        check_row(&rt, &inputs, row);
     }
-    Ok(())
 }
 
 /// Checks that the key of the line `line` is less than that of `later`.
-fn check_less(rt: &(impl Abort + AllocGlobal), line: &str, later: &str) -> Result<(), Memory> {
-    let key = key_in(rt, line)?;
-    let greater = key_in(rt, later)?;
-    assert!(rt; key < greater, "{later}");
-    Ok(())
+fn check_less(rt: &(impl Abort + AllocGlobal), line: &str, later: &str) {
+    let key = key_in(rt, line);
+    let greater = key_in(rt, later);
+    check_that(rt, key < greater, later);
 }
 
 const IN_ORDER: &str = "\
@@ -184,13 +213,12 @@ const IN_ORDER: &str = "\
 
 // Queries come first, then the bytes of names.
 #[test]
-fn orders_of_keys(rt: HostRuntime) -> Result<(), Fail> {
+fn orders_of_keys(rt: HostRuntime) {
     check_row_count(&rt, 14, IN_ORDER);
     for row in IN_ORDER.lines() {
         let (line, later) = split_row(&rt, row, " < ");
-        check_less(&rt, line, later)?;
+        check_less(&rt, line, later);
     }
-    Ok(())
 }
 
 #[test]
@@ -203,5 +231,5 @@ fn orders_of_places(rt: HostRuntime) {
         line: 1,
         character: 0,
     };
-    assert!(rt; place < later);
+    check_that(&rt, place < later, "places");
 }

@@ -1,0 +1,22 @@
+//! Tests of the compilation, of its memos between edits, and of the calls of a session.
+//!
+//! They cover what no contract says: printed text, and that calls succeed with ample memory. The
+//! crates that they test have no tests: a crate with tests is proved twice.
+//!
+//! Modules: `checks` (what tests assert), `sets` (small sets of files), `keys` (the answer of each
+//! key), `edits` (demands between edits), `random` (random sets beside a plain reading of the
+//! table), `session` (devices that fail, items and replies, call by call).
+#![tactic(auto)]
+
+#[cfg(test)]
+mod checks;
+#[cfg(test)]
+mod edits;
+#[cfg(test)]
+mod keys;
+#[cfg(test)]
+mod random;
+#[cfg(test)]
+mod session;
+#[cfg(test)]
+mod sets;
