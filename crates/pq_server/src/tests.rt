@@ -1,9 +1,6 @@
-//! Tests of the public calls of the crates from the links on, and of the program.
+//! Tests of the program: its command line, its statuses, and sessions through devices that fail.
 //!
-//! They cover what no contract says: rows worked out by hand, printed text, devices that fail, and
-//! that calls succeed with ample memory. The crates below have no tests: a crate with tests is proved
-//! twice. Those of the lower crates are in crates of tests alone, `tests_text` and `tests_engine`.
+//! They cover what no contract says. All other tests are rows of `cases/`, or stand in crates of
+//! tests alone.
 mod program;
-mod schema;
-mod session;
 mod support;

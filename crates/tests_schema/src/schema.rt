@@ -8,19 +8,20 @@ mod random;
 mod resolution;
 mod shown;
 
-use super::support::{Page, check_page, check_row_count, joined, set_text, split_row};
+use crate::checks::{check_page, check_row_count, check_that, split_row};
 use pq_inputs::Inputs;
 use pq_rules::{Answer, Memory, Text, from_scratch};
 use pq_schema::{SchemaKey, SchemaRules, SchemaValue, Scope, resolve};
 use shown::{add_answer, add_target};
 use std::alloc::Global;
 use std::process::Abort;
+use test_support::{Page, is_set, joined};
 
 /// Sets the file of a line, an absent one of a line without a text.
 fn set_line(rt: &(impl Abort + AllocGlobal), inputs: &mut Inputs, line: &str) {
     if let Some((name, text)) = line.split_once(": ") {
         let text = joined(rt.alloc(), "syntax='proto3';", text);
-        set_text(rt, inputs, name, text);
+        check_that(rt, is_set(inputs, name, text), name);
     }
 }
 

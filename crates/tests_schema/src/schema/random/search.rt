@@ -1,8 +1,8 @@
 //! What names resolve to, read from the definitions: full names are looked for by scans of lists.
 use super::model::{Definition, File, Kind, Reference, add_name, file_name, has};
-use crate::tests::support::Page;
 use pq_rules::Memory;
 use std::alloc::Global;
+use test_support::Page;
 
 /// The definitions of files, each file's in text order.
 #[derive(Drop)]

@@ -10,7 +10,7 @@ mod walks;
 mod written;
 
 use super::{add_query, inputs_of};
-use crate::tests::support::{Page, check_pages};
+use crate::checks::{check_pages, text_of};
 use diagnosed::add_found_errors;
 use model::{File, add_list, file_name};
 use pq_inputs::Inputs;
@@ -18,6 +18,7 @@ use pq_rules::Memory;
 use search::{Names, add_errors, add_resolved, names_of};
 use std::alloc::Global;
 use std::process::Abort;
+use test_support::Page;
 use walks::{Links, links_of};
 use written::Writer;
 
@@ -26,7 +27,7 @@ fn add_set(page: &mut Page, rt: &impl Abort, set: &[File]) {
     for file in set {
         page.add(file_name(file.number));
         page.add(": ");
-        page.add(file.text.text(rt));
+        page.add(text_of(rt, &file.text));
         page.add("\n");
     }
 }
@@ -175,9 +176,9 @@ fn check_file(
 fn check_set(rt: &(impl Abort + AllocGlobal), set: &[File]) {
     let mut texts = Page::new(rt.alloc());
     add_set(&mut texts, rt, set);
-    let inputs = inputs_of(rt, texts.text(rt));
+    let inputs = inputs_of(rt, text_of(rt, &texts));
     for file in 0..=set.len() {
-        check_file(rt, &inputs, set, file, texts.text(rt));
+        check_file(rt, &inputs, set, file, text_of(rt, &texts));
     }
 }
 
@@ -214,9 +215,9 @@ fn fourth_random_sets(rt: HostRuntime) {
 fn check_errors_of_set(rt: &(impl Abort + AllocGlobal), set: &[File]) {
     let mut texts = Page::new(rt.alloc());
     add_set(&mut texts, rt, set);
-    let inputs = inputs_of(rt, texts.text(rt));
+    let inputs = inputs_of(rt, text_of(rt, &texts));
     for file in 0..=set.len() {
-        check_errors(rt, &inputs, set, file, texts.text(rt));
+        check_errors(rt, &inputs, set, file, text_of(rt, &texts));
     }
 }
 

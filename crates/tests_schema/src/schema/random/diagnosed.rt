@@ -1,10 +1,10 @@
 //! The diagnostics of files of a random set: those of rings of imports and of types.
-use crate::tests::support::Page;
 use pq_checks::{Code, Fault};
 use pq_inputs::Inputs;
 use pq_proto::{ProtoKey, ProtoValue, compile};
 use pq_rules::{Answer, Memory, Text};
 use std::alloc::Global;
+use test_support::Page;
 
 /// Whether `code` is P105, or P150 to P153.
 fn is_of_links(code: Code) -> bool {

@@ -1,9 +1,9 @@
 //! A file in numbers, written together with the text that says the same.
 //!
 //! A dotted name is a number whose hexadecimal digits are simple names, and 0 is the empty name.
-use crate::tests::support::Page;
 use pq_rules::Memory;
 use std::alloc::Global;
+use test_support::Page;
 
 /// The simple names of the digits from 0 on. The entry of a map field is 4 after the field.
 const NAMES: &str = "|A|B|p|x|AEntry|BEntry|PEntry|XEntry|Ma|Mb|Mc|Md|Me|Mf";

@@ -1,8 +1,8 @@
 //! Random sets of files.
 use super::model::{File, Import, Kind, file_name};
-use crate::tests::support::Random;
 use pq_rules::Memory;
 use std::alloc::Global;
+use test_support::Random;
 
 /// Writes random files. Those that may be imported are `from` up to `count`.
 #[derive(Drop)]

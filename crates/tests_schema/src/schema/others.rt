@@ -1,10 +1,11 @@
 //! The first other file of a scope that defines a full name.
 use super::{answer_of, inputs_of};
-use crate::tests::support::{Page, check_page, check_row_count, split_row};
+use crate::checks::{check_page, check_row_count, split_row};
 use pq_inputs::Inputs;
 use pq_rules::Answer;
 use pq_schema::{SchemaKey, SchemaValue, Scope};
 use std::process::Abort;
+use test_support::Page;
 
 /// Writes the first file of `scope` but `file` that defines `full_name`, or `none`.
 fn add_first(page: &mut Page, scope: &Scope, file: &str, full_name: &str) {

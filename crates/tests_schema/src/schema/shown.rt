@@ -1,5 +1,4 @@
 //! Answers as text.
-use crate::tests::support::Page;
 use pq_links::{Import, Links, ParsedFile};
 use pq_rules::{Answer, Ring, Text};
 use pq_schema::{
@@ -7,6 +6,7 @@ use pq_schema::{
     ResolvedReference, SchemaKey, SchemaValue, Scope, Target, TypePart,
 };
 use pq_syntax::Parsed;
+use test_support::Page;
 
 /// The name of a file on a ring of imports.
 fn linked_name(key: &SchemaKey) -> &str {
