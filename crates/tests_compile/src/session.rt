@@ -1,4 +1,54 @@
-//! pq_session, call by call: devices that fail, the items of a session, and the texts of replies.
+//! pq_session, call by call: devices that fail, items, the texts of replies, the files that URIs
+//! name, and the longest text.
 mod devices;
 mod items;
+mod longest;
 mod replies;
+mod uris;
+
+use crate::checks::check_page;
+use pq_frame::FrameFault;
+use pq_inputs::InputFault;
+use pq_session::ScriptFault;
+use std::process::Abort;
+use test_support::Page;
+
+/// The name of a script's error.
+fn fault_name(fault: &ScriptFault) -> &'static str {
+    match fault {
+        ScriptFault::Frame(FrameFault::HeaderTooLong) => "HeaderTooLong",
+        ScriptFault::Frame(FrameFault::NoLength) => "NoLength",
+        ScriptFault::Frame(FrameFault::BadLength) => "BadLength",
+        ScriptFault::Frame(FrameFault::TooLong) => "TooLong",
+        ScriptFault::Frame(FrameFault::Memory) => "Frame(Memory)",
+        ScriptFault::Cut => "Cut",
+        ScriptFault::Edit(InputFault::TextTooLong) => "TextTooLong",
+        ScriptFault::Edit(InputFault::TooManyFiles) => "TooManyFiles",
+        ScriptFault::Edit(InputFault::RevisionsUsedUp) => "RevisionsUsedUp",
+        ScriptFault::Edit(InputFault::Memory) => "Edit(Memory)",
+        ScriptFault::Read => "Read",
+        ScriptFault::TooManyReads => "TooManyReads",
+        ScriptFault::Write => "Write",
+        ScriptFault::Memory => "Memory",
+    }
+}
+
+/// Writes a script's outcome: its status, or its error.
+fn add_outcome(page: &mut Page, outcome: &Result<u8, ScriptFault>) {
+    match outcome {
+        Ok(status) => page.number(usize::from(*status)),
+        Err(fault) => page.add(fault_name(fault)),
+    }
+}
+
+/// Checks that a script's outcome is `want`; `row` names the row.
+fn check_outcome(
+    rt: &(impl Abort + AllocGlobal),
+    outcome: &Result<u8, ScriptFault>,
+    want: &str,
+    row: &str,
+) {
+    let mut page = Page::new(rt.alloc());
+    add_outcome(&mut page, outcome);
+    check_page(rt, &page, want, row);
+}
