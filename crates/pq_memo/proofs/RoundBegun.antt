@@ -1,6 +1,6 @@
 -- A round of frames that may begin at any of them: begun at the least key it is a ring, and the
 -- members made of the frames, turned alike, are those of that ring.
-use Rattle.std.proofs.Common.{◌≡◌, ℕ, zero, suc, ◌<◌, ◌≤◌, List, [], ◌∷◌, ◌++◌, length, take, drop, refl, sym, ap, ap₂, subst, ◌∙◌, Option, arith}
+use Rattle.std.proofs.Common.{◌≡◌, ℕ, zero, suc, ◌<◌, ◌≤◌, List, [], ◌∷◌, ◌++◌, length, take, drop, refl, sym, ap, ap₂, subst, Option, arith}
 use Rattle.std.specs.declared.cmp.Ordering.{Ordering}
 use Rattle.std.specs.declared.cmp.Ordering.TheVariants.{Equal}
 use Rattle.pq_inputs.specs.Sources.{Table}
@@ -15,7 +15,7 @@ use Rattle.pq_memo.specs.declared.frame.Frame.{Frame}
 use Rattle.pq_memo.specs.Sound.{Memo, at}
 use Rattle.pq_memo.specs.Table.{HasIn}
 use Rattle.pq_memo.specs.Demand.{Differ}
-use Rattle.pq_memo.specs.Frames.{Awaits, RoundOf, IsRound, IsWaitRound, frame_keys}
+use Rattle.pq_memo.specs.Frames.{Awaits, IsRound, IsWaitRound, frame_keys}
 use Rattle.pq_memo.specs.aux.Demand.{IsLeastKey}
 use Rattle.pq_memo.specs.aux.Frames.{AreMembers}
 use Rattle.pq_memo.proofs.RoundClosed.{Closed, round_each, round_closed}

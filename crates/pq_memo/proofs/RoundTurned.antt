@@ -2,7 +2,7 @@
 -- at the least key they are a round (`closes`), and their keys stay the same (`turned_keys`).
 use Rattle.std.proofs.Common.{◌≡◌, ℕ, ◌<◌, List, [], ◌∷◌, ◌++◌, length, take, drop, get_or, refl, sym, ap, ap₂, subst, ◌∙◌, inl, inr, false, append-nil, Option}
 use Rattle.std.specs.declared.cmp.Ordering.{Ordering}
-use Rattle.std.specs.declared.cmp.Ordering.TheVariants.{Equal, Less, Greater}
+use Rattle.std.specs.declared.cmp.Ordering.TheVariants.{Equal, Less}
 use Rattle.std.specs.Ordering.{is_gt}
 use Rattle.pq_inputs.specs.declared.durability.Durability.{Durability}
 use Rattle.pq_inputs.specs.Sources.{Table}

@@ -1,5 +1,5 @@
 -- One step of a walk over the statements that are left of a body.
-use Rattle.std.proofs.Common.{◌≡◌, ℕ, suc, ◌+◌, ◌<◌, ◌≤◌, Bool, true, false, cond, nat_lt, nat_eq, length, get_or, drop, List, [], ◌∷◌, refl, sym, ap, ◌∙◌, arith, ◌-◌, take, add-zero, add-one, length-drop}
+use Rattle.std.proofs.Common.{◌≡◌, ℕ, suc, ◌+◌, ◌<◌, ◌≤◌, true, false, nat_lt, nat_eq, length, get_or, drop, List, [], ◌∷◌, refl, sym, ap, ◌∙◌, arith, ◌-◌, take, add-zero, add-one, length-drop}
 use Rattle.std.proofs.lemmas.Bool.Decides.{nat_tests}
 use Rattle.std.proofs.lemmas.List.{drop_all, drop_more, get_or_default, take_all}
 use Rattle.std.proofs.lemmas.Bool.{cond-true, cond-false}

@@ -1,5 +1,5 @@
 -- The first name of a text and what comes after it: the loop over the pieces finds the names.
-use Rattle.std.proofs.Common.{ℕ, suc, ◌≡◌, ◌⊎◌, ◌+◌, ◌<◌, ◌≤◌, ◌==◌, List, [], ◌∷◌, ◌++◌, length, refl, ap, ◌∙◌, add-one, inl, inr, arith, Bool, true, false, append_assoc}
+use Rattle.std.proofs.Common.{ℕ, suc, ◌≡◌, ◌+◌, ◌<◌, ◌≤◌, ◌==◌, List, [], ◌∷◌, ◌++◌, length, refl, ap, ◌∙◌, add-one, inl, inr, arith, append_assoc}
 use Rattle.std.proofs.lemmas.Bool.{cases_Bool}
 use Rattle.std.specs.List.{before_first, after_first, position_or_len, filter, slice_split}
 use Rattle.pq_rules.specs.aux.sums.Cuts.{word, rest, as_name}

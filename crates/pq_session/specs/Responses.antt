@@ -5,7 +5,7 @@ use Rattle.pq_frame.specs.Json.{IsJson}
 use Rattle.pq_frame.specs.Labels.{LabelModel}
 use Rattle.pq_frame.specs.Messages.{message_of}
 use Rattle.pq_inputs.specs.declared.fault.InputFault.{InputFault}
-use Rattle.pq_inputs.specs.Sources.{File, Sources, file_in, with_file}
+use Rattle.pq_inputs.specs.Sources.{File, Sources, with_file}
 use Rattle.pq_inputs.specs.Refusal.{refusal}
 use Rattle.pq_rules.specs.declared.turn.Answer.{Answer}
 use Rattle.pq_proto.specs.Compile.{Compiles}

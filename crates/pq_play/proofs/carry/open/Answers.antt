@@ -1,6 +1,6 @@
 use Rattle.std.proofs.Common.{◌∙◌, ap, subst, [], ◌∷◌, ◌++◌, ℕ}
 use Rattle.std.specs.Prelude.{Result, Ok, Err}
-use Rattle.pq_core.specs.Outboxes.{Listed, taken_front}
+use Rattle.pq_core.specs.Outboxes.{Listed}
 use Rattle.pq_core.specs.Moves.{Reaches, Opens}
 use Rattle.pq_core.specs.declared.fault.OpenRefused.{OpenRefused}
 use Rattle.pq_play.specs.Steps.{OpenAnswered}

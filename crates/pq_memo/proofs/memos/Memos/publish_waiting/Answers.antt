@@ -1,4 +1,4 @@
-use Rattle.std.proofs.Common.{List, subst, ◌<◌, ◌≤◌, ◌≡◌, length, arith}
+use Rattle.std.proofs.Common.{List, subst, ◌<◌, ◌≡◌, length, arith}
 use Rattle.pq_inputs.specs.Sources.{Sources}
 use Rattle.pq_rules.specs.declared.turn.Answer.TheVariants.{Cycle}
 use Rattle.pq_rules.specs.Turns.{over}

@@ -1,4 +1,4 @@
-use Rattle.std.proofs.Common.{◌≡◌, ◌<◌, length, arith, subst}
+use Rattle.std.proofs.Common.{◌<◌, length, arith, subst}
 use Rattle.pq_memo.proofs.Indexed.{taken_mapped}
 use Rattle.pq_memo.proofs.stack.Stack.cut.Goals as goal
 

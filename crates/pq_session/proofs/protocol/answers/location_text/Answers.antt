@@ -1,4 +1,4 @@
-use Rattle.std.proofs.Common.{◌≡◌, ◌∙◌}
+use Rattle.std.proofs.Common.{◌∙◌}
 use Rattle.pq_session.specs.Labels.{label_model}
 use Rattle.pq_session.specs.Reply.{location_text, location_data}
 use Rattle.pq_session.proofs.PrintLemmas.{printed_reply}
