@@ -17,7 +17,7 @@ pub fn frame(alloc: Global, body: &[u8]) -> Result<Vec<u8>, Memory>
 {
     let len = body.len();
     let header = format!(in alloc; "Content-Length: {len}\r\n\r\n")?;
-    let mut bytes = Vec::with_capacity(alloc, header.len())?;
+    let mut bytes = Vec::with_capacity(alloc, header.len().saturating_add(len))?;
     bytes.extend_from_slice(header.as_bytes())?;
     bytes.extend_from_slice(body)?;
     Ok(bytes)

@@ -3,7 +3,8 @@ use Rattle.std.proofs.Common.{◌≡◌, inl, inr, ℕ, zero, suc, ◌+◌, ◌-
 use Rattle.std.specs.List.{list_all}
 use Rattle.std.proofs.lemmas.List.{get_or-drop, get_or-take, get_or-map, length-map, take-take, take-map}
 use Rattle.std.proofs.lemmas.List.Sums.{sum_by-cons}
-use Rattle.std.proofs.lemmas.Bool.{both_ways, cases_order}
+use Rattle.std.proofs.lemmas.Bool.{both_ways, cases_order, lt-ltb}
+use Rattle.std.specs.Str.{IsAscii, IsNotAscii}
 use Rattle.std.proofs.lemmas.Bool.Decides.{nat_tests}
 use Rattle.pq_lex.specs.Classes.{is_continuation}
 use Rattle.pq_lex.specs.Lines.{end_of_line, character_start, units_of, units}
@@ -138,16 +139,12 @@ kept_is xs i e = elim (bool_cases (is_ascii xs)) [
   | inr wide ↦ ap (λ b. kept_column (cond b [] (map units_of xs)) i) wide ∙ ap (λ b. cond b i (column_of (map units_of xs) i)) (nonempty_row xs wide)
 ]
 
-row_sum : (xs : List ℕ) → sum (map units_of xs) ≤ 2 * length xs
+pub row_sum : (xs : List ℕ) → sum (map units_of xs) ≤ 2 * length xs
 row_sum [] = omega arith
 row_sum (x ∷ xs) = omega (arith, sum_by-cons (λ y. y) (units_of x) (map units_of xs), unit_two x, row_sum xs)
 
 pub kept_sum : (xs : List ℕ) → sum (units_kept xs) ≤ 2 * length xs
 kept_sum xs = elim (is_ascii xs) as (λ b. sum (cond b [] (map units_of xs)) ≤ 2 * length xs) [ true ↦ omega arith | false ↦ row_sum xs ]
-
--- a byte has at most two units, also by the units that are kept
-pub kept_own_sum : (xs : List ℕ) → sum (units_kept xs) ≤ 2 * length (units_kept xs)
-kept_own_sum xs = elim (is_ascii xs) as (λ b. sum (cond b [] (map units_of xs)) ≤ 2 * length (cond b [] (map units_of xs))) [ true ↦ omega arith | false ↦ omega (arith, row_sum xs, length-map xs units_of) ]
 
 pub kept_length : (xs : List ℕ) → 0 < length (units_kept xs) → length (units_kept xs) ≡ length xs
 kept_length xs = elim (is_ascii xs) as (λ b. 0 < length (cond b [] (map units_of xs)) → length (cond b [] (map units_of xs)) ≡ length xs) [ true ↦ λ h. absurd (omega (arith, h)) | false ↦ λ h. length-map xs units_of ]
@@ -162,17 +159,34 @@ ascii_byte xs column h = record {
 }
 
 -- nothing is kept of a line of ASCII, and each byte's units of another
-pub kept_plain : (xs : List ℕ) → length (units_kept xs) ≡ 0 → is_ascii xs ≡ true
-kept_plain xs h = elim (bool_cases (is_ascii xs)) [
-  | inl plain ↦ plain
-  | inr wide ↦ absurd (none_is_some (length (map units_of xs)) (subst (λ b. length (cond b [] (map units_of xs)) ≡ 0) wide h) (nonempty_row xs wide))
+pub kept_plain : (xs : List ℕ) → IsAscii xs → units_kept xs ≡ []
+kept_plain xs h = ap (λ b. cond b [] (map units_of xs)) (each_plain xs h)
+  where
+    each_plain : (xs : List ℕ) → IsAscii xs → is_ascii xs ≡ true
+    each_plain [] h = refl
+    each_plain (x ∷ xs) h = rw (lt-ltb x 128 (h 0), each_plain xs (λ i. h (suc i))) refl
+
+not_plain : (xs : List ℕ) (i : ℕ) → 128 ≤ get_or xs i 0 → is_ascii xs ≡ false
+not_plain [] i h = absurd (omega (arith, h))
+not_plain (x ∷ xs) zero h = let e : nat_lt x 128 ≡ false = grind (arith, nat_tests) in rw e refl
+not_plain (x ∷ xs) (suc i) h = rw (not_plain xs i h) (elim (nat_lt x 128) as (λ b. (b && false) ≡ false) [ true ↦ refl | false ↦ refl ])
+
+pub kept_wide : (xs : List ℕ) → IsNotAscii xs → units_kept xs ≡ map units_of xs
+kept_wide xs h = ap (λ b. cond b [] (map units_of xs)) (not_plain xs h.0 h.1)
+
+pub wide_some : (xs : List ℕ) → IsNotAscii xs → 0 < length (map units_of xs)
+wide_some [] h = absurd (let z = h.1 in omega (arith, z))
+wide_some (x ∷ xs) h = omega arith
+
+-- a part of ASCII is ASCII
+pub plain_part : (xs : List ℕ) (s e : ℕ) → IsAscii xs → IsAscii (slice_range xs s e)
+plain_part xs s e h i = elim (cases_order i (e - s)) [
+  | inl same ↦ none (omega (arith, same))
+  | inr o ↦ elim o [
+    | inl less ↦ subst (λ b. b < 128) (sym (get_or-take (e - s) (drop s xs) i 0 less ∙ get_or-drop s xs i 0)) (h (s + i))
+    | inr more ↦ none (omega (arith, more))
+  ]
 ]
   where
-    none_is_some : (n : ℕ) → n ≡ 0 → (n == 0) ≡ false → ⊥
-    none_is_some n h e = grind (arith, nat_tests)
-
-pub kept_wide : (xs : List ℕ) → (length (units_kept xs) ≡ 0 → ⊥) → units_kept xs ≡ map units_of xs
-kept_wide xs h = elim (bool_cases (is_ascii xs)) [
-  | inl plain ↦ absurd (h (ap (λ b. length (cond b [] (map units_of xs))) plain))
-  | inr wide ↦ ap (λ b. cond b [] (map units_of xs)) wide
-]
+    none : e - s ≤ i → get_or (slice_range xs s e) i 0 < 128
+    none le = subst (λ b. b < 128) (sym (past_end (slice_range xs s e) i (omega (arith, le, length-take (e - s) (drop s xs))))) (omega arith)

@@ -1,13 +1,10 @@
 -- The counts of units that an index keeps of a line, and the byte that a scan from one of them
 -- finds.
-use Rattle.std.proofs.Common.{◌≡◌, cond, inl, inr, ℕ, zero, suc, ◌+◌, ◌-◌, ◌*◌, ◌/◌, ◌<◌, ◌≤◌, List, [], ◌∷◌, ◌++◌, length, sum, take, drop, get_or, slice_range, refl, sym, ◌∙◌, ap, subst, arith, length-append, length-drop}
+use Rattle.std.proofs.Common.{◌≡◌, cond, inl, inr, ℕ, zero, suc, ◌+◌, ◌-◌, ◌*◌, ◌/◌, ◌≤◌, List, [], ◌∷◌, ◌++◌, length, sum, take, drop, get_or, slice_range, refl, sym, ◌∙◌, ap, subst, arith, length-append, length-drop}
 use Rattle.std.proofs.lemmas.Bool.{cases_order, ne_eqb}
 use Rattle.std.proofs.lemmas.List.{take_all, take-take, drop-take, get_or-drop}
 use Rattle.std.proofs.lemmas.List.Sums.{sum_by-take-drop, sum_by-take-le}
-use Rattle.std.specs.List.{All}
-use Rattle.std.proofs.lemmas.List.Elements.{All-nil, All-cons, All-append, All-get_or}
-use Rattle.pq_lex.specs.declared.lines.Line.{Line}
-use Rattle.pq_lex.specs.aux.Kept.{interval, count_before, IsCounted, HasCounts}
+use Rattle.pq_lex.specs.aux.Kept.{interval, count_before, IsCounted}
 use Rattle.pq_lex.specs.aux.LineMarks.{IsByte}
 use Rattle.pq_lex.proofs.Positions.{get_left, get_right}
 
@@ -111,13 +108,3 @@ byte_from units column start at within low byte = record {
       let whole : start + (q - start) ≡ q = omega (arith, more) in
       omega (arith, past, low, sum_split units start (q - start), ap (λ k. sum (take k units)) whole);
 }
-
--- the lines of an index, of which each has its counts
-pub none_have : (lines : List Line) → lines ≡ [] → All HasCounts lines
-none_have lines e = subst (All HasCounts) (sym e) (All-nil HasCounts)
-
-pub more_have : (lines more : List Line) (line : Line) → more ≡ lines ++ line ∷ [] → All HasCounts lines → HasCounts line → All HasCounts more
-more_have lines more line e all one = subst (All HasCounts) (sym e) (All-append HasCounts lines (line ∷ []) all (All-cons HasCounts line [] one (All-nil HasCounts)))
-
-pub one_has : (lines : List Line) (k : ℕ) (line : Line) → k < length lines → line ≡ get_or lines k line → All HasCounts lines → HasCounts line
-one_has lines k line h e all = subst HasCounts (sym e) (All-get_or HasCounts lines k line h all)

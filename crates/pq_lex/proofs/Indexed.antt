@@ -1,25 +1,22 @@
 -- What a line of an index says of the text, and what it answers.
-use Rattle.std.proofs.Common.{◌≡◌, inl, inr, ℕ, ◌+◌, ◌-◌, ◌<◌, ◌≤◌, true, false, List, [], ◌∷◌, length, map, min, sum, take, get_or, slice_range, refl, sym, ◌∙◌, ap, subst, arith}
+use Rattle.std.proofs.Common.{◌≡◌, inl, inr, ℕ, ◌+◌, ◌-◌, ◌*◌, ◌<◌, ◌≤◌, true, false, List, [], ◌∷◌, length, map, min, sum, take, get_or, slice_range, refl, sym, ◌∙◌, ap, subst, arith}
 use Rattle.std.proofs.lemmas.List.{get_or-map, length-map}
 use Rattle.std.proofs.lemmas.Bool.{cases_order}
-use Rattle.pq_lex.specs.declared.lines.Line.{Line}
 use Rattle.pq_lex.specs.declared.position.Position.{Position}
 use Rattle.pq_lex.specs.Classes.{is_continuation}
-use Rattle.pq_lex.specs.aux.Kept.{mark_of, marks_of, starts_of}
 use Rattle.pq_lex.specs.Lines.{starts_line, line_number, line_start, line_end, end_of_line, character_start, units_of, units, position_of, IsBefore}
-use Rattle.pq_lex.specs.aux.LineMarks.{starts_to, units_kept, mark, lines_of, kept_column, lead_index, IsByte}
+use Rattle.pq_lex.specs.aux.LineMarks.{LineMark, starts_to, units_kept, mark, lines_of, kept_column, lead_index, IsByte}
 use Rattle.pq_lex.proofs.LineFacts.{bool_cases, end_within, same_start, same_number}
 use Rattle.pq_lex.proofs.Positions.{at_line, line_facts, start_below}
-use Rattle.pq_lex.proofs.Columns.{end_starts, starts_character, line_length, row_length, unit_at, lead_is, column_is, kept_is, continuation_unit}
+use Rattle.pq_lex.proofs.Columns.{kept_sum, kept_length, end_starts, starts_character, line_length, row_length, unit_at, lead_is, column_is, kept_is, continuation_unit}
 use Rattle.pq_lex.proofs.UnitLemmas.{lead_stop}
 
 pub mark_start : (text : List ℕ) (xs : List ℕ) → map (λ m. m.start) (map (mark text) xs) ≡ xs
 mark_start text [] = refl
 mark_start text (x ∷ xs) = ap (λ ys. x ∷ ys) (mark_start text xs)
 
-pub marks_start : (lines : List Line) → map (λ m. m.start) (marks_of lines) ≡ starts_of lines
-marks_start [] = refl
-marks_start (l ∷ ls) = ap (λ ys. l.start ∷ ys) (marks_start ls)
+abbrev pub start_list : List LineMark → List ℕ
+start_list ms = map (λ m. m.start) ms
 
 beyond : (a b : ℕ) → a < b → b ≤ a → ⊥
 beyond a b h g = omega (arith, h, g)
@@ -28,45 +25,52 @@ zero_number : (text : List ℕ) → line_number text 0 ≡ 0
 unfolding line_number
 zero_number text = refl
 
-module _ (lines : List Line) (text : List ℕ) (are : marks_of lines ≡ lines_of text) where
-  pub starts_are : starts_of lines ≡ starts_to text (length text)
-  starts_are = sym (marks_start lines) ∙ ap (map (λ m. m.start)) are ∙ mark_start text (starts_to text (length text))
+module _ (ms : List LineMark) (text : List ℕ) (are : ms ≡ lines_of text) where
+  pub starts_are : start_list ms ≡ starts_to text (length text)
+  starts_are = ap start_list are ∙ mark_start text (starts_to text (length text))
 
-  pub count_is : length lines ≡ length (starts_to text (length text))
-  count_is = sym (length-map lines mark_of) ∙ ap length are ∙ length-map (starts_to text (length text)) (mark text)
+  pub count_is : length ms ≡ length (starts_to text (length text))
+  count_is = ap length are ∙ length-map (starts_to text (length text)) (mark text)
 
-  -- the line of that number, whose start is s
-  pub line_is : (k : ℕ) (line : Line) → k < length lines → line ≡ get_or lines k line → mark_of line ≡ mark text (get_or (starts_to text (length text)) k 0)
-  line_is k line h e =
-      ap mark_of e ∙ sym (get_or-map mark_of lines k line (mark_of line) h)
-      ∙ ap (λ ms. get_or ms k (mark_of line)) are
-      ∙ get_or-map (mark text) (starts_to text (length text)) k 0 (mark_of line) (omega (arith, h, count_is))
+  -- the line of that number
+  pub line_is : (k : ℕ) (m : LineMark) → k < length ms → m ≡ get_or ms k m → m ≡ mark text (get_or (starts_to text (length text)) k 0)
+  line_is k m h e =
+      e ∙ ap (λ xs. get_or xs k m) are
+      ∙ get_or-map (mark text) (starts_to text (length text)) k 0 m (omega (arith, h, count_is))
 
-  pub some_line : 0 < length lines
+  pub some_line : 0 < length ms
   some_line = let a = at_line text 0 (length text) (omega arith) in omega (arith, a.0, count_is)
 
-  pub first_start : (o : ℕ) → get_or (starts_of lines) 0 0 ≤ o
+  pub first_start : (o : ℕ) → get_or (start_list ms) 0 0 ≤ o
   first_start o =
       let a = line_facts text (length text) 0 (omega (arith, some_line, count_is)) in
       let b = at_line text 0 (length text) (omega arith) in
       let c = start_below text 0 in
       let n : line_number text 0 ≡ 0 = zero_number text in
-      let e : get_or (starts_of lines) 0 0 ≡ get_or (starts_to text (length text)) (line_number text 0) 0 = ap (λ xs. get_or xs 0 0) starts_are ∙ ap (λ k. get_or (starts_to text (length text)) k 0) (sym n) in
+      let e : get_or (start_list ms) 0 0 ≡ get_or (starts_to text (length text)) (line_number text 0) 0 = ap (λ xs. get_or xs 0 0) starts_are ∙ ap (λ k. get_or (starts_to text (length text)) k 0) (sym n) in
       omega (arith, e, b.1, c)
 
   -- what is known of a line's fields
-  pub record Fields (s : ℕ) (line : Line) : Type 0 where
-    pub start : line.start ≡ s
-    pub end : line.end ≡ end_of_line text s
-    pub kept : line.units.items ≡ units_kept (slice_range text s (end_of_line text s))
-    pub within : s ≤ length text
-    pub begins : starts_line text s ≡ true
+  pub record Fields (m : LineMark) : Type 0 where
+    pub ordered : m.start ≤ m.end
+    pub inside : m.end ≤ length text
+    pub full : 0 < length m.units → length m.units ≡ m.end - m.start
+    pub small : sum m.units ≤ 2 * length text
 
-  pub fields : (k : ℕ) (line : Line) → k < length lines → line ≡ get_or lines k line → Fields (get_or (starts_to text (length text)) k 0) line
-  fields k line h e =
-      let m = line_is k line h e in
+  pub fields : (k : ℕ) (m : LineMark) → k < length ms → m ≡ get_or ms k m → Fields m
+  fields k m h e =
+      let s : ℕ = get_or (starts_to text (length text)) k 0 in
+      let is = line_is k m h e in
       let f = line_facts text (length text) k (omega (arith, h, count_is)) in
-      record { start = ap (λ m. m.start) m; end = ap (λ m. m.end) m; kept = ap (λ m. m.units) m; within = f.2; begins = f.0 }
+      let ends = end_within text s f.2 in
+      let len : length (slice_range text s (end_of_line text s)) ≡ end_of_line text s - s = line_length text s (end_of_line text s) (omega arith) ends (end_starts text s f.2) in
+      let b = kept_sum (slice_range text s (end_of_line text s)) in
+      subst Fields (sym is) (record {
+        ordered = omega arith;
+        inside = ends;
+        full = λ q. kept_length (slice_range text s (end_of_line text s)) q ∙ len;
+        small = omega (arith, b, len, ends);
+      })
 
 module _ (text : List ℕ) (s : ℕ) (within : s ≤ length text) where
   ends : end_of_line text s ≤ length text

@@ -1,12 +1,15 @@
 pub mod Answering
+pub mod Breaks
 pub mod Columns
 pub mod ComingBack
+pub mod CommentEnds
 pub mod Counts
 pub mod EscapeLemmas
 pub mod FirstBytes
 pub mod Indexed
 pub mod LineFacts
 pub mod LineLen
+pub mod Marked
 pub mod NumberEnds
 pub mod Offsets
 pub mod OnePiece

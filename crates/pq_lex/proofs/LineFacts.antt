@@ -52,7 +52,7 @@ module _ (text : List ℕ) where
   pub end_within : (s : ℕ) → s ≤ length text → end_of_line text s ≤ length text
   end_within s h = omega (arith, h, len_within (drop s text), length-drop s text)
 
-  plain_at : (s j : ℕ) → s ≤ j → j < end_of_line text s → is_break (get_or text j 0) ≡ false
+  pub plain_at : (s j : ℕ) → s ≤ j → j < end_of_line text s → is_break (get_or text j 0) ≡ false
   plain_at s j h less =
       let at : get_or (drop s text) (j - s) 0 ≡ get_or text j 0 = get_or-drop s text (j - s) 0 ∙ ap (λ k. get_or text k 0) (let e : s + (j - s) ≡ j = omega (arith, h) in e) in
       subst (λ b. is_break b ≡ false) at (len_plain (drop s text) (j - s) (omega (arith, h, less)))

@@ -1,37 +1,9 @@
 -- The bytes before a line's terminator.
-use Rattle.std.proofs.Common.{◌≡◌, ◌⊎◌, inl, inr, ℕ, zero, suc, ◌+◌, ◌<◌, ◌≤◌, ◌==◌, ◌||◌, Bool, true, false, cond, List, [], ◌∷◌, length, drop, get_or, refl, arith, add-one}
-use Rattle.std.proofs.lemmas.List.{drop_all}
-use Rattle.std.proofs.lemmas.Bool.Decides.{nat_tests}
+use Rattle.std.proofs.Common.{◌≡◌, ℕ, zero, suc, ◌<◌, ◌≤◌, ◌==◌, ◌||◌, Bool, true, false, cond, List, [], ◌∷◌, length, get_or, refl, arith}
 use Rattle.pq_lex.specs.Lines.{line_len}
 
 abbrev pub is_break : ℕ → Bool
 is_break b = b == 10 || b == 13
-
-pub plain_byte : (b : ℕ) → (b ≡ 10 → ⊥) → (b ≡ 13 → ⊥) → is_break b ≡ false
-plain_byte b h g = grind (arith, nat_tests)
-
-pub break_byte : (b : ℕ) → (b ≡ 10) ⊎ (b ≡ 13) → is_break b ≡ true
-break_byte b (inl h) = rw h refl
-break_byte b (inr h) = rw h refl
-
-len_next : (xs : List ℕ) (n : ℕ) → n < length xs → is_break (get_or xs n 0) ≡ false → line_len (drop n xs) ≡ 1 + line_len (drop (suc n) xs)
-unfolding line_len
-len_next [] n h e = absurd (omega (arith, h))
-len_next (x ∷ xs) zero h e = rw e (omega arith)
-len_next (x ∷ xs) (suc n) h e = len_next xs n (omega (arith, h)) e
-
-pub len_on : (xs : List ℕ) (n : ℕ) → n < length xs → is_break (get_or xs n 0) ≡ false → line_len (drop n xs) ≡ 1 + line_len (drop (n + 1) xs)
-len_on xs n h e = rw add-one (len_next xs n h e)
-
-pub len_stop : (xs : List ℕ) (n : ℕ) → n < length xs → is_break (get_or xs n 0) ≡ true → line_len (drop n xs) ≡ 0
-unfolding line_len
-len_stop [] n h e = absurd (omega (arith, h))
-len_stop (x ∷ xs) zero h e = rw e refl
-len_stop (x ∷ xs) (suc n) h e = len_stop xs n (omega (arith, h)) e
-
-pub len_end : (xs : List ℕ) (n : ℕ) → length xs ≤ n → line_len (drop n xs) ≡ 0
-unfolding line_len
-len_end xs n h = rw (drop_all n xs h) refl
 
 pub len_within : (xs : List ℕ) → line_len xs ≤ length xs
 unfolding line_len

@@ -4,15 +4,16 @@ use Rattle.std.proofs.lemmas.List.{get_or-map, length-map}
 use Rattle.std.proofs.lemmas.List.Sums.{sum_by-cons}
 use Rattle.std.proofs.lemmas.Bool.{cases_order, lt-ltb}
 use Rattle.std.proofs.lemmas.Bool.Decides.{nat_tests}
-use Rattle.pq_lex.specs.declared.lines.Line.{Line}
+use Rattle.pq_lex.specs.declared.lines.Marks.{Marks}
 use Rattle.pq_lex.specs.declared.position.Position.{Position}
-use Rattle.pq_lex.specs.aux.Kept.{mark_of, marks_of}
+use Rattle.pq_lex.specs.aux.Kept.{IsMarked, marks_of, mark_at}
 use Rattle.pq_lex.specs.Lines.{end_of_line, units_of, IsOffset}
 use Rattle.pq_lex.specs.aux.LineMarks.{LineMark, is_ascii, units_kept, starts_to, mark, lines_of, IsByte, byte_of, byte_in, offset_from, offset_in}
 use Rattle.pq_lex.proofs.LineFacts.{bool_cases, end_within}
 use Rattle.pq_lex.proofs.Positions.{at_line, line_facts}
 use Rattle.pq_lex.proofs.Columns.{end_starts, line_length, ascii_byte, nonempty_row}
 use Rattle.pq_lex.proofs.Indexed.{offset_is}
+use Rattle.pq_lex.proofs.Marked.{marks_length, mark_is}
 
 not_less : (a b : ℕ) → b ≤ a → nat_lt a b ≡ false
 not_less a b h = grind (arith, nat_tests)
@@ -127,19 +128,16 @@ offsets text p = elim (cases_order p.line (length (starts_to text (length text))
         subst (IsOffset text p) (sym is) (offset_is text s f.2 f.0 p (byte_in (mark text s) p.character) f.1 byte)
 
 -- the answer of an index
-pub byte_plain : (line : Line) (column : ℕ) → length line.units.items ≡ 0 → byte_in (mark_of line) column ≡ min column (line.end - line.start)
-byte_plain line column h = rw h refl
-
-pub byte_wide : (line : Line) (column at : ℕ) → (length line.units.items ≡ 0 → ⊥) → IsByte line.units.items column at → byte_in (mark_of line) column ≡ at
-byte_wide line column at h byte = rw (is_not (length line.units.items) h) (byte_unique line.units.items column at byte)
+pub byte_wide : (units : List ℕ) (m : LineMark) (column at : ℕ) → m.units ≡ units → 0 < length units → IsByte units column at → byte_in m column ≡ at
+byte_wide units m column at e some byte =
+    ap (λ u. cond (length u == 0) (min column (m.end - m.start)) (byte_of u column)) e
+    ∙ rw (is_some (length units) some) (byte_unique units column at byte)
   where
-    is_not : (n : ℕ) → (n ≡ 0 → ⊥) → (n == 0) ≡ false
-    is_not n h = grind (arith, nat_tests)
+    is_some : (n : ℕ) → 0 < n → (n == 0) ≡ false
+    is_some n h = grind (arith, nat_tests)
 
-pub line_offset : (lines : List Line) (k : ℕ) (line : Line) → k < length lines → line ≡ get_or lines k line → (column at : ℕ) → byte_in (mark_of line) column ≡ at → Some (line.start + at) ≡ offset_from (marks_of lines) k column
-line_offset lines k line h e column at byte =
-    ap (λ b. Some (line.start + b)) (sym byte)
-    ∙ sym (offset_found (marks_of lines) k column (mark_of line) (omega (arith, h, length-map lines mark_of)) (ap mark_of e ∙ sym (get_or-map mark_of lines k line (mark_of line) h)))
+pub line_offset : (m : Marks) → IsMarked m → (k : ℕ) → k < length m.starts → (column : ℕ) → Some (get_or m.starts k 0 + byte_in (mark_at m k) column) ≡ offset_from (marks_of m) k column
+line_offset m marked k h column = sym (offset_found (marks_of m) k column (mark_at m k) (omega (arith, h, marks_length m marked)) (mark_is m marked k h))
 
-pub line_none : (lines : List Line) (k column : ℕ) → length lines ≤ k → None ≡ offset_from (marks_of lines) k column
-line_none lines k column h = sym (offset_none (marks_of lines) k column (omega (arith, h, length-map lines mark_of)))
+pub line_none : (m : Marks) → IsMarked m → (k column : ℕ) → length m.starts ≤ k → None ≡ offset_from (marks_of m) k column
+line_none m marked k column h = sym (offset_none (marks_of m) k column (omega (arith, h, marks_length m marked)))

@@ -1,17 +1,18 @@
 -- The position of an offset, by the lines that an index keeps.
-use Rattle.std.proofs.Common.{◌≡◌, ℕ, zero, suc, ◌+◌, ◌-◌, ◌<◌, ◌≤◌, false, List, [], ◌∷◌, length, map, min, get_or, nat_lt, sym, ◌∙◌, ap, subst, arith, add-one}
+use Rattle.std.proofs.Common.{◌≡◌, ℕ, zero, suc, ◌+◌, ◌<◌, ◌≤◌, false, List, [], ◌∷◌, length, map, get_or, nat_lt, sym, ◌∙◌, ap, subst, arith, add-one}
 use Rattle.std.proofs.lemmas.List.{get_or-map, length-map}
 use Rattle.std.proofs.lemmas.Bool.{lt-ltb}
 use Rattle.std.proofs.lemmas.Bool.Decides.{nat_tests}
-use Rattle.pq_lex.specs.declared.lines.Line.{Line}
+use Rattle.pq_lex.specs.declared.lines.Marks.{Marks}
 use Rattle.pq_lex.specs.declared.position.Position.{Position}
-use Rattle.pq_lex.specs.aux.Kept.{mark_of, marks_of, starts_of}
+use Rattle.pq_lex.specs.aux.Kept.{IsMarked, marks_of, mark_at}
 use Rattle.pq_lex.specs.Lines.{line_number, line_start, position_of}
-use Rattle.pq_lex.specs.aux.LineMarks.{LineMark, starts_to, mark, lines_of, kept_column, column_in, place_from, place_in}
+use Rattle.pq_lex.specs.aux.LineMarks.{LineMark, starts_to, mark, lines_of, column_in, place_from, place_in}
 use Rattle.pq_lex.proofs.Positions.{at_line, line_facts, starts_before, starts_after, start_below}
-use Rattle.pq_lex.proofs.Indexed.{mark_start, marks_start, starts_are, count_is, column_at}
+use Rattle.pq_lex.proofs.Indexed.{mark_start, starts_are, column_at}
+use Rattle.pq_lex.proofs.Marked.{marks_length, marks_start, mark_is}
 
-abbrev place : ℕ → ℕ → Position
+abbrev pub place : ℕ → ℕ → Position
 place line character = record { line = line; character = character }
 
 abbrev start_at : List LineMark → ℕ → ℕ
@@ -49,17 +50,16 @@ in_order text k i h le =
     starts_before text (get_or (starts_to text (length text)) k 0) (length text) i f.2 (omega (arith, le, f.1))
 
 -- the answer of an index
-pub place_is : (lines : List Line) (text : List ℕ) → marks_of lines ≡ lines_of text → (k : ℕ) (line : Line) → k < length lines → line ≡ get_or lines k line → (o col : ℕ) → get_or (starts_of lines) k 0 ≤ o → (k + 1 < length lines → o < get_or (starts_of lines) (k + 1) 0) → col ≡ kept_column line.units.items (min o line.end - line.start) → place k col ≡ place_in (marks_of lines) o
-place_is lines text are k line h e o col low last is =
-    let starts = marks_start lines in
-    let count = length-map lines mark_of in
-    let here : mark_of line ≡ get_or (marks_of lines) k (mark_of line) = ap mark_of e ∙ sym (get_or-map mark_of lines k line (mark_of line) h) in
-    let before : (i : ℕ) → i ≤ k → get_or (starts_of lines) i 0 ≤ o = λ i le.
-    let b = in_order text k i (omega (arith, h, count_is lines text are)) le in
-    let c : get_or (starts_of lines) i 0 ≤ get_or (starts_of lines) k 0 = subst (λ xs. get_or xs i 0 ≤ get_or xs k 0) (sym (starts_are lines text are)) b in
+pub place_is : (m : Marks) (text : List ℕ) → IsMarked m → marks_of m ≡ lines_of text → (k : ℕ) → k < length m.starts → (o : ℕ) → get_or m.starts k 0 ≤ o → (k + 1 < length m.starts → o < get_or m.starts (k + 1) 0) → place k (column_in (mark_at m k) o) ≡ place_in (marks_of m) o
+place_is m text marked are k h o low last =
+    let starts : map (λ x. x.start) (marks_of m) ≡ m.starts = marks_start m marked in
+    let count = marks_length m marked in
+    let same : m.starts ≡ starts_to text (length text) = sym starts ∙ starts_are (marks_of m) text are in
+    let before : (i : ℕ) → i ≤ k → get_or m.starts i 0 ≤ o = λ i le.
+    let b = in_order text k i (omega (arith, h, ap length same)) le in
+    let c : get_or m.starts i 0 ≤ get_or m.starts k 0 = subst (λ xs. get_or xs i 0 ≤ get_or xs k 0) (sym same) b in
     omega (arith, c, low) in
-    ap (place k) is
-    ∙ sym (found (marks_of lines) k o (mark_of line) (omega (arith, h, count)) here
+    sym (found (marks_of m) k o (mark_at m k) (omega (arith, h, count)) (mark_is m marked k h)
     (λ i le. subst (λ xs. get_or xs i 0 ≤ o) (sym starts) (before i le))
     (λ q. subst (λ xs. o < get_or xs (k + 1) 0) (sym starts) (last (omega (arith, q, count)))))
 

@@ -1,8 +1,12 @@
 //! The classes of bytes, and runs of bytes of one set.
-//! A byte's class is decided by comparisons alone, and a run is read once.
+//! A byte's class is read from a table, and a run is read once.
 ghost use Rattle.std.specs.Prelude.{◌≡◌, ◌≤◌, length};
-ghost use Rattle.pq_lex.specs.Classes.{byte, is_between, is_letter, is_digit, is_space, is_mark, class_of, in_set};
+ghost use Rattle.pq_lex.specs.Classes.{byte, is_between, is_digit, is_space, class_of, in_set};
 ghost use Rattle.pq_lex.specs.Runs.{run_end};
+
+use Class::{
+    Digit as D, Letter as L, Mark as M, Other as O, Point as P, Quote as Q, Slash as H, Space as S,
+};
 
 /// What a byte may begin.
 #[derive(Clone, Copy)]
@@ -44,6 +48,27 @@ pub(crate) enum Set {
     Continuations,
 }
 
+/// The class of each byte.
+#[rattlefmt::skip]
+static CLASSES: [Class; 256] = [
+    O, O, O, O, O, O, O, O, O, S, S, S, S, S, O, O,
+    O, O, O, O, O, O, O, O, O, O, O, O, O, O, O, O,
+    S, O, Q, O, O, O, O, Q, M, M, O, M, M, M, P, H,
+    D, D, D, D, D, D, D, D, D, D, M, M, M, M, M, O,
+    O, L, L, L, L, L, L, L, L, L, L, L, L, L, L, L,
+    L, L, L, L, L, L, L, L, L, L, L, M, O, M, O, L,
+    O, L, L, L, L, L, L, L, L, L, L, L, L, L, L, L,
+    L, L, L, L, L, L, L, L, L, L, L, M, O, M, O, O,
+    O, O, O, O, O, O, O, O, O, O, O, O, O, O, O, O,
+    O, O, O, O, O, O, O, O, O, O, O, O, O, O, O, O,
+    O, O, O, O, O, O, O, O, O, O, O, O, O, O, O, O,
+    O, O, O, O, O, O, O, O, O, O, O, O, O, O, O, O,
+    O, O, O, O, O, O, O, O, O, O, O, O, O, O, O, O,
+    O, O, O, O, O, O, O, O, O, O, O, O, O, O, O, O,
+    O, O, O, O, O, O, O, O, O, O, O, O, O, O, O, O,
+    O, O, O, O, O, O, O, O, O, O, O, O, O, O, O, O,
+];
+
 /// The byte at the offset `at`, or 0 at the end of `bytes` and after it.
 #[inline(always)]
 pub(crate) fn byte_at(bytes: &[u8], at: usize) -> u8
@@ -58,14 +83,6 @@ fn is_between(low: u8, high: u8, b: u8) -> bool
     ensures { result ≡ is_between low high b }
 {
     low <= b && b <= high
-}
-
-/// Whether `b` is an ASCII letter or `_`.
-#[inline]
-fn is_letter(b: u8) -> bool
-    ensures { result ≡ is_letter b }
-{
-    is_between(b'a', b'z', b) || is_between(b'A', b'Z', b) || b == b'_'
 }
 
 /// Whether `b` is an ASCII digit.
@@ -84,42 +101,12 @@ fn is_space(b: u8) -> bool
     b == b' ' || is_between(b'\t', b'\r', b)
 }
 
-/// Whether `b` is a symbol other than `.` and `/`, which may begin more.
-#[inline]
-fn is_mark(b: u8) -> bool
-    ensures { result ≡ is_mark b }
-{
-    is_between(b':', b'>', b)
-        || is_between(b'(', b')', b)
-        || is_between(b'+', b'-', b)
-        || b == b'['
-        || b == b']'
-        || b == b'{'
-        || b == b'}'
-}
-
 /// The class of `b`.
 #[inline]
 pub(crate) fn class_of(b: u8) -> Class
     ensures { result ≡ class_of b }
 {
-    if is_letter(b) {
-        Class::Letter
-    } else if is_digit(b) {
-        Class::Digit
-    } else if is_space(b) {
-        Class::Space
-    } else if b == b'"' || b == b'\'' {
-        Class::Quote
-    } else if b == b'.' {
-        Class::Point
-    } else if b == b'/' {
-        Class::Slash
-    } else if is_mark(b) {
-        Class::Mark
-    } else {
-        Class::Other
-    }
+    CLASSES[b as usize]
 }
 
 /// Whether `b` is in `set`.
@@ -129,7 +116,7 @@ pub(crate) fn in_set(set: Set, b: u8) -> bool
 {
     match set {
         Set::Spaces => is_space(b),
-        Set::Words => is_letter(b) || is_digit(b),
+        Set::Words => matches!(class_of(b), Class::Letter | Class::Digit),
         Set::Digits => is_digit(b),
         Set::Octals => is_between(b'0', b'7', b),
         Set::Hexes => is_digit(b) || is_between(b'a', b'f', b) || is_between(b'A', b'F', b),

@@ -8,6 +8,7 @@
 
 mod bytes;
 mod escapes;
+mod kept_offsets;
 mod laws;
 mod lexer;
 mod lines;

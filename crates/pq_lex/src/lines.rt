@@ -4,42 +4,58 @@
 //! An index keeps the start and the end of each line. Of a line that is not ASCII it also keeps the
 //! UTF-16 units of each byte, and the units before every 64th byte. The costs:
 //! - `LineIndex::new`: linear in the text.
-//! - `position`: a binary search of the lines, a look-up, and at most 63 additions.
-//! - `offset`: a look-up, a binary search of the line's counts, and at most 64 steps.
-//! - memory: for a line that is not ASCII a byte for each byte, and a number for every 64.
+//! - `position`: binary searches of the lines and of those that are not ASCII, and at most 63
+//!   additions.
+//! - `offset`: a look-up, a binary search of the lines that are not ASCII and one of the line's
+//!   counts, and at most 64 steps.
+//! - memory: eight bytes for each line of a text below 4 GiB. For a line that is not ASCII also a
+//!   byte for each byte, and a number for every 64.
 
-ghost use Rattle.std.specs.Prelude.{◌≡◌, ℕ, true, ◌+◌, ◌*◌, ◌<◌, ◌≤◌, ◌==◌, ◌&&◌, [], ◌^◌, cond, length, List, map, drop, slice_index, slice_range, sum, take, IfOk};
+ghost use Rattle.std.specs.Prelude.{◌≡◌, ℕ, true, ◌+◌, ◌*◌, ◌<◌, ◌≤◌, ◌==◌, ◌&&◌, [], ◌∷◌, ◌++◌, ◌^◌, cond, length, List, drop, map, slice_index, slice_range, sum, take, IfOk};
 ghost use Rattle.std.specs.Cmp.{partial_equiv_from_equiv};
-ghost use Rattle.pq_lex.specs.Lines.{IsOffset, line_len, position_of, units_of};
-ghost use Rattle.pq_lex.specs.aux.LineMarks.{IsByte, lead_index, is_ascii, kept_column, lines_of, mark, offset_in, place_in, same_lines, same_lines_equiv, units_kept};
-ghost use Rattle.pq_lex.specs.aux.Kept.{IsCounted, count_before, mark_of, starts_of};
+ghost use Rattle.std.specs.Str.{IsAscii};
+ghost use Rattle.pq_lex.specs.Lines.{IsOffset, position_of, units_of};
+ghost use Rattle.pq_lex.specs.aux.LineMarks.{IsByte, byte_in, column_in, lead_index, kept_column, lines_of, offset_in, place_in, same_lines, same_lines_equiv};
+ghost use Rattle.pq_lex.specs.aux.Kept.{IsCounted, IsIndexed, IsMarked, IsPlace, IsRising, WideMore, count_before, line_mark, mark_at, marks_of, numbers_of};
 
 use crate::Memory;
+use crate::kept_offsets::Offsets;
 use crate::position::Position;
+use memchr::memchr2_iter;
 use std::alloc::Global;
 use std::marker::Model;
 
 /// The bytes of a line from one kept count of UTF-16 units to the next.
 const INTERVAL: usize = 64;
 
-/// A line of a text: its start, and its end before its terminator, in byte offsets.
+/// A line that is not ASCII.
 #[derive(Drop)]
 #[derive_where(PartialEq, Eq)]
-struct Line {
-    start: usize,
-    end: usize,
-    /// The UTF-16 units of each byte; empty if all are ASCII.
+struct WideLine {
+    /// The number of the line, from 0.
+    number: usize,
+    /// The UTF-16 units of each byte.
     units: Vec<u8>,
     /// The UTF-16 units before each `INTERVAL`th byte; `units` determines them.
     #[derive_where(skip(EqHashOrd))]
     counts: Vec<usize>,
 }
 
+/// Lines of a text by number: their starts, and their ends before their terminators, in byte
+/// offsets, and those that are not ASCII, in order.
+#[derive(Drop)]
+#[derive_where(PartialEq, Eq)]
+struct Marks {
+    starts: Offsets,
+    ends: Offsets,
+    wide: Vec<WideLine>,
+}
+
 /// The lines of a text, without the text: it converts byte offsets to positions, and positions to
 /// offsets.
 #[derive(Drop)]
 pub struct LineIndex {
-    lines: Vec<Line>,
+    marks: Marks,
 }
 
 impl Model for LineIndex {
@@ -50,9 +66,9 @@ impl Model for LineIndex {
 
     ghost use Rattle.pq_lex.specs.aux.Kept.{IsIndexed, marks_of};
 
-    ghost view = { λ i. marks_of i.lines.items };
+    ghost view = { λ i. marks_of i.marks };
 
-    ghost invariant = { λ i. IsIndexed i.lines.items };
+    ghost invariant = { λ i. IsIndexed i.marks };
 }
 
 /// Two indexes are equal exactly if they keep the same lines: the same starts, ends and UTF-16
@@ -67,24 +83,12 @@ impl PartialEq for LineIndex {
         ensures equal_are_same { result ≡ true → self.now ≡ other.now }
         ensures same_are_equal { self.now ≡ other.now → result ≡ true }
     {
-        self.lines == other.lines
+        self.marks == other.marks
     }
 }
 
 impl Eq for LineIndex {
     ghost laws = { same_lines_equiv };
-}
-
-/// How many of `bytes` come before the first line terminator.
-fn line_len(bytes: &[u8]) -> usize
-    ensures is { result ≡ line_len bytes.now }
-    ensures within { result ≤ length bytes.now }
-{
-    let mut n = 0;
-    while n < bytes.len() && bytes[n] != b'\n' && bytes[n] != b'\r' {
-        n += 1;
-    }
-    n
 }
 
 /// The offset after the line terminator at `end`.
@@ -116,20 +120,10 @@ fn units_of(b: u8) -> u8
     }
 }
 
-/// Whether each byte of `line` is ASCII.
-fn is_ascii(line: &[u8]) -> bool
-    ensures { result ≡ is_ascii line.now }
+/// The units of each byte of `line`.
+fn units_list(alloc: Global, line: &[u8]) -> Result<Vec<u8>, Memory>
+    ensures { IfOk result (λ v. v.items ≡ map units_of line.now) }
 {
-    line.iter().all(|b| *b < 0x80)
-}
-
-/// The units of each byte of `line`, or none if all are ASCII.
-fn units_kept(alloc: Global, line: &[u8]) -> Result<Vec<u8>, Memory>
-    ensures { IfOk result (λ v. v.items ≡ units_kept line.now) }
-{
-    if is_ascii(line) {
-        return Ok(Vec::new(alloc));
-    }
     line.iter().map(|b| units_of(*b)).collect(alloc)
 }
 
@@ -160,42 +154,76 @@ fn counts_kept(alloc: Global, units: &[u8]) -> Result<Vec<usize>, Memory>
     Ok(counts)
 }
 
-/// The line of `bytes` that starts at the offset `start`.
-fn line_at(alloc: Global, bytes: &[u8], start: usize) -> Result<Line, Memory>
-    requires { start ≤ length bytes.now }
-    ensures marked { IfOk result (λ l. mark_of l ≡ mark bytes.now start) }
-    ensures counted { IfOk result (λ l. IsCounted l.units.items l.counts.items) }
+/// Adds what is kept of the line number `number` with the bytes `line` beside its start and end:
+/// nothing if all are ASCII. `plain` may be true only if they are.
+fn add_wide(
+    alloc: Global,
+    wide: &mut Vec<WideLine>,
+    number: usize,
+    line: &[u8],
+    plain: bool,
+) -> Result<(), Memory>
+    requires { plain ≡ true → IsAscii line.now }
+    ensures { IfOk result (λ _. WideMore number line.now wide.old.items wide.new.items) }
 {
-    let end = start + line_len(&bytes[start..]);
-    let units = units_kept(alloc, &bytes[start..end])?;
+    if plain {
+        return Ok(());
+    }
+    if line.is_ascii() {
+        return Ok(());
+    }
+    let units = units_list(alloc, line)?;
     let counts = counts_kept(alloc, &units)?;
-    Ok(Line {
-        start,
-        end,
+    wide.push(WideLine {
+        number,
         units,
         counts,
-    })
+    })?;
+    Ok(())
 }
 
 /// The line of `offset`, by a binary search: the last that starts at `offset` or before it.
-fn line_of(lines: &[Line], offset: usize) -> usize
-    requires some { 0 < length lines.now }
-    requires first { slice_index (starts_of lines.now) 0 ≤ offset }
-    ensures within { result < length lines.now }
-    ensures before { slice_index (starts_of lines.now) result ≤ offset }
-    ensures last { result + 1 < length lines.now → offset < slice_index (starts_of lines.now) (result + 1) }
+fn line_of(starts: &Offsets, offset: usize) -> usize
+    requires some { 0 < length starts.now }
+    requires first { slice_index starts.now 0 ≤ offset }
+    ensures within { result < length starts.now }
+    ensures before { slice_index starts.now result ≤ offset }
+    ensures last { result + 1 < length starts.now → offset < slice_index starts.now (result + 1) }
 {
     let mut low = 0;
-    let mut high = lines.len();
+    let mut high = starts.len();
     while high - low > 1 {
         let middle = low + (high - low) / 2;
-        if lines[middle].start <= offset {
+        if starts.at(middle) <= offset {
             low = middle;
         } else {
             high = middle;
         }
     }
     low
+}
+
+/// The index in `wide` of the line number `number`, by a binary search, or `None` if that line is
+/// ASCII.
+fn wide_of(wide: &[WideLine], number: usize) -> Option<usize>
+    requires { IsRising (numbers_of wide.now) }
+    ensures { IsPlace number (numbers_of wide.now) result }
+{
+    let mut low = 0;
+    let mut high = wide.len();
+    while low < high {
+        let middle = low + (high - low) / 2;
+        let here = wide[middle].number;
+        if here == number {
+            return Some(middle);
+        }
+        if here < number {
+            low = middle + 1;
+        } else {
+            high = middle;
+        }
+    }
+    None
 }
 
 /// The first byte of the character of the byte `at`: in UTF-8 at most three bytes before.
@@ -288,6 +316,64 @@ fn byte_at(units: &[u8], counts: &[usize], column: usize) -> usize
     start + scanned_byte(&units[start..], column - count_before(counts, block))
 }
 
+impl Marks {
+    /// Adds the line of `bytes` from `start` to `end`. `plain` may be true only if all of `bytes`
+    /// are ASCII.
+    fn push(
+        &mut self,
+        alloc: Global,
+        bytes: &[u8],
+        start: usize,
+        end: usize,
+        plain: bool,
+    ) -> Result<(), Memory>
+        requires marked { IsMarked self.old }
+        requires ordered { start ≤ end }
+        requires within { end ≤ length bytes.now }
+        requires ascii { plain ≡ true → IsAscii bytes.now }
+        ensures marked { IfOk result (λ _. IsMarked self.new) }
+        ensures added { IfOk result (λ _. marks_of self.new ≡ marks_of self.old ++ line_mark bytes.now start end ∷ []) }
+    {
+        let number = self.starts.len();
+        add_wide(alloc, &mut self.wide, number, &bytes[start..end], plain)?;
+        self.starts.push(start)?;
+        self.ends.push(end)?;
+        Ok(())
+    }
+
+    /// The column of `offset` in the line number `number`.
+    fn column(&self, number: usize, offset: usize) -> usize
+        requires indexed { IsIndexed self.now }
+        requires within { number < length self.now.starts }
+        requires after { slice_index self.now.starts number ≤ offset }
+        ensures { result ≡ column_in (mark_at self.now number) offset }
+    {
+        let at = offset.min(self.ends.at(number)) - self.starts.at(number);
+        match wide_of(&self.wide, number) {
+            Some(k) => {
+                let line = &self.wide[k];
+                column(&line.units, &line.counts, at)
+            }
+            None => at,
+        }
+    }
+
+    /// The byte of the line number `number` at `column`, counted from the line's start.
+    fn byte(&self, number: usize, column: usize) -> usize
+        requires indexed { IsIndexed self.now }
+        requires within { number < length self.now.starts }
+        ensures { result ≡ byte_in (mark_at self.now number) column }
+    {
+        match wide_of(&self.wide, number) {
+            Some(k) => {
+                let line = &self.wide[k];
+                byte_at(&line.units, &line.counts, column)
+            }
+            None => column.min(self.ends.at(number) - self.starts.at(number)),
+        }
+    }
+}
+
 impl LineIndex {
     /// Returns the index of `text`, in time linear in `text`. The one error is an allocation
     /// failure.
@@ -295,17 +381,23 @@ impl LineIndex {
         ensures { IfOk result (λ i. i ≡ lines_of text.now) }
     {
         let bytes = text.as_bytes();
-        let mut lines = Vec::new(alloc);
+        let plain = bytes.is_ascii();
+        let mut marks = Marks {
+            starts: Offsets::new(alloc),
+            ends: Offsets::new(alloc),
+            wide: Vec::new(alloc),
+        };
         let mut start = 0;
-        loop {
-            let line = line_at(alloc, bytes, start)?;
-            let end = line.end;
-            lines.push(line)?;
-            if end == bytes.len() {
-                return Ok(LineIndex { lines });
+        let mut ends = memchr2_iter(b'\n', b'\r', bytes);
+        'lines: while let Some(end) = ends.next() {
+            // The LF of a CR LF is before the next line's start.
+            if start <= end {
+                marks.push(alloc, bytes, start, end, plain)?;
+                start = next_start(bytes, end);
             }
-            start = next_start(bytes, end);
         }
+        marks.push(alloc, bytes, start, bytes.len(), plain)?;
+        Ok(LineIndex { marks })
     }
 
     /// Returns the position of `offset`.
@@ -315,12 +407,10 @@ impl LineIndex {
         ensures of_text { (text : List ℕ) → self.now ≡ lines_of text → offset ≤ length text → result ≡ position_of text offset }
         ensures exact { result ≡ place_in self.now offset }
     {
-        let number = line_of(&self.lines, offset);
-        let line = &self.lines[number];
-        let at = offset.min(line.end) - line.start;
+        let number = line_of(&self.marks.starts, offset);
         Position {
             line: number,
-            character: column(&line.units, &line.counts, at),
+            character: self.marks.column(number, offset),
         }
     }
 
@@ -331,17 +421,10 @@ impl LineIndex {
         ensures of_text { (text : List ℕ) → self.now ≡ lines_of text → IsOffset text position result }
         ensures exact { result ≡ offset_in self.now position }
     {
-        let lines = self.lines.as_slice();
-        if position.line >= lines.len() {
+        if position.line >= self.marks.starts.len() {
             return None;
         }
-        let line = &lines[position.line];
-        let units = line.units.as_slice();
-        let at = if units.is_empty() {
-            position.character.min(line.end - line.start)
-        } else {
-            byte_at(units, &line.counts, position.character)
-        };
-        Some(line.start + at)
+        let start = self.marks.starts.at(position.line);
+        Some(start + self.marks.byte(position.line, position.character))
     }
 }

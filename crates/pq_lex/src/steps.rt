@@ -2,6 +2,8 @@
 //! The class of the first byte decides among them. A step takes time linear in the bytes up to its
 //! end; an error, after which `lex` stops, up to the end of the text.
 ghost use Rattle.std.specs.Prelude.{◌≡◌, ◌≤◌, ◌<◌, length};
+ghost use Rattle.pq_lex.specs.declared.bytes.Set.TheVariants.{Lines};
+ghost use Rattle.pq_lex.specs.Runs.{run_end};
 ghost use Rattle.pq_lex.specs.Tokens.{runs_on, closes};
 ghost use Rattle.pq_lex.specs.aux.Scan.{close_at, number_step, slash_step, other_step, step_at};
 
@@ -9,6 +11,7 @@ use crate::bytes::{Class, Set, byte_at, class_of, in_set, run_end};
 use crate::numbers::{float_end, integer_end};
 use crate::strings::text_step;
 use crate::token::{Code, Kind, Span, Step};
+use memchr::memchr;
 
 /// The token of kind `kind` from `from` to `end`: an error if it is a number and a letter, digit or
 /// `_` follows.
@@ -44,13 +47,25 @@ fn close_at(bytes: &[u8], from: usize) -> usize
     at
 }
 
+/// The end of the line comment whose text starts at `from`: the offset of the first LF from there
+/// on, or the end of `bytes`.
+fn line_comment_end(bytes: &[u8], from: usize) -> usize
+    requires { from ≤ length bytes.now }
+    ensures { result ≡ run_end Lines bytes.now from }
+{
+    match memchr(b'\n', &bytes[from..]) {
+        Some(n) => from + n,
+        None => bytes.len(),
+    }
+}
+
 /// The comment or the symbol at the slash at `from`.
 fn slash_step(bytes: &[u8], from: usize) -> Step
     requires { from < length bytes.now }
     ensures { result ≡ slash_step bytes.now from }
 {
     match byte_at(bytes, from + 1) {
-        b'/' => Step::Pass(run_end(Set::Lines, bytes, from + 2)),
+        b'/' => Step::Pass(line_comment_end(bytes, from + 2)),
         b'*' => {
             let close = close_at(bytes, from + 2);
             if close < bytes.len() {
