@@ -42,7 +42,7 @@ small_number : (a : ℕ × ℕ) → a.0 < 2 ^ 32 → a.1 < 2 ^ 64 → a.0 * (2 ^
 small_number a h j = omega arith
 
 -- the stages of one frame
-stays_fits : {K P V : Type 0} (m : Machine K P V) (a b : Stage K P) → StaysAt a b → Fits m a → Fits m b
+pub stays_fits : {K P V : Type 0} (m : Machine K P V) (a b : Stage K P) → StaysAt a b → Fits m a → Fits m b
 stays_fits m (Walking i) (Walking j) s f = tt
 stays_fits m (Walking i) (Waiting part asked reads) s f = absurd s
 stays_fits m (Waiting part asked reads) (Walking i) s f = absurd s

@@ -21,13 +21,15 @@ use Rattle.pq_memo.specs.Look.{IsUpToDate}
 use Rattle.pq_memo.specs.Table.{HasIn, IsSameTable}
 use Rattle.pq_memo.specs.Frames.{frame_keys}
 use Rattle.pq_memo.specs.Demand.{Differ, IsVerified, NoneLost, IsSameOrVerified, carried_keys}
-use Rattle.pq_memo.specs.aux.Demand.{Linked, Stands, Going, IsHandedOn, Advances, walks, weight}
+use Rattle.pq_memo.specs.aux.Demand.{Linked, Stands, Going, IsHandedOn, Advances, Caused, HasConfirmed, walks, weight}
 use Rattle.pq_memo.specs.aux.Frames.{IsReadAnswer}
 use Rattle.pq_memo.proofs.Makes.{now_right}
 use Rattle.pq_memo.proofs.Reading.{now_files}
 use Rattle.pq_memo.proofs.TableCalls.{zero_or}
 use Rattle.pq_memo.proofs.Stacked.{in_keys_right}
 use Rattle.pq_memo.proofs.Advancing as advancing
+use Rattle.pq_memo.proofs.Causes as causes
+use Rattle.pq_memo.proofs.Confirming as confirming
 
 -- keys that are distinct
 pub differ : {K : Type 0} (ks : List K) → Distinct ks → Differ ks
@@ -93,6 +95,53 @@ module _ {K P V : Type 0} (order : K → K → Ordering) (exact : Exact order) (
       let s = advancing.goes order exact m inputs reach root counted laws old before after f stack rest carried going.kept here.stands here.tells entries advances in
       subst (λ (l : List (Frame K P)). Stepped before after l rest entries) (sym is)
       (record { state = record { kept = kept; stands = s.stands; tells = s.tells }; less = s.less })
+
+  -- what the marking of memos below a frame requires
+  pub record Held (table : K → Option (Memo K V)) (stack : List (Frame K P)) (f : Frame K P) : Type 0 where
+    pub linked : Linked order m inputs table (stack ++ f ∷ [])
+    pub stale : (k : K) → In k (frame_keys (stack ++ f ∷ [])) → IsUpToDate m inputs.revision (HasIn table) k → ⊥
+    pub caused : Caused m inputs table (stack ++ f ∷ [])
+
+  pub held : (table : K → Option (Memo K V)) (all stack : List (Frame K P)) (f : Frame K P) (carried : List (Carried K)) → all ≡ stack ++ f ∷ []
+      → State table all carried → Caused m inputs table all → Held table stack f
+  held table all stack f carried is going caused =
+      let stands = subst (λ (l : List (Frame K P)). Stands order m inputs (reach root) root table l) is going.stands in
+      record { linked = stands.linked; stale = stands.stale; caused = subst (λ (l : List (Frame K P)). Caused m inputs table l) is caused }
+
+  -- memos below a frame are marked, and then the frame takes a step
+  module _ (before middle : K → Option (Memo K V)) (all stack : List (Frame K P)) (f : Frame K P) (carried : List (Carried K)) (is : all ≡ stack ++ f ∷ [])
+      (going : State before all carried) (caused : Caused m inputs before all) (kept : Kept order m inputs.history inputs.revision (HasIn middle))
+      (confirmed : HasConfirmed m inputs.revision before middle (frame_keys (stack ++ f ∷ []))) where
+    here : State before (stack ++ f ∷ []) carried
+    here = subst (λ (l : List (Frame K P)). State before l carried) is going
+
+    pub marked_state : State middle (stack ++ f ∷ []) carried
+    marked_state = confirming.going_then order exact m inputs before middle (stack ++ f ∷ []) confirmed (reach root) root old carried kept here
+
+    pub marked_ready : Ready order m inputs middle stack f
+    marked_ready = ready middle (stack ++ f ∷ []) stack f carried refl marked_state
+
+    pub record Went (after : K → Option (Memo K V)) (rest : List (Frame K P)) (entries : List (Carried K)) : Type 0 where
+      pub state : State after rest entries
+      pub because : Caused m inputs after rest
+      pub less : weight order m inputs.revision (reach root) after rest < weight order m inputs.revision (reach root) before all
+
+    pub went : (after : K → Option (Memo K V)) (rest : List (Frame K P)) (entries : List (Carried K)) → Kept order m inputs.history inputs.revision (HasIn after)
+        → Advances order m inputs middle after f stack carried rest entries → Went after rest entries
+    went after rest entries kept_after advances =
+        let s = stepped middle after (stack ++ f ∷ []) stack rest f carried entries refl marked_state kept_after advances in
+        let le : weight order m inputs.revision (reach root) middle (stack ++ f ∷ []) ≤ weight order m inputs.revision (reach root) before (stack ++ f ∷ []) =
+        confirming.weight_then order exact m inputs before middle (stack ++ f ∷ []) confirmed (reach root) in
+        let same : weight order m inputs.revision (reach root) before all ≡ weight order m inputs.revision (reach root) before (stack ++ f ∷ []) =
+        ap (λ (l : List (Frame K P)). weight order m inputs.revision (reach root) before l) is in
+        let lt : weight order m inputs.revision (reach root) after rest < weight order m inputs.revision (reach root) middle (stack ++ f ∷ []) = s.less in
+        record {
+          state = s.state;
+          because = causes.caused_on order exact m inputs (reach root) root middle after f stack rest marked_state.stands
+              (confirming.caused_then order exact m inputs before middle (stack ++ f ∷ []) confirmed (subst (λ (l : List (Frame K P)). Caused m inputs before l) is caused))
+              carried entries advances;
+          less = omega arith;
+        }
 
   -- the end
   pub record Ended (table : K → Option (Memo K V)) (carried : List (Carried K)) : Type 0 where

@@ -58,14 +58,14 @@ module _ {K P V : Type 0} (order : K → K → Ordering) (exact : Exact order) (
       | inr j ↦ inr (popped.from k j)
     ]
 
-    stale_keys : (k : K) → In k popped.keys → IsUpToDate m inputs.revision (HasIn before) k → ⊥
+    pub stale_keys : (k : K) → In k popped.keys → IsUpToDate m inputs.revision (HasIn before) k → ⊥
     stale_keys k i = stands.stale k
         (subst (λ (l : List (Frame K P)). In k (frame_keys l)) (sym popped.whole) (in_keys_right k rest (popped.first ∷ popped.others) (popped.into k i)))
 
-    left_in : (k : K) → In k (frame_keys rest) → In k (frame_keys all)
+    pub left_in : (k : K) → In k (frame_keys rest) → In k (frame_keys all)
     left_in k i = subst (λ (l : List (Frame K P)). In k (frame_keys l)) (sym popped.whole) (in_keys_left k rest (popped.first ∷ popped.others) i)
 
-    out : (k : K) → In k (frame_keys rest) → In k popped.keys → ⊥
+    pub out : (k : K) → In k (frame_keys rest) → In k popped.keys → ⊥
     out k i j = apart rest (popped.first ∷ popped.others) k (subst (λ (l : List (Frame K P)). Distinct (frame_keys l)) popped.whole stands.distinct) i (popped.into k j)
 
     new_verified : (k : K) → In k popped.keys → IsVerified inputs.revision after k

@@ -25,6 +25,8 @@ pub mod Weights
 pub mod Going
 pub mod Advancing
 pub mod LeastPlace
+pub mod Confirming
+pub mod Causes
 pub mod Demanding
 pub mod Indexed
 pub mod Numbered

@@ -188,7 +188,7 @@ module _ {K P V : Type 0} (order : K → K → Ordering) (m : Machine K P V) (in
         changed (inl low) = inl low
         changed (inr c) = inr (c.0, wrote.kept_fresh m inputs.revision before after keys written stale q s.up_to_date ∙ c.1, c.2)
 
-    all_still : (since : ℕ) (qs : List K) → Each (IsStill m inputs.history inputs.revision (HasIn before) since) qs → Each (IsStill m inputs.history inputs.revision (HasIn after) since) qs
+    pub all_still : (since : ℕ) (qs : List K) → Each (IsStill m inputs.history inputs.revision (HasIn before) since) qs → Each (IsStill m inputs.history inputs.revision (HasIn after) since) qs
     all_still since [] e = tt
     all_still since (q ∷ qs) e = (is_still since q e.0, all_still since qs e.1)
 

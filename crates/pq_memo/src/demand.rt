@@ -1,8 +1,9 @@
 //! Bringing a key up to date, on one stack of frames.
 //!
-//! It goes depth first. A step takes the last frame: its key is up to date, or its rule starts or
-//! goes on, or it waits for a key. If that key is on the stack, the frames from it on are a ring,
-//! which is published. Otherwise the key's own frame is pushed. Each rule is started once at most.
+//! It goes depth first. Before a frame walks, the valid memos below it are marked: see `confirm`. A
+//! step takes the last frame: its key is up to date, or its rule starts or goes on, or it waits for
+//! a key. If that key is on the stack, the frames from it on are a ring, which is published.
+//! Otherwise the key's own frame is pushed. Each rule is started once at most.
 ghost use Rattle.std.specs.Prelude.{◌≡◌, ◌<◌, ◌++◌, ◌∷◌, [], length, HoldsAt, IfOk, OnOk, OnErr};
 ghost use Rattle.pq_rules.specs.Relations.{Each, In};
 ghost use Rattle.pq_rules.specs.aux.Evaluator.{Distinct};
@@ -19,6 +20,7 @@ use crate::look::Why;
 use crate::memos::Memos;
 use crate::slots::Near;
 use crate::stack::Stack;
+use crate::trail::Trail;
 use pq_inputs::Inputs;
 use pq_rules::{Answer, Memory, Rules, Shared, Turn, push};
 use std::alloc::Global;
@@ -283,8 +285,10 @@ impl<R: Rules> Memos<R> {
         let copy = self.rules().copy_key(alloc, key)?;
         let stage = Stage::Walking(0);
         stack.push(alloc, self.rules(), Frame { key: copy, stage }, number)?;
+        let mut trail = Trail::new(alloc, self.entries.count());
         'steps: while let Some(frame) = stack.pop() {
             let own = stack.popped();
+            self.confirm(&stack, &frame, own, &mut trail, inputs);
             self.advance(alloc, &mut stack, &mut carried, frame, own, inputs)?;
         }
         Ok(carried)

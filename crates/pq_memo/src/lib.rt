@@ -19,11 +19,13 @@
 //! `slots` (keys by number), `memos` (the table, reading), `writes` (marking and publishing),
 //! `ring` (publishing a ring), `compared` (old answers and a ring), `member` and `unpublished` (what
 //! goes in, and what comes back), `frame` and `restored` (a step), `round` (frames in a round),
-//! `engine` and `demanded` (what a demand answers), `demand` (bringing a key up to date), `stack`
-//! (its frames), `turned` and `usable` (for callers that keep frames), `laws`.
+//! `engine` and `demanded` (what a demand answers), `demand` (bringing a key up to date), `confirm`
+//! and `trail` (marking valid memos without frames), `stack` (its frames), `turned` and `usable`
+//! (for callers that keep frames), `laws`.
 #![tactic(auto)]
 
 mod compared;
+mod confirm;
 mod demand;
 mod demanded;
 mod engine;
@@ -39,6 +41,7 @@ mod round;
 mod slots;
 mod stack;
 mod state;
+mod trail;
 mod turned;
 mod unpublished;
 mod usable;

@@ -181,7 +181,7 @@ impl<R: Rules> Memos<R> {
 
     /// Whether `key` is on the ring that is the answer of its `entry`. It takes one comparison
     /// where the key is at the entry's place, and else one for each key of the ring.
-    fn is_on_its_ring(&self, key: &R::Key, entry: &Entry<R::Key, R::Value>) -> bool
+    pub(crate) fn is_on_its_ring(&self, key: &R::Key, entry: &Entry<R::Key, R::Value>) -> bool
         ensures { OnRing result key.now entry.now }
     {
         if self.is_at(key, entry.place(), entry) {

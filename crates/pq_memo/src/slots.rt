@@ -172,8 +172,54 @@ impl<R: Rules> Slots<R> {
         noted(rules, &self.index, key)
     }
 
+    /// How many slots there are.
+    pub(crate) fn count(&self) -> usize {
+        self.slots.as_slice().len()
+    }
+
+    /// The key of the slot `number`, if there is such a slot.
+    pub(crate) fn key_of(&self, number: usize) -> Option<&R::Key>
+        ensures { IfSome result (λ k. key_at self.now number ≡ Some k.now) }
+    {
+        let slots = self.slots.as_slice();
+        if number < slots.len() {
+            return Some(slots[number].key());
+        }
+        None
+    }
+
+    /// The entry of the slot `number`, if there is one.
+    pub(crate) fn entry_of(&self, number: usize) -> Option<&Entry<R::Key, R::Value>> {
+        let slots = self.slots.as_slice();
+        if number < slots.len() {
+            return slots[number].entry();
+        }
+        None
+    }
+
+    /// Sets the verified revision and the durability of the memo in the slot `number`, if it has
+    /// one.
+    pub(crate) fn mark_of(
+        &mut self,
+        _rules: &R,
+        number: usize,
+        revision: u64,
+        durability: Durability,
+    )
+        requires { (k : R.Key) × (key_at self.old number ≡ Some k) }
+        ensures marked { (k q : R.Key) → key_at self.old number ≡ Some k → memo_at R.Key.cmp self.new q
+            ≡ (if is_eq (R.Key.cmp k q) then option_map (λ (m : Memo R.Key R.Value). remarked m revision durability) (memo_at R.Key.cmp self.old k) else memo_at R.Key.cmp self.old q) }
+    {
+        mark_at(&mut self.slots, number, revision, durability);
+    }
+
     /// The entry of the slot `number`, which is that of `_key`.
-    fn entry_at(&self, _rules: &R, _key: &R::Key, number: usize) -> Option<&Entry<R::Key, R::Value>>
+    pub(crate) fn entry_at(
+        &self,
+        _rules: &R,
+        _key: &R::Key,
+        number: usize,
+    ) -> Option<&Entry<R::Key, R::Value>>
         requires { key_at self.now number ≡ Some _key.now }
         ensures { option_copied result ≡ memo_at R.Key.cmp self.now _key.now }
     {

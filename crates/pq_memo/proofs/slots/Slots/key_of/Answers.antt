@@ -1,0 +1,8 @@
+use Rattle.std.proofs.Common.{refl}
+use Rattle.pq_memo.proofs.SlotCalls.{slot_is}
+use Rattle.pq_memo.proofs.slots.Slots.key_of.Goals as goal
+
+pub returns-then-number-slots : goal.returns-then-number-slots
+returns-then-number-slots g c =
+    slot_is c.args.self.now c.self.inside.slots.items c.as_slice-slots.result.now c.args.number c.index-slots-number.result c.key.result.now c.key.result.now
+    c.self.view_is c.as_slice-slots.ensures.value c.if-number-slots.true c.index-slots-number.is c.key.ensures refl
