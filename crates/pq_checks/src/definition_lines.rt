@@ -2,8 +2,9 @@
 //! sees.
 //!
 //! The names of a file's definitions are sorted already, and a walk over them finds those that are
-//! repeated. A definition at file level is looked up in its scope, which asks only the files whose
-//! package its name can be in. A file that sees no other file needs no look-up.
+//! repeated. A definition at file level is looked up in the other files whose package its name can be
+//! in. They are found once for all definitions of a file. A file that sees no other file needs no
+//! look-up.
 ghost use Rattle.std.specs.Prelude.{◌≡◌, ◌++◌, flat_map, IfOk, [], Some};
 ghost use Rattle.std.specs.List.{list_any};
 ghost use Rattle.pq_checks.specs.Earlier.{of_each_after};
@@ -17,7 +18,7 @@ use crate::code::Code;
 use crate::fault::Fault;
 use crate::said::{around_name, push};
 use pq_names::Text;
-use pq_schema::{Definition, DefinitionKind, Defs, Scope};
+use pq_schema::{Definition, DefinitionKind, Defs, OtherFiles, Scope};
 use pq_syntax::Node;
 use std::alloc::Global;
 
@@ -115,27 +116,53 @@ fn push_other(
 }
 
 /// Adds the error of the definition `definition` if it is at file level and one of the other files
-/// that the file `file` sees by its scope `scope` has its full name.
+/// `others` has its full name.
 fn push_elsewhere(
     alloc: Global,
     faults: &mut Vec<Fault>,
-    file: &str,
-    scope: &Scope,
+    others: &OtherFiles<'_>,
     nodes: &[Node],
     definition: &Definition,
 ) -> Result<(), Memory>
     ensures said { IfOk result (λ _. faults.new.items
-        ≡ faults.old.items ++ elsewhere_faults (other_files file.now scope.now) nodes.now definition.now) }
+        ≡ faults.old.items ++ elsewhere_faults others.now nodes.now definition.now) }
 {
     if !is_at_top(nodes, definition) {
         return Ok(());
     }
-    let mut full_name = String::new(alloc);
-    definition.full_name.push_to(&mut full_name)?;
-    match scope.first_other(alloc, file, full_name.as_str())? {
+    match others.first_other(alloc, &definition.full_name)? {
         Some(other) => push_other(alloc, faults, definition, other),
         None => Ok(()),
     }
+}
+
+/// Adds an error for each of `definitions` at file level whose full name one of the other files
+/// `others` has.
+fn push_each_elsewhere(
+    alloc: Global,
+    faults: &mut Vec<Fault>,
+    others: &OtherFiles<'_>,
+    nodes: &[Node],
+    definitions: &[Definition],
+) -> Result<(), Memory>
+    ensures said { IfOk result (λ _. faults.new.items ≡ faults.old.items
+        ++ flat_map (elsewhere_faults others.now nodes.now) definitions.now) }
+{
+    'definitions: for definition in definitions {
+        push_elsewhere(alloc, faults, others, nodes, definition)?;
+    }
+    Ok(())
+}
+
+/// The number of `definitions` that are at file level.
+fn count_at_top(nodes: &[Node], definitions: &[Definition]) -> usize {
+    let mut count = 0usize;
+    'definitions: for definition in definitions {
+        if is_at_top(nodes, definition) {
+            count = count.saturating_add(1);
+        }
+    }
+    count
 }
 
 /// Whether the file `file` sees another file by its scope `scope`.
@@ -150,24 +177,23 @@ fn sees_another(file: &str, scope: &Scope) -> bool
     false
 }
 
-/// Adds an error for each of `definitions` at file level whose full name another file has that the
-/// file `file` with the statements `nodes` sees by its scope `scope`.
+/// Adds an error for each definition of `defs` at file level whose full name another file has that
+/// the file `file` with the statements `nodes` sees by its scope `scope`.
 pub(crate) fn push_elsewhere_faults(
     alloc: Global,
     faults: &mut Vec<Fault>,
     file: &str,
     scope: &Scope,
     nodes: &[Node],
-    definitions: &[Definition],
+    defs: &Defs,
 ) -> Result<(), Memory>
     ensures said { IfOk result (λ _. faults.new.items ≡ faults.old.items
-        ++ flat_map (elsewhere_faults (other_files file.now scope.now) nodes.now) definitions.now) }
+        ++ flat_map (elsewhere_faults (other_files file.now scope.now) nodes.now) defs.now.definitions) }
 {
     if !sees_another(file, scope) {
         return Ok(());
     }
-    'definitions: for definition in definitions {
-        push_elsewhere(alloc, faults, file, scope, nodes, definition)?;
-    }
-    Ok(())
+    let lookups = count_at_top(nodes, defs.definitions());
+    let others = scope.others(alloc, file, defs, lookups)?;
+    push_each_elsewhere(alloc, faults, &others, nodes, defs.definitions())
 }

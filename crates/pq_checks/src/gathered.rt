@@ -208,7 +208,7 @@ fn push_elsewhere(
         known.linked.file.as_str(),
         known.scope.get(),
         nodes,
-        known.defs.get().definitions(),
+        known.defs.get(),
     )
 }
 

@@ -14,13 +14,17 @@ pub mod Meanings
 pub mod Among
 pub mod Dotted
 pub mod Near
+pub mod Around
 pub mod Searches
 pub mod Grouping
 pub mod FirstNear
+pub mod NearNames
+pub mod RightIn
 pub mod ResolutionRows
 pub mod ScopeMeaning
 pub mod ResolvedMeaning
 pub mod Picked
+pub mod Pieces
 pub mod SchemaMeaning
 pub mod ByAnswers
 pub mod RuleSetMeaning

@@ -31,7 +31,7 @@ module _ (order : List ℕ → List ℕ → Ordering) (total : IsTotalOrder orde
       (λ e. absurd (true≢false (sym (ap is_lt (total.antisymm b a ∙ ap ordering_reverse e)) ∙ down)))
 
   -- entries that do not come before others have names that do not
-  names_up : (a b : List ℕ × ℕ) → is_lt (by_name a b) ≡ false → is_lt (order a.0 b.0) ≡ false
+  pub names_up : (a b : List ℕ × ℕ) → is_lt (by_name a b) ≡ false → is_lt (order a.0 b.0) ≡ false
   names_up a b h = by_order (order a.0 b.0) (is_lt (order a.0 b.0) ≡ false)
       (λ e. absurd (true≢false (sym (ap (λ (o : Ordering). is_lt (ordering_then o (nat_cmp a.1 b.1))) e) ∙ h)))
       (λ e. ap is_lt e) (λ e. ap is_lt e)

@@ -12,6 +12,9 @@ pub mod Hits
 pub mod Scopes
 pub mod Grouping
 pub mod FirstOf
+pub mod NearNames
+pub mod NearFiles
+pub mod RightIn
 pub mod SameScopes
 pub mod EqualScopes
 pub mod Queries

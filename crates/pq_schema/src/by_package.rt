@@ -5,7 +5,7 @@
 //! bytes, each with a dot after it, so those that begin with a name and a dot are neighbours. A
 //! binary search finds the first. An entry shares the bytes of its name with the file, so the
 //! memory does not depend on the lengths of the names.
-ghost use Rattle.std.specs.Prelude.{◌≡◌, ℕ, ◌<◌, ◌≤◌, ◌++◌, [], List, IfOk, OnOk, bytes_eq, get_or, length, nat_eq, true, false};
+ghost use Rattle.std.specs.Prelude.{◌≡◌, ℕ, ◌<◌, ◌≤◌, ◌++◌, [], List, IfOk, OnOk, bytes_eq, get_or, length, nat_eq, true, false, Some};
 ghost use Rattle.std.specs.Option.{option_copied};
 ghost use Rattle.std.specs.Ordering.{is_lt, nat_cmp};
 ghost use Rattle.std.specs.Cmp.Lexicographic.{slice_cmp};
@@ -115,7 +115,42 @@ fn add_places(packages: &[Entry], root: &str, near: &mut Vec<usize>) -> Result<(
     Ok(())
 }
 
+/// Whether `entry` is a package that a search from `scope` outwards meets: `scope` itself, a prefix
+/// of it before a dot, or the empty package.
+fn is_around(entry: &[u8], scope: &[u8]) -> bool
+    ensures all { (root : List ℕ) → entry.now ≡ dotted root
+        → is_among root (chain (Some scope.now)) ≡ true → result ≡ true }
+{
+    if entry.len() == 1 {
+        return true;
+    }
+    if scope.starts_with(entry) {
+        return true;
+    }
+    is_dotted(entry, scope)
+}
+
+/// Adds the places of the files whose package a search from `scope` outwards meets to `near`, by
+/// one walk over the packages.
+fn add_around(packages: &[Entry], scope: &str, near: &mut Vec<usize>) -> Result<(), Memory>
+    ensures kept { OnOk result ((k : ℕ) → In k near.old.items → In k near.new.items) }
+    ensures places { OnOk result ((root : List ℕ) (k : ℕ)
+        → is_among root (chain (Some scope.now)) ≡ true
+        → Contains packages.now (dotted root, k) → In k near.new.items) }
+{
+    'entries: for at in 0..packages.len() {
+        if !is_around(packages[at].0.as_str().as_bytes(), scope.as_bytes()) {
+            continue;
+        }
+        near.push(packages[at].1)?;
+    }
+    Ok(())
+}
+
 /// The places of the files whose package is `within`, a prefix of it before a dot, or empty.
+///
+/// Each scope takes a binary search. Where there are more scopes than packages, one walk over the
+/// packages finds those of the scopes that are left.
 pub(crate) fn places_near(
     alloc: Global,
     packages: &[Entry],
@@ -128,8 +163,15 @@ pub(crate) fn places_near(
 {
     let mut near = Vec::new(alloc);
     let mut inner = within;
+    let mut searches = packages.len();
     'scopes: loop {
-        add_places(packages, scope_or_empty(inner), &mut near)?;
+        let scope = scope_or_empty(inner);
+        if searches == 0 {
+            add_around(packages, scope, &mut near)?;
+            return Ok(near);
+        }
+        searches -= 1;
+        add_places(packages, scope, &mut near)?;
         match inner {
             Some(scope) => inner = outer(scope),
             None => return Ok(near),

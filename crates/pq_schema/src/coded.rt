@@ -11,6 +11,7 @@ ghost use Rattle.pq_schema.specs.aux.NameCodes.{code_of, code_order};
 ghost use Rattle.pq_schema.specs.aux.NameParts.{name_order};
 
 use crate::full_name::FullName;
+use crate::spelled::Spelled;
 use std::cmp::Ordering;
 use std::marker::Model;
 
@@ -41,21 +42,22 @@ impl Coded {
         Coded { code, name }
     }
 
-    /// Compares the name with `text`, whose code is `code`.
-    pub(crate) fn compare_to(&self, code: u64, text: &str) -> Ordering
-        ensures order { result ≡ ordering_then (nat_cmp (code_of self.now) code) (name_order self.now text.now) }
+    /// Compares the name with `name`, whose code is `code`.
+    pub(crate) fn compare_to(&self, code: u64, name: Spelled<'_>) -> Ordering
+        ensures order { result ≡ ordering_then (nat_cmp (code_of self.now) code) (name_order self.now name.entry) }
     {
         match self.code.cmp(&code) {
-            Ordering::Equal => self.name.compare_to(text),
+            Ordering::Equal => self.name.compare_to(name),
             order => order,
         }
     }
 
-    /// Whether the name has the bytes of `text`.
-    pub(crate) fn is(&self, text: &str) -> bool
-        ensures is { result ≡ bytes_eq self.now text.now }
+    /// Whether this is the name `name`.
+    #[tactic(auto, using(crate::specs::aux::NameOrder::names_tie))]
+    pub(crate) fn is(&self, name: Spelled<'_>) -> bool
+        ensures is { result ≡ bytes_eq self.now name.entry }
     {
-        self.name.is(text)
+        self.name.compare_to(name).is_eq()
     }
 }
 

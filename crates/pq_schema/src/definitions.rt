@@ -7,6 +7,7 @@ ghost use Rattle.std.specs.Option.{option_copied};
 ghost use Rattle.pq_schema.specs.Definitions.{defs_of};
 ghost use Rattle.pq_schema.specs.Repeated.{AreRepeated};
 ghost use Rattle.pq_schema.specs.aux.InPackage.{AllBelow, dotted};
+ghost use Rattle.pq_schema.specs.aux.Index.{IsIndexOf};
 
 use crate::coded::Coded;
 use crate::define::definitions_in;
@@ -15,6 +16,7 @@ use crate::enclosing::Enclosing;
 use crate::full_name::{FullName, with_dot};
 use crate::index::{first_named, index_of, repeated};
 use crate::outline::package_of;
+use crate::spelled::Spelled;
 use crate::{Memory, Text};
 use pq_lex::Span;
 use pq_syntax::Node;
@@ -95,7 +97,7 @@ impl Defs {
     {
         let package_name = package_of(alloc, nodes)?;
         let root = with_dot(alloc, package_name.as_str())?;
-        let package = Enclosing::package(alloc, &package_name)?;
+        let package = Enclosing::package(alloc, &package_name, &root)?;
         let definitions = definitions_in(alloc, &package, nodes)?;
         let index = index_of(alloc, &definitions)?;
         let digest = digest_of(&definitions);
@@ -135,7 +137,23 @@ impl Defs {
         ensures first { option_copied result
             ≡ find (λ d. bytes_eq d.full_name full_name.now) self.now.definitions }
     {
-        first_named(&self.index, &self.definitions, full_name)
+        let name = Spelled::new(&[], full_name);
+        self.find_spelled(name)
+    }
+
+    /// The first definition with the full name `name`, by one binary search.
+    pub(crate) fn find_spelled(&self, name: Spelled<'_>) -> Option<&Definition>
+        ensures first { option_copied result
+            ≡ find (λ d. bytes_eq d.full_name name.entry) self.now.definitions }
+    {
+        first_named(&self.index, &self.definitions, name)
+    }
+
+    /// The full names in the order of the index, each with the place of its definition.
+    pub(crate) fn index(&self) -> &[(Coded, usize)]
+        ensures index { IsIndexOf result.now self.now.definitions }
+    {
+        &self.index
     }
 
     /// Whether this may equal `other`, by one comparison of numbers. Definitions of other names or at

@@ -6,7 +6,7 @@ ghost use Rattle.std.specs.Prelude.{◌≡◌};
 ghost use Rattle.pq_schema.specs.aux.Digests.{digested, digest_from};
 
 use crate::definitions::Definition;
-use crate::full_name::coded;
+use crate::spelled::coded;
 
 /// The number `digest` with the name and the place of `definition` after it.
 fn digested(digest: u64, definition: &Definition) -> u64

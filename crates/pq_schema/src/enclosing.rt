@@ -2,7 +2,10 @@
 //!
 //! The parts of the scope's name are made once, and all names in the scope share them.
 ghost use Rattle.std.specs.Prelude.{◌≡◌, IfOk};
+ghost use Rattle.std.specs.List.{concat};
 ghost use Rattle.pq_schema.specs.Definitions.{qualified};
+ghost use Rattle.pq_schema.specs.aux.InPackage.{dotted};
+ghost use Rattle.pq_schema.specs.aux.NameParts.{leading};
 
 use crate::full_name::FullName;
 use pq_names::{Memory, Text};
@@ -31,16 +34,32 @@ impl Model for Enclosing {
     ghost invariant = { λ e. concat e.parts ≡ leading e.name };
 }
 
+/// The parts of the package `name`, where `root` is the name with a dot after it: `root` alone, or
+/// none for the empty package.
+fn root_parts(alloc: Global, name: &Text, root: &Text) -> Result<Shared<Items<Text>>, Memory>
+    requires root { root.now ≡ dotted name.now }
+    ensures parts { IfOk result (λ ps. concat ps ≡ leading name.now) }
+{
+    if name.as_str().is_empty() {
+        return Shared::new(alloc, Items::new(Vec::new(alloc)));
+    }
+    let mut parts = Vec::with_capacity(alloc, 1)?;
+    parts.push(root.copy()?)?;
+    Shared::new(alloc, Items::new(parts))
+}
+
 impl Enclosing {
-    /// The package `name` as a scope.
-    pub(crate) fn package(alloc: Global, name: &Text) -> Result<Enclosing, Memory>
+    /// The package `name` as a scope, where `root` is the name with a dot after it. All names in the
+    /// package share `root`.
+    pub(crate) fn package(alloc: Global, name: &Text, root: &Text) -> Result<Enclosing, Memory>
+        requires root { root.now ≡ dotted name.now }
         ensures name { IfOk result (λ e. e ≡ name.now) }
     {
+        let parts = root_parts(alloc, name, root)?;
         let full_name = FullName::after(
             Shared::new(alloc, Items::new(Vec::new(alloc)))?,
             name.copy()?,
         );
-        let parts = full_name.parts(alloc)?;
         Ok(Enclosing {
             name: full_name,
             parts,

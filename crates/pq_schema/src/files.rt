@@ -2,21 +2,66 @@
 //!
 //! A look-up asks only the files whose package the name can be in (`by_package`). These are found
 //! once for all the names that a reference is looked up by.
-ghost use Rattle.std.specs.Prelude.{◌≡◌, IfOk};
+ghost use Rattle.std.specs.Prelude.{◌≡◌, ◌++◌, ◌∷◌, [], IfOk, cond, filter};
 ghost use Rattle.std.specs.Option.{option_copied};
 ghost use Rattle.pq_schema.specs.Resolution.{meaning, is_package};
-ghost use Rattle.pq_schema.specs.aux.FirstOf.{first_of, other_with};
-ghost use Rattle.pq_schema.specs.aux.Grouping.{AreNear, around};
+ghost use Rattle.pq_rules.specs.Relations.{Each};
+ghost use Rattle.pq_schema.specs.aux.FirstOf.{first_of, other_with, is_other_at};
+ghost use Rattle.pq_schema.specs.aux.Grouping.{AreNear, IsBelow, around};
+ghost use Rattle.pq_schema.specs.aux.NearFiles.{AreOthers};
 ghost use Rattle.pq_schema.specs.aux.Hits.{meaning_at};
 ghost use Rattle.pq_schema.specs.aux.Scopes.{chain};
 
 use crate::by_package::{Entry, has_package, packages_of, places_near};
-use crate::named::{Place, first_definition, first_other};
+use crate::named::{Place, file_of, first_definition};
 use crate::nesting::outer;
 use crate::scope::FileDefs;
+use crate::spelled::Spelled;
 use pq_names::{Memory, Text};
 use std::alloc::Global;
 use std::marker::Model;
+
+/// Whether the file at `place` is there and is not the file `file`.
+fn is_other(files: &[FileDefs], place: usize, file: &str) -> bool
+    ensures is { result ≡ is_other_at file.now files.now place }
+{
+    match files.get(place) {
+        Some(f) => f.file.as_str() != file,
+        None => false,
+    }
+}
+
+/// Adds `place` to `others` if a file is there that is not the file `file`.
+fn push_other(
+    others: &mut Vec<usize>,
+    files: &[FileDefs],
+    place: usize,
+    file: &str,
+) -> Result<(), Memory>
+    ensures added { IfOk result (λ _. others.new.items
+        ≡ others.old.items ++ cond (is_other_at file.now files.now place) (place ∷ []) []) }
+{
+    if is_other(files, place, file) {
+        others.push(place)?;
+    }
+    Ok(())
+}
+
+/// Those of `places` at which is a file that is not the file `file`.
+fn others_of(
+    alloc: Global,
+    files: &[FileDefs],
+    places: &[usize],
+    file: &str,
+) -> Result<Vec<usize>, Memory>
+    ensures others { IfOk result (λ v. v.items ≡ filter (is_other_at file.now files.now) places.now) }
+{
+    let mut others = Vec::with_capacity(alloc, places.len())?;
+    'places: for place in places {
+        push_other(&mut others, files, *place, file)?;
+    }
+    Ok(others)
+}
 
 /// Files in order, with their definitions. Contracts see the list.
 #[derive(Drop)]
@@ -65,13 +110,36 @@ impl Files {
         Ok(near)
     }
 
+    /// The definitions of each file are below its package.
+    pub(crate) fn files(&self) -> &[FileDefs]
+        ensures value { result.now ≡ self.now }
+        ensures below { Each IsBelow self.now }
+    {
+        &self.files
+    }
+
     /// The first definition with the full name `name`: the files in order, then each in text order.
     /// `near` has the places of the files that can have the name.
     pub(crate) fn definition(&self, near: &[usize], name: &str) -> Option<Place<'_>>
         requires near { AreNear near.now self.now (around name.now) }
         ensures first { meaning_at result ≡ meaning self.now name.now }
     {
-        first_definition(self.files.as_slice(), near, name)
+        first_definition(&self.files, near, &Spelled::new(&[], name))
+    }
+
+    /// The places of the files but of the file `file`, whose package is `within`, a prefix of it
+    /// before a dot, or empty, in order.
+    pub(crate) fn others_near(
+        &self,
+        alloc: Global,
+        file: &str,
+        within: Option<&str>,
+    ) -> Result<Vec<usize>, Memory>
+        ensures others { IfOk result
+            (λ v. AreOthers v.items file.now self.now (chain (option_copied within.entry))) }
+    {
+        let near = self.near(alloc, within)?;
+        others_of(alloc, &self.files, &near, file)
     }
 
     /// The name of the first of the files, but of the file `file`, that defines `name`.
@@ -83,8 +151,9 @@ impl Files {
     ) -> Result<Option<&Text>, Memory>
         ensures first { IfOk result (λ o. option_copied o ≡ first_of (other_with file.now name.now) self.now) }
     {
-        let near = self.near(alloc, outer(name))?;
-        Ok(first_other(self.files.as_slice(), &near, file, name))
+        let others = self.others_near(alloc, file, outer(name))?;
+        let found = first_definition(&self.files, &others, &Spelled::new(&[], name));
+        Ok(file_of(found))
     }
 
     /// Whether `name` is a package of the files, or the part of one before a dot.

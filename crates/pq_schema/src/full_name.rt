@@ -4,14 +4,16 @@
 //! name keeps the parts of its scope behind one pointer, which all names of the scope share. Two
 //! names are compared from their last bytes to their first: names of one scope differ there, and
 //! the scope is not looked at.
-ghost use Rattle.std.specs.Prelude.{◌≡◌, ℕ, [], ◌++◌, ◌==◌, IfOk, OnOk, None, bytes_eq, codes, length, option_to_list, string_bytes};
+ghost use Rattle.std.specs.Prelude.{◌≡◌, ℕ, [], ◌++◌, ◌==◌, IfOk, OnOk, None, bytes_eq, codes, length, string_bytes, true};
 ghost use Rattle.std.specs.List.{concat};
 ghost use Rattle.std.specs.Cmp.Rules.{comparing};
 ghost use Rattle.std.specs.Ordering.{as_partial_cmp};
 ghost use Rattle.std.proofs.Common.{rules};
 ghost use Rattle.pq_schema.specs.aux.NameParts.{leading, name_order};
-ghost use Rattle.pq_schema.specs.aux.NameCodes.{coded, code_of};
+ghost use Rattle.pq_schema.specs.aux.NameCodes.{code_of};
+ghost use Rattle.pq_schema.specs.aux.RightIn.{IsRightIn, IsRoot};
 
+use crate::spelled::{Spelled, compare};
 use pq_names::{Memory, Text};
 use pq_rules::Shared;
 use pq_syntax::Items;
@@ -80,25 +82,23 @@ impl FullName {
     pub fn is(&self, text: &str) -> bool
         ensures is { result ≡ bytes_eq self.now text.now }
     {
-        self.compare_to(text).is_eq()
+        let name = Spelled::new(&[], text);
+        self.compare_to(name).is_eq()
     }
 
-    /// Compares the bytes of the name and of `text` from the last to the first.
-    pub(crate) fn compare_to(&self, text: &str) -> Ordering
-        ensures order { result ≡ name_order self.now text.now }
+    /// Compares the bytes of this name and of `name` from the last to the first.
+    pub(crate) fn compare_to(&self, name: Spelled<'_>) -> Ordering
+        ensures order { result ≡ name_order self.now name.entry }
     {
-        let other = Rest {
-            parts: &[],
-            text: text.as_bytes(),
-        };
-        compare(self.rest(), other)
+        let own = self.spelled();
+        compare(own, name)
     }
 
     /// The code of the name, which is made of at most its last 32 bytes.
     pub(crate) fn code(&self) -> u64
         ensures code { result ≡ code_of self.now }
     {
-        code_of_rest(self.rest())
+        self.spelled().code()
     }
 
     /// The parts of the name, each with the dot after it; without bytes it has none.
@@ -117,18 +117,25 @@ impl FullName {
     fn is_empty(&self) -> bool
         ensures is { result ≡ (length self.now == 0) }
     {
-        let mut rest = self.rest();
-        rest.pop().is_none()
+        self.spelled().is_empty()
     }
 
-    /// The bytes, to be read from the last to the first.
-    fn rest(&self) -> Rest<'_>
-        ensures all { result ≡ self.now }
+    /// Whether the name is one without a dot in the package whose name with a dot is `root`. Of
+    /// some names that are, the answer is `false`.
+    pub(crate) fn is_in(&self, root: &Text) -> bool
+        ensures inside { result ≡ true → IsRightIn self.now root.now }
     {
-        Rest {
-            parts: self.scope.get().as_slice(),
-            text: self.name.as_str().as_bytes(),
+        if self.name.as_str().contains('.') {
+            return false;
         }
+        is_scope(self.scope.get().as_slice(), root)
+    }
+
+    /// The name in its pieces.
+    pub(crate) fn spelled(&self) -> Spelled<'_>
+        ensures pieces { result ≡ self.now }
+    {
+        Spelled::new(self.scope.get().as_slice(), self.name.as_str())
     }
 }
 
@@ -139,7 +146,7 @@ impl PartialEq for FullName {
 
     #[tactic(auto, using(crate::specs::aux::NameOrder::names_tie))]
     fn eq(&self, other: &FullName) -> bool {
-        compare(self.rest(), other.rest()).is_eq()
+        self.compare_to(other.spelled()).is_eq()
     }
 }
 
@@ -161,7 +168,7 @@ impl Ord for FullName {
     ghost matches_eq = { names_tie };
 
     fn cmp(&self, other: &FullName) -> Ordering {
-        compare(self.rest(), other.rest())
+        self.compare_to(other.spelled())
     }
 }
 
@@ -177,102 +184,29 @@ impl PartialOrd for FullName {
     }
 }
 
-/// The bytes of a text in parts that are left, to be read from the last to the first. Contracts see
-/// the bytes.
-#[derive(Drop)]
-struct Rest<'a> {
-    parts: &'a [Text],
-    text: &'a [u8],
+/// Whether `parts` are those of the package whose name with a dot is `root`.
+fn is_scope(parts: &[Text], root: &Text) -> bool
+    ensures scope { result ≡ true → IsRoot (concat parts.now) root.now }
+{
+    if root.as_str() == "." {
+        return parts.is_empty();
+    }
+    is_only(parts, root)
 }
 
-impl<'a> Model for Rest<'a> {
-    ghost use Rattle.std.specs.Prelude.{List, ℕ, ◌++◌};
-    ghost use Rattle.std.specs.List.{concat};
-
-    ghost Value = { List ℕ };
-
-    ghost view = { λ r. concat r.parts.now ++ r.text.now };
-}
-
-impl<'a> Rest<'a> {
-    /// Takes the last byte that is left.
-    fn pop(&mut self) -> Option<u8>
-        ensures last { self.old ≡ self.new ++ option_to_list result }
-        ensures end { result ≡ None → self.old ≡ [] }
-    {
-        'parts: loop {
-            match self.text.split_last() {
-                Some((last, before)) => {
-                    self.text = before;
-                    return Some(*last);
-                }
-                None => match self.parts.split_last() {
-                    Some((part, before)) => {
-                        self.parts = before;
-                        self.text = part.as_str().as_bytes();
-                    }
-                    None => return None,
-                },
+/// Whether `root` is the only one of `parts`.
+fn is_only(parts: &[Text], root: &Text) -> bool
+    ensures only { result ≡ true → concat parts.now ≡ root.now }
+{
+    match parts.split_first() {
+        Some((first, others)) => {
+            if others.is_empty() {
+                return first == root;
             }
+            false
         }
+        None => false,
     }
-}
-
-/// Compares the bytes of `a` and of `b` from the last to the first.
-fn compare(a: Rest<'_>, b: Rest<'_>) -> Ordering
-    ensures order { result ≡ name_order a.entry b.entry }
-{
-    let mut a = a;
-    let mut b = b;
-    'bytes: loop {
-        match (a.pop(), b.pop()) {
-            (None, None) => return Ordering::Equal,
-            (None, Some(_)) => return Ordering::Less,
-            (Some(_), None) => return Ordering::Greater,
-            (Some(x), Some(y)) => match x.cmp(&y) {
-                Ordering::Equal => {}
-                order => return order,
-            },
-        }
-    }
-}
-
-/// The most bytes that a code is made of.
-const CODED: usize = 32;
-
-/// The factor of a code before each number: 2^64 over the golden ratio, odd.
-const FACTOR: u64 = 11_400_714_819_323_198_485;
-
-/// The code `code` with the number `part` after it.
-pub(crate) fn coded(code: u64, part: u64) -> u64
-    ensures code { result ≡ coded code part }
-{
-    code.wrapping_mul(FACTOR).wrapping_add(part)
-}
-
-/// The code of `bytes`.
-fn code_of_rest(bytes: Rest<'_>) -> u64
-    ensures code { result ≡ code_of bytes.entry }
-{
-    let mut rest = bytes;
-    let mut code = 0u64;
-    'bytes: for i in 0..CODED {
-        match rest.pop() {
-            Some(byte) => code = coded(code, byte as u64),
-            None => return code,
-        }
-    }
-    code
-}
-
-/// The code of the name `text`.
-pub(crate) fn code_of_text(text: &str) -> u64
-    ensures code { result ≡ code_of text.now }
-{
-    code_of_rest(Rest {
-        parts: &[],
-        text: text.as_bytes(),
-    })
 }
 
 /// `name` with a dot after it.

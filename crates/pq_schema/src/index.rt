@@ -18,7 +18,7 @@ ghost use Rattle.pq_schema.specs.Repeated.{AreRepeated};
 use crate::Memory;
 use crate::coded::Coded;
 use crate::definitions::Definition;
-use crate::full_name::code_of_text;
+use crate::spelled::Spelled;
 use std::alloc::Global;
 
 /// The index of `definitions`.
@@ -41,12 +41,12 @@ pub(crate) fn index_of(
 pub(crate) fn first_named<'a>(
     index: &[(Coded, usize)],
     definitions: &'a [Definition],
-    name: &str,
+    name: Spelled<'_>,
 ) -> Option<&'a Definition>
     requires { IsIndexOf index.now definitions.now }
-    ensures { option_copied result ≡ find (λ d. bytes_eq d.full_name name.now) definitions.now }
+    ensures { option_copied result ≡ find (λ d. bytes_eq d.full_name name.entry) definitions.now }
 {
-    let first = lower_bound(index, name);
+    let first = lower_bound(index, &name);
     if first == index.len() {
         return None;
     }
@@ -61,7 +61,7 @@ pub(crate) fn first_named<'a>(
 }
 
 /// The number of entries whose name comes before `name`.
-fn lower_bound(index: &[(Coded, usize)], name: &str) -> usize
+fn lower_bound(index: &[(Coded, usize)], name: &Spelled<'_>) -> usize
     requires { IsSorted entry_order index.now }
     ensures within { result ≤ length index.now }
     ensures less { (k : ℕ) → k < result →
@@ -69,11 +69,11 @@ fn lower_bound(index: &[(Coded, usize)], name: &str) -> usize
     ensures others { (k : ℕ) → result ≤ k → k < length index.now →
         is_lt (code_order (get_or index.now k ([], 0)).0 name.now) ≡ false }
 {
-    let code = code_of_text(name);
+    let code = name.code();
     index.partition_point(
         |entry: &(Coded, usize)| -> bool
             ensures { result ≡ is_lt (ordering_then (nat_cmp (code_of entry.now.0) code) (name_order entry.now.0 name.entry.now)) }
-        { entry.0.compare_to(code, name).is_lt() },
+        { entry.0.compare_to(code, name.copy()).is_lt() },
     )
 }
 

@@ -12,9 +12,10 @@
 //! Modules: `definitions` (what a file defines), `define` (what a statement defines), `index` (the
 //! search by full name, over `coded`), `digests` (a number of all definitions), `references`,
 //! `outline` (the package and the scopes of a file), `full_name` and `enclosing` (names that share
-//! their scopes), `map_entries`; `scope` (the files that a file sees and reaches), `files` over
-//! `by_package` and `named` (the look-up of a full name, which files it asks, and the first that
-//! has it), `nesting` (the scopes around a scope), `search` (the search from scope to scope),
+//! their scopes), `spelled` (names in pieces), `map_entries`; `scope` (the files that a file sees
+//! and reaches), `files` over `by_package` and `named` (the look-up of a full name, which files it
+//! asks, and the first that has it), `other_files` over `near_names` (many look-ups in the same
+//! files), `nesting` (the scopes around a scope), `search` (the search from scope to scope),
 //! `resolution` (its answers); `keys` (what a sum offers), `defined`, `scopes` over `collected`,
 //! and `resolved` (the queries), `rules` (the rule set); `laws`, `scope_laws`.
 #![tactic(auto)]
@@ -34,7 +35,9 @@ mod keys;
 mod laws;
 mod map_entries;
 mod named;
+mod near_names;
 mod nesting;
+mod other_files;
 mod outline;
 mod references;
 mod resolution;
@@ -44,6 +47,7 @@ mod scope;
 mod scope_laws;
 mod scopes;
 mod search;
+mod spelled;
 
 pub use collected::Collected;
 pub use defined::DefsQuery;
@@ -55,6 +59,7 @@ pub use laws::{
     schema_values, scope_by_answers,
 };
 pub use map_entries::entry_name;
+pub use other_files::OtherFiles;
 pub use pq_rules::{Shared, Text};
 pub use pq_syntax::Items;
 pub use references::{Reference, TypePart, references_in};

@@ -4,7 +4,7 @@ ghost use Rattle.pq_syntax.specs.Places.{places};
 ghost use Rattle.pq_schema.specs.References.{is_one_of, references_at, references_by, references_of, scalars, type_reference};
 
 use crate::enclosing::Enclosing;
-use crate::full_name::FullName;
+use crate::full_name::{FullName, with_dot};
 use crate::outline::{innermost, package_of, scope_of};
 use crate::{Memory, Text};
 use pq_syntax::{Name, Node, Stack, Statement};
@@ -39,7 +39,8 @@ pub fn references_in(alloc: Global, nodes: &[Node]) -> Result<Vec<Reference>, Me
     ensures references { IfOk result (λ v. v.items ≡ references_of nodes.now) }
 {
     let package_name = package_of(alloc, nodes)?;
-    let package = Enclosing::package(alloc, &package_name)?;
+    let root = with_dot(alloc, package_name.as_str())?;
+    let package = Enclosing::package(alloc, &package_name, &root)?;
     let references = references_under(alloc, &package, nodes)?;
     Ok(references)
 }

@@ -1,6 +1,7 @@
 //! What a name resolves to.
 ghost use Rattle.std.specs.Prelude.{◌≡◌, ◌⊎◌, IfOk};
-ghost use Rattle.pq_schema.specs.Resolution.{is_enum, lookup, resolved, resolution_of, target_of};
+ghost use Rattle.pq_schema.specs.Resolution.{is_enum, lookup, resolved, resolution_of, scopes, target_of};
+ghost use Rattle.pq_schema.specs.aux.Grouping.{AreNear};
 ghost use Rattle.pq_schema.specs.Resolution.Lookup.{IsType};
 ghost use Rattle.pq_schema.specs.declared.resolution.ResolveFault.TheVariants.{Memory as OutOfMemory};
 
@@ -8,7 +9,7 @@ use crate::definitions::DefinitionKind;
 use crate::full_name::FullName;
 use crate::named::Place;
 use crate::scope::Scope;
-use crate::search::{Outcome, look_up};
+use crate::search::{Outcome, look_up, near_scopes};
 use pq_lex::Span;
 use pq_names::{Memory, Text};
 use std::alloc::{AllocError, Global};
@@ -81,7 +82,8 @@ pub fn resolve(
     ensures resolved { (result ≡ Err ResolveFault.Memory)
         ⊎ (result ≡ resolved scope.now within.now name.now) }
 {
-    match look_up(alloc, scope, within, name)? {
+    let near = near_scopes(alloc, scope.visible_files(), within)?;
+    match look_up(alloc, scope, &near, within, name)? {
         Outcome::Type(place) => Ok(target_at(place)?),
         Outcome::NotFound => Err(ResolveFault::NotFound),
         Outcome::NotVisible(file) => Err(ResolveFault::NotVisible(file.copy()?)),
@@ -110,17 +112,20 @@ fn is_enum(kind: DefinitionKind) -> bool
 }
 
 /// What `name` resolves to in the message, service or package `within` of a file with the scope
-/// `scope`, without spans.
+/// `scope`, without spans. `near` has the places of the visible files whose package is one of the
+/// scopes of `within`.
 pub(crate) fn find_resolution(
     alloc: Global,
     scope: &Scope,
+    near: &[usize],
     within: &str,
     name: &str,
 ) -> Result<Resolution, Memory>
+    requires near { AreNear near.now scope.now.visible (scopes within.now) }
     ensures resolution { IfOk result
         (λ r. r ≡ resolution_of (lookup scope.now within.now name.now)) }
 {
-    match look_up(alloc, scope, within, name)? {
+    match look_up(alloc, scope, near, within, name)? {
         Outcome::Type(place) => Ok(Resolution::Type {
             file: place.file.copy()?,
             full_name: place.definition.full_name.copy()?,

@@ -1,9 +1,11 @@
 //! The query of a file's resolved references, generic over the sum of queries in which it is used.
-ghost use Rattle.std.specs.Prelude.{◌≡◌, ◌++◌, ℕ, [], map, drop, IfOk, option_copied, unwrap_or};
+ghost use Rattle.std.specs.Prelude.{◌≡◌, ◌≤◌, ◌++◌, ◌∷◌, ℕ, [], length, map, drop, IfOk, option_copied, unwrap_or};
 ghost use Rattle.pq_rules.specs.declared.turn.Turn.TheVariants.{Ask};
 ghost use Rattle.pq_links.specs.declared.files.ParsedFile.TheVariants.{Absent};
 ghost use Rattle.pq_schema.specs.Missing.{nodes_of};
 ghost use Rattle.pq_schema.specs.Compile.{resolved_in};
+ghost use Rattle.pq_schema.specs.Resolution.{scopes};
+ghost use Rattle.pq_schema.specs.aux.Grouping.{AreNear};
 ghost use Rattle.pq_schema.specs.aux.Queries.{resolved_level, resolved_starts, resolved_by, resolved_advances, resolved_left};
 ghost use Rattle.pq_schema.specs.aux.Falls.{resolved_falls};
 ghost use Rattle.pq_schema.specs.declared.resolved.ResolvedPart.TheVariants.{ReadTree};
@@ -13,6 +15,7 @@ use crate::keys::SchemaKeys;
 use crate::references::{Reference, TypePart, references_in};
 use crate::resolution::{Resolution, find_resolution};
 use crate::scope::Scope;
+use crate::search::near_scopes;
 use pq_links::ParsedFile;
 use pq_rules::{Memory, Query, Shared, Text, Turn};
 use pq_syntax::Items;
@@ -53,20 +56,50 @@ impl<S> ResolvedQuery<S> {
     }
 }
 
-/// The reference `reference` with what it resolves to in `scope`.
+/// The reference `reference`, which is used in `within`, with what it resolves to in `scope`. `near`
+/// has the places of the visible files whose package is one of the scopes of `within`.
 fn resolve_one(
     alloc: Global,
     scope: &Scope,
+    near: &[usize],
+    within: &str,
     reference: &Reference,
 ) -> Result<ResolvedReference, Memory>
+    requires near { AreNear near.now scope.now.visible (scopes within.now) }
+    requires within { within.now ≡ reference.now.within }
     ensures resolved { IfOk result (λ r. r ≡ resolved_in scope.now reference.now) }
 {
-    let within = reference.within.text(alloc)?;
     Ok(ResolvedReference {
         item: reference.item,
         part: reference.part,
-        resolution: find_resolution(alloc, scope, within.as_str(), reference.name.as_str())?,
+        resolution: find_resolution(alloc, scope, near, within, reference.name.as_str())?,
     })
+}
+
+/// Adds `first` and those of `others` before the first that is used in another scope, each with
+/// what it resolves to in `scope`. Answers the number of these others. What depends on the scope
+/// alone is made once.
+fn resolve_run(
+    alloc: Global,
+    scope: &Scope,
+    first: &Reference,
+    others: &[Reference],
+    resolved: &mut Vec<ResolvedReference>,
+) -> Result<usize, Memory>
+    ensures within { IfOk result (λ n. n ≤ length others.now) }
+    ensures resolved { IfOk result (λ n. resolved.new.items ++ map (resolved_in scope.now) (drop n others.now)
+        ≡ resolved.old.items ++ resolved_in scope.now first.now ∷ map (resolved_in scope.now) others.now) }
+{
+    let within = first.within.text(alloc)?;
+    let near = near_scopes(alloc, scope.visible_files(), within.as_str())?;
+    resolved.push(resolve_one(alloc, scope, &near, within.as_str(), first)?)?;
+    'others: for i in 0..others.len() {
+        if others[i].within != first.within {
+            return Ok(i);
+        }
+        resolved.push(resolve_one(alloc, scope, &near, within.as_str(), &others[i])?)?;
+    }
+    Ok(others.len())
 }
 
 /// The references `references`, each with what it resolves to in `scope`.
@@ -78,8 +111,10 @@ fn resolve_each(
     ensures resolved { IfOk result (λ rs. rs ≡ map (resolved_in scope.now) references.now) }
 {
     let mut resolved = Vec::new(alloc);
-    'references: for reference in references {
-        resolved.push(resolve_one(alloc, scope, reference)?)?;
+    let mut left = references;
+    'runs: while let Some((first, others)) = left.split_first() {
+        let more = resolve_run(alloc, scope, first, others, &mut resolved)?;
+        left = &others[more..];
     }
     Ok(Items::new(resolved))
 }

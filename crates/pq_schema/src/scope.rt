@@ -1,10 +1,11 @@
 //! The scope of a file: the definitions that it sees, and those that it reaches.
 ghost use Rattle.std.specs.Prelude.{◌≡◌, IfOk, IsTrue};
 ghost use Rattle.std.specs.Option.{option_copied};
-ghost use Rattle.pq_schema.specs.Others.{first_other};
+ghost use Rattle.pq_schema.specs.Others.{first_other, other_files};
 
 use crate::definitions::Defs;
 use crate::files::Files;
+use crate::other_files::OtherFiles;
 use pq_names::{Memory, Text};
 use pq_rules::Shared;
 use std::alloc::Global;
@@ -74,6 +75,23 @@ impl Scope {
             (λ o. option_copied o ≡ first_other file.now full_name.now self.now) }
     {
         self.visible.first_other(alloc, file, full_name)
+    }
+
+    /// The files that the file `file` sees, but `file` itself, for the look-up of about `lookups`
+    /// full names in the package of its definitions `defs`.
+    ///
+    /// The files that can define such a name are found once. Where that costs less than a search in
+    /// each of them for each name, one index of their names is made.
+    pub fn others<'a>(
+        &'a self,
+        alloc: Global,
+        file: &'a str,
+        defs: &'a Defs,
+        lookups: usize,
+    ) -> Result<OtherFiles<'a>, Memory>
+        ensures others { IfOk result (λ o. o ≡ other_files file.now self.now) }
+    {
+        OtherFiles::new(alloc, &self.visible, file, defs, lookups)
     }
 
     /// The files whose definitions the file sees.

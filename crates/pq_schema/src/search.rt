@@ -177,8 +177,40 @@ fn find_dotted<'a>(
     }
 }
 
-/// What the name `name` is found as from the scopes of `within`.
+/// What the name `name` is found as from the scopes of `within`. `near` has the places of the files
+/// whose package is one of these scopes.
 fn find<'a>(
+    alloc: Global,
+    buffer: &mut String,
+    files: &'a Files,
+    near: &[usize],
+    within: &str,
+    name: &str,
+) -> Result<Hit<'a>, Memory>
+    requires near { AreNear near.now files.now (scopes within.now) }
+    ensures is { IfOk result (λ hit. found_at hit ≡ search files.now (scopes within.now) name.now) }
+{
+    if name.is_empty() {
+        return Ok(Hit::Nothing);
+    }
+    match name.strip_prefix('.') {
+        Some(full) => find_any(alloc, files, full),
+        None => match name.split_once('.') {
+            Some((first, _)) => find_dotted(alloc, buffer, files, near, within, first, name),
+            None => find_single(buffer, files, near, within, name),
+        },
+    }
+}
+
+/// The places of those of `files` whose package is one of the scopes of `within`.
+pub(crate) fn near_scopes(alloc: Global, files: &Files, within: &str) -> Result<Vec<usize>, Memory>
+    ensures near { IfOk result (λ v. AreNear v.items files.now (scopes within.now)) }
+{
+    files.near(alloc, innermost(within))
+}
+
+/// What the name `name` is found as from the scopes of `within` in the files that are reached.
+fn find_reached<'a>(
     alloc: Global,
     buffer: &mut String,
     files: &'a Files,
@@ -187,36 +219,41 @@ fn find<'a>(
 ) -> Result<Hit<'a>, Memory>
     ensures is { IfOk result (λ hit. found_at hit ≡ search files.now (scopes within.now) name.now) }
 {
-    if name.is_empty() {
-        return Ok(Hit::Nothing);
-    }
-    match name.strip_prefix('.') {
-        Some(full) => find_any(alloc, files, full),
-        None => {
-            let near = files.near(alloc, innermost(within))?;
-            match name.split_once('.') {
-                Some((first, _)) => find_dotted(alloc, buffer, files, &near, within, first, name),
-                None => find_single(buffer, files, &near, within, name),
-            }
-        }
-    }
+    let near = near_scopes(alloc, files, within)?;
+    find(alloc, buffer, files, &near, within, name)
 }
 
 /// What `name` resolves to in the message, service or package `within` of a file with the scope
 /// `scope`. The files that are reached are searched only where the visible files have nothing.
+/// `near` has the places of the visible files whose package is one of the scopes of `within`.
 pub(crate) fn look_up<'a>(
     alloc: Global,
     scope: &'a Scope,
+    near: &[usize],
     within: &str,
     name: &str,
 ) -> Result<Outcome<'a>, Memory>
+    requires near { AreNear near.now scope.now.visible (scopes within.now) }
     ensures is { IfOk result (λ o. lookup_at o ≡ lookup scope.now within.now name.now) }
 {
     let mut buffer = String::new(alloc);
-    match find(alloc, &mut buffer, scope.visible_files(), within, name)? {
+    match find(
+        alloc,
+        &mut buffer,
+        scope.visible_files(),
+        near,
+        within,
+        name,
+    )? {
         Hit::Type(place) => Ok(Outcome::Type(place)),
         Hit::Other => Ok(Outcome::NotAType),
-        Hit::Nothing => match find(alloc, &mut buffer, scope.reached_files(), within, name)? {
+        Hit::Nothing => match find_reached(
+            alloc,
+            &mut buffer,
+            scope.reached_files(),
+            within,
+            name,
+        )? {
             Hit::Type(place) => Ok(Outcome::NotVisible(place.file)),
             _ => Ok(Outcome::NotFound),
         },

@@ -1,6 +1,6 @@
 -- Auxiliary: the first answer that a file gives (used by proofs and contracts of private functions
 -- only).
-use Rattle.std.specs.Prelude.{option_map, ℕ, bytes_eq, cond, not, ◌&&◌, slice_get, List, [], ◌∷◌, Option, Some, None}
+use Rattle.std.specs.Prelude.{option_map, ℕ, bytes_eq, Bool, false, cond, not, ◌&&◌, filter, slice_get, List, [], ◌∷◌, Option, Some, None}
 use Rattle.pq_schema.specs.declared.scope.FileDefs.{FileDefs}
 use Rattle.pq_schema.specs.declared.definitions.Definition.{Definition}
 use Rattle.pq_schema.specs.Others.{defines}
@@ -33,3 +33,21 @@ other_with file name f = cond (not (bytes_eq f.file file) && defines name f) (So
 -- the name of the file
 abbrev pub definition_in : List ℕ → FileDefs → Option (List ℕ × Definition)
 definition_in name f = option_map (λ (d : Definition). (f.file, d)) (find_in f name)
+
+-- `first_near answer files places` is the first answer that one of the files at `places` gives
+abbrev pub first_near : {X : Type 0} → (FileDefs → Option X) → List FileDefs → List ℕ → Option X
+first_near answer files [] = None
+first_near answer files (k ∷ ks) = either (answer_at answer files k) (first_near answer files ks)
+
+-- `is_other file f` is that the file `f` is there and is not the file `file`
+abbrev pub is_other : List ℕ → Option FileDefs → Bool
+is_other file None = false
+is_other file (Some f) = not (bytes_eq f.file file)
+
+-- `is_other_at file files k` is that the file at the place `k` is there and is not the file `file`
+abbrev pub is_other_at : List ℕ → List FileDefs → ℕ → Bool
+is_other_at file files k = is_other file (slice_get files k)
+
+-- `others file files` lists those of `files` that are not the file `file`
+abbrev pub others : List ℕ → List FileDefs → List FileDefs
+others file files = filter (λ (v : FileDefs). not (bytes_eq v.file file)) files

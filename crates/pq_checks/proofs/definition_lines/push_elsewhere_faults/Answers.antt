@@ -1,19 +1,23 @@
-use Rattle.std.proofs.Common.{sym}
+use Rattle.std.proofs.Common.{List, ◌++◌, ap, sym, ◌∙◌}
+use Rattle.std.specs.Prelude.{flat_map}
+use Rattle.std.proofs.lemmas.Result.{IfOk-weaker}
+use Rattle.pq_schema.specs.declared.scope.FileDefs.{FileDefs}
+use Rattle.pq_schema.specs.declared.definitions.Definition.{Definition}
 use Rattle.pq_schema.specs.Others.{other_files}
 use Rattle.pq_checks.specs.Faults.{elsewhere_faults}
-use Rattle.pq_checks.proofs.Passes.{each_more, each_all}
 use Rattle.pq_checks.proofs.Elsewhere.{alone}
 use Rattle.pq_checks.proofs.definition_lines.push_elsewhere_faults.Goals as goal
 
-pub definitions-preserved : goal.definitions-preserved
-definitions-preserved c =
-    each_more (elsewhere_faults (other_files c.args.file.now c.args.scope.now) c.args.nodes.now) _ _ _ _ _ _ c.definitions-test.true c.definition-item.is
-    c.in_ok-push_elsewhere.ensures.said c.definitions.invariant
-
-pub returns : goal.returns
-returns c = record { said = each_all (elsewhere_faults (other_files c.args.file.now c.args.scope.now) c.args.nodes.now) _ _ _ _ c.definitions-test.false c.definitions.invariant }
-
 pub returns-then-not-sees_another : goal.returns-then-not-sees_another
 returns-then-not-sees_another c = record {
-  said = alone c.args.faults.now.items c.args.file.now c.args.scope.now.visible c.args.nodes.now c.args.definitions.now (sym c.if-not-sees_another.ensures.sees);
+  said = alone c.args.faults.now.items c.args.file.now c.args.scope.now.visible c.args.nodes.now c.args.defs.now.definitions (sym c.if-not-sees_another.ensures.sees);
+}
+
+pub returns : goal.returns
+returns c = record {
+  said = IfOk-weaker c.push_each_elsewhere.result _ _
+      (λ _ h. h
+      ∙ ap (λ (others : List FileDefs). c.args.faults.now.items ++ flat_map (elsewhere_faults others c.args.nodes.now) c.definitions-2.result.now) c.in_ok-others.ensures.others
+      ∙ ap (λ (ds : List Definition). c.args.faults.now.items ++ flat_map (elsewhere_faults (other_files c.args.file.now c.args.scope.now) c.args.nodes.now) ds) c.definitions-2.ensures.value)
+      c.push_each_elsewhere.ensures.said;
 }

@@ -1,8 +1,9 @@
-use Rattle.std.proofs.Common.{Some, sym, ap, ◌∙◌}
+use Rattle.std.proofs.Common.{Some, sym, ap, ◌∙◌, List, ℕ}
 use Rattle.std.specs.Prelude.{find, bytes_eq}
 use Rattle.std.proofs.lemmas.Option.{slice_get-get_or}
 use Rattle.pq_schema.specs.Contents.{Defs}
 use Rattle.pq_schema.specs.declared.definitions.Definition.{Definition}
+use Rattle.pq_schema.specs.aux.Grouping.{find_in}
 use Rattle.pq_schema.proofs.FirstNear.{definition_there}
 use Rattle.pq_schema.proofs.named.definition_at.Goals as goal
 
@@ -14,5 +15,7 @@ returns c =
     let at = slice_get-get_or files _ f c.in_ok-f.ensures.lookup.3.0 ∙ ap Some (sym (c.in_ok-f.ensures.lookup.3.1 f)) in
     record {
       is = definition_there files c.args.place name f c.in_ok-definition.definition.now at
-          (c.in_ok-definition.ensures.first ∙ ap (λ (d : Defs). find (λ (x : Definition). bytes_eq x.full_name name) d.definitions) c.get-2.ensures.value);
+          (c.in_ok-definition.ensures.first
+          ∙ ap (λ (d : Defs). find (λ (x : Definition). bytes_eq x.full_name c.copy.result) d.definitions) c.get-2.ensures.value
+          ∙ ap (λ (n : List ℕ). find_in f n) c.copy.ensures.copy);
     }

@@ -24,8 +24,8 @@ returns-in-Some-split_once c =
 pub find_single-requires-clause-plain : goal.find_single-requires-clause-plain
 find_single-requires-clause-plain c = split_parts 46 c.args.name.now None c.in-None-split_once.ensures.cases (lit< tt)
 
-pub returns : goal.returns
-returns c =
+pub returns-in-None-split_once : goal.returns-in-None-split_once
+returns-in-None-split_once c =
     let name = c.args.name.now in
     let some : (length name == 0) ≡ false = cc in
     let parts = split_parts 46 name None c.in-None-split_once.ensures.cases (lit< tt) in

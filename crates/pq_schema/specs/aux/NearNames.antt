@@ -1,0 +1,69 @@
+-- Auxiliary: the index of the files at some places by the full names that they define (used by
+-- proofs and contracts of private functions only).
+use Rattle.std.specs.Prelude.{◌≡◌, ℕ, ◌⊎◌, ◌<◌, ◌≤◌, Bool, true, false, is_some, List, [], ◌∷◌, Option, Some, None, Vec}
+use Rattle.std.specs.declared.alloc.Global.{Global}
+use Rattle.std.specs.Borrow.{Bor}
+use Rattle.std.specs.List.Sorted.{IsSorted}
+use Rattle.std.specs.declared.cmp.Ordering.{Ordering}
+use Rattle.std.specs.Ordering.{nat_cmp, ordering_then}
+use Rattle.pq_rules.specs.Relations.{Each, In}
+use Rattle.pq_schema.specs.declared.scope.FileDefs.{FileDefs}
+use Rattle.pq_schema.specs.aux.FirstOf.{answer_at}
+use Rattle.pq_schema.specs.aux.Grouping.{find_in}
+use Rattle.pq_schema.specs.aux.NameCodes.{code_order}
+
+-- `Rises places` is that no place is after a greater one
+abbrev pub Rises : List ℕ → Type 0
+Rises [] = Unit {0}
+Rises (k ∷ ks) = Each (λ j. k ≤ j) ks × Rises ks
+
+-- `has files k name` is whether the file at the place `k` defines the full name `name`
+abbrev pub has : List FileDefs → ℕ → List ℕ → Bool
+has files k name = is_some (answer_at (λ (f : FileDefs). find_in f name) files k)
+
+-- `named_order a b` compares the entries `a` and `b`: first their names, then the places of their
+-- files
+abbrev pub named_order : Bor (List ℕ) × ℕ → Bor (List ℕ) × ℕ → Ordering
+named_order a b = ordering_then (code_order a.0.now b.0.now) (nat_cmp a.1 b.1)
+
+-- `HasEntry names name k` is that `names` has an entry of the name `name` and the place `k`
+abbrev pub HasEntry : List (Bor (List ℕ) × ℕ) → List ℕ → ℕ → Type 0
+HasEntry names name k = (e : Bor (List ℕ) × ℕ) × In e names × (e.0.now ≡ name) × (e.1 ≡ k)
+
+-- `AreSound names files places` is that the file of each entry of `names` is at one of `places`, and
+-- defines the entry's name
+abbrev pub AreSound : List (Bor (List ℕ) × ℕ) → List FileDefs → List ℕ → Type 0
+AreSound names files places = (e : Bor (List ℕ) × ℕ) → In e names → In e.1 places × (has files e.1 e.0.now ≡ true)
+
+-- `AddsEntries old new index k` is that `new` has the entries of `old`, and the names of `index` with
+-- the place `k`
+pub record AddsEntries (old new : List (Bor (List ℕ) × ℕ)) (index : List (List ℕ × ℕ)) (k : ℕ) : Type 0 where
+  pub kept : (e : Bor (List ℕ) × ℕ) → In e old → In e new
+  pub sound : (e : Bor (List ℕ) × ℕ) → In e new → In e old ⊎ ((e.1 ≡ k) × (m : ℕ) × In (e.0.now, m) index)
+  pub there : (name : List ℕ) (m : ℕ) → In (name, m) index → HasEntry new name k
+
+-- `Adds old new files k` is that `new` has the entries of `old` and those of the file at `k`
+pub record Adds (old new : List (Bor (List ℕ) × ℕ)) (files : List FileDefs) (k : ℕ) : Type 0 where
+  pub kept : (e : Bor (List ℕ) × ℕ) → In e old → In e new
+  pub sound : (places : List ℕ) → AreSound old files places → In k places → AreSound new files places
+  pub there : (name : List ℕ) → has files k name ≡ true → HasEntry new name k
+
+-- `IsNamesOf names files places` is that `names` has the names that the files at `places` define,
+-- sorted
+pub record IsNamesOf (names : List (Bor (List ℕ) × ℕ)) (files : List FileDefs) (places : List ℕ) : Type 0 where
+  pub sound : AreSound names files places
+  pub all : (k : ℕ) (name : List ℕ) → In k places → has files k name ≡ true → HasEntry names name k
+  pub sorted : IsSorted named_order names
+
+-- `IsFirst place files places name` is that `place` is the least of `places` whose file defines
+-- `name`, if there is one
+abbrev pub IsFirst : Option ℕ → List FileDefs → List ℕ → List ℕ → Type 0
+IsFirst None files places name = (j : ℕ) → In j places → has files j name ≡ false
+IsFirst (Some k) files places name =
+    In k places × (has files k name ≡ true) × ((j : ℕ) → In j places → j < k → has files j name ≡ false)
+
+-- `AreNames names files places` is that `names`, if it is there, has the names that the files at
+-- `places` define
+abbrev pub AreNames : Option (Vec (Bor (List ℕ) × ℕ) Global) → List FileDefs → List ℕ → Type 0
+AreNames None files places = Unit {0}
+AreNames (Some names) files places = IsNamesOf names.items files places

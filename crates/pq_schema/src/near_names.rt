@@ -1,0 +1,143 @@
+//! The index of some files by the full names that they define.
+//!
+//! An entry is a name, which the index shares with its file, and the place of the file. The entries
+//! are sorted by name, as those of one file are (`index`), then by place. So the first entry of a
+//! name is that of the first file which defines it, and one binary search finds that file. For N
+//! definitions the index takes N log N comparisons of names, and 16 bytes an entry.
+ghost use Rattle.std.specs.Prelude.{◌≡◌, ℕ, List, ◌<◌, ◌≤◌, true, false, length, get_or, IfOk, OnOk};
+ghost use Rattle.std.specs.Borrow.{Bor};
+ghost use Rattle.std.specs.List.Sorted.{IsSorted};
+ghost use Rattle.std.specs.Ordering.{is_lt, nat_cmp, ordering_then};
+ghost use Rattle.pq_schema.specs.declared.scope.FileDefs.{FileDefs};
+ghost use Rattle.pq_schema.specs.aux.NameCodes.{code_of, code_order};
+ghost use Rattle.pq_schema.specs.aux.NameParts.{name_order};
+ghost use Rattle.pq_schema.specs.aux.NearNames.{Adds, AddsEntries, AreNames, IsFirst, IsNamesOf, named_order};
+
+use crate::coded::Coded;
+use crate::scope::FileDefs;
+use crate::spelled::Spelled;
+use pq_names::Memory;
+use std::alloc::Global;
+
+/// A full name, and the place of a file that defines it.
+pub(crate) type Named<'a> = (&'a Coded, usize);
+
+/// Adds the names of `index` to `names`, each with the place `place`.
+fn add_names<'a>(
+    names: &mut Vec<Named<'a>>,
+    index: &'a [(Coded, usize)],
+    place: usize,
+) -> Result<(), Memory>
+    ensures added { OnOk result (AddsEntries names.old.items names.new.items index.now place) }
+{
+    'entries: for entry in index {
+        names.push((&entry.0, place))?;
+    }
+    Ok(())
+}
+
+/// Adds the names that the file at `place` defines to `names`.
+fn add_file<'a>(
+    names: &mut Vec<Named<'a>>,
+    files: &'a [FileDefs],
+    place: usize,
+) -> Result<(), Memory>
+    ensures added { OnOk result (Adds names.old.items names.new.items files.now place) }
+{
+    match files.get(place) {
+        Some(file) => add_names(names, file.defs.get().index(), place),
+        None => Ok(()),
+    }
+}
+
+/// The number of definitions in the file at `place`.
+fn count_at(files: &[FileDefs], place: usize) -> usize {
+    match files.get(place) {
+        Some(file) => file.defs.get().definitions().len(),
+        None => 0,
+    }
+}
+
+/// The number of definitions in the files at `places`.
+fn count_of(files: &[FileDefs], places: &[usize]) -> usize {
+    let mut count = 0usize;
+    'places: for place in places {
+        count = count.saturating_add(count_at(files, *place));
+    }
+    count
+}
+
+/// The index of the files at `places`, which have `count` definitions.
+fn names_of<'a>(
+    alloc: Global,
+    files: &'a [FileDefs],
+    places: &[usize],
+    count: usize,
+) -> Result<Vec<Named<'a>>, Memory>
+    ensures names { IfOk result (λ v. IsNamesOf v.items files.now places.now) }
+{
+    let mut names = Vec::with_capacity(alloc, count)?;
+    'places: for place in places {
+        add_file(&mut names, files, *place)?;
+    }
+    names.sort()?;
+    Ok(names)
+}
+
+/// The most files that are asked one after the other, however many look-ups come.
+const FEW: usize = 8;
+
+/// The index of the files at `places`, where making it costs no more than `lookups` look-ups of
+/// names that ask each of the files.
+pub(crate) fn names_for<'a>(
+    alloc: Global,
+    files: &'a [FileDefs],
+    places: &[usize],
+    lookups: usize,
+) -> Result<Option<Vec<Named<'a>>>, Memory>
+    ensures names { IfOk result (λ o. AreNames o files.now places.now) }
+{
+    if places.len() <= FEW {
+        return Ok(None);
+    }
+    let count = count_of(files, places);
+    if lookups.saturating_mul(places.len()) < count {
+        return Ok(None);
+    }
+    Ok(Some(names_of(alloc, files, places, count)?))
+}
+
+/// The number of entries whose name comes before `name`.
+fn lower_bound(names: &[Named<'_>], name: &Spelled<'_>) -> usize
+    requires { IsSorted named_order names.now }
+    ensures within { result ≤ length names.now }
+    ensures less { (k : ℕ) (d : Bor (List ℕ) × ℕ) → k < result →
+        is_lt (code_order (get_or names.now k d).0.now name.now) ≡ true }
+    ensures others { (k : ℕ) (d : Bor (List ℕ) × ℕ) → result ≤ k → k < length names.now →
+        is_lt (code_order (get_or names.now k d).0.now name.now) ≡ false }
+{
+    let code = name.code();
+    names.partition_point(
+        |entry: &Named<'_>| -> bool
+            ensures { result ≡ is_lt (ordering_then (nat_cmp (code_of entry.now.0.now) code) (name_order entry.now.0.now name.entry.now)) }
+        { entry.0.compare_to(code, name.copy()).is_lt() },
+    )
+}
+
+/// The place of the first of the files that defines `name`.
+pub(crate) fn first_place(names: &[Named<'_>], name: &Spelled<'_>) -> Option<usize>
+    requires { IsSorted named_order names.now }
+    ensures first { (files : List FileDefs) (places : List ℕ) → IsNamesOf names.now files places
+        → IsFirst result files places name.now }
+{
+    let first = lower_bound(names, name);
+    match names.get(first) {
+        Some(entry) => {
+            if entry.0.is(name.copy()) {
+                return Some(entry.1);
+            }
+            None
+        }
+        None => None,
+    }
+}

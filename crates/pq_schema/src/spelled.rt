@@ -1,0 +1,266 @@
+//! Names in pieces, and their comparison.
+//!
+//! Two names are compared from their last bytes to their first. Pieces that end in the same bytes
+//! are compared many bytes at a time, and only the piece in which the names differ is read byte by
+//! byte. A code is made of the last bytes of a name.
+ghost use Rattle.std.specs.Prelude.{◌≡◌, ◌<◌, [], ◌++◌, ◌==◌, IfErr, IfOk, IfSome, None, length, option_to_list};
+ghost use Rattle.std.specs.List.{concat};
+ghost use Rattle.pq_schema.specs.aux.NameParts.{name_order};
+ghost use Rattle.pq_schema.specs.aux.NameCodes.{coded, code_of};
+
+use pq_names::Text;
+use std::cmp::Ordering;
+use std::marker::Model;
+
+/// A name in pieces. Contracts see its bytes.
+#[derive(Drop)]
+pub(crate) struct Spelled<'a> {
+    parts: &'a [Text],
+    text: &'a str,
+}
+
+impl<'a> Model for Spelled<'a> {
+    ghost use Rattle.std.specs.Prelude.{List, ℕ, ◌++◌};
+    ghost use Rattle.std.specs.List.{concat};
+
+    ghost Value = { List ℕ };
+
+    ghost view = { λ s. concat s.parts.now ++ s.text.now };
+}
+
+impl<'a> Spelled<'a> {
+    /// The name of `parts` and then `text`.
+    pub(crate) fn new(parts: &'a [Text], text: &'a str) -> Spelled<'a>
+        ensures pieces { result ≡ concat parts.now ++ text.now }
+    {
+        Spelled { parts, text }
+    }
+
+    /// The same name once more.
+    pub(crate) fn copy(&self) -> Spelled<'a>
+        ensures copy { result ≡ self.now }
+    {
+        Spelled {
+            parts: self.parts,
+            text: self.text,
+        }
+    }
+
+    /// The last piece with bytes, after the pieces before it.
+    fn split_last(&self) -> Option<(&'a [Text], &'a str)>
+        ensures pieces { IfSome result (λ r. self.now ≡ concat r.0.now ++ r.1.now) }
+        ensures some { IfSome result (λ r. 0 < length r.1.now) }
+        ensures end { result ≡ None → self.now ≡ [] }
+    {
+        if !self.text.is_empty() {
+            return Some((self.parts, self.text));
+        }
+        let mut parts = self.parts;
+        'parts: loop {
+            match parts.split_last() {
+                Some((part, before)) => {
+                    let text = part.as_str();
+                    if !text.is_empty() {
+                        return Some((before, text));
+                    }
+                    parts = before;
+                }
+                None => return None,
+            }
+        }
+    }
+
+    /// Whether the name has no bytes.
+    pub(crate) fn is_empty(&self) -> bool
+        ensures is { result ≡ (length self.now == 0) }
+    {
+        self.split_last().is_none()
+    }
+
+    /// The code of the name, which is made of at most its last 32 bytes.
+    pub(crate) fn code(&self) -> u64
+        ensures code { result ≡ code_of self.now }
+    {
+        code_of_rest(self.rest())
+    }
+
+    /// The bytes, to be read from the last to the first.
+    fn rest(&self) -> Rest<'a>
+        ensures all { result ≡ self.now }
+    {
+        Rest {
+            parts: self.parts,
+            text: self.text.as_bytes(),
+        }
+    }
+}
+
+/// What is before `end` in `text`, if `text` ends in it.
+fn before<'a>(text: &'a str, end: &str) -> Option<&'a str>
+    ensures before { IfSome result (λ t. text.now ≡ t.now ++ end.now) }
+{
+    let start = text.len().checked_sub(end.len())?;
+    let (before, after) = text.split_at_checked(start)?;
+    if after == end { Some(before) } else { None }
+}
+
+/// The names of `parts` and `piece` and of `others` and `other`, without the bytes in which both end,
+/// if one of the two pieces ends in the other.
+fn cut<'a, 'b>(
+    parts: &'a [Text],
+    piece: &'a str,
+    others: &'b [Text],
+    other: &'b str,
+) -> Option<(Spelled<'a>, Spelled<'b>)>
+    requires some { (0 < length piece.now) × (0 < length other.now) }
+    ensures order { IfSome result (λ r. name_order (concat parts.now ++ piece.now) (concat others.now ++ other.now) ≡ name_order r.0 r.1) }
+    ensures less { IfSome result (λ r. length r.0 < length (concat parts.now ++ piece.now)) }
+{
+    if let Some(text) = before(piece, other) {
+        let left = Spelled { parts, text };
+        let right = Spelled {
+            parts: others,
+            text: "",
+        };
+        return Some((left, right));
+    }
+    let text = before(other, piece)?;
+    let left = Spelled { parts, text: "" };
+    let right = Spelled {
+        parts: others,
+        text,
+    };
+    Some((left, right))
+}
+
+/// The order of `a` and `b`, or two shorter names of the same order.
+fn step<'a, 'b>(a: &Spelled<'a>, b: &Spelled<'b>) -> Result<(Spelled<'a>, Spelled<'b>), Ordering>
+    ensures left { IfOk result (λ r. name_order a.now b.now ≡ name_order r.0 r.1) }
+    ensures less { IfOk result (λ r. length r.0 < length a.now) }
+    ensures order { IfErr result (λ o. o ≡ name_order a.now b.now) }
+{
+    let last_a = a.split_last();
+    let last_b = b.split_last();
+    match last_a {
+        Some((parts, piece)) => match last_b {
+            Some((others, other)) => match cut(parts, piece, others, other) {
+                Some(left) => Ok(left),
+                None => {
+                    let left_a = a.rest();
+                    let left_b = b.rest();
+                    Err(compare_bytes(left_a, left_b))
+                }
+            },
+            None => Err(Ordering::Greater),
+        },
+        None => match last_b {
+            Some(_) => Err(Ordering::Less),
+            None => Err(Ordering::Equal),
+        },
+    }
+}
+
+/// Compares the bytes of `a` and of `b` from the last to the first.
+pub(crate) fn compare(a: Spelled<'_>, b: Spelled<'_>) -> Ordering
+    ensures order { result ≡ name_order a.entry b.entry }
+{
+    let mut a = a;
+    let mut b = b;
+    'pieces: loop {
+        match step(&a, &b) {
+            Ok((left, right)) => {
+                a = left;
+                b = right;
+            }
+            Err(order) => return order,
+        }
+    }
+}
+
+/// The bytes of a text in parts that are left, to be read from the last to the first. Contracts see
+/// the bytes.
+#[derive(Drop)]
+struct Rest<'a> {
+    parts: &'a [Text],
+    text: &'a [u8],
+}
+
+impl<'a> Model for Rest<'a> {
+    ghost use Rattle.std.specs.Prelude.{List, ℕ, ◌++◌};
+    ghost use Rattle.std.specs.List.{concat};
+
+    ghost Value = { List ℕ };
+
+    ghost view = { λ r. concat r.parts.now ++ r.text.now };
+}
+
+impl<'a> Rest<'a> {
+    /// Takes the last byte that is left.
+    fn pop(&mut self) -> Option<u8>
+        ensures last { self.old ≡ self.new ++ option_to_list result }
+        ensures end { result ≡ None → self.old ≡ [] }
+    {
+        'parts: loop {
+            match self.text.split_last() {
+                Some((last, before)) => {
+                    self.text = before;
+                    return Some(*last);
+                }
+                None => match self.parts.split_last() {
+                    Some((part, before)) => {
+                        self.parts = before;
+                        self.text = part.as_str().as_bytes();
+                    }
+                    None => return None,
+                },
+            }
+        }
+    }
+}
+
+/// Compares `a` and `b`, byte by byte from the last to the first.
+fn compare_bytes(a: Rest<'_>, b: Rest<'_>) -> Ordering
+    ensures order { result ≡ name_order a.entry b.entry }
+{
+    let mut a = a;
+    let mut b = b;
+    'bytes: loop {
+        match (a.pop(), b.pop()) {
+            (None, None) => return Ordering::Equal,
+            (None, Some(_)) => return Ordering::Less,
+            (Some(_), None) => return Ordering::Greater,
+            (Some(x), Some(y)) => match x.cmp(&y) {
+                Ordering::Equal => {}
+                order => return order,
+            },
+        }
+    }
+}
+
+/// The most bytes that a code is made of.
+const CODED: usize = 32;
+
+/// The factor of a code before each number: 2^64 over the golden ratio, odd.
+const FACTOR: u64 = 11_400_714_819_323_198_485;
+
+/// The code `code` with the number `part` after it.
+pub(crate) fn coded(code: u64, part: u64) -> u64
+    ensures code { result ≡ coded code part }
+{
+    code.wrapping_mul(FACTOR).wrapping_add(part)
+}
+
+/// The code of `bytes`.
+fn code_of_rest(bytes: Rest<'_>) -> u64
+    ensures code { result ≡ code_of bytes.entry }
+{
+    let mut rest = bytes;
+    let mut code = 0u64;
+    'bytes: for i in 0..CODED {
+        match rest.pop() {
+            Some(byte) => code = coded(code, byte as u64),
+            None => return code,
+        }
+    }
+    code
+}
