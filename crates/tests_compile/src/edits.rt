@@ -5,7 +5,6 @@
 //! `QUERY NAME` demands a key, `Definition NAME LINE:CHARACTER` at a place. Each demand is compared
 //! with `compile`. ` => CODES` may follow a demand of diagnostics, and ` | CARRIED`, with
 //! `KEY REVISION WHY;` for each rule that the demand carries.
-mod random;
 
 use crate::checks::{check_row_count, check_text, check_that, text_of};
 use crate::keys::{add_key, key_in};

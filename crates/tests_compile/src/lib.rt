@@ -4,8 +4,8 @@
 //! crates that they test have no tests: a crate with tests is proved twice.
 //!
 //! Modules: `checks` (what tests assert), `sets` (small sets of files), `keys` (the answer of each
-//! key), `edits` (demands between edits), `random` (random sets beside a plain reading of the
-//! table), `session` (devices that fail, items and replies, call by call).
+//! key), `edits` (demands between edits), `session` (devices that fail, items and replies, call by
+//! call). Random sets and random edits are in `bench/random/`.
 #![tactic(auto)]
 
 #[cfg(test)]
@@ -14,8 +14,6 @@ mod checks;
 mod edits;
 #[cfg(test)]
 mod keys;
-#[cfg(test)]
-mod random;
 #[cfg(test)]
 mod session;
 #[cfg(test)]

@@ -3,12 +3,7 @@
 //! An event is a line: `open`, `accept CLIENT REQUEST`, `edit CLIENT CHANGE`, `start`, `step RUN`,
 //! `give RUN`, `starve RUN`, `release CLIENT`, `take CLIENT` or `close CLIENT`. The line `run RUN`
 //! stands for `step RUN` and `give RUN` often enough for a run over small files to end.
-mod checks;
-mod model;
-mod proto;
-mod random;
 mod windows;
-mod writer;
 
 use super::cores::lines::{
     Sample, add_replies, add_request, change_of, client_of, number_of, request_of,

@@ -4,7 +4,6 @@
 //! syntax, or `NAME` for an absent one.
 mod links;
 mod others;
-mod random;
 mod resolution;
 mod shown;
 
