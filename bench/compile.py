@@ -4,136 +4,24 @@
 The program is a few lines of Rattle in compile.rt.txt. It is put into a scratch repository with a copy of the crates that
 it stands on, proved and built there by `rt`.
 
-First it is compared with `protoc`, on the same files in one run. Both are measured as whole processes, by the processor's
-time, best of some runs that take turns. Ours reads each file and compiles it to its diagnostics, or to its descriptor, which
-includes them. Each file is compiled from scratch, so the files that it imports are read anew for it. `protoc` reads each file
-once, checks it and writes its descriptors, here to nowhere. No file has an error. The time of each process on a file of one
-line is taken off both. The factors are protoc's time as a multiple of that to diagnostics, and of that to descriptors; with
---instructions those of the instructions are printed too, after the instructions a byte of all three.
-Wanted: Debian's protobuf-compiler and libprotobuf-dev; four times protoc's speed and 25 MB/s.
-
-Then each case is a file with n and with 2n of something, a query, and what the answer has to be. Each run is made with
+Each case is a file with n and with 2n of something, a query, and what the answer has to be. Each run is made with
 k and with 3k rounds; the difference is the time of 2k rounds without the process's start and the reading of
 files. Printed is a Markdown table with the time of one answer at n and at 2n and their ratio: 2 is linear, 2.2 the most.
 A ratio of times above 2 can be that of a cache that is outgrown: the ratio of instructions says which it is.
 Last come texts that take much for their length, with the peak of memory of a process and its time, by Debian's `time`.
 
-usage: bench/compile.py [--runs N] [--program PATH] [--only WORD] [--instructions] [--no-protoc]
+usage: bench/compile.py [--runs N] [--program PATH] [--only WORD] [--instructions]
 """
 import argparse
 import os
 import sys
 import tempfile
 
-import files
 import parts
-import protoc
-from protoc import written
+from files import written
 
 CRATES = ["pq_lex", "pq_names", "pq_inputs", "pq_rules", "pq_syntax", "pq_links", "pq_schema", "pq_checks", "pq_proto"]
 USES = "pq_names pq_inputs pq_rules pq_checks pq_proto"
-INCLUDE = os.path.dirname(os.path.dirname(protoc.INSTALLED))
-SIZE = 1_000_000
-PARTS = 4
-TREE = 200
-FASTER, RATE = 4.0, 25.0
-
-
-# Groups of files for the comparison: the names of those that are compiled, their folder, and the names of those that
-# they import beside, which are installed.
-
-def apart(text, n):
-    """The text of a made file, in a package of its own."""
-    if "package bench.made;" in text:
-        return text.replace("bench.made", "bench.made%d" % n)
-    return text.replace('"proto3";\n', '"proto3";\npackage bench.part%d;\n' % n, 1)
-
-
-def made(folder):
-    """Files of a megabyte, some of each kind."""
-    for title, text in files.texts(SIZE):
-        home = os.path.join(folder, title.replace(" ", "_").replace(",", ""))
-        names = ["part%d.proto" % n for n in range(PARTS)]
-        for n, name in enumerate(names):
-            written(os.path.join(home, name), apart(text, n))
-        yield "%d files of %s" % (PARTS, title), names, home, []
-
-
-def tree_text(n):
-    """File n of a tree: it imports three others, and has records with fields of their types."""
-    lower = [i for i in range(3 * n + 1, 3 * n + 4) if i < TREE]
-    text = 'syntax = "proto3";\npackage bench.tree.node%d;\n' % n
-    text += "".join('import "node%d.proto";\n' % i for i in lower)
-    for k in range(40):
-        text += "message Record%d {\n  string name = 1;\n  repeated int64 counts = 2;\n  map<string, Record0> parts = 3;\n" % k
-        text += "".join("  bench.tree.node%d.Record%d lower_%d = %d;\n" % (i, k, i, i - 3 * n + 9) for i in lower)
-        text += "  oneof holder {\n    string person = 20;\n    uint64 machine = 21;\n  }\n}\n"
-    return text
-
-
-def tree(folder):
-    """Files that import one another."""
-    home = os.path.join(folder, "tree")
-    names = ["node%d.proto" % n for n in range(TREE)]
-    for n, name in enumerate(names):
-        written(os.path.join(home, name), tree_text(n))
-    yield "%d files in a tree of imports" % TREE, names, home, []
-
-
-def installed(folder):
-    """The installed files of proto3, and many copies of them."""
-    texts = protoc.installed()
-    if texts:
-        names = ["google/protobuf/" + name for name in texts]
-        yield "%d installed files" % len(texts), names, INCLUDE, []
-        home = os.path.join(folder, "copies")
-        copies = [os.path.relpath(path, home) for path in protoc.copies(home, texts)]
-        yield "%d copies of each" % protoc.COPIES, copies, home, names
-
-
-def pairs(home, names):
-    return [word for name in names for word in (name, os.path.join(home, name))]
-
-
-def words_of(query, names, home, beside):
-    """The words of our program: the query, the files, and those that they import beside."""
-    return [query] + pairs(home, names) + ["--"] + pairs(INCLUDE, beside)
-
-
-def compared(program, folder, runs, counts):
-    """Prints the table of the comparison, and gives the least factor and the least rate."""
-    line = written(os.path.join(folder, "line.proto"), 'syntax = "proto3";\n')
-    start = [([program, "1"] + words_of("Diagnostics", ["line.proto"], folder, []),), (protoc.protoc([folder], [line]),)]
-    ours, theirs = protoc.best_times(start, runs * 3)
-    print("start, on a file of one line: ours %.1f ms, protoc %.1f ms, taken off below\n" % (ours * 1e3, theirs * 1e3))
-    print("| Files | kB | diagnostics, ms | MB/s | descriptors, ms | MB/s | protoc, ms | MB/s | times | times "
-          "| instructions a byte | of instructions |")
-    print("|---|---|---|---|---|---|---|---|---|---|---|---|")
-    factors, rates = [], []
-    for make in (made, tree, installed):
-        for title, names, home, beside in make(folder):
-            size = sum(os.path.getsize(os.path.join(home, name)) for name in names)
-            commands = [([program, "1"] + words_of(query, names, home, beside), None, 0, said)
-                        for query, said in (("Diagnostics", b"\n0 errors, 0 nulls\n"), ("Descriptor", b"\n0 errors, 0 nulls\n"))]
-            commands.append((protoc.protoc([home, INCLUDE], [os.path.join(home, name) for name in names]),))
-            times = protoc.best_times(commands, runs)
-            net = [max(time - off, 1e-9) for time, off in zip(times, (ours, ours, theirs))]
-            rate = [size / time / 1e6 for time in net]
-            factor = [net[2] / time for time in net[:2]]
-            factors += factor
-            rates += rate[:2]
-            print("| %s | %.0f | %s | %.1f | %.1f | %s |" % (
-                title, size / 1e3, " | ".join("%.1f | %.1f" % (time * 1e3, at) for time, at in zip(net, rate)), *factor,
-                counted(start, commands, size) if counts else " | "), flush=True)
-    return min(factors), min(rates)
-
-
-def counted(start, commands, size):
-    """The instructions a byte to diagnostics, to descriptors and of protoc, and protoc's as multiples of ours."""
-    ours, theirs = [parts.instructions(*command) for command in start]
-    first, second, other = [parts.instructions(*command) for command in commands]
-    net = first - ours, second - ours, other - theirs
-    return "%s | %.1f, %.1f" % (", ".join("%.0f" % (count / size) for count in net), net[2] / net[0], net[2] / net[1])
 
 
 # Texts with n of something. Each maker gives the text and the count of its errors.
@@ -244,8 +132,8 @@ CASES = [("fields", fields, "Diagnostics", 15_000),
          ("fields", fields, "Descriptor", 15_000),
          ("fields", fields, "Symbols", 15_000),
          ("reserved ranges against fields", ranges, "Diagnostics", 10_000),
-         ("10,000 fields, 10,000 ranges", single_ranges, "Diagnostics", 5_000),
-         ("10,000 fields, 10,000 ranges", single_ranges, "Descriptor", 5_000),
+         ("fields and ranges in turns", single_ranges, "Diagnostics", 5_000),
+         ("fields and ranges in turns", single_ranges, "Descriptor", 5_000),
          ("fields in half of the ranges", nested_ranges, "Diagnostics", 10_000),
          ("reserved names against fields", reserved_names, "Diagnostics", 10_000),
          ("enum values", values, "Diagnostics", 25_000),
@@ -329,18 +217,14 @@ def main():
     words.add_argument("--program", help="the program, built before")
     words.add_argument("--only", default="", help="a word of the titles of the cases to run")
     words.add_argument("--instructions", action="store_true", help="count the instructions too, by valgrind")
-    words.add_argument("--no-protoc", action="store_true", help="the cases alone")
     words = words.parse_args()
     cases = [case for case in CASES if words.only in case[0]]
     with tempfile.TemporaryDirectory() as folder:
         program = words.program or parts.built_from(os.path.join(folder, "build"), "compile", CRATES, USES)
-        least = None if words.no_protoc else compared(program, folder, words.runs, words.instructions)
         worst = table(program, folder, cases, words.runs, words.instructions)
         hostile(program, folder)
     print("\nlargest ratio %.2f, wanted at most %.1f" % (worst, parts.MOST))
-    if least:
-        print("least factor to protoc %.1f, wanted %.1f; least rate %.1f MB/s, wanted %.1f" % (least[0], FASTER, least[1], RATE))
-    return 0 if worst <= parts.MOST and (not least or least[0] >= FASTER and least[1] >= RATE) else 1
+    return 0 if worst <= parts.MOST else 1
 
 
 if __name__ == "__main__":

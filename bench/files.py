@@ -1,4 +1,5 @@
 """Texts of proto3 that the benches parse, each of about so many bytes. `protoc` takes them too."""
+import os
 
 HEAD = 'syntax = "proto3";\n\npackage bench.made;\n\noption java_package = "com.example.bench.made";\n'
 
@@ -82,3 +83,11 @@ def texts(size):
     return [("messages of scalar fields", plain),
             ("the same with comments", commented.rsplit("}\n", 1)[0] + "}\n"),
             ("enums, options, services", varied_text(size))]
+
+
+def written(path, text):
+    """The path of the text, when it is a file."""
+    os.makedirs(os.path.dirname(path), exist_ok=True)
+    with open(path, "w") as sink:
+        sink.write(text)
+    return path
