@@ -1,9 +1,9 @@
 #!/usr/bin/env python3
 """Runs the random tests: sets of files, scripts and lists of events drawn from a seed, each beside a plain model.
 
-They are modules of the crates of tests, in bench/random/CRATE/ at the paths that they have in the crate. This script copies
-the repository's crates into a scratch folder, puts the modules in, and runs all tests of these crates by `rt try`, which
-compiles without a proof. A module is declared in the file above it, in lib.rt as one of tests. What the modules use beside
+They are modules of the crates of tests, in bench/random/CRATE/ at the paths that they have in the crate. Their names end in
+.rt.txt, since the gate wants each .rt file to be one that it proves. This script copies the repository's crates into a scratch
+folder, puts the modules in as .rt files, and runs all tests of these crates by `rt try`, which compiles without a proof. A module is declared in the file above it, in lib.rt as one of tests. What the modules use beside
 what their crate uses stands in bench/random/uses.txt.
 
 The gate does not run them, since it proves each test, and they are nearly half of what three crates had. Whoever changes a rule, the engine, the core or
@@ -21,6 +21,7 @@ import tempfile
 HERE = os.path.dirname(os.path.abspath(__file__))
 TOP = os.path.dirname(HERE)
 MODULES = os.path.join(HERE, "random")
+SUFFIX = ".rt.txt"
 
 
 def declare(above, name, is_root):
@@ -39,13 +40,14 @@ def put_in(crate, folder):
     for at, _, names in os.walk(source):
         into = os.path.join(target, os.path.relpath(at, source))
         # The modules below a module that is put in are declared by it.
-        is_below = os.path.isfile(at + ".rt")
+        is_below = os.path.isfile(at + SUFFIX)
         for name in sorted(names):
             os.makedirs(into, exist_ok=True)
-            shutil.copy(os.path.join(at, name), into)
+            module = name[: -len(SUFFIX)]
+            shutil.copy(os.path.join(at, name), os.path.join(into, module + ".rt"))
             if not is_below:
                 is_root = os.path.samefile(into, target)
-                declare(os.path.join(target, "lib.rt") if is_root else os.path.normpath(into) + ".rt", name[: -len(".rt")], is_root)
+                declare(os.path.join(target, "lib.rt") if is_root else os.path.normpath(into) + ".rt", module, is_root)
 
 
 def uses_of(path):
