@@ -3,8 +3,9 @@
 
 They are modules of the crates of tests, in bench/random/CRATE/ at the paths that they have in the crate. Their names end in
 .rt.txt, since the gate wants each .rt file to be one that it proves. This script copies the repository's crates into a scratch
-folder, puts the modules in as .rt files, and runs all tests of these crates by `rt try`, which compiles without a proof. A module is declared in the file above it, in lib.rt as one of tests. What the modules use beside
-what their crate uses stands in bench/random/uses.txt.
+folder, puts the modules in as .rt files, and runs all tests of these crates by `rt try`, which compiles without a proof. A
+module is declared in the file above it, in lib.rt as one of tests. What the modules use beside what their crate uses stands in
+bench/random/uses.txt.
 
 The gate does not run them, since it proves each test, and they are nearly half of what three crates had. Whoever changes a rule, the engine, the core or
 `play` runs those of the crate that compares it before the change lands. The status is 1 where a test fails.
