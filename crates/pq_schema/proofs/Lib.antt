@@ -14,7 +14,16 @@ pub mod Meanings
 pub mod Among
 pub mod Dotted
 pub mod Near
+pub mod PartsAlong
+pub mod AlongScopes
+pub mod PartSearch
+pub mod AlongPackages
 pub mod Around
+pub mod ScopesWithin
+pub mod Marks
+pub mod LastDots
+pub mod OutwardSearch
+pub mod ResolvedRuns
 pub mod Searches
 pub mod Grouping
 pub mod FirstNear

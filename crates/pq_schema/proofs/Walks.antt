@@ -9,7 +9,7 @@ use Rattle.pq_schema.specs.declared.definitions.Definition.{Definition}
 
 -- what is not a type in the inner scopes leaves the outer ones to decide, in whatever order they
 -- are put together
-grouped : (a b c : Found) → unless_type (unless_type a b) c ≡ unless_type a (unless_type b c)
+pub grouped : (a b c : Found) → unless_type (unless_type a b) c ≡ unless_type a (unless_type b c)
 grouped (FoundType f d) b c = refl
 grouped FoundNothing b c = refl
 grouped FoundOther (FoundType f d) c = refl

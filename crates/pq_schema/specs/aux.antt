@@ -15,6 +15,9 @@ pub mod FirstOf
 pub mod NearNames
 pub mod NearFiles
 pub mod RightIn
+pub mod Along
+pub mod Spots
+pub mod Outward
 pub mod SameScopes
 pub mod EqualScopes
 pub mod Queries

@@ -7,7 +7,7 @@ ghost use Rattle.std.specs.Option.{option_copied};
 ghost use Rattle.pq_schema.specs.Resolution.{meaning, is_package};
 ghost use Rattle.pq_rules.specs.Relations.{Each};
 ghost use Rattle.pq_schema.specs.aux.FirstOf.{first_of, other_with, is_other_at};
-ghost use Rattle.pq_schema.specs.aux.Grouping.{AreNear, IsBelow, around};
+ghost use Rattle.pq_schema.specs.aux.Grouping.{AreNear, IsBelow, IsIndex, around};
 ghost use Rattle.pq_schema.specs.aux.NearFiles.{AreOthers};
 ghost use Rattle.pq_schema.specs.aux.Hits.{meaning_at};
 ghost use Rattle.pq_schema.specs.aux.Scopes.{chain};
@@ -164,5 +164,12 @@ impl Files {
             return false;
         }
         has_package(&self.packages, name)
+    }
+
+    /// The packages of the files, sorted.
+    pub(crate) fn packages(&self) -> &[Entry]
+        ensures index { IsIndex result.now self.now }
+    {
+        &self.packages
     }
 }

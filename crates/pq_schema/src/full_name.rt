@@ -4,7 +4,7 @@
 //! name keeps the parts of its scope behind one pointer, which all names of the scope share. Two
 //! names are compared from their last bytes to their first: names of one scope differ there, and
 //! the scope is not looked at.
-ghost use Rattle.std.specs.Prelude.{◌≡◌, ℕ, [], ◌++◌, ◌==◌, IfOk, OnOk, None, bytes_eq, codes, length, string_bytes, true};
+ghost use Rattle.std.specs.Prelude.{◌≡◌, ℕ, List, [], ◌∷◌, ◌++◌, ◌==◌, IfOk, OnOk, None, bytes_eq, codes, length, string_bytes, true};
 ghost use Rattle.std.specs.List.{concat};
 ghost use Rattle.std.specs.Cmp.Rules.{comparing};
 ghost use Rattle.std.specs.Ordering.{as_partial_cmp};
@@ -12,8 +12,9 @@ ghost use Rattle.std.proofs.Common.{rules};
 ghost use Rattle.pq_schema.specs.aux.NameParts.{leading, name_order};
 ghost use Rattle.pq_schema.specs.aux.NameCodes.{code_of};
 ghost use Rattle.pq_schema.specs.aux.RightIn.{IsRightIn, IsRoot};
+ghost use Rattle.pq_schema.specs.aux.Spots.{IsPlain};
 
-use crate::spelled::{Spelled, compare};
+use crate::spelled::{Rest, Spelled, compare};
 use pq_names::{Memory, Text};
 use pq_rules::Shared;
 use pq_syntax::Items;
@@ -111,6 +112,14 @@ impl FullName {
         let mut parts = copy_parts(alloc, self.scope.get().as_slice())?;
         parts.push(with_dot(alloc, self.name.as_str())?)?;
         Shared::new(alloc, Items::new(parts))
+    }
+
+    /// The bytes of the name before its last dot; without a dot it has none.
+    pub(crate) fn scope(&self) -> Rest<'_>
+        ensures dotted { (s n : List ℕ) → IsPlain n → self.now ≡ s ++ 46 ∷ n → result ≡ s }
+        ensures plain { IsPlain self.now → result ≡ [] }
+    {
+        self.spelled().scope()
     }
 
     /// Whether the name has no bytes.

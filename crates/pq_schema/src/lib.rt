@@ -20,6 +20,7 @@
 //! and `resolved` (the queries), `rules` (the rule set); `laws`, `scope_laws`.
 #![tactic(auto)]
 
+mod along;
 mod by_package;
 mod coded;
 mod collected;
@@ -39,6 +40,7 @@ mod near_names;
 mod nesting;
 mod other_files;
 mod outline;
+mod outward;
 mod references;
 mod resolution;
 mod resolved;
@@ -48,6 +50,7 @@ mod scope_laws;
 mod scopes;
 mod search;
 mod spelled;
+mod spots;
 
 pub use collected::Collected;
 pub use defined::DefsQuery;

@@ -1,7 +1,7 @@
 //! What a name resolves to.
 ghost use Rattle.std.specs.Prelude.{◌≡◌, ◌⊎◌, IfOk};
-ghost use Rattle.pq_schema.specs.Resolution.{is_enum, lookup, resolved, resolution_of, scopes, target_of};
-ghost use Rattle.pq_schema.specs.aux.Grouping.{AreNear};
+ghost use Rattle.pq_schema.specs.Resolution.{is_enum, resolved, resolution_of, target_of};
+ghost use Rattle.pq_schema.specs.aux.Hits.{lookup_at};
 ghost use Rattle.pq_schema.specs.Resolution.Lookup.{IsType};
 ghost use Rattle.pq_schema.specs.declared.resolution.ResolveFault.TheVariants.{Memory as OutOfMemory};
 
@@ -111,21 +111,11 @@ fn is_enum(kind: DefinitionKind) -> bool
     matches!(kind, DefinitionKind::Enum)
 }
 
-/// What `name` resolves to in the message, service or package `within` of a file with the scope
-/// `scope`, without spans. `near` has the places of the visible files whose package is one of the
-/// scopes of `within`.
-pub(crate) fn find_resolution(
-    alloc: Global,
-    scope: &Scope,
-    near: &[usize],
-    within: &str,
-    name: &str,
-) -> Result<Resolution, Memory>
-    requires near { AreNear near.now scope.now.visible (scopes within.now) }
-    ensures resolution { IfOk result
-        (λ r. r ≡ resolution_of (lookup scope.now within.now name.now)) }
+/// What a name resolves to where the search ends in `outcome`, without spans.
+pub(crate) fn resolution_at(outcome: Outcome<'_>) -> Result<Resolution, Memory>
+    ensures resolution { IfOk result (λ r. r ≡ resolution_of (lookup_at outcome.entry)) }
 {
-    match look_up(alloc, scope, near, within, name)? {
+    match outcome {
         Outcome::Type(place) => Ok(Resolution::Type {
             file: place.file.copy()?,
             full_name: place.definition.full_name.copy()?,

@@ -1,21 +1,29 @@
 //! The query of a file's resolved references, generic over the sum of queries in which it is used.
-ghost use Rattle.std.specs.Prelude.{◌≡◌, ◌≤◌, ◌++◌, ◌∷◌, ℕ, [], length, map, drop, IfOk, option_copied, unwrap_or};
+ghost use Rattle.std.specs.Prelude.{◌≡◌, ◌⊎◌, ◌≤◌, ◌++◌, ◌∷◌, false, get_or, length, map, drop, IfOk, option_copied, unwrap_or};
 ghost use Rattle.pq_rules.specs.declared.turn.Turn.TheVariants.{Ask};
 ghost use Rattle.pq_links.specs.declared.files.ParsedFile.TheVariants.{Absent};
 ghost use Rattle.pq_schema.specs.Missing.{nodes_of};
 ghost use Rattle.pq_schema.specs.Compile.{resolved_in};
-ghost use Rattle.pq_schema.specs.Resolution.{scopes};
+ghost use Rattle.pq_schema.specs.Resolution.{lookup_by, scopes};
 ghost use Rattle.pq_schema.specs.aux.Grouping.{AreNear};
+ghost use Rattle.pq_schema.specs.aux.Hits.{found_at};
+ghost use Rattle.pq_schema.specs.aux.Outward.{AreThere, IsOutward, found_in, is_nothing, resolved_as};
 ghost use Rattle.pq_schema.specs.aux.Queries.{resolved_level, resolved_starts, resolved_by, resolved_advances, resolved_left};
 ghost use Rattle.pq_schema.specs.aux.Falls.{resolved_falls};
 ghost use Rattle.pq_schema.specs.declared.resolved.ResolvedPart.TheVariants.{ReadTree};
+ghost use Rattle.pq_schema.specs.declared.search.Hit.TheVariants.{Nothing};
 
+use crate::along::Along;
 use crate::defined::statements;
+use crate::files::Files;
 use crate::keys::SchemaKeys;
+use crate::outline::package_of;
+use crate::outward::Outward;
 use crate::references::{Reference, TypePart, references_in};
-use crate::resolution::{Resolution, find_resolution};
+use crate::resolution::{Resolution, resolution_at};
 use crate::scope::Scope;
-use crate::search::near_scopes;
+use crate::search::{Hit, find, near_scopes, outcome_of};
+use crate::spots::spots_of;
 use pq_links::ParsedFile;
 use pq_rules::{Memory, Query, Shared, Text, Turn};
 use pq_syntax::Items;
@@ -56,65 +64,171 @@ impl<S> ResolvedQuery<S> {
     }
 }
 
-/// The reference `reference`, which is used in `within`, with what it resolves to in `scope`. `near`
-/// has the places of the visible files whose package is one of the scopes of `within`.
-fn resolve_one(
+/// What `reference` is found as in `files`. `within` is the text of its scope, and `near` has the
+/// places of the files whose package is one of the scopes of `within`.
+fn find_one<'a>(
     alloc: Global,
-    scope: &Scope,
+    buffer: &mut String,
+    files: &'a Files,
     near: &[usize],
+    outward: Outward<'_>,
     within: &str,
     reference: &Reference,
-) -> Result<ResolvedReference, Memory>
-    requires near { AreNear near.now scope.now.visible (scopes within.now) }
+) -> Result<Hit<'a>, Memory>
+    requires near { AreNear near.now files.now (scopes within.now) }
+    requires outward { IsOutward files.now outward.along.now outward.root.now outward.spots.now }
     requires within { within.now ≡ reference.now.within }
-    ensures resolved { IfOk result (λ r. r ≡ resolved_in scope.now reference.now) }
+    ensures is { IfOk result (λ hit. found_at hit ≡ found_in files.now reference.now) }
 {
-    Ok(ResolvedReference {
-        item: reference.item,
-        part: reference.part,
-        resolution: find_resolution(alloc, scope, near, within, reference.name.as_str())?,
-    })
+    let name = reference.name.as_str();
+    find(alloc, buffer, files, near, Some(outward), within, name)
 }
 
-/// Adds `first` and those of `others` before the first that is used in another scope, each with
-/// what it resolves to in `scope`. Answers the number of these others. What depends on the scope
-/// alone is made once.
-fn resolve_run(
+/// Adds what `first` is found as in `files`, and what those of `others` are before the first that is
+/// used in another scope. Answers the number of these others. What depends on the scope alone is
+/// made once.
+fn find_run<'a>(
     alloc: Global,
-    scope: &Scope,
+    files: &'a Files,
+    outward: Outward<'_>,
     first: &Reference,
     others: &[Reference],
-    resolved: &mut Vec<ResolvedReference>,
+    hits: &mut Vec<Hit<'a>>,
 ) -> Result<usize, Memory>
+    requires outward { IsOutward files.now outward.along.now outward.root.now outward.spots.now }
     ensures within { IfOk result (λ n. n ≤ length others.now) }
-    ensures resolved { IfOk result (λ n. resolved.new.items ++ map (resolved_in scope.now) (drop n others.now)
-        ≡ resolved.old.items ++ resolved_in scope.now first.now ∷ map (resolved_in scope.now) others.now) }
+    ensures found { IfOk result (λ n. map found_at hits.new.items ++ map (found_in files.now) (drop n others.now)
+        ≡ map found_at hits.old.items ++ found_in files.now first.now ∷ map (found_in files.now) others.now) }
 {
     let within = first.within.text(alloc)?;
-    let near = near_scopes(alloc, scope.visible_files(), within.as_str())?;
-    resolved.push(resolve_one(alloc, scope, &near, within.as_str(), first)?)?;
+    let within = within.as_str();
+    let near = near_scopes(alloc, files, within)?;
+    let mut buffer = String::new(alloc);
+    let hit = find_one(alloc, &mut buffer, files, &near, outward, within, first)?;
+    hits.push(hit)?;
     'others: for i in 0..others.len() {
-        if others[i].within != first.within {
+        let other = &others[i];
+        if other.within != first.within {
             return Ok(i);
         }
-        resolved.push(resolve_one(alloc, scope, &near, within.as_str(), &others[i])?)?;
+        let hit = find_one(alloc, &mut buffer, files, &near, outward, within, other)?;
+        hits.push(hit)?;
     }
     Ok(others.len())
 }
 
-/// The references `references`, each with what it resolves to in `scope`.
+/// What each of `references`, which are used in a file of the package `root`, is found as in
+/// `files`.
+fn find_each<'a>(
+    alloc: Global,
+    files: &'a Files,
+    root: &str,
+    references: &[Reference],
+) -> Result<Vec<Hit<'a>>, Memory>
+    ensures found { IfOk result
+        (λ v. map found_at v.items ≡ map (found_in files.now) references.now) }
+{
+    let mut hits = Vec::new(alloc);
+    let along = Along::new(alloc, files, root)?;
+    let spots = spots_of(alloc, files, root)?;
+    let outward = Outward {
+        root,
+        along: &along,
+        spots: &spots,
+    };
+    let mut left = references;
+    'runs: while let Some((first, others)) = left.split_first() {
+        let more = find_run(alloc, files, outward, first, others, &mut hits)?;
+        left = &others[more..];
+    }
+    Ok(hits)
+}
+
+/// Whether `hit` is nothing.
+fn is_nothing(hit: &Hit<'_>) -> bool
+    ensures is { result ≡ is_nothing (found_at hit.now) }
+{
+    matches!(hit, Hit::Nothing)
+}
+
+/// Whether one of `hits` is nothing.
+fn is_missing(hits: &[Hit<'_>]) -> bool
+    ensures there { result ≡ false → AreThere hits.now }
+{
+    'hits: for hit in hits {
+        if is_nothing(hit) {
+            return true;
+        }
+    }
+    false
+}
+
+/// What each of `references`, which are used in a file of the package `root`, is found as in the
+/// files that `scope` reaches. Where none of `visible` is nothing, these files are not searched.
+fn find_missing<'a>(
+    alloc: Global,
+    scope: &'a Scope,
+    root: &str,
+    references: &[Reference],
+    visible: &[Hit<'_>],
+) -> Result<Vec<Hit<'a>>, Memory>
+    ensures found { IfOk result (λ v. (map found_at v.items ≡ map (found_in scope.now.reach) references.now)
+        ⊎ AreThere visible.now) }
+{
+    if is_missing(visible) {
+        return find_each(alloc, scope.reached_files(), root, references);
+    }
+    Ok(Vec::new(alloc))
+}
+
+/// The hit at `index`, or nothing past the end of `hits`.
+fn hit_or_nothing<'a>(hits: &[Hit<'a>], index: usize) -> Hit<'a>
+    ensures is { result ≡ get_or hits.now index Nothing }
+{
+    match hits.get(index) {
+        Some(hit) => *hit,
+        None => Hit::Nothing,
+    }
+}
+
+/// `reference` with what it resolves to, if it is found as `visible` in the visible files and as
+/// `reached` in those that are reached.
+fn resolve_at(
+    reference: &Reference,
+    visible: Hit<'_>,
+    reached: Hit<'_>,
+) -> Result<ResolvedReference, Memory>
+    ensures resolved { IfOk result
+        (λ r. r ≡ resolved_as reference.now (lookup_by (found_at visible.entry) (found_at reached.entry))) }
+{
+    Ok(ResolvedReference {
+        item: reference.item,
+        part: reference.part,
+        resolution: resolution_at(outcome_of(visible, reached))?,
+    })
+}
+
+/// The references `references`, which are used in a file of the package `root`, each with what it
+/// resolves to in `scope`. The files that are reached are searched only where the visible files
+/// lack one.
 fn resolve_each(
     alloc: Global,
     scope: &Scope,
+    root: &str,
     references: &[Reference],
 ) -> Result<Items<ResolvedReference>, Memory>
     ensures resolved { IfOk result (λ rs. rs ≡ map (resolved_in scope.now) references.now) }
 {
+    if references.is_empty() {
+        return Ok(Items::new(Vec::new(alloc)));
+    }
+    let visible = find_each(alloc, scope.visible_files(), root, references)?;
+    let reached = find_missing(alloc, scope, root, references, &visible)?;
     let mut resolved = Vec::new(alloc);
-    let mut left = references;
-    'runs: while let Some((first, others)) = left.split_first() {
-        let more = resolve_run(alloc, scope, first, others, &mut resolved)?;
-        left = &others[more..];
+    'references: for i in 0..references.len() {
+        let hit = hit_or_nothing(&visible, i);
+        let further = hit_or_nothing(&reached, i);
+        resolved.push(resolve_at(&references[i], hit, further)?)?;
     }
     Ok(Items::new(resolved))
 }
@@ -128,7 +242,8 @@ fn resolve_file(
     ensures resolved { IfOk result (λ rs. rs ≡ resolved_by scope.now (nodes_of (unwrap_or (option_copied file.entry) Absent))) }
 {
     let found = references_in(alloc, statements(file))?;
-    let resolved = resolve_each(alloc, scope, found.as_slice())?;
+    let root = package_of(alloc, statements(file))?;
+    let resolved = resolve_each(alloc, scope, root.as_str(), found.as_slice())?;
     Shared::new(alloc, resolved)
 }
 

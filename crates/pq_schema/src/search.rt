@@ -3,16 +3,18 @@
 //!
 //! Each scope costs one look-up of a full name, which is built in a buffer that the scopes share.
 //! The files that can have one of these names are found once.
-ghost use Rattle.std.specs.Prelude.{◌≡◌, ◌≢◌, ℕ, ◌<◌, IfOk, get_or, length, string_bytes};
+ghost use Rattle.std.specs.Prelude.{◌≡◌, ◌≢◌, ℕ, ◌<◌, IfOk, IfSome, get_or, length, string_bytes};
 ghost use Rattle.pq_schema.specs.Definitions.{qualified};
-ghost use Rattle.pq_schema.specs.Resolution.{found, found_as, has_names, decides, unless_type, single, dotted, scopes, search, lookup};
+ghost use Rattle.pq_schema.specs.Resolution.{found, found_as, has_names, decides, unless_type, single, dotted, scopes, search, lookup, lookup_by};
 ghost use Rattle.pq_schema.specs.aux.Grouping.{AreNear, around};
 ghost use Rattle.pq_schema.specs.aux.Hits.{found_at, lookup_at};
+ghost use Rattle.pq_schema.specs.aux.Outward.{IsOutward};
 
 use crate::definitions::DefinitionKind;
 use crate::files::Files;
 use crate::named::Place;
 use crate::nesting::{innermost, outer, scope_or_empty};
+use crate::outward::{Outward, dotted_outward, from_here, single_outward};
 use crate::scope::Scope;
 use pq_names::{Memory, Text};
 use std::alloc::Global;
@@ -35,7 +37,7 @@ pub(crate) enum Outcome<'a> {
 }
 
 /// What a search ends in at the definition at `place`: messages and enums are types.
-fn hit_at(place: Place<'_>) -> Hit<'_>
+pub(crate) fn hit_at(place: Place<'_>) -> Hit<'_>
     ensures is { found_at result ≡ found_as place.entry.file.now place.entry.definition.now place.entry.definition.now.kind }
 {
     match place.definition.kind {
@@ -45,7 +47,7 @@ fn hit_at(place: Place<'_>) -> Hit<'_>
 }
 
 /// Whether a definition of the kind `kind` can have names in it.
-fn has_names(kind: DefinitionKind) -> bool
+pub(crate) fn has_names(kind: DefinitionKind) -> bool
     ensures is { result ≡ has_names kind }
 {
     matches!(
@@ -73,7 +75,7 @@ fn find_full<'a>(files: &'a Files, near: &[usize], name: &str) -> Hit<'a>
 }
 
 /// What the full name `name` is found as in `files`.
-fn find_any<'a>(alloc: Global, files: &'a Files, name: &str) -> Result<Hit<'a>, Memory>
+pub(crate) fn find_any<'a>(alloc: Global, files: &'a Files, name: &str) -> Result<Hit<'a>, Memory>
     ensures is { IfOk result (λ hit. found_at hit ≡ found files.now name.now) }
 {
     let near = files.near(alloc, outer(name))?;
@@ -94,7 +96,7 @@ fn decides(files: &Files, near: &[usize], name: &str) -> bool
 
 /// `inner` if it is a type; else a type in `outer`, the scopes further out; else what is not
 /// nothing.
-fn unless_type<'a>(inner: Hit<'a>, outer: Hit<'a>) -> Hit<'a>
+pub(crate) fn unless_type<'a>(inner: Hit<'a>, outer: Hit<'a>) -> Hit<'a>
     ensures is { found_at result ≡ unless_type (found_at inner.entry) (found_at outer.entry) }
 {
     match (inner, outer) {
@@ -106,7 +108,7 @@ fn unless_type<'a>(inner: Hit<'a>, outer: Hit<'a>) -> Hit<'a>
 }
 
 /// Writes the full name of `name` in the scope `scope` to `buffer`.
-fn qualify(buffer: &mut String, scope: &str, name: &str) -> Result<(), Memory>
+pub(crate) fn qualify(buffer: &mut String, scope: &str, name: &str) -> Result<(), Memory>
     ensures name { IfOk result (λ _. string_bytes buffer.new ≡ qualified scope.now name.now) }
 {
     buffer.clear();
@@ -124,16 +126,23 @@ fn find_single<'a>(
     buffer: &mut String,
     files: &'a Files,
     near: &[usize],
+    outward: Option<Outward<'_>>,
     within: &str,
     name: &str,
 ) -> Result<Hit<'a>, Memory>
     requires near { AreNear near.now files.now (scopes within.now) }
+    requires outward { IfSome outward (λ o. IsOutward files.now o.along.now o.root.now o.spots.now) }
+    requires some { 0 < length name.now }
     requires plain { (i : ℕ) → i < length name.now → get_or name.now i 0 ≢ 46 }
     ensures is { IfOk result (λ hit. found_at hit ≡ single files.now (scopes within.now) name.now) }
 {
     let mut best = Hit::Nothing;
     let mut inner = innermost(within);
     'scopes: loop {
+        if let Some(outward) = from_here(outward, inner) {
+            let further = single_outward(buffer, files, near, outward, name)?;
+            return Ok(unless_type(best, further));
+        }
         qualify(buffer, scope_or_empty(inner), name)?;
         best = unless_type(best, find_full(files, near, buffer.as_str()));
         if let Hit::Type(_) = best {
@@ -153,17 +162,23 @@ fn find_dotted<'a>(
     buffer: &mut String,
     files: &'a Files,
     near: &[usize],
+    outward: Option<Outward<'_>>,
     within: &str,
     first: &str,
     name: &str,
 ) -> Result<Hit<'a>, Memory>
     requires near { AreNear near.now files.now (scopes within.now) }
+    requires outward { IfSome outward (λ o. IsOutward files.now o.along.now o.root.now o.spots.now) }
+    requires some { 0 < length first.now }
     requires plain { (i : ℕ) → i < length first.now → get_or first.now i 0 ≢ 46 }
     ensures is { IfOk result
         (λ hit. found_at hit ≡ dotted files.now (scopes within.now) first.now name.now) }
 {
     let mut inner = innermost(within);
     'scopes: loop {
+        if let Some(outward) = from_here(outward, inner) {
+            return dotted_outward(alloc, buffer, files, near, outward, first, name);
+        }
         let scope = scope_or_empty(inner);
         qualify(buffer, scope, first)?;
         if decides(files, near, buffer.as_str()) {
@@ -178,16 +193,19 @@ fn find_dotted<'a>(
 }
 
 /// What the name `name` is found as from the scopes of `within`. `near` has the places of the files
-/// whose package is one of these scopes.
-fn find<'a>(
+/// whose package is one of these scopes. Of the scopes of the package of `outward` only those are
+/// asked in which a definition can be.
+pub(crate) fn find<'a>(
     alloc: Global,
     buffer: &mut String,
     files: &'a Files,
     near: &[usize],
+    outward: Option<Outward<'_>>,
     within: &str,
     name: &str,
 ) -> Result<Hit<'a>, Memory>
     requires near { AreNear near.now files.now (scopes within.now) }
+    requires outward { IfSome outward (λ o. IsOutward files.now o.along.now o.root.now o.spots.now) }
     ensures is { IfOk result (λ hit. found_at hit ≡ search files.now (scopes within.now) name.now) }
 {
     if name.is_empty() {
@@ -196,8 +214,10 @@ fn find<'a>(
     match name.strip_prefix('.') {
         Some(full) => find_any(alloc, files, full),
         None => match name.split_once('.') {
-            Some((first, _)) => find_dotted(alloc, buffer, files, near, within, first, name),
-            None => find_single(buffer, files, near, within, name),
+            Some((first, _)) => {
+                find_dotted(alloc, buffer, files, near, outward, within, first, name)
+            }
+            None => find_single(buffer, files, near, outward, within, name),
         },
     }
 }
@@ -220,7 +240,7 @@ fn find_reached<'a>(
     ensures is { IfOk result (λ hit. found_at hit ≡ search files.now (scopes within.now) name.now) }
 {
     let near = near_scopes(alloc, files, within)?;
-    find(alloc, buffer, files, &near, within, name)
+    find(alloc, buffer, files, &near, None, within, name)
 }
 
 /// What `name` resolves to in the message, service or package `within` of a file with the scope
@@ -242,6 +262,7 @@ pub(crate) fn look_up<'a>(
         &mut buffer,
         scope.visible_files(),
         near,
+        None,
         within,
         name,
     )? {
@@ -256,6 +277,21 @@ pub(crate) fn look_up<'a>(
         )? {
             Hit::Type(place) => Ok(Outcome::NotVisible(place.file)),
             _ => Ok(Outcome::NotFound),
+        },
+    }
+}
+
+/// What a name resolves to that is found as `visible` in the visible files and as `reached` in those
+/// that are reached.
+pub(crate) fn outcome_of<'a>(visible: Hit<'a>, reached: Hit<'a>) -> Outcome<'a>
+    ensures is { lookup_at result ≡ lookup_by (found_at visible.entry) (found_at reached.entry) }
+{
+    match visible {
+        Hit::Type(place) => Outcome::Type(place),
+        Hit::Other => Outcome::NotAType,
+        Hit::Nothing => match reached {
+            Hit::Type(place) => Outcome::NotVisible(place.file),
+            _ => Outcome::NotFound,
         },
     }
 }

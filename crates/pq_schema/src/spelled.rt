@@ -3,10 +3,11 @@
 //! Two names are compared from their last bytes to their first. Pieces that end in the same bytes
 //! are compared many bytes at a time, and only the piece in which the names differ is read byte by
 //! byte. A code is made of the last bytes of a name.
-ghost use Rattle.std.specs.Prelude.{◌≡◌, ◌<◌, [], ◌++◌, ◌==◌, IfErr, IfOk, IfSome, None, length, option_to_list};
+ghost use Rattle.std.specs.Prelude.{◌≡◌, ◌≤◌, ◌<◌, ◌-◌, ℕ, List, [], ◌∷◌, ◌++◌, ◌==◌, IfErr, IfOk, IfSome, None, Some, bytes_eq, length, option_to_list};
 ghost use Rattle.std.specs.List.{concat};
 ghost use Rattle.pq_schema.specs.aux.NameParts.{name_order};
 ghost use Rattle.pq_schema.specs.aux.NameCodes.{coded, code_of};
+ghost use Rattle.pq_schema.specs.aux.Spots.{IsPlain};
 
 use pq_names::Text;
 use std::cmp::Ordering;
@@ -82,6 +83,21 @@ impl<'a> Spelled<'a> {
         ensures code { result ≡ code_of self.now }
     {
         code_of_rest(self.rest())
+    }
+
+    /// The bytes of the name before its last dot; without a dot it has none.
+    pub(crate) fn scope(&self) -> Rest<'a>
+        ensures dotted { (s n : List ℕ) → IsPlain n → self.now ≡ s ++ 46 ∷ n → result ≡ s }
+        ensures plain { IsPlain self.now → result ≡ [] }
+    {
+        let mut rest = self.rest();
+        'bytes: loop {
+            match rest.pop() {
+                Some(b'.') => return rest,
+                Some(_) => {}
+                None => return rest,
+            }
+        }
     }
 
     /// The bytes, to be read from the last to the first.
@@ -180,7 +196,7 @@ pub(crate) fn compare(a: Spelled<'_>, b: Spelled<'_>) -> Ordering
 /// The bytes of a text in parts that are left, to be read from the last to the first. Contracts see
 /// the bytes.
 #[derive(Drop)]
-struct Rest<'a> {
+pub(crate) struct Rest<'a> {
     parts: &'a [Text],
     text: &'a [u8],
 }
@@ -216,6 +232,46 @@ impl<'a> Rest<'a> {
             }
         }
     }
+}
+
+impl<'a> Rest<'a> {
+    /// The number of bytes, if it is at most `most`.
+    pub(crate) fn count_within(&self, most: usize) -> Option<usize>
+        ensures within { IfSome result (λ n. n ≤ most) }
+        ensures count { length self.now ≤ most → result ≡ Some (length self.now) }
+    {
+        let left = left_after(self.parts, most)?;
+        let left = left.checked_sub(self.text.len())?;
+        Some(most.saturating_sub(left))
+    }
+
+    /// Whether these are the bytes `bytes`.
+    #[tactic(auto, using(crate::specs::aux::NameOrder::names_tie))]
+    pub(crate) fn is(self, bytes: &[u8]) -> bool
+        ensures is { result ≡ bytes_eq self.entry bytes.now }
+    {
+        let other = Rest {
+            parts: &[],
+            text: bytes,
+        };
+        compare_bytes(self, other).is_eq()
+    }
+}
+
+/// What `parts` leave of `most` bytes, if they have no more.
+fn left_after(parts: &[Text], most: usize) -> Option<usize>
+    ensures within { IfSome result (λ n. n ≤ most) }
+    ensures left { length (concat parts.now) ≤ most → result ≡ Some (most - length (concat parts.now)) }
+{
+    let mut left = most;
+    'parts: for i in 0..parts.len() {
+        let count = parts[i].as_str().len();
+        if left < count {
+            return None;
+        }
+        left -= count;
+    }
+    Some(left)
 }
 
 /// Compares `a` and `b`, byte by byte from the last to the first.

@@ -41,7 +41,7 @@ scopes-preserved c =
     let first : c.as_str.result.now ≡ qualified (first_of inner) c.args.first.now =
     c.as_str.ensures.value ∙ c.in_ok-qualify.ensures.name ∙ ap (λ (s : List ℕ). qualified s c.args.first.now) c.scope_or_empty-scope.ensures.scope in
     let next = option_copied c.outer-inner.result in
-    let out = further inner next c.in-Some.scope.now (ap (λ (o : Option (Bor (List ℕ))). option_copied o) c.in-Some.is) c.outer-inner.ensures.prefixes in
+    let out = further inner next c.in-Some-inner.scope.now (ap (λ (o : Option (Bor (List ℕ))). option_copied o) c.in-Some-inner.is) c.outer-inner.ensures.prefixes in
     record {
       found = c.scopes.invariant.found
           ∙ dotted_found files inner c.args.first.now c.args.name.now false (found files (qualified (first_of inner) c.args.name.now))

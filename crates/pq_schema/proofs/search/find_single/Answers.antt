@@ -39,7 +39,7 @@ scopes-preserved c =
     let text : c.as_str.result.now ≡ qualified (first_of inner) name =
     c.as_str.ensures.value ∙ c.in_ok-qualify.ensures.name ∙ ap (λ (s : List ℕ). qualified s name) c.scope_or_empty.ensures.scope in
     let next = option_copied c.outer-inner.result in
-    let out = further inner next c.in-Some.scope.now (ap (λ (o : Option (Bor (List ℕ))). option_copied o) c.in-Some.is) c.outer-inner.ensures.prefixes in
+    let out = further inner next c.in-Some-inner.scope.now (ap (λ (o : Option (Bor (List ℕ))). option_copied o) c.in-Some-inner.is) c.outer-inner.ensures.prefixes in
     record {
       found = single_more files inner name (single files (scopes c.args.within.now) name) (found_at c.scopes.best) (found_at c.find_full.result) (found_at c.unless_type-best.result)
           c.scopes.invariant.found (c.find_full.ensures.is ∙ ap (λ (n : List ℕ). found files n) text) c.unless_type-best.ensures.is
