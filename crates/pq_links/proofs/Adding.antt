@@ -51,17 +51,17 @@ pub sees_same : {A : Type 0} (order : A → A → Ordering) (ks : List A) (x : A
 sees_same order ks x e = ap (λ b. cond b ks (ks ++ x ∷ [])) e
 
 -- of two filters the second lets through all that the first does
-filter_in : {A : Type 0} (p q : A → Bool) → ((y : A) → p y ≡ true → q y ≡ true) → (xs : List A) → filter p (filter q xs) ≡ filter p xs
+pub filter_in : {A : Type 0} (p q : A → Bool) → ((y : A) → p y ≡ true → q y ≡ true) → (xs : List A) → filter p (filter q xs) ≡ filter p xs
 filter_in p q sub [] = refl
 filter_in p q sub (x ∷ xs) = either (q x) (λ b. filter p (cond b (x ∷ filter q xs) (filter q xs)) ≡ cond (p x) (x ∷ filter p xs) (filter p xs))
     (λ e. ap (λ ys. cond (p x) (x ∷ ys) ys) (filter_in p q sub xs))
     (λ e. filter_in p q sub xs ∙ either (p x) (λ b. filter p xs ≡ cond b (x ∷ filter p xs) (filter p xs)) (λ t. let f = sub x t in cc) (λ t. refl))
 
-filter_same : {A : Type 0} (p q : A → Bool) → ((y : A) → p y ≡ q y) → (xs : List A) → filter p xs ≡ filter q xs
+pub filter_same : {A : Type 0} (p q : A → Bool) → ((y : A) → p y ≡ q y) → (xs : List A) → filter p xs ≡ filter q xs
 filter_same p q alike [] = refl
 filter_same p q alike (x ∷ xs) = ap (λ b. cond b (x ∷ filter p xs) (filter p xs)) (alike x) ∙ ap (λ ys. cond (q x) (x ∷ ys) ys) (filter_same p q alike xs)
 
-filter_both : {A : Type 0} (p q : A → Bool) → (xs : List A) → filter p (filter q xs) ≡ filter (λ y. cond (q y) (p y) false) xs
+pub filter_both : {A : Type 0} (p q : A → Bool) → (xs : List A) → filter p (filter q xs) ≡ filter (λ y. cond (q y) (p y) false) xs
 filter_both p q [] = refl
 filter_both p q (x ∷ xs) = either (q x) (λ b. filter p (cond b (x ∷ filter q xs) (filter q xs)) ≡ cond (cond b (p x) false) (x ∷ filter (λ y. cond (q y) (p y) false) xs) (filter (λ y. cond (q y) (p y) false) xs))
     (λ e. ap (λ ys. cond (p x) (x ∷ ys) ys) (filter_both p q xs))
@@ -106,12 +106,16 @@ once_alike p q alike (x ∷ xs) =
     ap (λ ys. x ∷ filter (λ y. not (p x y)) ys) (once_alike p q alike xs)
     ∙ ap (λ ys. x ∷ ys) (filter_same (λ y. not (p x y)) (λ y. not (q x y)) (λ y. ap not (alike x y)) (each_once q xs))
 
+-- names whose bytes are equal are the same
+pub bytes_exact : (x y : List ℕ) → bytes_eq x y ≡ true → x ≡ y
+bytes_exact x y e = (bytes_eq-Decides x y).0 e
+
 -- names are the same by their order where their bytes are
 pub name_alike : (x y : List ℕ) → same_name x y ≡ bytes_eq x y
 name_alike x y = is_eq-slice_cmp x y
 
 pub name_exact : (x y : List ℕ) → same_name x y ≡ true → x ≡ y
-name_exact x y e = (bytes_eq-Decides x y).0 (sym (name_alike x y) ∙ e)
+name_exact x y e = bytes_exact x y (sym (name_alike x y) ∙ e)
 
 -- names that are added one after another are each at its first place
 pub first_names : (xs : List (List ℕ)) → add_firsts same_name [] xs ≡ firsts xs

@@ -1,5 +1,6 @@
 pub mod Adding
 pub mod AddSteps
+pub mod OnceOnly
 pub mod ImportSteps
 pub mod JoinSteps
 pub mod ByAnswers

@@ -7,7 +7,6 @@ ghost use Rattle.std.specs.Ordering.{eq_by_cmp};
 ghost use Rattle.pq_links.specs.aux.Adding.{add_first};
 
 use crate::Memory;
-use pq_syntax::Items;
 use std::alloc::Global;
 use std::collections::BTreeSet;
 use std::marker::Model;
@@ -56,9 +55,9 @@ impl<T: Ord + Drop> Firsts<T> {
     }
 
     /// The items.
-    pub(crate) fn into_items(self) -> Items<T>
-        ensures items { result ≡ self }
+    pub(crate) fn into_vec(self) -> Vec<T>
+        ensures items { result.items ≡ self }
     {
-        Items::new(self.items)
+        self.items
     }
 }

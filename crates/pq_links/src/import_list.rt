@@ -84,7 +84,7 @@ fn imports_in(alloc: Global, nodes: &[Node]) -> Result<Items<Import>, Memory>
     'each_node: for node in nodes {
         add_import(&mut imports, alloc, &node.statement)?;
     }
-    Ok(imports.into_items())
+    Ok(Items::new(imports.into_vec()))
 }
 
 /// The imports of a text with the tree or error `parsed`.

@@ -9,6 +9,7 @@
 //! it leads.
 #![tactic(auto)]
 
+mod file_names;
 mod files;
 mod firsts;
 mod import_list;
@@ -19,6 +20,7 @@ mod linked;
 mod links;
 mod parse;
 
+pub use file_names::FileNames;
 pub use files::ParsedFile;
 pub use imports::ImportsQuery;
 pub use keys::LinkKeys;

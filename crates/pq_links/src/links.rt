@@ -2,8 +2,8 @@
 ghost use Rattle.std.specs.Prelude.{◌≡◌, IfOk};
 
 use crate::Memory;
+use crate::file_names::FileNames;
 use pq_rules::Text;
-use pq_syntax::Items;
 
 /// An import of a file (proto3 language specification, "Import Statement"). A weak import counts as
 /// a plain one, and an import whose name is not UTF-8 is passed over.
@@ -32,9 +32,9 @@ impl Import {
 #[derive(Drop, PartialEq, Eq)]
 pub struct Links {
     /// The files that a file which imports this one sees by it.
-    pub exports: Items<Text>,
+    pub exports: FileNames,
     /// The files whose definitions this one sees.
-    pub visible: Items<Text>,
+    pub visible: FileNames,
     /// The files to which imports lead, depth first.
-    pub reach: Items<Text>,
+    pub reach: FileNames,
 }

@@ -1,6 +1,6 @@
 -- Auxiliary: items added one after another, each if it is not there yet (used by proofs and
 -- invariants only). The result is `each_once` of `specs/Once`.
-use Rattle.std.specs.Prelude.{◌≡◌, ℕ, Bool, false, cond, ◌||◌, List, [], ◌∷◌, ◌++◌}
+use Rattle.std.specs.Prelude.{◌≡◌, ℕ, Bool, false, bytes_eq, cond, not, ◌||◌, List, [], ◌∷◌, ◌++◌}
 use Rattle.std.specs.Cmp.Lexicographic.{slice_cmp}
 use Rattle.std.specs.Ordering.{eq_by_cmp, nat_cmp}
 use Rattle.std.specs.declared.cmp.Ordering.{Ordering}
@@ -27,3 +27,7 @@ Sees {A} order seen xs = (x : A) → contains order seen x ≡ has (eq_by_cmp or
 -- `same_name a b` is whether the names `a` and `b` compare as equal
 abbrev pub same_name : List ℕ → List ℕ → Bool
 same_name = eq_by_cmp (slice_cmp nat_cmp)
+
+-- `is_not file name` is whether the name `name` is another than `file`
+abbrev pub is_not : List ℕ → List ℕ → Bool
+is_not file name = not (bytes_eq file name)

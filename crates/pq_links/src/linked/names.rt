@@ -1,15 +1,16 @@
 //! The three lists of a file's links, by the links of its imports' files.
 //!
-//! Each takes N log N time for N names in the lists of these files. Names are shared, not copied.
+//! Each takes N log N time for N names in the lists of these files, and one walk where one file is
+//! imported. Names are shared, not copied.
 ghost use Rattle.std.specs.Prelude.{◌≡◌, [], ◌∷◌, ◌++◌, cond, IfOk, OnOk};
 ghost use Rattle.pq_links.specs.Visibility.{firsts, links_by, no_links, passed_on, shown, reached};
 ghost use Rattle.pq_links.specs.aux.Adding.{add_first, add_firsts, same_name};
 
 use crate::Memory;
+use crate::file_names::FileNames;
 use crate::firsts::Firsts;
 use crate::links::{Import, Links};
 use pq_rules::{Shared, Text};
-use pq_syntax::Items;
 use std::alloc::Global;
 
 /// Adds `name`, if it is not there yet.
@@ -45,6 +46,22 @@ fn add_public(
     Ok(())
 }
 
+/// What `file` exports, whose one import is `import`.
+fn exports_with(
+    alloc: Global,
+    file: &Text,
+    import: &Import,
+    links: &Shared<Links>,
+) -> Result<FileNames, Memory>
+    ensures names { IfOk result (λ names. names ≡ firsts (file.now ∷ cond import.now.is_public links.now.exports [])) }
+{
+    if import.is_public {
+        links.get().exports.after(alloc, file)
+    } else {
+        only(alloc, file)
+    }
+}
+
 /// What `file` exports, by the imports `pairs` and one more import.
 fn exports_of(
     alloc: Global,
@@ -52,16 +69,19 @@ fn exports_of(
     pairs: &[(Import, Shared<Links>)],
     last: &Import,
     links: &Shared<Links>,
-) -> Result<Items<Text>, Memory>
+) -> Result<FileNames, Memory>
     ensures names { IfOk result (λ names. names ≡ firsts (file.now ∷ (passed_on pairs.now ++ cond last.now.is_public links.now.exports []))) }
 {
+    if pairs.is_empty() {
+        return exports_with(alloc, file, last, links);
+    }
     let mut names = Firsts::new(alloc);
     add_name(&mut names, file)?;
     'each_pair: for pair in pairs {
         add_public(&mut names, &pair.0, &pair.1)?;
     }
     add_public(&mut names, last, links)?;
-    Ok(names.into_items())
+    Ok(FileNames::new(names.into_vec()))
 }
 
 /// What `file` sees, by the imports `pairs` and one more import with `links`.
@@ -70,16 +90,19 @@ fn visible_to(
     file: &Text,
     pairs: &[(Import, Shared<Links>)],
     links: &Shared<Links>,
-) -> Result<Items<Text>, Memory>
+) -> Result<FileNames, Memory>
     ensures names { IfOk result (λ names. names ≡ firsts (file.now ∷ (shown pairs.now ++ links.now.exports))) }
 {
+    if pairs.is_empty() {
+        return links.get().exports.after(alloc, file);
+    }
     let mut names = Firsts::new(alloc);
     add_name(&mut names, file)?;
     'each_pair: for pair in pairs {
         add_names(&mut names, pair.1.get().exports.as_slice())?;
     }
     add_names(&mut names, links.get().exports.as_slice())?;
-    Ok(names.into_items())
+    Ok(FileNames::new(names.into_vec()))
 }
 
 /// What `file` reaches, by the imports `pairs` and one more import with `links`.
@@ -88,16 +111,19 @@ fn reached_by(
     file: &Text,
     pairs: &[(Import, Shared<Links>)],
     links: &Shared<Links>,
-) -> Result<Items<Text>, Memory>
+) -> Result<FileNames, Memory>
     ensures names { IfOk result (λ names. names ≡ firsts (file.now ∷ (reached pairs.now ++ links.now.reach))) }
 {
+    if pairs.is_empty() {
+        return links.get().reach.after(alloc, file);
+    }
     let mut names = Firsts::new(alloc);
     add_name(&mut names, file)?;
     'each_pair: for pair in pairs {
         add_names(&mut names, pair.1.get().reach.as_slice())?;
     }
     add_names(&mut names, links.get().reach.as_slice())?;
-    Ok(names.into_items())
+    Ok(FileNames::new(names.into_vec()))
 }
 
 /// The links of `file`, by the imports `pairs` and one more import, each with its file's links.
@@ -124,16 +150,24 @@ pub(crate) fn join(
 }
 
 /// The list of `file` alone.
-fn only(alloc: Global, file: &Text) -> Result<Items<Text>, Memory>
-    ensures names { IfOk result (λ names. names ≡ file.now ∷ []) }
+#[tactic(auto, unfolding(crate::specs::Once::each_once))]
+fn only(alloc: Global, file: &Text) -> Result<FileNames, Memory>
+    ensures names { IfOk result (λ names. names ≡ firsts (file.now ∷ [])) }
 {
     let mut names = Vec::new(alloc);
     names.push(file.copy()?)?;
-    Ok(Items::new(names))
+    Ok(FileNames::new(names))
+}
+
+/// A list without names.
+#[tactic(auto, unfolding(crate::specs::Once::each_once))]
+fn none(alloc: Global) -> FileNames
+    ensures none { result ≡ [] }
+{
+    FileNames::new(Vec::new(alloc))
 }
 
 /// The links of a present file without imports.
-#[tactic(auto, unfolding(crate::specs::Once::each_once))]
 pub(crate) fn alone(alloc: Global, file: &Text) -> Result<Shared<Links>, Memory>
     ensures links { IfOk result (λ l. l ≡ links_by file.now []) }
 {
@@ -157,9 +191,9 @@ pub(crate) fn nothing(alloc: Global) -> Result<Shared<Links>, Memory>
     Shared::new(
         alloc,
         Links {
-            exports: Items::new(Vec::new(alloc)),
-            visible: Items::new(Vec::new(alloc)),
-            reach: Items::new(Vec::new(alloc)),
+            exports: none(alloc),
+            visible: none(alloc),
+            reach: none(alloc),
         },
     )
 }

@@ -19,7 +19,7 @@ each_node-preserved c =
 
 pub returns : goal.returns
 returns c = record {
-  imports = c.into_items.ensures.items
+  imports = c.new.ensures ∙ c.into_vec.ensures.items
       ∙ adds_all (eq_by_cmp import_order.ghosts.cmp) import_statements refl _ _ _ _ c.each_node-test.false c.each_node.invariant
       ∙ added_imports c.args.nodes.now;
 }
