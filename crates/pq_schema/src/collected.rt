@@ -41,11 +41,14 @@ fn copy_file(file: &FileDefs) -> Result<FileDefs, Memory>
     })
 }
 
-/// A copy of `files`, which shares the definitions.
+/// The most visible files that are found by a walk each.
+const FEW: usize = 8;
+
+/// A copy of `files`, which shares the definitions, with room for one more.
 fn copy_files(alloc: Global, files: &[FileDefs]) -> Result<Vec<FileDefs>, Memory>
     ensures copy { IfOk result (λ fs. fs.items ≡ files.now) }
 {
-    let mut copies = Vec::new(alloc);
+    let mut copies = Vec::with_capacity(alloc, files.len() + 1)?;
     'files: for file in files {
         copies.push(copy_file(file)?)?;
     }
@@ -99,16 +102,61 @@ fn push_named(
     Ok(())
 }
 
+/// The first of `files` with the name `name`.
+fn file_named<'a>(files: &'a [FileDefs], name: &Text) -> Option<&'a FileDefs>
+    ensures first { option_copied result ≡ find (λ (f : FileDefs). bytes_eq f.file name.now) files.now }
+{
+    'files: for file in files {
+        if file.file == *name {
+            return Some(file);
+        }
+    }
+    None
+}
+
+/// Adds the first of `files` with the name `name`, if there is one.
+fn push_first(found: &mut Vec<FileDefs>, files: &[FileDefs], name: &Text) -> Result<(), Memory>
+    ensures added { IfOk result (λ _. found.new.items
+        ≡ found.old.items ++ option_to_list (find (λ (f : FileDefs). bytes_eq f.file name.now) files.now)) }
+{
+    if let Some(file) = file_named(files, name) {
+        found.push(copy_file(file)?)?;
+    }
+    Ok(())
+}
+
+/// The files of `files` with the names `names`, in the order of these, by a walk for each.
+fn pick_few(alloc: Global, files: &[FileDefs], names: &[Text]) -> Result<Vec<FileDefs>, Memory>
+    ensures picked { IfOk result (λ fs. fs.items ≡ picked files.now names.now) }
+{
+    let mut found = Vec::with_capacity(alloc, names.len())?;
+    'names: for name in names {
+        push_first(&mut found, files, name)?;
+    }
+    Ok(found)
+}
+
 /// The files of `files` with the names `names`, in the order of these, in time N log N.
-fn pick(alloc: Global, files: &[FileDefs], names: &[Text]) -> Result<Vec<FileDefs>, Memory>
+fn pick_many(alloc: Global, files: &[FileDefs], names: &[Text]) -> Result<Vec<FileDefs>, Memory>
     ensures picked { IfOk result (λ fs. fs.items ≡ picked files.now names.now) }
 {
     let index = index_of(alloc, files)?;
-    let mut found = Vec::new(alloc);
+    let mut found = Vec::with_capacity(alloc, names.len())?;
     'names: for name in names {
         push_named(&mut found, &index, name)?;
     }
     Ok(found)
+}
+
+/// The files of `files` with the names `names`, in the order of these.
+fn pick(alloc: Global, files: &[FileDefs], names: &[Text]) -> Result<Vec<FileDefs>, Memory>
+    ensures picked { IfOk result (λ fs. fs.items ≡ picked files.now names.now) }
+{
+    if names.len() <= FEW {
+        pick_few(alloc, files, names)
+    } else {
+        pick_many(alloc, files, names)
+    }
 }
 
 /// The scope of a file that reaches `files` and sees those of them with the names `visible`.
