@@ -103,11 +103,11 @@ module _ {K V O : Type 0} where
   shut_starves c run true l m shut s = stays_alike l m c shut s.0.c s.0.client _ s.1.is_entry.client_here refl refl (clients_of _ m s.2)
   shut_starves c run false l m shut s = stays_as l m c shut s.1
 
-  pub shut_releases : (puts takes : O → List (ReplyView K V)) (was_full : O → Type 0) (c d : ℕ) (answer : Released) (l m : Ledger K V O) (shut : IsClosed l c) → Releases puts takes was_full d answer l m → Stays l c shut m
-  shut_releases puts takes was_full c d (ReleasedPut n) l m shut s = stays_open l m c shut d s.0.client _ s.1.here s.1.ready.open_yet (clients_of _ m s.3.3)
-  shut_releases puts takes was_full c d ReleasedFull l m shut s = stays_open l m c shut d s.0.client _ s.1.here s.1.ready.open_yet (clients_of _ m s.2.3)
-  shut_releases puts takes was_full c d ReleasedGone l m shut s = stays_open l m c shut d s.0.client _ s.1.here s.1.ready.open_yet (clients_of _ m s.2.2)
-  shut_releases puts takes was_full c d ReleasedNothing l m shut s = stays_as l m c shut s.1
+  pub shut_releases : (puts takes : O → List (ReplyView K V)) (was_full was_gone : O → Type 0) (c d : ℕ) (answer : Released) (l m : Ledger K V O) (shut : IsClosed l c) → Releases puts takes was_full was_gone d answer l m → Stays l c shut m
+  shut_releases puts takes was_full was_gone c d (ReleasedPut n) l m shut s = stays_open l m c shut d s.0.client _ s.1.here s.1.ready.open_yet (clients_of _ m s.3.3)
+  shut_releases puts takes was_full was_gone c d ReleasedFull l m shut s = stays_open l m c shut d s.0.client _ s.1.here s.1.ready.open_yet (clients_of _ m s.2.3)
+  shut_releases puts takes was_full was_gone c d ReleasedGone l m shut s = stays_open l m c shut d s.0.client _ s.1.here s.1.ready.open_yet (clients_of _ m s.2.3)
+  shut_releases puts takes was_full was_gone c d ReleasedNothing l m shut s = stays_as l m c shut s.1
 
   pub shut_closes : (c d : ℕ) (answer : Option O) (l m : Ledger K V O) (shut : IsClosed l c) → Closes d answer l m → Stays l c shut m
   shut_closes c d (Some o) l m shut s = stays_open l m c shut d s.0 _ s.1.here s.1.open_yet (clients_of _ m s.3)

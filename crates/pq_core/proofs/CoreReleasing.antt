@@ -103,11 +103,11 @@ module _ {K P V O : Type 0} (order : K → K → Ordering) (m : Machine K P V) (
       (subst (λ (y : Client K V O). LaneStands puts lane y) is as_lane) (ap (λ (y : Client K V O). with_client l c y) is) kept
 
   -- after a release, whatever came of it
-  released_so : (takes : O → List (ReplyView K V)) (was_full : O → Type 0) (b a : Held K P V O) (l : Ledger K V O) (c : ℕ) (answer : Released) (client x : Client K V O) (lane : LaneView K V O)
+  released_so : (takes : O → List (ReplyView K V)) (was_full was_gone : O → Type 0) (b a : Held K P V O) (l : Ledger K V O) (c : ℕ) (answer : Released) (client x : Client K V O) (lane : LaneView K V O)
       → StandsOf order m puts b l → IsOpen l c client → LaneSet (fields_of b) (fields_of a) c (Some lane) → SameButLanes b a → a.opened ≡ b.opened
-      → LaneStands puts lane x → Releases puts takes was_full c answer l (with_client l c x) → Kept (answer_by order m) puts (with_client l c x)
+      → LaneStands puts lane x → Releases puts takes was_full was_gone c answer l (with_client l c x) → Kept (answer_by order m) puts (with_client l c x)
       → StandsOf order m puts a (with_client l c x)
-  released_so takes was_full b a l c (ReleasedPut n) client x lane s is_open set e count as_lane w kept =
+  released_so takes was_full was_gone b a l c (ReleasedPut n) client x lane s is_open set e count as_lane w kept =
       let next = w.0 in
       let entry = moved_to next.entry Put in
       let is : x ≡ with_outbox (with_entry next.client n entry) w.3.0 false = client_is l c client x _ is_open.here w.3.3 in
@@ -116,37 +116,37 @@ module _ {K P V O : Type 0} (order : K → K → Ordering) (m : Machine K P V) (
       (ap (λ (i : ℕ). slice_get next.client.entries i) w.2 ∙ w.1.ready.here) w.1.ready.ready set
       (record { inputs = e.inputs; opened = count; clients = e.clients }) (same_runs b a e)
       (subst (λ (y : Client K V O). LaneStands puts lane y) is as_lane) w.3.3 kept
-  released_so takes was_full b a l c ReleasedFull client x lane s is_open set e count as_lane w kept =
+  released_so takes was_full was_gone b a l c ReleasedFull client x lane s is_open set e count as_lane w kept =
       outbox_so b a l c w.0.client x w.2.0 true lane s (record { here = w.1.here; open_yet = w.1.ready.open_yet }) set e count as_lane
       (client_is l c client x _ is_open.here w.2.3) kept
-  released_so takes was_full b a l c ReleasedGone client x lane s is_open set e count as_lane w kept =
+  released_so takes was_full was_gone b a l c ReleasedGone client x lane s is_open set e count as_lane w kept =
       outbox_so b a l c w.0.client x w.2.0 true lane s (record { here = w.1.here; open_yet = w.1.ready.open_yet }) set e count as_lane
-      (client_is l c client x _ is_open.here w.2.2) kept
-  released_so takes was_full b a l c ReleasedNothing client x lane s is_open set e count as_lane w kept =
+      (client_is l c client x _ is_open.here w.2.3) kept
+  released_so takes was_full was_gone b a l c ReleasedNothing client x lane s is_open set e count as_lane w kept =
       outbox_so b a l c client x client.outbox client.refused lane s is_open set e count as_lane (client_kept l c client x is_open.here w.1) kept
 
   -- a release
-  pub release_moved : (takes : O → List (ReplyView K V)) (was_full : O → Type 0) (b a : Held K P V O) (c : ℕ) (answer : Released) (l : Ledger K V O)
+  pub release_moved : (takes : O → List (ReplyView K V)) (was_full was_gone : O → Type 0) (b a : Held K P V O) (c : ℕ) (answer : Released) (l : Ledger K V O)
       → ((lane : LaneView K V O) → found b.lanes c ≡ Some lane
-      → (after : LaneView K V O) × LaneReleases puts takes was_full answer lane after × ((k : ℕ) → found a.lanes k ≡ (if k == c then Some after else found b.lanes k)))
+      → (after : LaneView K V O) × LaneReleases puts takes was_full was_gone answer lane after × ((k : ℕ) → found a.lanes k ≡ (if k == c then Some after else found b.lanes k)))
       → (found b.lanes c ≡ None → (answer ≡ ReleasedNothing) × ((k : ℕ) → found a.lanes k ≡ found b.lanes k))
-      → SameButLanes b a → a.opened ≡ b.opened → StandsOf order m puts b l → Reaches (Releases puts takes was_full c answer) l (StandsOf order m puts a)
-  release_moved takes was_full b a c answer l opens closes e count s = by_lane (found b.lanes c) refl
+      → SameButLanes b a → a.opened ≡ b.opened → StandsOf order m puts b l → Reaches (Releases puts takes was_full was_gone c answer) l (StandsOf order m puts a)
+  release_moved takes was_full was_gone b a c answer l opens closes e count s = by_lane (found b.lanes c) refl
     where
-      by_lane : (lane : Option (LaneView K V O)) → found b.lanes c ≡ lane → Reaches (Releases puts takes was_full c answer) l (StandsOf order m puts a)
+      by_lane : (lane : Option (LaneView K V O)) → found b.lanes c ≡ lane → Reaches (Releases puts takes was_full was_gone c answer) l (StandsOf order m puts a)
       by_lane (Some lane) h =
           let w = open_of (LaneStands puts) (answer_by order m) puts (fields_of b) l c lane s h in
           let x = opens lane h in
-          let r = released puts takes was_full l c lane x.0 w.0 answer w.2 w.1.here x.1 in (
+          let r = released puts takes was_full was_gone l c lane x.0 w.0 answer w.2 w.1.here x.1 in (
             with_client l c r.client,
             r.moves,
-            released_so takes was_full b a l c answer w.0 r.client x.0 s w.1 (lane_set b a c (Some x.0) x.2) e count r.stands r.moves
-                (kept_releases (answer_by order m) puts takes was_full c answer l (with_client l c r.client) s.kept r.moves),
+            released_so takes was_full was_gone b a l c answer w.0 r.client x.0 s w.1 (lane_set b a c (Some x.0) x.2) e count r.stands r.moves
+                (kept_releases (answer_by order m) puts takes was_full was_gone c answer l (with_client l c r.client) s.kept r.moves),
           )
       by_lane None h =
           let x = closes h in (
             l,
-            subst (λ (z : Released). Releases puts takes was_full c z l l) (sym x.0)
+            subst (λ (z : Released). Releases puts takes was_full was_gone c z l l) (sym x.0)
                 (λ next ready. none_open (LaneStands puts) (answer_by order m) puts (fields_of b) l c s h next.client (record { here = ready.here; open_yet = ready.ready.open_yet }), refl),
             unmoved order m puts b a l (same_maps b a e count x.1) s,
           )

@@ -370,8 +370,8 @@ module _ {K V O : Type 0} (means : Sources → K → Answer K V → Type 0) (put
       kept_client means puts l c _ k
       (subst (λ (qs : List (ReplyView K V)). ClientKept means l.inputs qs c client.entries) (sym e) (k.clients c client here))
 
-  pub kept_releases : (takes : O → List (ReplyView K V)) (was_full : O → Type 0) (c : ℕ) (answer : Released) (l m : Ledger K V O) → Kept means puts l → Releases puts takes was_full c answer l m → Kept means puts m
-  kept_releases takes was_full c (ReleasedPut n) l m k s =
+  pub kept_releases : (takes : O → List (ReplyView K V)) (was_full was_gone : O → Type 0) (c : ℕ) (answer : Released) (l m : Ledger K V O) → Kept means puts l → Releases puts takes was_full was_gone c answer l m → Kept means puts m
+  kept_releases takes was_full was_gone c (ReleasedPut n) l m k s =
       let next = s.0 in
       let client = next.client in
       let ready = s.1.ready in
@@ -381,11 +381,11 @@ module _ {K V O : Type 0} (means : Sources → K → Answer K V → Type 0) (put
       (subst (λ (qs : List (ReplyView K V)). ClientKept means l.inputs qs c (slice_set client.entries n (moved_to next.entry Put))) (sym s.3.1)
       (subst (λ (i : ℕ). ClientKept means l.inputs (puts client.outbox ++ next.reply ∷ []) c (slice_set client.entries i (moved_to next.entry Put))) (sym s.2)
       (kept_put means l.inputs (puts client.outbox) c client.entries next.entry next.reply ck ready.here ready.ready))))
-  kept_releases takes was_full c ReleasedFull l m k s =
+  kept_releases takes was_full was_gone c ReleasedFull l m k s =
       subst (Kept means puts) (sym s.2.3) (kept_outbox l c s.0.client s.2.0 true s.1.here s.2.1.puts_same k)
-  kept_releases takes was_full c ReleasedGone l m k s =
-      subst (Kept means puts) (sym s.2.2) (kept_outbox l c s.0.client s.2.0 true s.1.here s.2.1.puts_same k)
-  kept_releases takes was_full c ReleasedNothing l m k s = subst (Kept means puts) (sym s.1) k
+  kept_releases takes was_full was_gone c ReleasedGone l m k s =
+      subst (Kept means puts) (sym s.2.3) (kept_outbox l c s.0.client s.2.0 true s.1.here s.2.1.puts_same k)
+  kept_releases takes was_full was_gone c ReleasedNothing l m k s = subst (Kept means puts) (sym s.1) k
 
   pub kept_closes : (c : ℕ) (answer : Option O) (l m : Ledger K V O) → Kept means puts l → Closes c answer l m → Kept means puts m
   kept_closes c (Some o) l m k s =

@@ -319,11 +319,11 @@ module _ {K V O : Type 0} (puts : O → List (ReplyView K V)) where
   pub none_ready : (l : Ledger K V O) (c : ℕ) (lane : LaneView K V O) (client : Client K V O) → LaneStands puts lane client → slice_get l.clients c ≡ Some client → ((reply : ReplyView K V) → slice_get lane.owed 0 ≡ Some (OwedReady reply) → ⊥) → NoneReady puts l c
   none_ready l c lane client h here none next ready = none next.reply (first_ready l c lane client next h here ready)
 
-  -- `ReleasedTo takes was_full l c answer new` is that the ledger makes the move of the lane of its
-  -- client `c`; the lane is `new` afterwards and represents the client
-  pub record ReleasedTo (takes : O → List (ReplyView K V)) (was_full : O → Type 0) (l : Ledger K V O) (c : ℕ) (answer : Released) (new : LaneView K V O) : Type 0 where
+  -- `ReleasedTo takes was_full was_gone l c answer new` is that the ledger makes the move of the lane
+  -- of its client `c`; the lane is `new` afterwards and represents the client
+  pub record ReleasedTo (takes : O → List (ReplyView K V)) (was_full was_gone : O → Type 0) (l : Ledger K V O) (c : ℕ) (answer : Released) (new : LaneView K V O) : Type 0 where
     pub client : Client K V O
-    pub moves : Releases puts takes was_full c answer l (with_client l c client)
+    pub moves : Releases puts takes was_full was_gone c answer l (with_client l c client)
     pub stands : LaneStands puts new client
 
   same_client : (l : Ledger K V O) (c : ℕ) (client : Client K V O) → slice_get l.clients c ≡ Some client → with_client l c client ≡ l
@@ -335,8 +335,8 @@ module _ {K V O : Type 0} (puts : O → List (ReplyView K V)) where
   same_puts : (takes : O → List (ReplyView K V)) (p q o : O) → p ≡ q → IsSame puts takes p o → IsSame puts takes q o
   same_puts takes p q o e s = subst (λ (x : O). IsSame puts takes x o) e s
 
-  pub released : (takes : O → List (ReplyView K V)) (was_full : O → Type 0) (l : Ledger K V O) (c : ℕ) (lane new : LaneView K V O) (client : Client K V O) (answer : Released) → LaneStands puts lane client → slice_get l.clients c ≡ Some client → LaneReleases puts takes was_full answer lane new → ReleasedTo takes was_full l c answer new
-  released takes was_full l c lane new client (ReleasedPut n) h here (reply, get, e, (o, more, taken, is)) =
+  pub released : (takes : O → List (ReplyView K V)) (was_full was_gone : O → Type 0) (l : Ledger K V O) (c : ℕ) (lane new : LaneView K V O) (client : Client K V O) (answer : Released) → LaneStands puts lane client → slice_get l.clients c ≡ Some client → LaneReleases puts takes was_full was_gone answer lane new → ReleasedTo takes was_full was_gone l c answer new
+  released takes was_full was_gone l c lane new client (ReleasedPut n) h here (reply, get, e, (o, more, taken, is)) =
       let a = ready_first lane client reply h get in
       let entry = moved_to a.entry Put in
       record {
@@ -350,7 +350,7 @@ module _ {K V O : Type 0} (puts : O → List (ReplyView K V)) where
         stands = lane_is new (record { outbox = o; put = lane.put + 1; owed = drop 1 lane.owed; refused = false }) (with_outbox (with_entry client n entry) o false) is
             (put_stands lane client reply entry n o h get e more);
       }
-  released takes was_full l c lane new client ReleasedFull h here (reply, get, (o, same, full, is)) =
+  released takes was_full was_gone l c lane new client ReleasedFull h here (reply, get, (o, same, full, is)) =
       let a = ready_first lane client reply h get in
       let s = same_puts takes lane.outbox client.outbox o h.outbox same in
       record {
@@ -358,15 +358,15 @@ module _ {K V O : Type 0} (puts : O → List (ReplyView K V)) where
         moves = (record { client = client; entry = a.entry; reply = reply }, next_ready l c lane client reply h get here, (o, s, full, refl));
         stands = lane_is new (lane_with lane o true) (with_outbox client o true) is (outbox_stands lane client o true h s.puts_same);
       }
-  released takes was_full l c lane new client ReleasedGone h here (reply, get, (o, same, is)) =
+  released takes was_full was_gone l c lane new client ReleasedGone h here (reply, get, (o, same, gone, is)) =
       let a = ready_first lane client reply h get in
       let s = same_puts takes lane.outbox client.outbox o h.outbox same in
       record {
         client = with_outbox client o true;
-        moves = (record { client = client; entry = a.entry; reply = reply }, next_ready l c lane client reply h get here, (o, s, refl));
+        moves = (record { client = client; entry = a.entry; reply = reply }, next_ready l c lane client reply h get here, (o, s, gone, refl));
         stands = lane_is new (lane_with lane o true) (with_outbox client o true) is (outbox_stands lane client o true h s.puts_same);
       }
-  released takes was_full l c lane new client ReleasedNothing h here (none, is) =
+  released takes was_full was_gone l c lane new client ReleasedNothing h here (none, is) =
       record {
         client = client;
         moves = (none_ready l c lane client h here none, same_client l c client here);

@@ -402,11 +402,11 @@ module _ {K V O : Type 0} where
           let zero_at : n - lane.put ≡ 0 = omega (arith, is) in
           ready_waits_not reply request (some_one (OwedWaiting request) (OwedReady reply) (sym w.here ∙ (ap (slice_get lane.owed) zero_at ∙ first)))
 
-  pub released_waits : (puts takes : O → List (ReplyView K V)) (was_full : O → Type 0) (answer : Released) (l m : LaneView K V O) → LaneReleases puts takes was_full answer l m → SameWaiting l m
-  released_waits puts takes was_full (ReleasedPut n) l m (reply, first, e, (o, more, taken, is)) = as_lane l m _ is (after_put l o reply first)
-  released_waits puts takes was_full ReleasedFull l m (reply, first, (o, same, full, is)) = as_lane l m _ is (with_outbox l o true, without_outbox l o true)
-  released_waits puts takes was_full ReleasedGone l m (reply, first, (o, same, is)) = as_lane l m _ is (with_outbox l o true, without_outbox l o true)
-  released_waits puts takes was_full ReleasedNothing l m (none, is) = as_lane l m l is (λ n request w. w, λ n request w. w)
+  pub released_waits : (puts takes : O → List (ReplyView K V)) (was_full was_gone : O → Type 0) (answer : Released) (l m : LaneView K V O) → LaneReleases puts takes was_full was_gone answer l m → SameWaiting l m
+  released_waits puts takes was_full was_gone (ReleasedPut n) l m (reply, first, e, (o, more, taken, is)) = as_lane l m _ is (after_put l o reply first)
+  released_waits puts takes was_full was_gone ReleasedFull l m (reply, first, (o, same, full, is)) = as_lane l m _ is (with_outbox l o true, without_outbox l o true)
+  released_waits puts takes was_full was_gone ReleasedGone l m (reply, first, (o, same, gone, is)) = as_lane l m _ is (with_outbox l o true, without_outbox l o true)
+  released_waits puts takes was_full was_gone ReleasedNothing l m (none, is) = as_lane l m l is (λ n request w. w, λ n request w. w)
 
   pub taken_waits : {A : Type 0} (puts takes : O → List (ReplyView K V)) (answer : Result Bool A) (l m : LaneView K V O) → LaneTakes puts takes answer l m → SameWaiting l m
   taken_waits puts takes (Ok true) l m (o, same, next, is) = as_lane l m _ is (with_outbox l o l.refused, without_outbox l o l.refused)

@@ -1,6 +1,6 @@
 -- What stays of a run where memos of keys are written that were not up to date: keys that are up to
 -- date keep their memos, frames of other keys sit still, and written keys become up to date.
-use Rattle.std.proofs.Common.{◌≡◌, ℕ, List, [], ◌∷◌, take, Option, sym, ◌∙◌, subst, inl, inr}
+use Rattle.std.proofs.Common.{◌≡◌, ℕ, List, [], ◌∷◌, take, Option, refl, sym, ◌∙◌, subst, inl, inr}
 use Rattle.std.specs.declared.cmp.Ordering.{Ordering}
 use Rattle.pq_inputs.specs.Sources.{Table}
 use Rattle.pq_rules.specs.declared.turn.Turn.{Turn}
@@ -16,7 +16,10 @@ use Rattle.pq_memo.specs.Look.{IsUpToDate, HasChanged, IsStill}
 use Rattle.pq_memo.specs.Table.{memo_at, HasIn, IsSameTable}
 use Rattle.pq_memo.specs.Frames.{Came, IsFrame, Awaits}
 use Rattle.pq_memo.specs.Steps.{IsFinished}
-use Rattle.pq_memo.specs.aux.Demand.{Wrote}
+use Rattle.pq_memo.specs.Writes.{Dated}
+use Rattle.pq_memo.specs.Demand.{NoneLost}
+use Rattle.pq_memo.specs.aux.Demand.{Wrote, IsHandedOn}
+use Rattle.pq_memo.proofs.Demanding.{none_lost}
 use Rattle.pq_memo.proofs.PutAll.{decide_in}
 use Rattle.pq_memo.proofs.Wrote.{wrote_finished}
 use Rattle.pq_core.specs.declared.frames.Pending.{Pending}
@@ -36,17 +39,33 @@ renewed_then {K} {P} {V} m now a b c first second k = both (first k) (second k)
     old e (inl low) = inl low
     old e (inr r) = inr (r.0, e ∙ r.1, r.2)
 
+    dated : (memo : Memo K V) → b k ≡ a k → Dated now (HasIn b) k memo → Dated now (HasIn a) k memo
+    dated memo e (inl d) = inl (d.0, sym e ∙ d.1, d.2, d.3)
+    dated memo e (inr d) = inr (d.0, λ o h. d.1 o (e ∙ h))
+
     both : IsRenewed m now a b k → IsRenewed m now b c k → IsRenewed m now a c k
     both (inl e) (inl f) = inl (f ∙ e)
-    both (inl e) (inr g) = inr (λ up. g.0 (old e up), g.1)
-    both (inr g) (inl f) = inr (g.0, (g.1.0, f ∙ g.1.1, g.1.2))
-    both (inr g) (inr h) = absurd (h.0 (inr g.1))
+    both (inl e) (inr g) = inr (λ up. g.0 (old e up), (g.1.0, g.1.1, g.1.2, dated g.1.0 e g.1.3))
+    both (inr g) (inl f) = inr (g.0, (g.1.0, f ∙ g.1.1, g.1.2, g.1.3))
+    both (inr g) (inr h) = absurd (h.0 (inr (g.1.0, g.1.1, g.1.2)))
+
+-- no memo is lost
+pub renewed_none_lost : {K P V : Type 0} (m : Machine K P V) (now : ℕ) (before after : K → Option (Memo K V)) → Renewed m now before after → NoneLost before after
+renewed_none_lost {K} {P} {V} m now before after renewed = none_lost now before after (λ k. handed k (renewed k))
+  where
+    handed : (k : K) → IsRenewed m now before after k → IsHandedOn now before after k
+    handed k (inl e) = inl e
+    handed k (inr r) = inr r.1
+
+-- and none where the table is the same
+pub same_none_lost : {K V : Type 0} (table : K → Option (Memo K V)) → NoneLost table table
+same_none_lost table k memo has = (memo, has, λ _. refl)
 
 -- memos of these keys were written
 pub renewed_wrote : {K P V : Type 0} (order : K → K → Ordering) → Exact order → (m : Machine K P V) (now : ℕ) (before after : K → Option (Memo K V)) (keys : List K)
     → Wrote now before after keys → ((k : K) → In k keys → IsUpToDate m now (HasIn before) k → ⊥) → Renewed m now before after
 renewed_wrote order exact m now before after keys wrote stale k = elim (decide_in order exact keys k) [
-  | inl i ↦ inr (stale k i, (let n = wrote.news k i in (n.0, n.1, n.2)))
+  | inl i ↦ inr (stale k i, wrote.news k i)
   | inr out ↦ inl (wrote.others k out)
 ]
 
@@ -124,15 +143,15 @@ module _ {K P V : Type 0} (order : K → K → Ordering) (m : Machine K P V) (in
 
   can_still : (f : Frame K P) → CanGoOn order m inputs before f → CanGoOn order m inputs after f
   can_still f (inl up) = inl (up_still f.key up)
-  can_still f (inr frame) = elim (renewed f.key) [ inl same ↦ inr (frame_still f.key f.stage same frame) | inr r ↦ inl (inr r.1) ]
+  can_still f (inr frame) = elim (renewed f.key) [ inl same ↦ inr (frame_still f.key f.stage same frame) | inr r ↦ inl (inr (r.1.0, r.1.1, r.1.2)) ]
 
   waits_still : (f : Frame K P) (z : K) → WaitsFor order m inputs before f z → WaitsFor order m inputs after f z
   waits_still f z (inl up) = inl (up_still f.key up)
-  waits_still f z (inr awaits) = elim (renewed f.key) [ inl same ↦ inr (awaits_still f.key f.stage z same awaits) | inr r ↦ inl (inr r.1) ]
+  waits_still f z (inr awaits) = elim (renewed f.key) [ inl same ↦ inr (awaits_still f.key f.stage z same awaits) | inr r ↦ inl (inr (r.1.0, r.1.1, r.1.2)) ]
 
   take_still : (p : Pending K) → CanTake order m inputs before p → CanTake order m inputs after p
   take_still p (inl up) = inl (up_still p.key up)
-  take_still p (inr c) = elim (renewed p.key) [ inl same ↦ inr (c.0, came_still p.key c.0 p.reads.items same c.1) | inr r ↦ inl (inr r.1) ]
+  take_still p (inr c) = elim (renewed p.key) [ inl same ↦ inr (c.0, came_still p.key c.0 p.reads.items same c.1) | inr r ↦ inl (inr (r.1.0, r.1.1, r.1.2)) ]
 
   pub up_waits : (z : K) (fs : List (Frame K P)) → WaitsUp order m inputs before z fs → WaitsUp order m inputs after z fs
   unfolding WaitsUp

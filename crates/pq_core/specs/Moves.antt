@@ -354,20 +354,21 @@ pub record IsSame {K V O : Type 0} (puts takes : O → List (ReplyView K V)) (o 
   pub puts_same : puts p ≡ puts o
   pub takes_same : takes p ≡ takes o
 
--- `Releases puts takes was_full c answer l m` is that the next reply to the open client `c` enters
--- its outbox; or that the outbox refuses it; or that no reply is ready
-abbrev pub Releases : {K V O : Type 0} → (puts takes : O → List (ReplyView K V)) → (O → Type 0) → ℕ → Released → Ledger K V O → Ledger K V O → Type 0
-Releases {K} {V} {O} puts takes was_full c (ReleasedPut n) l m =
+-- `Releases puts takes was_full was_gone c answer l m` is that the next reply to the open client `c`
+-- enters its outbox; or that the outbox refuses it, since it is full or its other end is gone; or
+-- that no reply is ready
+abbrev pub Releases : {K V O : Type 0} → (puts takes : O → List (ReplyView K V)) → (was_full was_gone : O → Type 0) → ℕ → Released → Ledger K V O → Ledger K V O → Type 0
+Releases {K} {V} {O} puts takes was_full was_gone c (ReleasedPut n) l m =
     (next : NextReady K V O) × IsReady puts l c next × (n ≡ length (puts next.client.outbox))
     × ((o : O) × (puts o ≡ puts next.client.outbox ++ next.reply ∷ []) × (takes o ≡ takes next.client.outbox)
     × (m ≡ with_client l c (with_outbox (with_entry next.client n (moved_to next.entry Put)) o false)))
-Releases {K} {V} {O} puts takes was_full c ReleasedFull l m =
+Releases {K} {V} {O} puts takes was_full was_gone c ReleasedFull l m =
     (next : NextReady K V O) × IsReady puts l c next
     × ((o : O) × IsSame puts takes next.client.outbox o × was_full o × (m ≡ with_client l c (with_outbox next.client o true)))
-Releases {K} {V} {O} puts takes was_full c ReleasedGone l m =
+Releases {K} {V} {O} puts takes was_full was_gone c ReleasedGone l m =
     (next : NextReady K V O) × IsReady puts l c next
-    × ((o : O) × IsSame puts takes next.client.outbox o × (m ≡ with_client l c (with_outbox next.client o true)))
-Releases puts takes was_full c ReleasedNothing l m = NoneReady puts l c × (m ≡ l)
+    × ((o : O) × IsSame puts takes next.client.outbox o × was_gone o × (m ≡ with_client l c (with_outbox next.client o true)))
+Releases puts takes was_full was_gone c ReleasedNothing l m = NoneReady puts l c × (m ≡ l)
 
 -- ---- close, take, rest
 

@@ -14,6 +14,11 @@ abbrev pub IsFull : {K V : Type 0} → PutFault K V → Type 0
 IsFull (Full reply) = Unit {0}
 IsFull (Gone reply) = ⊥
 
+-- `IsGone fault` is that the end that takes the replies was gone
+abbrev pub IsGone : {K V : Type 0} → PutFault K V → Type 0
+IsGone (Full reply) = ⊥
+IsGone (Gone reply) = Unit {0}
+
 -- `TakesNext puts before after` is that of the replies `puts`, of which `before` were taken, the
 -- next is taken
 pub record TakesNext {K V : Type 0} (puts before after : List (ReplyView K V)) : Type 0 where
@@ -35,3 +40,8 @@ taken_front o = take o.taken o.replies
 -- `HasNoRoom o` is that `o` is full
 abbrev pub HasNoRoom : {K V : Type 0} → Listed K V → Type 0
 HasNoRoom o = o.room ≤ length o.replies - o.taken
+
+-- `HasLostEnd o` is that the end that takes the replies of `o` is gone: never, since the owner of `o`
+-- takes them
+abbrev pub HasLostEnd : {K V : Type 0} → Listed K V → Type 0
+HasLostEnd o = ⊥

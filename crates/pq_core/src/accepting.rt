@@ -82,6 +82,7 @@ impl<R: Rules, O: Outbox<R::Key, R::Value> + Drop> Core<R, O> {
     ) -> Result<Number, AcceptRefused<R::Key>>
         ensures rules { self.new.rules ≡ self.old.rules }
         ensures inputs { self.new.inputs ≡ self.old.inputs }
+        ensures places { self.new.places ≡ self.old.places }
         ensures back { IfErr result (λ refused. refused.request ≡ request) }
         ensures moved { (l : Ledger R.Key R.Value O) → StandsFor R.Key.cmp (R.machine self.old.rules) O.puts self.old l
             → Reaches (Accepts O.puts client request result) l (StandsFor R.Key.cmp (R.machine self.old.rules) O.puts self.new) }
@@ -133,6 +134,7 @@ impl<R: Rules, O: Outbox<R::Key, R::Value> + Drop> Core<R, O> {
     pub fn edit(&mut self, client: ClientId, change: Change) -> Result<Revision, EditRefused>
         ensures rules { self.new.rules ≡ self.old.rules }
         ensures inputs { self.new.inputs ≡ inputs_after self.old.inputs change result }
+        ensures places { self.new.places ≡ self.old.places }
         ensures back { IfErr result (λ refused. refused.change ≡ change) }
         ensures moved { (l : Ledger R.Key R.Value O) → StandsFor R.Key.cmp (R.machine self.old.rules) O.puts self.old l
             → Reaches (Edits client change result) l (StandsFor R.Key.cmp (R.machine self.old.rules) O.puts self.new) }

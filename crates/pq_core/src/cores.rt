@@ -7,7 +7,8 @@
 //!
 //! A run is current while no edit was accepted since its start. The invariant of a current run is
 //! that of its frames over the table of memos; it outlasts the steps of other runs.
-ghost use Rattle.std.specs.Prelude.{◌≡◌};
+ghost use Rattle.std.specs.Prelude.{◌≡◌, None};
+ghost use Rattle.pq_memo.specs.Table.{memo_at};
 ghost use Rattle.pq_core.specs.Ledger.{unused};
 ghost use Rattle.pq_core.specs.Cores.{StandsFor};
 
@@ -51,6 +52,7 @@ impl<R: Rules, O: Outbox<R::Key, R::Value> + Drop> Core<R, O> {
     pub fn new(alloc: Global, rules: R, inputs: Inputs) -> Self
         ensures rules { result.rules ≡ rules }
         ensures inputs { result.inputs ≡ inputs }
+        ensures empty { (key : R.Key) → memo_at R.Key.cmp result.places key ≡ None }
         ensures stands { StandsFor R.Key.cmp (R.machine rules) O.puts result (unused inputs) }
     {
         let _latest = inputs.now();

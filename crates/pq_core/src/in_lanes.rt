@@ -97,7 +97,7 @@ pub(crate) fn release_in<K: Drop, V: Drop, O: Outbox<K, V> + Drop>(
     requires put { (lane : LaneView K V O) → found lanes.old.items client ≡ Some lane → lane.put ≡ length (O.puts lane.outbox) }
     requires numbered { (lane : LaneView K V O) (reply : ReplyView K V) → found lanes.old.items client ≡ Some lane → slice_get lane.owed 0 ≡ Some (OwedReady reply) → reply.number ≡ lane.put }
     ensures open { (lane : LaneView K V O) → found lanes.old.items client ≡ Some lane
-        → (after : LaneView K V O) × LaneReleases O.puts O.takes O.was_full result lane after × IsSetAt lanes.old lanes.new client (Some after) }
+        → (after : LaneView K V O) × LaneReleases O.puts O.takes O.was_full O.was_gone result lane after × IsSetAt lanes.old lanes.new client (Some after) }
     ensures closed { found lanes.old.items client ≡ None → (result ≡ Nothing) × IsSameMap lanes.old lanes.new }
 {
     match lanes.take(client) {

@@ -193,7 +193,7 @@ impl<K: Drop, V: Drop, O: Outbox<K, V>> Lane<K, V, O> {
     pub(crate) fn release(&mut self) -> Released
         requires put { self.old.put ≡ length (O.puts self.old.outbox) }
         requires numbered { (reply : ReplyView K V) → slice_get self.old.owed 0 ≡ Some (OwedReady reply) → reply.number ≡ self.old.put }
-        ensures { LaneReleases O.puts O.takes O.was_full result self.old self.new }
+        ensures { LaneReleases O.puts O.takes O.was_full O.was_gone result self.old self.new }
     {
         let put = self.put;
         match let_out(&mut self.owed, &mut self.outbox, put) {
@@ -265,7 +265,7 @@ fn let_out<K: Drop, V: Drop, O: Outbox<K, V>>(
 ) -> Released
     requires put { put ≡ length (O.puts outbox.old) }
     requires numbered { (reply : ReplyView K V) → slice_get owed.old.items 0 ≡ Some (OwedReady reply) → reply.number ≡ put }
-    ensures { LetsOut O.puts O.takes O.was_full result put owed.old.items owed.new.items outbox.old outbox.new }
+    ensures { LetsOut O.puts O.takes O.was_full O.was_gone result put owed.old.items owed.new.items outbox.old outbox.new }
 {
     if owed.is_empty() {
         return Released::Nothing;

@@ -53,7 +53,7 @@ impl<K: Drop, V: Drop> ListOutbox<K, V> {
 
 impl<K: Drop, V: Drop> Outbox<K, V> for ListOutbox<K, V> {
     ghost use Rattle.std.specs.Prelude.{◌≡◌, ◌++◌, ◌∷◌, [], OnOk, OnErr, IfErr};
-    ghost use Rattle.pq_core.specs.Outboxes.{handed_back, IsFull, taken_front, HasNoRoom};
+    ghost use Rattle.pq_core.specs.Outboxes.{handed_back, IsFull, IsGone, taken_front, HasNoRoom, HasLostEnd};
 
     ghost puts = { λ o. o.replies };
 
@@ -61,11 +61,14 @@ impl<K: Drop, V: Drop> Outbox<K, V> for ListOutbox<K, V> {
 
     ghost was_full = { HasNoRoom };
 
+    ghost was_gone = { HasLostEnd };
+
     fn put(&mut self, reply: Reply<K, V>) -> Result<(), PutFault<K, V>>
         ensures put { OnOk result (self.new.replies ≡ self.old.replies ++ reply ∷ []) }
         ensures refused { OnErr result (self.new.replies ≡ self.old.replies) }
         ensures takes { taken_front self.new ≡ taken_front self.old }
         ensures full { IfErr result (λ fault. IsFull fault → HasNoRoom self.new) }
+        ensures gone { IfErr result (λ fault. IsGone fault → HasLostEnd self.new) }
         ensures back { IfErr result (λ fault. handed_back fault ≡ reply) }
     {
         if self.replies.len() - self.taken >= self.room {

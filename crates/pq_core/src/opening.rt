@@ -24,6 +24,7 @@ impl<R: Rules, O: Outbox<R::Key, R::Value> + Drop> Core<R, O> {
         requires { O.puts outbox ≡ [] }
         ensures rules { self.new.rules ≡ self.old.rules }
         ensures inputs { self.new.inputs ≡ self.old.inputs }
+        ensures places { self.new.places ≡ self.old.places }
         ensures back { IfErr result (λ refused. refused.outbox ≡ outbox) }
         ensures moved { (l : Ledger R.Key R.Value O) → StandsFor R.Key.cmp (R.machine self.old.rules) O.puts self.old l
             → Reaches (Opens outbox result) l (StandsFor R.Key.cmp (R.machine self.old.rules) O.puts self.new) }

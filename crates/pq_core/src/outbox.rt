@@ -1,7 +1,7 @@
 //! Where the replies to a client go.
 ghost use Rattle.std.specs.Prelude.{◌≡◌, ◌++◌, ◌∷◌, List, [], true, false, length, OnOk, OnErr, IfOk, IfErr};
 ghost use Rattle.pq_core.specs.Replies.{ReplyView};
-ghost use Rattle.pq_core.specs.Outboxes.{handed_back, IsFull, TakesNext};
+ghost use Rattle.pq_core.specs.Outboxes.{handed_back, IsFull, IsGone, TakesNext};
 
 use crate::fault::Memory;
 use crate::reply::Reply;
@@ -26,6 +26,9 @@ pub trait Outbox<K, V> {
     /// Whether the outbox was found full, as it knows itself.
     ghost was_full: { Self → Type 0 };
 
+    /// Whether the end that takes the replies was found gone, as the outbox knows itself.
+    ghost was_gone: { Self → Type 0 };
+
     /// Puts `reply` after those put before. Its number is their count. A refusal leaves the replies
     /// as they were.
     fn put(&mut self, reply: Reply<K, V>) -> Result<(), PutFault<K, V>>
@@ -34,6 +37,7 @@ pub trait Outbox<K, V> {
         ensures refused { OnErr result (puts self.new ≡ puts self.old) }
         ensures takes { takes self.new ≡ takes self.old }
         ensures full { IfErr result (λ fault. IsFull fault → was_full self.new) }
+        ensures gone { IfErr result (λ fault. IsGone fault → was_gone self.new) }
         ensures back { IfErr result (λ fault. handed_back fault ≡ reply) };
 }
 

@@ -48,8 +48,9 @@ impl<R: Rules, O: Outbox<R::Key, R::Value> + Drop> Core<R, O> {
     pub fn release(&mut self, client: ClientId) -> Released
         ensures rules { self.new.rules ≡ self.old.rules }
         ensures inputs { self.new.inputs ≡ self.old.inputs }
+        ensures places { self.new.places ≡ self.old.places }
         ensures moved { (l : Ledger R.Key R.Value O) → StandsFor R.Key.cmp (R.machine self.old.rules) O.puts self.old l
-            → Reaches (Releases O.puts O.takes O.was_full client result) l (StandsFor R.Key.cmp (R.machine self.old.rules) O.puts self.new) }
+            → Reaches (Releases O.puts O.takes O.was_full O.was_gone client result) l (StandsFor R.Key.cmp (R.machine self.old.rules) O.puts self.new) }
     {
         let seat = client.number();
         release_in(&mut self.lanes, seat)
@@ -61,6 +62,7 @@ impl<R: Rules, O: Outbox<R::Key, R::Value> + Drop> Core<R, O> {
     pub fn close_client(&mut self, client: ClientId) -> Option<O>
         ensures rules { self.new.rules ≡ self.old.rules }
         ensures inputs { self.new.inputs ≡ self.old.inputs }
+        ensures places { self.new.places ≡ self.old.places }
         ensures moved { (l : Ledger R.Key R.Value O) → StandsFor R.Key.cmp (R.machine self.old.rules) O.puts self.old l
             → Reaches (Closes client result) l (StandsFor R.Key.cmp (R.machine self.old.rules) O.puts self.new) }
     {
@@ -97,6 +99,7 @@ impl<R: Rules, O: Taking<R::Key, R::Value> + Drop> Core<R, O> {
     pub fn take(&mut self, client: ClientId) -> Result<bool, Memory>
         ensures rules { self.new.rules ≡ self.old.rules }
         ensures inputs { self.new.inputs ≡ self.old.inputs }
+        ensures places { self.new.places ≡ self.old.places }
         ensures moved { (l : Ledger R.Key R.Value O) → StandsFor R.Key.cmp (R.machine self.old.rules) O.puts self.old l
             → Reaches (TakesOut O.puts O.takes client result) l (StandsFor R.Key.cmp (R.machine self.old.rules) O.puts self.new) }
     {

@@ -3,6 +3,8 @@
 //! A run that was overtaken is stopped before anything else, so that a want of memory never hides
 //! it.
 ghost use Rattle.std.specs.Prelude.{◌≡◌, ◌≤◌, ◌<◌, ◌+◌, ◌⊎◌, ◌↔◌, length, ℕ, IsTrue, IfOk, IfErr, Some, None};
+ghost use Rattle.pq_memo.specs.Table.{memo_at};
+ghost use Rattle.pq_memo.specs.Demand.{NoneLost};
 ghost use Rattle.pq_core.specs.Replies.{IsFair};
 ghost use Rattle.pq_core.specs.Ledger.{Ledger};
 ghost use Rattle.pq_core.specs.Moves.{Reaches, Looks, Gives, Starves, IsMade, IsRequestOf};
@@ -109,6 +111,7 @@ impl<R: Rules, O: Outbox<R::Key, R::Value> + Drop> Core<R, O> {
     pub fn look(&mut self, alloc: Global, run: RunId) -> Result<Move<Work<R>>, LookFault>
         ensures rules { self.new.rules ≡ self.old.rules }
         ensures inputs { self.new.inputs ≡ self.old.inputs }
+        ensures none_lost { NoneLost (memo_at R.Key.cmp self.old.places) (memo_at R.Key.cmp self.new.places) }
         ensures moved { (l : Ledger R.Key R.Value O) → StandsFor R.Key.cmp (R.machine self.old.rules) O.puts self.old l
             → Reaches (Looks R.Key.cmp (R.machine self.old.rules) self.old.rules run result) l (StandsFor R.Key.cmp (R.machine self.old.rules) O.puts self.new) }
         ensures handed { IfOk result (HandsOut self.old run) }
@@ -166,6 +169,7 @@ impl<R: Rules, O: Outbox<R::Key, R::Value> + Drop> Core<R, O> {
         requires { IsMade self.old.rules self.old.inputs done }
         ensures rules { self.new.rules ≡ self.old.rules }
         ensures inputs { self.new.inputs ≡ self.old.inputs }
+        ensures none_lost { NoneLost (memo_at R.Key.cmp self.old.places) (memo_at R.Key.cmp self.new.places) }
         ensures back { IfErr result (λ refused. refused.done ≡ done) }
         ensures moved { (l : Ledger R.Key R.Value O) → StandsFor R.Key.cmp (R.machine self.old.rules) O.puts self.old l
             → Reaches (Gives run done result) l (StandsFor R.Key.cmp (R.machine self.old.rules) O.puts self.new) }
@@ -207,6 +211,7 @@ impl<R: Rules, O: Outbox<R::Key, R::Value> + Drop> Core<R, O> {
     pub fn starve(&mut self, run: RunId) -> bool
         ensures rules { self.new.rules ≡ self.old.rules }
         ensures inputs { self.new.inputs ≡ self.old.inputs }
+        ensures places { self.new.places ≡ self.old.places }
         ensures moved { (l : Ledger R.Key R.Value O) → StandsFor R.Key.cmp (R.machine self.old.rules) O.puts self.old l
             → Reaches (Starves run result) l (StandsFor R.Key.cmp (R.machine self.old.rules) O.puts self.new) }
     {

@@ -17,6 +17,7 @@ impl<R: Rules, O: Outbox<R::Key, R::Value> + Drop> Core<R, O> {
     pub fn start(&mut self) -> Option<RunId>
         ensures rules { self.new.rules ≡ self.old.rules }
         ensures inputs { self.new.inputs ≡ self.old.inputs }
+        ensures places { self.new.places ≡ self.old.places }
         ensures moved { (l : Ledger R.Key R.Value O) → StandsFor R.Key.cmp (R.machine self.old.rules) O.puts self.old l
             → Reaches (Starts result) l (StandsFor R.Key.cmp (R.machine self.old.rules) O.puts self.new) }
     {

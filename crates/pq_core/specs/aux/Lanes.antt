@@ -45,34 +45,34 @@ abbrev pub first_owed : {K V : Type 0} → ℕ → ℕ → Request K → ℕ →
 first_owed c n request revision (Demand key) = OwedWaiting request
 first_owed c n request revision (Fixed text) = OwedReady (record { client = c; number = n; request = request; revision = revision; outcome = Plain })
 
--- `LetsOut puts takes was_full answer put before after o p` is that of the owed requests `before`
+-- `LetsOut puts takes was_full was_gone answer put before after o p` is that of the owed requests `before`
 -- the reply to the first, of number `put`, enters the outbox `o`, which is `p` afterwards; or that
 -- `o` refuses it; or that it is not ready
-abbrev pub LetsOut : {K V O : Type 0} → (puts takes : O → List (ReplyView K V)) → (O → Type 0) → Released → ℕ → (before after : List (Owed K V)) → O → O → Type 0
-LetsOut {K} {V} {O} puts takes was_full (ReleasedPut n) put before after o p =
+abbrev pub LetsOut : {K V O : Type 0} → (puts takes : O → List (ReplyView K V)) → (was_full was_gone : O → Type 0) → Released → ℕ → (before after : List (Owed K V)) → O → O → Type 0
+LetsOut {K} {V} {O} puts takes was_full was_gone (ReleasedPut n) put before after o p =
     (reply : ReplyView K V) × (slice_get before 0 ≡ Some (OwedReady reply)) × (n ≡ put)
     × (puts p ≡ puts o ++ reply ∷ []) × (takes p ≡ takes o) × (after ≡ drop 1 before)
-LetsOut {K} {V} {O} puts takes was_full ReleasedFull put before after o p =
+LetsOut {K} {V} {O} puts takes was_full was_gone ReleasedFull put before after o p =
     (reply : ReplyView K V) × (slice_get before 0 ≡ Some (OwedReady reply)) × IsSame puts takes o p × was_full p × (after ≡ before)
-LetsOut {K} {V} {O} puts takes was_full ReleasedGone put before after o p =
-    (reply : ReplyView K V) × (slice_get before 0 ≡ Some (OwedReady reply)) × IsSame puts takes o p × (after ≡ before)
-LetsOut {K} {V} {O} puts takes was_full ReleasedNothing put before after o p =
+LetsOut {K} {V} {O} puts takes was_full was_gone ReleasedGone put before after o p =
+    (reply : ReplyView K V) × (slice_get before 0 ≡ Some (OwedReady reply)) × IsSame puts takes o p × was_gone p × (after ≡ before)
+LetsOut {K} {V} {O} puts takes was_full was_gone ReleasedNothing put before after o p =
     ((reply : ReplyView K V) → slice_get before 0 ≡ Some (OwedReady reply) → ⊥) × (after ≡ before) × (p ≡ o)
 
--- `LaneReleases puts takes was_full answer l m` is that the first reply that is owed enters the
+-- `LaneReleases puts takes was_full was_gone answer l m` is that the first reply that is owed enters the
 -- outbox; or that the outbox refuses it; or that it is not ready
-abbrev pub LaneReleases : {K V O : Type 0} → (puts takes : O → List (ReplyView K V)) → (O → Type 0) → Released → LaneView K V O → LaneView K V O → Type 0
-LaneReleases {K} {V} {O} puts takes was_full (ReleasedPut n) l m =
+abbrev pub LaneReleases : {K V O : Type 0} → (puts takes : O → List (ReplyView K V)) → (was_full was_gone : O → Type 0) → Released → LaneView K V O → LaneView K V O → Type 0
+LaneReleases {K} {V} {O} puts takes was_full was_gone (ReleasedPut n) l m =
     (reply : ReplyView K V) × (slice_get l.owed 0 ≡ Some (OwedReady reply)) × (n ≡ l.put)
     × ((o : O) × (puts o ≡ puts l.outbox ++ reply ∷ []) × (takes o ≡ takes l.outbox)
     × (m ≡ record { outbox = o; put = l.put + 1; owed = drop 1 l.owed; refused = false }))
-LaneReleases {K} {V} {O} puts takes was_full ReleasedFull l m =
+LaneReleases {K} {V} {O} puts takes was_full was_gone ReleasedFull l m =
     (reply : ReplyView K V) × (slice_get l.owed 0 ≡ Some (OwedReady reply))
     × ((o : O) × IsSame puts takes l.outbox o × was_full o × (m ≡ lane_with l o true))
-LaneReleases {K} {V} {O} puts takes was_full ReleasedGone l m =
+LaneReleases {K} {V} {O} puts takes was_full was_gone ReleasedGone l m =
     (reply : ReplyView K V) × (slice_get l.owed 0 ≡ Some (OwedReady reply))
-    × ((o : O) × IsSame puts takes l.outbox o × (m ≡ lane_with l o true))
-LaneReleases {K} {V} {O} puts takes was_full ReleasedNothing l m =
+    × ((o : O) × IsSame puts takes l.outbox o × was_gone o × (m ≡ lane_with l o true))
+LaneReleases {K} {V} {O} puts takes was_full was_gone ReleasedNothing l m =
     ((reply : ReplyView K V) → slice_get l.owed 0 ≡ Some (OwedReady reply) → ⊥) × (m ≡ l)
 
 -- `LaneTakes puts takes answer l m` is that the first reply that was put and not taken is taken out

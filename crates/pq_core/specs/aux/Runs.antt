@@ -16,9 +16,10 @@ use Rattle.pq_memo.specs.declared.frame.Frame.{Frame}
 use Rattle.pq_memo.specs.Sound.{Memo}
 use Rattle.pq_memo.specs.Look.{IsUpToDate}
 use Rattle.pq_memo.specs.Table.{HasIn}
+use Rattle.pq_memo.specs.Writes.{Dated}
 use Rattle.pq_memo.specs.Frames.{Came, IsFrame, Awaits, frame_keys}
 use Rattle.pq_memo.specs.Steps.{IsWhy}
-use Rattle.pq_memo.specs.Demand.{Differ, IsVerified}
+use Rattle.pq_memo.specs.Demand.{Differ}
 use Rattle.pq_core.specs.Ledger.{Out}
 use Rattle.pq_core.specs.Works.{WorkView, HasWhy}
 use Rattle.pq_core.specs.Moves.{out_of}
@@ -54,9 +55,11 @@ out_at (At frame) = None
 out_at (Away pending) = Some (record { key = pending.key; reads = length pending.reads.items })
 
 -- `IsRenewed m now before after k` is that `after` has of `k` the memo of `before`, or that `k` was
--- not up to date and has a memo now that was verified now
+-- not up to date and has a memo that was verified now, with the changed revision of its answer
 abbrev pub IsRenewed : {K P V : Type 0} → Machine K P V → ℕ → (K → Option (Memo K V)) → (K → Option (Memo K V)) → K → Type 0
-IsRenewed m now before after k = (after k ≡ before k) ⊎ ((IsUpToDate m now (HasIn before) k → ⊥) × IsVerified now after k)
+IsRenewed {K} {P} {V} m now before after k =
+    (after k ≡ before k)
+    ⊎ ((IsUpToDate m now (HasIn before) k → ⊥) × ((memo : Memo K V) × HasIn after k memo × (memo.verified ≡ now) × Dated now (HasIn before) k memo))
 
 -- `Renewed m now before after` is that this holds of each key
 abbrev pub Renewed : {K P V : Type 0} → Machine K P V → ℕ → (K → Option (Memo K V)) → (K → Option (Memo K V)) → Type 0

@@ -11,7 +11,7 @@ pub returns-in-Some-clause-open : goal.returns-in-Some-clause-open
 returns-in-Some-clause-open g c =
     λ lane h. (
       c.release-released.new.self,
-      subst (λ (y : LaneView g.row.K.Denot g.row.V.Denot g.row.O.Denot). LaneReleases g.O.Outbox.puts g.O.Outbox.takes g.O.Outbox.was_full c.release-released.result y c.release-released.new.self)
+      subst (λ (y : LaneView g.row.K.Denot g.row.V.Denot g.row.O.Denot). LaneReleases g.O.Outbox.puts g.O.Outbox.takes g.O.Outbox.was_full g.O.Outbox.was_gone c.release-released.result y c.release-released.new.self)
           (some_one c.in-Some.lane lane (c.in-Some.ensures.value ∙ h)) c.release-released.ensures,
       set_back c.args.lanes.now c.take.new.self c.put_back.new.self c.args.client c.release-released.new.self c.take.ensures.found c.take.ensures.above
           (rw c.in-Some.is at c.take.ensures.more_room) c.put_back.ensures.found c.put_back.ensures.room c.put_back.ensures.above,

@@ -14,7 +14,7 @@ returns g c =
       looks = λ d run answer l m shut s. shut_looks (answer_by g.R.Key.Ord.cmp (g.R.Rules.machine c.args._rules.now)) c.args._rules.now d run answer l m shut s;
       gives = λ d run done answer l m shut s. shut_gives d run done answer l m shut s;
       starves = λ d run answer l m shut s. shut_starves d run answer l m shut s;
-      releases = λ d client answer l m shut s. shut_releases puts takes g.O.Outbox.was_full d client answer l m shut s;
+      releases = λ d client answer l m shut s. shut_releases puts takes g.O.Outbox.was_full g.O.Outbox.was_gone d client answer l m shut s;
       closes = λ d client answer l m shut s. shut_closes d client answer l m shut s;
       takes = λ d client answer l m shut s. shut_takes puts takes d client answer l m shut s;
     }

@@ -14,7 +14,7 @@ returns g c =
       looks = λ run answer l m k s. kept_looks means puts c.args._rules.now run answer l m k s;
       gives = λ run done answer l m k s. kept_gives means puts run done answer l m k s;
       starves = λ run answer l m k s. kept_starves means puts run answer l m k s;
-      releases = λ client answer l m k s. kept_releases means puts g.O.Outbox.takes g.O.Outbox.was_full client answer l m k s;
+      releases = λ client answer l m k s. kept_releases means puts g.O.Outbox.takes g.O.Outbox.was_full g.O.Outbox.was_gone client answer l m k s;
       closes = λ client answer l m k s. kept_closes means puts client answer l m k s;
       takes = λ client answer l m k s. kept_takes means puts g.O.Outbox.takes client answer l m k s;
     }

@@ -9,7 +9,7 @@ use Rattle.pq_core.proofs.Changing.{none_taken, set_back}
 use Rattle.pq_core.proofs.CoreOpening.{unmoved}
 use Rattle.pq_core.proofs.CoreAccepting.{false_true}
 use Rattle.pq_core.proofs.CoreRunning.{end_queue, run_here, no_run, run_within, run_demands, current, stop_moved, back_moved, others_kept, all_kept, none_of, goes_on, look_blocked, carry_moved, answer_moved, why_cause, why_then, ended_as}
-use Rattle.pq_core.proofs.Renewed.{renewed_same}
+use Rattle.pq_core.proofs.Renewed.{renewed_same, renewed_none_lost, same_none_lost}
 use Rattle.pq_core.proofs.cores.Core.look.Goals as goal
 
 pub invariant_of-self : goal.invariant_of-self
@@ -39,6 +39,10 @@ invariant_of-self g c =
         }) w.ledger.1,
       );
     }
+
+pub returns-in-None-clause-none_lost : goal.returns-in-None-clause-none_lost
+returns-in-None-clause-none_lost g c = rw (← c.self.view_is)
+    (same_none_lost (memo_at g.R.Key.Ord.cmp c.self.inside.memos.places))
 
 pub returns-in-None-clause-moved : goal.returns-in-None-clause-moved
 returns-in-None-clause-moved g c =
@@ -86,6 +90,10 @@ invariant_of-self-then-is_overtaken g c =
       ledger = (ended w.ledger.0 x.at x.at.entry.starved (Cancelled x.at.started w.ledger.0.inputs.revision), moved.1);
     }
 
+pub returns-then-is_overtaken-clause-none_lost : goal.returns-then-is_overtaken-clause-none_lost
+returns-then-is_overtaken-clause-none_lost g c = rw (← c.self.view_is)
+    (same_none_lost (memo_at g.R.Key.Ord.cmp c.self.inside.memos.places))
+
 pub returns-then-is_overtaken-clause-moved : goal.returns-then-is_overtaken-clause-moved
 returns-then-is_overtaken-clause-moved g c =
     let here = sym (rw c.number-id.ensures at (c.in-Some.ensures {u = tt}).value) in
@@ -116,6 +124,10 @@ invariant_of-self-then-is_out g c =
       current = all_kept g.R.Key.Ord.cmp (g.R.Rules.machine c.self.inside.memos.rules) c.self.inside.inputs (memo_at g.R.Key.Ord.cmp c.self.inside.memos.places) (memo_at g.R.Key.Ord.cmp c.self.inside.memos.places) c.self.inside.runs.items _ c.args.run c.in-Some.taken (renewed_same (g.R.Rules.machine c.self.inside.memos.rules) c.self.inside.inputs.revision _ _ (λ q. refl)) set.found w.current (w.current c.args.run c.in-Some.taken here);
       ledger = (w.ledger.0, back_moved g.R.Key.Ord.cmp (g.R.Rules.machine c.self.inside.memos.rules) g.O.Outbox.puts (held (record { rules = c.self.inside.memos.rules; places = c.self.inside.memos.places; inputs = c.self.inside.inputs; lanes = c.self.inside.lanes; opened = c.self.inside.opened; clients = c.self.inside.clients; waiting = c.self.inside.waiting.items; runs = c.self.inside.runs; started = c.self.inside.started })) (record { inputs = c.self.inside.inputs; lanes = c.self.inside.lanes.items; opened = c.self.inside.opened; clients = c.self.inside.clients; runs = c.put_back.new.self.items; started = c.self.inside.started }) w.ledger.0 c.args.run c.in-Some.taken c.in-Some.taken w.ledger.1 here (record { client = refl; number = refl; request = refl; started = refl }) refl set.found (λ k. refl) (record { inputs = refl; opened = refl; clients = refl; started = refl }));
     }
+
+pub returns-then-is_out-clause-none_lost : goal.returns-then-is_out-clause-none_lost
+returns-then-is_out-clause-none_lost g c = rw (← c.self.view_is)
+    (same_none_lost (memo_at g.R.Key.Ord.cmp c.self.inside.memos.places))
 
 pub returns-then-is_out-clause-moved : goal.returns-then-is_out-clause-moved
 returns-then-is_out-clause-moved g c =
@@ -167,6 +179,11 @@ invariant_of-self-in-Ok-Carry g c =
       ledger = (moved.0, moved.2);
     })
 
+pub returns-in-Ok-Carry-clause-none_lost : goal.returns-in-Ok-Carry-clause-none_lost
+returns-in-Ok-Carry-clause-none_lost g c = rw (← c.self.view_is)
+    (renewed_none_lost (g.R.Rules.machine c.self.inside.memos.rules) c.self.inside.inputs.revision (memo_at g.R.Key.Ord.cmp c.self.inside.memos.places)
+    (memo_at g.R.Key.Ord.cmp c.look.new.memos.places) c.look.ensures.renewed)
+
 pub returns-in-Ok-Carry-clause-moved : goal.returns-in-Ok-Carry-clause-moved
 returns-in-Ok-Carry-clause-moved g c =
     let here = sym (rw c.number-id.ensures at (c.in-Some.ensures {u = tt}).value) in
@@ -211,6 +228,11 @@ invariant_of-self-in-Ok-Stepped g c =
       ledger = (w.ledger.0, back_moved g.R.Key.Ord.cmp (g.R.Rules.machine c.self.inside.memos.rules) g.O.Outbox.puts (held (record { rules = c.self.inside.memos.rules; places = c.self.inside.memos.places; inputs = c.self.inside.inputs; lanes = c.self.inside.lanes; opened = c.self.inside.opened; clients = c.self.inside.clients; waiting = c.self.inside.waiting.items; runs = c.self.inside.runs; started = c.self.inside.started })) (record { inputs = c.self.inside.inputs; lanes = c.self.inside.lanes.items; opened = c.self.inside.opened; clients = c.self.inside.clients; runs = c.put_back-in-Ok-Stepped.new.self.items; started = c.self.inside.started }) w.ledger.0 c.args.run c.in-Some.taken c.look.new.self w.ledger.1 here c.look.ensures.same ((rw c.in-Ok-Stepped.field-0-is at (c.in-Ok-Stepped.ensures {u = tt}).looked) ∙ sym (none_of (out_at c.in-Some.taken.top) (λ e. false_true (sym c.if-is_out.false ∙ c.is_out.ensures.1 e)))) set.found (λ k. refl) (record { inputs = refl; opened = refl; clients = refl; started = refl }));
     })
 
+pub returns-in-Ok-Stepped-clause-none_lost : goal.returns-in-Ok-Stepped-clause-none_lost
+returns-in-Ok-Stepped-clause-none_lost g c = rw (← c.self.view_is)
+    (renewed_none_lost (g.R.Rules.machine c.self.inside.memos.rules) c.self.inside.inputs.revision (memo_at g.R.Key.Ord.cmp c.self.inside.memos.places)
+    (memo_at g.R.Key.Ord.cmp c.look.new.memos.places) c.look.ensures.renewed)
+
 pub returns-in-Ok-Stepped-clause-moved : goal.returns-in-Ok-Stepped-clause-moved
 returns-in-Ok-Stepped-clause-moved g c =
     let here = sym (rw c.number-id.ensures at (c.in-Some.ensures {u = tt}).value) in
@@ -254,6 +276,11 @@ invariant_of-self-in-Ok-Answered g c =
       ledger = (moved.0, moved.2);
     })
 
+pub returns-in-Ok-Answered-clause-none_lost : goal.returns-in-Ok-Answered-clause-none_lost
+returns-in-Ok-Answered-clause-none_lost g c = rw (← c.self.view_is)
+    (renewed_none_lost (g.R.Rules.machine c.self.inside.memos.rules) c.self.inside.inputs.revision (memo_at g.R.Key.Ord.cmp c.self.inside.memos.places)
+    (memo_at g.R.Key.Ord.cmp c.look.new.memos.places) c.look.ensures.renewed)
+
 pub returns-in-Ok-Answered-clause-moved : goal.returns-in-Ok-Answered-clause-moved
 returns-in-Ok-Answered-clause-moved g c =
     let here = sym (rw c.number-id.ensures at (c.in-Some.ensures {u = tt}).value) in
@@ -284,6 +311,11 @@ invariant_of-self-in-Err g c =
       current = all_kept g.R.Key.Ord.cmp (g.R.Rules.machine c.self.inside.memos.rules) c.self.inside.inputs (memo_at g.R.Key.Ord.cmp c.self.inside.memos.places) (memo_at g.R.Key.Ord.cmp c.look.new.memos.places) c.self.inside.runs.items _ c.args.run c.look.new.self c.look.ensures.renewed set.found w.current (λ e. c.look.ensures.run_kept);
       ledger = (w.ledger.0, back_moved g.R.Key.Ord.cmp (g.R.Rules.machine c.self.inside.memos.rules) g.O.Outbox.puts (held (record { rules = c.self.inside.memos.rules; places = c.self.inside.memos.places; inputs = c.self.inside.inputs; lanes = c.self.inside.lanes; opened = c.self.inside.opened; clients = c.self.inside.clients; waiting = c.self.inside.waiting.items; runs = c.self.inside.runs; started = c.self.inside.started })) (record { inputs = c.self.inside.inputs; lanes = c.self.inside.lanes.items; opened = c.self.inside.opened; clients = c.self.inside.clients; runs = c.put_back-in-Err.new.self.items; started = c.self.inside.started }) w.ledger.0 c.args.run c.in-Some.taken c.look.new.self w.ledger.1 here c.look.ensures.same ((c.in-Err.ensures {u = tt}).refused ∙ sym (none_of (out_at c.in-Some.taken.top) (λ e. false_true (sym c.if-is_out.false ∙ c.is_out.ensures.1 e)))) set.found (λ k. refl) (record { inputs = refl; opened = refl; clients = refl; started = refl }));
     })
+
+pub returns-in-Err-clause-none_lost : goal.returns-in-Err-clause-none_lost
+returns-in-Err-clause-none_lost g c = rw (← c.self.view_is)
+    (renewed_none_lost (g.R.Rules.machine c.self.inside.memos.rules) c.self.inside.inputs.revision (memo_at g.R.Key.Ord.cmp c.self.inside.memos.places)
+    (memo_at g.R.Key.Ord.cmp c.look.new.memos.places) c.look.ensures.renewed)
 
 pub returns-in-Err-clause-moved : goal.returns-in-Err-clause-moved
 returns-in-Err-clause-moved g c =

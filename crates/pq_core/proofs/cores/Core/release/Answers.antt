@@ -16,7 +16,7 @@ release_in-requires-clause-numbered g c =
 pub invariant_of-self : goal.invariant_of-self
 invariant_of-self g c =
     let w = c.self.invariant in
-    let moved = release_moved g.R.Key.Ord.cmp (g.R.Rules.machine c.self.inside.memos.rules) g.O.Outbox.puts g.O.Outbox.takes g.O.Outbox.was_full _ _ c.number-seat.result
+    let moved = release_moved g.R.Key.Ord.cmp (g.R.Rules.machine c.self.inside.memos.rules) g.O.Outbox.puts g.O.Outbox.takes g.O.Outbox.was_full g.O.Outbox.was_gone _ _ c.number-seat.result
     c.release_in.result w.ledger.0
     (λ lane h. let x = c.release_in.ensures.«open» lane h in (x.0, x.1, x.2.found))
     (λ h. let x = c.release_in.ensures.closed h in (x.0, x.1.found))
@@ -27,7 +27,7 @@ invariant_of-self g c =
           still_above c.self.inside.lanes c.release_in.new.lanes c.number-seat.result c.self.inside.clients c.release_in.ensures.«open» c.release_in.ensures.closed w.lanes_above;
       runs_above = w.runs_above;
       queue = queue_called _ _ _ c.number-seat.result
-          (λ lane h. let x = c.release_in.ensures.«open» lane h in (x.0, released_waits g.O.Outbox.puts g.O.Outbox.takes g.O.Outbox.was_full c.release_in.result lane x.0 x.1, x.2.found))
+          (λ lane h. let x = c.release_in.ensures.«open» lane h in (x.0, released_waits g.O.Outbox.puts g.O.Outbox.takes g.O.Outbox.was_full g.O.Outbox.was_gone c.release_in.result lane x.0 x.1, x.2.found))
           (λ h. let x = c.release_in.ensures.closed h in (x.0, x.1.found)) w.queue;
       room = w.room;
       current = w.current;
@@ -38,7 +38,7 @@ pub returns-clause-moved : goal.returns-clause-moved
 returns-clause-moved g c =
     rw (← c.self.view_is)
     (rw (← c.number-seat.ensures)
-    (λ l s. release_moved g.R.Key.Ord.cmp (g.R.Rules.machine c.self.inside.memos.rules) g.O.Outbox.puts g.O.Outbox.takes g.O.Outbox.was_full _ _ c.number-seat.result
+    (λ l s. release_moved g.R.Key.Ord.cmp (g.R.Rules.machine c.self.inside.memos.rules) g.O.Outbox.puts g.O.Outbox.takes g.O.Outbox.was_full g.O.Outbox.was_gone _ _ c.number-seat.result
     c.release_in.result l
     (λ lane h. let x = c.release_in.ensures.«open» lane h in (x.0, x.1, x.2.found))
     (λ h. let x = c.release_in.ensures.closed h in (x.0, x.1.found))
