@@ -6,7 +6,7 @@ use Rattle.pq_rules.specs.declared.turn.Answer.{Answer}
 use Rattle.pq_core.specs.Replies.{ReplyView}
 use Rattle.pq_core.specs.Changes.{ChangeView}
 use Rattle.pq_core.specs.Works.{DoneView, WorkView}
-use Rattle.pq_core.specs.Outboxes.{Listed, taken_front, HasNoRoom}
+use Rattle.pq_core.specs.Outboxes.{Listed, taken_front, HasNoRoom, HasLostEnd}
 use Rattle.pq_core.specs.Ledger.{Ledger, Client, Entry, with_entry, with_outbox, entry_closed, closed, opened}
 use Rattle.pq_core.specs.Moves.{Opens, Accepts, Edits, Starts, LooksFor, Gives, Starves, Releases, Closes, new_entry, with_new}
 use Rattle.pq_core.specs.declared.request.Request.{Request}
@@ -170,7 +170,7 @@ module _ {K V : Type 0} (taken : List (List (ReplyView K V))) (seats : List (Sea
   aligned_starves run true l m s a = let e = s.1.is_entry in aligned_entry l m s.0.c s.0.client s.0.n s.0.entry _ a e.client_here e.here refl (clients_of _ m s.2)
   aligned_starves run false l m s a = aligned_along l m s.1 a
 
-  pub aligned_releases : (c : ℕ) (answer : Released) (l m : Ledger K V (Listed K V)) → Releases replies_of taken_front HasNoRoom c answer l m → Aligned l.clients taken seats → Aligned m.clients taken seats
+  pub aligned_releases : (c : ℕ) (answer : Released) (l m : Ledger K V (Listed K V)) → Releases replies_of taken_front HasNoRoom HasLostEnd c answer l m → Aligned l.clients taken seats → Aligned m.clients taken seats
   aligned_releases c (ReleasedPut n) l m s a =
       let client = s.0.client in
       let at : slice_get client.entries n ≡ Some s.0.entry = ap (slice_get client.entries) s.2 ∙ s.1.ready.here in
@@ -186,10 +186,7 @@ module _ {K V : Type 0} (taken : List (List (ReplyView K V))) (seats : List (Sea
       aligned_along _ m s.2.3
       (aligned_set l.clients taken seats c s.0.client _ a s.1.here
       (record { accepted_same = refl; open_same = refl; taken_same = s.2.1.takes_same; shut_same = λ _. s.2.1.puts_same }))
-  aligned_releases c ReleasedGone l m s a =
-      aligned_along _ m s.2.2
-      (aligned_set l.clients taken seats c s.0.client _ a s.1.here
-      (record { accepted_same = refl; open_same = refl; taken_same = s.2.1.takes_same; shut_same = λ _. s.2.1.puts_same }))
+  aligned_releases c ReleasedGone l m s a = absurd s.2.2
   aligned_releases c ReleasedNothing l m s a = aligned_along l m s.1 a
 
   -- a client is closed, and its outbox is kept

@@ -7,7 +7,7 @@ use Rattle.pq_rules.specs.Turns.{Machine}
 use Rattle.pq_core.specs.Replies.{ReplyView}
 use Rattle.pq_core.specs.Changes.{ChangeView}
 use Rattle.pq_core.specs.Works.{DoneView, WorkView}
-use Rattle.pq_core.specs.Outboxes.{Listed, taken_front, HasNoRoom, TakesNext}
+use Rattle.pq_core.specs.Outboxes.{Listed, taken_front, HasNoRoom, HasLostEnd, TakesNext}
 use Rattle.pq_core.specs.Ledger.{Ledger}
 use Rattle.pq_core.specs.RightReply.{answer_by}
 use Rattle.pq_core.specs.Moves.{Reaches, Opens, Accepts, Edits, Starts, Looks, Gives, Starves, Releases, Closes, TakesOut, IsMade}
@@ -79,11 +79,11 @@ module _ {R K P V : Type 0} (room : ℕ) (order : K → K → Ordering) (machine
       (aligned_starts w.taken seats answer w.ledger r.0 r.1 s.fits.aligned)
       (ran_starts rules answer w.ledger r.0 dones r.1 ran)
 
-  pub carried_release : (c : ℕ) (answer : Released) → Reaches (Releases replies_of taken_front HasNoRoom c answer) w.ledger After → Carried room order machine rules (Release c) w after_own After seats dones
+  pub carried_release : (c : ℕ) (answer : Released) → Reaches (Releases replies_of taken_front HasNoRoom HasLostEnd c answer) w.ledger After → Carried room order machine rules (Release c) w after_own After seats dones
   carried_release c answer r =
       carried (Release c) r.0 w.taken seats dones r.2 (answer, r.1, refl)
       (aligned_releases w.taken seats c answer w.ledger r.0 r.1 s.fits.aligned)
-      (ran_same rules w.ledger r.0 dones dones (runs_releases replies_of taken_front HasNoRoom c answer w.ledger r.0 r.1) (λ q. refl) ran)
+      (ran_same rules w.ledger r.0 dones dones (runs_releases replies_of taken_front HasNoRoom HasLostEnd c answer w.ledger r.0 r.1) (λ q. refl) ran)
 
   pub carried_step : (run : ℕ) (move : Move (WorkView R K P V)) (after_dones : ℕ → Option (DoneView R K P V)) → Reaches (Looks order machine rules run (Ok move)) w.ledger After → KeepsMove run move dones after_dones
       → Carried room order machine rules (Step run) w after_own After seats after_dones

@@ -8,7 +8,7 @@ use Rattle.pq_rules.specs.declared.turn.Answer.{Answer}
 use Rattle.pq_rules.specs.Turns.{Machine}
 use Rattle.pq_core.specs.Replies.{ReplyView}
 use Rattle.pq_core.specs.Works.{DoneView}
-use Rattle.pq_core.specs.Outboxes.{Listed, taken_front, HasNoRoom}
+use Rattle.pq_core.specs.Outboxes.{Listed, taken_front, HasNoRoom, HasLostEnd}
 use Rattle.pq_core.specs.Ledger.{Place, Waiting, Running, Ready, Put, Dropped, Ledger, Client, Entry, IsClosed, unused}
 use Rattle.pq_core.specs.RightReply.{IsRight, IsRightFor, answer_by}
 use Rattle.pq_core.specs.Kept.{PlaceKept, Kept}
@@ -100,7 +100,7 @@ module _ {R K P V : Type 0} (room : ℕ) (order : K → K → Ordering) (machine
     | inr g ↦ kept_as (answer_by order machine) w.ledger v.ledger (ledger_of w v g.same) k
   ]
   kept_steps (Starve run) w v s k = kept_starves (answer_by order machine) replies_of run s.0 w.ledger v.ledger k s.1
-  kept_steps (Release c) w v s k = kept_releases (answer_by order machine) replies_of taken_front HasNoRoom c s.0 w.ledger v.ledger k s.1
+  kept_steps (Release c) w v s k = kept_releases (answer_by order machine) replies_of taken_front HasNoRoom HasLostEnd c s.0 w.ledger v.ledger k s.1
   kept_steps (Take c) w v s k = elim s [
     | inl t ↦ elim (true_or_false t.client.is_open) [
       | inl e ↦ kept_takes (answer_by order machine) replies_of {A = AllocError} taken_front c (Ok true) w.ledger v.ledger k (t.open_so e)
@@ -121,7 +121,7 @@ module _ {R K P V : Type 0} (room : ℕ) (order : K → K → Ordering) (machine
     | inr g ↦ closed_as w.ledger v.ledger (ledger_of w v g.same)
   ]
   closed_steps (Starve run) w v s = λ d shut. shut_starves d run s.0 w.ledger v.ledger shut s.1
-  closed_steps (Release c) w v s = λ d shut. shut_releases replies_of taken_front HasNoRoom d c s.0 w.ledger v.ledger shut s.1
+  closed_steps (Release c) w v s = λ d shut. shut_releases replies_of taken_front HasNoRoom HasLostEnd d c s.0 w.ledger v.ledger shut s.1
   closed_steps (Take c) w v s = elim s [
     | inl t ↦ elim (true_or_false t.client.is_open) [
       | inl e ↦ λ d shut. shut_takes {A = AllocError} replies_of taken_front d c (Ok true) w.ledger v.ledger shut (t.open_so e)

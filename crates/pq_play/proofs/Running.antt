@@ -293,14 +293,14 @@ module _ {K V O : Type 0} where
   }
   runs_edits c change (Err refused) l m s = same_as l m s.2
 
-  pub runs_releases : (puts takes : O → List (ReplyView K V)) (was_full : O → Type 0) (c : ℕ) (answer : Released) (l m : Ledger K V O) → Releases puts takes was_full c answer l m → SameRuns l m
-  runs_releases puts takes was_full c (ReleasedPut n) l m s =
+  pub runs_releases : (puts takes : O → List (ReplyView K V)) (was_full was_gone : O → Type 0) (c : ℕ) (answer : Released) (l m : Ledger K V O) → Releases puts takes was_full was_gone c answer l m → SameRuns l m
+  runs_releases puts takes was_full was_gone c (ReleasedPut n) l m s =
       let client = s.0.client in
       let at : slice_get client.entries n ≡ Some s.0.entry = ap (slice_get client.entries) s.2 ∙ s.1.ready.here in
       same_set l m c client _ s.1.here (runs_moved client.entries n s.0.entry _ at (ap run_in (sym s.1.ready.ready))) s.3.3
-  runs_releases puts takes was_full c ReleasedFull l m s = same_set l m c s.0.client _ s.1.here (λ k. refl) s.2.3
-  runs_releases puts takes was_full c ReleasedGone l m s = same_set l m c s.0.client _ s.1.here (λ k. refl) s.2.2
-  runs_releases puts takes was_full c ReleasedNothing l m s = same_as l m s.1
+  runs_releases puts takes was_full was_gone c ReleasedFull l m s = same_set l m c s.0.client _ s.1.here (λ k. refl) s.2.3
+  runs_releases puts takes was_full was_gone c ReleasedGone l m s = same_set l m c s.0.client _ s.1.here (λ k. refl) s.2.3
+  runs_releases puts takes was_full was_gone c ReleasedNothing l m s = same_as l m s.1
 
   pub runs_closes : (c : ℕ) (answer : Option O) (l m : Ledger K V O) → Closes c answer l m → SameRuns l m
   runs_closes c (Some o) l m s = same_set l m c s.0 _ s.1.here (runs_closed s.0.entries) s.3

@@ -7,7 +7,7 @@ use Rattle.pq_inputs.specs.declared.fault.InputFault.TheVariants.{TextTooLong, T
 use Rattle.pq_rules.specs.Turns.{Machine}
 use Rattle.pq_core.specs.Replies.{ReplyView}
 use Rattle.pq_core.specs.Works.{DoneView, WorkView}
-use Rattle.pq_core.specs.Outboxes.{Listed, taken_front, HasNoRoom, TakesNext}
+use Rattle.pq_core.specs.Outboxes.{Listed, taken_front, HasNoRoom, HasLostEnd, TakesNext}
 use Rattle.pq_core.specs.Ledger.{Client}
 use Rattle.pq_core.specs.RightReply.{answer_by}
 use Rattle.pq_core.specs.Moves.{Opens, Accepts, Edits, Starts, Looks, Gives, Starves, Releases, Closes, TakesOut, RunAt, Runs, IsMade, IsOf}
@@ -139,7 +139,7 @@ Steps {R} {K} {P} {V} room order machine rules (Step run) w v =
 Steps {R} {K} {P} {V} room order machine rules (Give run) w v = GivesOne P rules run w v ⊎ GivesNone run w v
 Steps room order machine rules (Starve run) w v = (answer : Bool) × Starves run answer w.ledger v.ledger × (v.taken ≡ w.taken)
 Steps room order machine rules (Release c) w v =
-    (answer : Released) × Releases replies_of taken_front HasNoRoom c answer w.ledger v.ledger × (v.taken ≡ w.taken)
+    (answer : Released) × Releases replies_of taken_front HasNoRoom HasLostEnd c answer w.ledger v.ledger × (v.taken ≡ w.taken)
 Steps room order machine rules (Take c) w v = TakesOne c w v ⊎ TakesNone c w v
 Steps {R} {K} {P} {V} room order machine rules (Close c) w v =
     (answer : Option (Listed K V)) × Closes c answer w.ledger v.ledger × (v.taken ≡ w.taken)
