@@ -30,7 +30,7 @@ impl Post {
 
 impl Outbox<SumsKey, SumsValue> for Post {
     ghost use Rattle.std.specs.Prelude.{◌≡◌, ◌++◌, ◌∷◌, [], OnOk, OnErr, IfErr};
-    ghost use Rattle.pq_core.specs.Outboxes.{handed_back, IsFull, taken_front, HasNoRoom};
+    ghost use Rattle.pq_core.specs.Outboxes.{handed_back, IsFull, IsGone, taken_front, HasNoRoom};
 
     ghost puts = { λ post. post.list.replies };
 
@@ -38,11 +38,14 @@ impl Outbox<SumsKey, SumsValue> for Post {
 
     ghost was_full = { λ post. HasNoRoom post.list };
 
+    ghost was_gone = { λ post. post.left ≡ 0 };
+
     fn put(&mut self, reply: Reply<SumsKey, SumsValue>) -> Result<(), PutFault<SumsKey, SumsValue>>
         ensures put { OnOk result (self.new.list.replies ≡ self.old.list.replies ++ reply ∷ []) }
         ensures refused { OnErr result (self.new.list.replies ≡ self.old.list.replies) }
         ensures takes { taken_front self.new.list ≡ taken_front self.old.list }
         ensures full { IfErr result (λ fault. IsFull fault → HasNoRoom self.new.list) }
+        ensures gone { IfErr result (λ fault. IsGone fault → self.new.left ≡ 0) }
         ensures back { IfErr result (λ fault. handed_back fault ≡ reply) }
     {
         if self.left == 0 {
