@@ -14,8 +14,7 @@ pub fn claims_are_sound<R: Rules>(claims: &Claims<R>)
     let _next = claims.next;
 }
 
-/// Waits lead from each run to a run that waits for no key. So of the runs that there are, one can
-/// go on.
+/// Waits lead from each run to a run that waits for no key.
 pub fn waits_end<R: Rules>(claims: &Claims<R>)
     ensures ends { (r : ℕ) → (s : ℕ) × Leads (WaitsFor claims.now) r s × ((hold_of claims.now s).wait ≡ None) }
 {

@@ -6,13 +6,13 @@
 //! with the keys of the ring, and its caller publishes them.
 //!
 //! Runs and keys are found in search trees, in logarithmic time. A claim of a free key takes a
-//! constant number of searches, and so does a release, which looks at no wait. A claim of a key that
-//! is held takes two searches for each run on the way of waits, and copies the keys of a ring.
-//! `release_all` takes two searches for each key of the run.
+//! constant number of searches, and so does a release: it looks at no wait. A claim of a key that
+//! is held takes a constant number for each run on the way of waits, and copies the keys of a ring.
+//! `release_all` takes two for each key of the run.
 //!
 //! Definitions: `specs/Claims`. Modules: `run_id`, `claim` (what a claim comes to), `claims` (the
-//! calls), `claiming` (a claim of a free key, and of one that is held), `search` (whether waits lead
-//! from a run to another), `ring` (the keys of a ring), `held` (what is kept of a run), `runs` and
+//! calls), `claiming` (a claim of a free key, and of a held one), `search` (whether waits lead from
+//! a run to another), `ring` (the keys of a ring), `held` (what is kept of a run), `runs` and
 //! `holders` (the search trees), `laws`.
 #![tactic(auto)]
 

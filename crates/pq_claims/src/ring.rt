@@ -1,8 +1,8 @@
 //! The keys of the ring that a claim would close.
 //!
-//! A run claims the keys of its frames, the lowest first. So a ring goes in each run from the key at
-//! which it enters the run up to the key that the run claimed last, and from there to the key that
-//! the run waits for. `ring_from` copies these keys, run by run. `from_least` finds the least of
+//! A run claims the keys of its frames, the lowest first. So a ring goes in each run from the key
+//! at which it enters the run up to the key that the run claimed last, and from there to the key
+//! that the run waits for. `ring_from` copies these keys, run by run. `from_least` finds the least of
 //! them by one comparison for each, and turns the list.
 ghost use Rattle.std.specs.Prelude.{◌≡◌, ◌≢◌, ◌<◌, ◌≤◌, ◌++◌, [], ℕ, List, length, take, drop, Some, IfOk, OnOk};
 ghost use Rattle.pq_claims.specs.Claims.{Differ};

@@ -12,12 +12,11 @@ invariant_of-self g c =
 
 pub returns-in-Some : goal.returns-in-Some
 returns-in-Some g c = record {
-  released =
-    subst (λ (v : List (ℕ × Hold g.row.R-Key.Denot)). Releases c.args.run (Some c.in-Some.key) v (shown (λ k. holder_in g.R.Key.Ord.cmp c.take_holder.new.holders.entries k) c.pop_key.new.runs.entries)) c.self.view_is
-    (subst (λ (r : ℕ). Releases r (Some c.in-Some.key) (shown (λ k. holder_in g.R.Key.Ord.cmp c.self.inside.holders.entries k) c.self.inside.runs.entries)
-    (shown (λ k. holder_in g.R.Key.Ord.cmp c.take_holder.new.holders.entries k) c.pop_key.new.runs.entries)) c.number.ensures
-    (released_shown g.R.Key.Ord.cmp g.met.R.Key.Ord.total (g.met.R.Rules.lawful c.self.inside.rules []).exact c.self.inside.holders.entries c.take_holder.new.holders.entries
-    c.self.inside.runs.entries c.pop_key.new.runs.entries c.number.result c.in-Some.key c.in-Some.ensures.keys c.in-Some.ensures.set c.take_holder.ensures));
+  released = subst (λ (v : List (ℕ × Hold g.row.R-Key.Denot)). Releases c.args.run (Some c.in-Some.key) v (shown (λ k. holder_in g.R.Key.Ord.cmp c.take_holder.new.holders.entries k) c.pop_key.new.runs.entries)) c.self.view_is
+      (subst (λ (r : ℕ). Releases r (Some c.in-Some.key) (shown (λ k. holder_in g.R.Key.Ord.cmp c.self.inside.holders.entries k) c.self.inside.runs.entries)
+      (shown (λ k. holder_in g.R.Key.Ord.cmp c.take_holder.new.holders.entries k) c.pop_key.new.runs.entries)) c.number.ensures
+      (released_shown g.R.Key.Ord.cmp g.met.R.Key.Ord.total (g.met.R.Rules.lawful c.self.inside.rules []).exact c.self.inside.holders.entries c.take_holder.new.holders.entries
+      c.self.inside.runs.entries c.pop_key.new.runs.entries c.number.result c.in-Some.key c.in-Some.ensures.keys c.in-Some.ensures.set c.take_holder.ensures));
 }
 
 pub invariant_of-self-in-None : goal.invariant_of-self-in-None
@@ -29,11 +28,10 @@ invariant_of-self-in-None g c =
 
 pub returns-in-None : goal.returns-in-None
 returns-in-None g c = record {
-  released =
-    subst (λ (v : List (ℕ × Hold g.row.R-Key.Denot)). Releases c.args.run None v (shown (λ k. holder_in g.R.Key.Ord.cmp c.self.inside.holders.entries k) c.pop_key.new.runs.entries)) c.self.view_is
-    (subst (λ (r : ℕ). Releases r None (shown (λ k. holder_in g.R.Key.Ord.cmp c.self.inside.holders.entries k) c.self.inside.runs.entries)
-    (shown (λ k. holder_in g.R.Key.Ord.cmp c.self.inside.holders.entries k) c.pop_key.new.runs.entries)) c.number.ensures
-    (released_none_shown (λ k. holder_in g.R.Key.Ord.cmp c.self.inside.holders.entries k) c.self.inside.runs.entries c.pop_key.new.runs.entries c.number.result c.in-None.ensures.none
-    (released_none g.R.Key.Ord.cmp g.met.R.Key.Ord.total (g.met.R.Rules.lawful c.self.inside.rules []).exact c.self.inside.runs.entries c.pop_key.new.runs.entries c.number.result None refl
-    c.in-None.ensures.keys c.in-None.ensures.set)));
+  released = subst (λ (v : List (ℕ × Hold g.row.R-Key.Denot)). Releases c.args.run None v (shown (λ k. holder_in g.R.Key.Ord.cmp c.self.inside.holders.entries k) c.pop_key.new.runs.entries)) c.self.view_is
+      (subst (λ (r : ℕ). Releases r None (shown (λ k. holder_in g.R.Key.Ord.cmp c.self.inside.holders.entries k) c.self.inside.runs.entries)
+      (shown (λ k. holder_in g.R.Key.Ord.cmp c.self.inside.holders.entries k) c.pop_key.new.runs.entries)) c.number.ensures
+      (released_none_shown (λ k. holder_in g.R.Key.Ord.cmp c.self.inside.holders.entries k) c.self.inside.runs.entries c.pop_key.new.runs.entries c.number.result c.in-None.ensures.none
+      (released_none g.R.Key.Ord.cmp g.met.R.Key.Ord.total (g.met.R.Rules.lawful c.self.inside.rules []).exact c.self.inside.runs.entries c.pop_key.new.runs.entries c.number.result None refl
+      c.in-None.ensures.keys c.in-None.ensures.set)));
 }

@@ -20,9 +20,8 @@ invariant_of-self g c =
 
 pub returns : goal.returns
 returns g c = record {
-  released =
-    closed_all (λ k. holder_in g.R.Key.Ord.cmp c.self-2.inside.holders.entries k) c.self-2.inside.runs.entries c.close_run.new.runs.entries c.args.self.now c.keys.self c.args.run c.number-2.result
-    (length c.keys_in-count.result.now) c.keys._step c.number-2.ensures
-    (counted_keys (λ k. holder_in g.R.Key.Ord.cmp c.self.inside.holders.entries k) c.self.inside.runs.entries c.args.self.now c.number.result c.args.run c.keys_in-count.result.now c.self.view_is
-    c.number.ensures c.keys_in-count.ensures) c.keys-test.false c.self-2.view_is c.keys.invariant c.close_run.ensures.set;
+  released = closed_all (λ k. holder_in g.R.Key.Ord.cmp c.self-2.inside.holders.entries k) c.self-2.inside.runs.entries c.close_run.new.runs.entries c.args.self.now c.keys.self c.args.run c.number-2.result
+      (length c.keys_in-count.result.now) c.keys._step c.number-2.ensures
+      (counted_keys (λ k. holder_in g.R.Key.Ord.cmp c.self.inside.holders.entries k) c.self.inside.runs.entries c.args.self.now c.number.result c.args.run c.keys_in-count.result.now c.self.view_is
+      c.number.ensures c.keys_in-count.ensures) c.keys-test.false c.self-2.view_is c.keys.invariant c.close_run.ensures.set;
 }
