@@ -1,11 +1,14 @@
 #!/usr/bin/env python3
 """Predicts the wall time of the gate, `rt ci`, by the rules by which it starts its tasks.
 
-A crate has three tasks: its proof, its tests and its must-fail edits. A proof waits for the proofs of all crates below,
-tests wait for the same, and edits wait for the proof and the tests of their own crate. The gate starts a task once a
-processor is idle and the memory that it plans for the task is free, or once nothing else runs. First come the tasks with
-the most lines of .rt in a chain behind them. A proof or a test takes idle processors as further jobs, as far as planned
-memory goes; edits take one.
+A crate has a proof, tests and must-fail edits. A proof waits for the proofs of all crates below, and tests wait for the
+same. A crate with several edits is proved once more, as the seed that each edit begins with: it waits for the proofs below.
+An edit is a task of its own, which waits for the proof, the tests and the seed; a last check of the unedited crate follows
+the edits. A single edit is checked from nothing, which costs a proof. The gate starts a task once a processor is idle and
+the memory that it plans for the task is free, or once nothing else runs. First come proofs and tests, by the lines of .rt
+in a chain behind them; seeds and edits fill what these leave, and wait while one of them waits for memory. A proof or a
+test takes idle processors as further jobs, as far as planned memory goes, and so does a seed if nothing else is ready;
+an edit takes one, and seven tenths of the memory.
 
 The gate plans memory by lines: 1 GB, 1 MB a line of .rt (tests, comments and blank lines too), 0.2 MB a line of .antt,
 0.08 MB a line of .rt of each crate below, and for libraries of the kit five times what they load, at most 2.5 GB.
@@ -27,6 +30,8 @@ HERE = os.path.dirname(os.path.abspath(__file__))
 SERIAL = 0.4   # minutes of a check that no second job shortens: loading, reading, the end
 SHARED = 0.75  # what a further job adds to the first
 LAST = 0.6     # minutes of the check of the unedited crate that follows two or more edits
+OVER = 0.7     # the share of a proof's memory that the gate plans for an edit over a seed
+FILLS = {"seed", "edits", "last"}
 MOST = 6.4     # planned GB of a crate past which two do not run side by side on 16 GB, nor three on 24
 MACHINES = ["4,23", "2,23"]  # what is free of 24 GB
 # libraries of the kit that the plan does not count
@@ -158,10 +163,18 @@ def tasks_of(crates):
     """The tasks: what each waits for, its lines, its memory and its processor minutes; and the lines in a chain behind each."""
     tasks = {}
     for name in sorted(crates, key=lambda it: len(below(crates, it))):
-        it, waits, needs = crates[name], [(low, "proof") for low in below(crates, name)], planned(crates, name)
-        tasks[name, "proof"] = waits, it.lines, needs, it.proof
-        tasks[name, "tests"] = waits, it.lines * bool(it.tests), needs, it.tests
-        tasks[name, "edits"] = [(name, "proof"), (name, "tests")], it.lines * bool(it.edits), needs, it.edit_minutes()
+        it, waits, needs = crates[name], [(low, "proof", 0) for low in below(crates, name)], planned(crates, name)
+        own = [(name, "proof", 0), (name, "tests", 0)]
+        tasks[name, "proof", 0] = waits, it.lines, needs, it.proof
+        tasks[name, "tests", 0] = waits, it.lines * bool(it.tests), needs, it.tests
+        if it.edits == 1:
+            tasks[name, "edits", 0] = own, it.lines, needs, it.proof
+        if it.edits > 1:
+            tasks[name, "seed", 0] = waits, 0, needs, it.proof
+            each = [(name, "edits", number) for number in range(it.edits)]
+            for key in each:
+                tasks[key] = [*own, (name, "seed", 0)], it.lines, OVER * needs, it.edit
+            tasks[name, "last", 0] = each, 0, OVER * needs, LAST
     behind = {key: 0 for key in tasks}
     for key in reversed([*tasks]):
         behind[key] += tasks[key][1]
@@ -170,24 +183,38 @@ def tasks_of(crates):
     return tasks, behind
 
 
+def jobs_of(key, at, ready, proofs, idle, room, needs):
+    """How many jobs the gate gives a task that it starts: a proof those that no other proof waits for, a seed those that nothing does."""
+    if key[1] in FILLS - {"seed"}:
+        return 1
+    others = len(proofs) - proofs.index(key) if key in proofs else len(ready) - at
+    return max(1, min(4, idle // others, 1 + int((room / needs - 1) / 0.6)))
+
+
 def run(crates, processors, gigabytes, trace=False):
     """Returns the wall minutes, the processor minutes, and the minutes with at most one processor busy."""
     tasks, behind = tasks_of(crates)
-    memory, left, running, given = 0.85 * gigabytes, sorted(tasks, key=lambda it: -behind[it]), {}, set()
+    memory, running, given = 0.85 * gigabytes, {}, set()
+    left = sorted(tasks, key=lambda it: (it[1] in FILLS, -behind[it]))
     now = total = lonely = 0.0
     while left or running:
         ready = [it for it in left if all(low in given for low in tasks[it][0])]
+        proofs, lacks = [it for it in ready if it[1] not in FILLS], False
         for at, key in enumerate(ready):
+            if lacks and key[1] in FILLS:
+                break
             needs, cpu = tasks[key][2], tasks[key][3]
             room = memory - sum(it[1] for it in running.values())
             idle = processors - sum(it[2] for it in running.values())
             if idle > 0 and (not running or needs <= room):
                 left.remove(key)
-                jobs = max(1, 1 if key[1] == "edits" else min(4, idle // (len(ready) - at), 1 + int((room / needs - 1) / 0.6)))
+                jobs = jobs_of(key, at, ready, proofs, idle, room, needs)
                 running[key] = now + wall(cpu, jobs), needs * (1 + 0.6 * (jobs - 1)), jobs
                 total += cpu
                 if trace and cpu:
-                    print("%6.1f  %-15s %-5s jobs %d  until %6.1f  planned %4.1f GB" % (now, *key, jobs, running[key][0], needs))
+                    print("%6.1f  %-15s %-5s jobs %d  until %6.1f  planned %4.1f GB" % (now, *key[:2], jobs, running[key][0], needs))
+            else:
+                lacks = lacks or idle > 0 and key in proofs
         ended = min(it[0] for it in running.values())
         lonely += (ended - now) * (sum(it[2] for key, it in running.items() if tasks[key][3]) <= 1)
         now = ended
