@@ -53,5 +53,5 @@ pub use moves::{Move, Released};
 pub use outbox::{Outbox, PutFault, Taking};
 pub use outcome::Outcome;
 pub use reply::Reply;
-pub use request::{Change, Request, Want, copy_change, copy_request};
+pub use request::{Change, Request, Want, copy_change, copy_request, is_same_request};
 pub use work::{Done, Work};

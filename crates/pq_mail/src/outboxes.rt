@@ -1,0 +1,145 @@
+//! The outbox of a client: its replies, in the order of its requests.
+ghost use Rattle.std.specs.Prelude.{◌≡◌, ◌++◌, ◌∷◌, [], length, OnOk, OnErr, IfOk, IfErr};
+ghost use Rattle.pq_mail.specs.Mailbox.{IsPrefixOf};
+ghost use Rattle.pq_mail.specs.Posts.{IsReceiptOf, Misses};
+
+use crate::ends::{GetEnd, PutEnd, Unput, mailbox};
+use crate::fault::{MailEnd, Memory};
+use crate::line::Item;
+use crate::post::{Receipt, is_receipt_of};
+use pq_core::{Outbox, PutFault, Reply};
+use pq_rules::Rules;
+use std::alloc::Global;
+use std::marker::Model;
+use std::sync::Wait;
+
+impl<K: Drop, V: Drop> Item for Reply<K, V> {
+    ghost use Rattle.std.specs.Prelude.{◌≡◌};
+
+    ghost fits = { λ n reply. reply.number ≡ n };
+}
+
+/// The end of an outbox that puts. A put never waits for room. It may wait for the step of another
+/// thread on the same place, so the end keeps the handle `rt`. Contracts see the outbox's name and
+/// what was put, in order.
+#[derive(Drop)]
+pub struct LaneEnd<K: Drop, V: Drop, H: Wait> {
+    rt: H,
+    end: PutEnd<Reply<K, V>>,
+}
+
+impl<K: Drop, V: Drop, H: Wait> Model for LaneEnd<K, V, H> {
+    ghost use Rattle.pq_mail.specs.Mailbox.{Side};
+    ghost use Rattle.pq_core.specs.Replies.{ReplyView};
+
+    ghost Value = { Side (ReplyView K V) };
+
+    ghost view = { λ e. e.end };
+}
+
+impl<K: Drop, V: Drop, H: Wait + Drop> Outbox<K, V> for LaneEnd<K, V, H> {
+    ghost use Rattle.std.specs.Prelude.{◌≡◌, ◌++◌, ◌∷◌, [], length, OnOk, OnErr, IfErr};
+    ghost use Rattle.pq_core.specs.Outboxes.{handed_back, IsFull, IsGone};
+    ghost use Rattle.pq_mail.specs.Mailbox.{HasNoRoom, no_items};
+
+    ghost puts = { λ e. e.items };
+
+    ghost takes = { no_items };
+
+    ghost was_full = { λ e. HasNoRoom e.items };
+
+    ghost was_gone = { λ e. Unit {0} };
+
+    fn put(&mut self, reply: Reply<K, V>) -> Result<(), PutFault<K, V>>
+        requires { reply.number ≡ length self.old.items }
+        ensures put { OnOk result (self.new.items ≡ self.old.items ++ reply ∷ []) }
+        ensures refused { OnErr result (self.new.items ≡ self.old.items) }
+        ensures takes { no_items self.new ≡ no_items self.old }
+        ensures full { IfErr result (λ fault. IsFull fault → HasNoRoom self.new.items) }
+        ensures gone { IfErr result (λ fault. IsGone fault → Unit {0}) }
+        ensures back { IfErr result (λ fault. handed_back fault ≡ reply) }
+    {
+        match self.end.try_put(&self.rt, reply) {
+            Ok(()) => return Ok(()),
+            Err(Unput::Full(reply)) => return Err(PutFault::Full(reply)),
+            Err(Unput::Gone(reply)) => return Err(PutFault::Gone(reply)),
+        }
+    }
+}
+
+/// The end of an outbox that takes. Contracts see the outbox's name and what was taken, in order.
+#[derive(Drop)]
+pub struct TakeEnd<R: Rules> {
+    rules: R,
+    end: GetEnd<Reply<R::Key, R::Value>>,
+}
+
+impl<R: Rules> Model for TakeEnd<R> {
+    ghost use Rattle.pq_mail.specs.Mailbox.{Side};
+    ghost use Rattle.pq_core.specs.Replies.{ReplyView};
+
+    ghost Value = { Side (ReplyView R.Key R.Value) };
+
+    ghost view = { λ e. e.end };
+}
+
+/// An empty outbox with room for 32 replies, of which `put` takes no more memory. `rules` compares the
+/// keys of requests; `rt` is the handle of the end that puts.
+pub fn outbox<R: Rules, H: Wait + Drop>(
+    alloc: Global,
+    rules: R,
+    rt: H,
+) -> Result<(LaneEnd<R::Key, R::Value, H>, TakeEnd<R>), Memory>
+    ensures put { IfOk result (λ r. r.0.items ≡ []) }
+    ensures got { IfOk result (λ r. r.1.items ≡ []) }
+    ensures same { IfOk result (λ r. (r.0.table ≡ r.1.table) × (r.0.key ≡ r.1.key)) }
+{
+    let (put, got) = mailbox(alloc)?;
+    Ok((LaneEnd { rt, end: put }, TakeEnd { rules, end: got }))
+}
+
+impl<R: Rules> TakeEnd<R> {
+    /// The next reply, if it is that of `receipt`: it has the number and the request of the receipt.
+    /// It waits for a reply.
+    ///
+    /// # Errors
+    ///
+    /// In this order.
+    ///
+    /// - `Ended` where no reply is left and the end that puts is gone. Nothing was taken.
+    /// - `Stranger` where the next reply is another one. It was taken, and is dropped.
+    pub fn next<H: Wait>(
+        &mut self,
+        rt: &H,
+        receipt: &Receipt<R::Key>,
+    ) -> Result<Reply<R::Key, R::Value>, MailEnd>
+        ensures taken { IfOk result (λ reply. (self.new.items ≡ self.old.items ++ reply ∷ []) × (reply.number ≡ length self.old.items) × IsReceiptOf receipt.now reply) }
+        ensures missed { IfErr result (λ fault. Misses fault receipt.now self.old.items self.new.items) }
+        ensures same { (self.new.table ≡ self.old.table) × (self.new.key ≡ self.old.key) }
+    {
+        match self.end.get(rt) {
+            None => return Err(MailEnd::Ended),
+            Some(reply) => {
+                if is_receipt_of(&self.rules, receipt, &reply) {
+                    return Ok(reply);
+                }
+                return Err(MailEnd::Stranger);
+            }
+        }
+    }
+}
+
+/// A law: what was taken out of an outbox is a prefix of what was put.
+pub fn taken_is_prefix<R: Rules, H: Wait + Drop>(
+    lane: &mut LaneEnd<R::Key, R::Value, H>,
+    take: TakeEnd<R>,
+) -> TakeEnd<R>
+    requires same { (take.table ≡ lane.old.table) × (take.key ≡ lane.old.key) }
+    ensures prefix { IsPrefixOf take.items lane.old.items }
+    ensures put { lane.new ≡ lane.old }
+    ensures taken { result ≡ take }
+{
+    let TakeEnd { rules, end } = take;
+    let end = lane.end.compare(end);
+    TakeEnd { rules, end }
+}
