@@ -8,14 +8,10 @@ use Rattle.std.specs.Ordering.{eq_by_cmp}
 use Rattle.std.specs.declared.cmp.Ordering.{Ordering}
 use Rattle.std.proofs.lemmas.Map.Text.{is_eq-slice_cmp}
 use Rattle.std.proofs.lemmas.Slice.Eq.{bytes_eq-Decides}
+use Rattle.pq_names.proofs.Cases.{either}
 use Rattle.pq_links.specs.Once.{each_once}
 use Rattle.pq_links.specs.Visibility.{firsts}
 use Rattle.pq_links.specs.aux.Adding.{has, add_first, add_firsts, Sees, same_name}
-
--- what holds at each answer of a test holds of the test
-pub either : (b : Bool) (P : Bool → Type 0) → (b ≡ true → P true) → (b ≡ false → P false) → P b
-either true P f g = f refl
-either false P f g = g refl
 
 module _ {A : Type 0} (same : A → A → Bool) where
   pub has_push : (ks : List A) (x q : A) → has same (ks ++ x ∷ []) q ≡ cond (same x q) true (has same ks q)

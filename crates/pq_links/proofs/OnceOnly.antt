@@ -4,7 +4,8 @@ use Rattle.std.specs.Prelude.{filter}
 use Rattle.pq_links.specs.Once.{each_once}
 use Rattle.pq_links.specs.Visibility.{firsts}
 use Rattle.pq_links.specs.aux.Adding.{is_not}
-use Rattle.pq_links.proofs.Adding.{either, filter_in, filter_both, filter_same, bytes_exact}
+use Rattle.pq_names.proofs.Cases.{either}
+use Rattle.pq_links.proofs.Adding.{filter_in, filter_both, filter_same, bytes_exact}
 
 -- two filters take turns
 filters_swap : {A : Type 0} (p q : A → Bool) → (xs : List A) → filter p (filter q xs) ≡ filter q (filter p xs)

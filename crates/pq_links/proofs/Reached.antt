@@ -11,7 +11,7 @@ use Rattle.pq_rules.proofs.Characterisation.{each_append}
 use Rattle.pq_links.proofs.NameKinds.{firsts_in}
 use Rattle.pq_links.specs.declared.links.Import.{Import}
 use Rattle.pq_links.specs.declared.links.Links.{Links}
-use Rattle.pq_links.proofs.Adding.{either}
+use Rattle.pq_names.proofs.Cases.{either}
 
 in_filter : (p : List ℕ → Bool) (x : List ℕ) (xs : List (List ℕ)) → p x ≡ true → In x xs → In x (filter p xs)
 in_filter p x [] t i = i

@@ -7,15 +7,12 @@ use Rattle.std.proofs.Common.{◌≡◌, ℕ, suc, ◌+◌, ◌<◌, ◌≤◌, 
 use Rattle.std.specs.Prelude.{flat_map}
 use Rattle.std.proofs.lemmas.Bool.Decides.{nat_tests}
 use Rattle.std.proofs.lemmas.List.{at_drop_all, drop_more}
+use Rattle.pq_names.proofs.Cases.{either}
 use Rattle.pq_syntax.specs.declared.tree.Node.{Node}
 use Rattle.pq_syntax.specs.Places.{Item, Place, enclosing, places_after, places, kept}
 use Rattle.pq_syntax.specs.Stacks.{closed, innermost}
 
 -- ---- what contains the next statement
-
-either : (b : Bool) (P : Bool → Type 0) → (b ≡ true → P true) → (b ≡ false → P false) → P b
-either true P f g = f refl
-either false P f g = g refl
 
 -- the items that contain a statement of this depth, of those that contain the one before it
 unfoldable cut : ℕ → List Item → List Item
