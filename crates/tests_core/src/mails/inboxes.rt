@@ -124,12 +124,12 @@ fn receipts(rt: HostRuntime) {
         14,
         "ask 1 say a => receipt 0 1 say a
 edit low f=1 => receipt 1
-ask 2 sum f => receipt 1 2 sum f
+ask 2 Sum f => receipt 1 2 Sum f
 ask none say a => receipt 2 none say a
 end => receipt 3
 next => ask 1 say a
 next => edit f
-next => ask 2 sum f
+next => ask 2 Sum f
 ask 3 say b => receipt 3 3 say b
 next => ask none say a
 next => end

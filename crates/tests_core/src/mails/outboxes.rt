@@ -179,8 +179,8 @@ take 2 1 say b => stranger
 take 3 2 say a => stranger
 take 4 => stranger
 take 5 1 say a => 5 1 say a @0 plain
-put 1 1 sum f => put
-take 6 1 sum g => stranger
+put 1 1 Sum f => put
+take 6 1 Sum g => stranger
 drop lane => ",
     );
 }
