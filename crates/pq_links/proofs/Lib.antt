@@ -9,5 +9,6 @@ pub mod GraphLemmas
 pub mod NameKinds
 pub mod Reached
 pub mod FileAnswers
+pub mod PartSpans
 pub mod LinkedMeaning
 pub mod LinkedAnswers

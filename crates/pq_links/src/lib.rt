@@ -19,6 +19,7 @@ mod laws;
 mod linked;
 mod links;
 mod parse;
+mod places;
 
 pub use file_names::FileNames;
 pub use files::ParsedFile;
@@ -28,6 +29,7 @@ pub use laws::{imports_by_answers, links_by_answers, links_in_rules, parse_by_an
 pub use linked::{Joined, LinkedQuery, Linking};
 pub use links::{Import, Links};
 pub use parse::ParseQuery;
+pub use places::{Part, TypePart, parts_within, place};
 pub use pq_rules::{Shared, Text};
 pub use pq_syntax::Items;
 pub use std::alloc::AllocError as Memory;
