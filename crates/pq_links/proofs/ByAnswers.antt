@@ -3,10 +3,11 @@ use Rattle.std.proofs.Common.{◌≡◌, ℕ, List, [], ◌∷◌, ◌++◌, Opt
 use Rattle.pq_rules.specs.declared.turn.Turn.{Turn}
 use Rattle.pq_rules.specs.declared.turn.Turn.TheVariants.{Ask, Done}
 use Rattle.pq_rules.specs.Embedding.{Runs}
-use Rattle.pq_links.specs.Answers.{IsParsedBy, AreImportsBy, AsksLinks, AreLinksOf, AreLinksBy}
-use Rattle.pq_links.specs.Files.{read_file, file_imports}
+use Rattle.pq_links.specs.Answers.{IsParsedBy, AreItemsBy, AreImportsBy, AsksLinks, AreLinksOf, AreLinksBy}
+use Rattle.pq_links.specs.Files.{read_file, file_imports, items_of}
 use Rattle.pq_links.specs.Visibility.{links_by, no_links}
-use Rattle.pq_links.specs.aux.Queries.{parse_starts, parse_advances, imports_starts, imports_advances, join_next, join_imports, linked_starts, linked_advances}
+use Rattle.pq_links.specs.aux.Queries.{parse_starts, parse_advances, items_starts, items_advances, imports_starts, imports_advances, join_next, join_imports, linked_starts, linked_advances}
+use Rattle.pq_links.specs.declared.file_items.FileItems.{FileItems}
 use Rattle.pq_links.specs.declared.files.ParsedFile.{ParsedFile}
 use Rattle.pq_links.specs.declared.linked.Linking.{Linking}
 use Rattle.pq_links.specs.declared.linked.Linking.TheVariants.{Reading, Joining}
@@ -30,6 +31,10 @@ one_read asked made (e ∷ (d ∷ ds)) w r = let more = r.2.1 in cc
 pub parse_given : {K A : Type 0} (input : List ℕ → K) (text : A → Option (List ℕ)) (f : List ℕ) (es : List (K × A)) (v : ParsedFile)
     → Runs (λ (q : Unit {0}) (a : A). parse_advances (text a)) (parse_starts input f) es (Done v) → IsParsedBy input text f es v
 parse_given input text f es v r = one_read (input f) (λ a. read_file (text a)) es v r
+
+pub items_given : {K A : Type 0} (parse : List ℕ → K) (parsed : A → ParsedFile) (f : List ℕ) (es : List (K × A)) (v : FileItems)
+    → Runs (λ (q : Unit {0}) (a : A). items_advances (parsed a)) (items_starts parse f) es (Done v) → AreItemsBy parse parsed f es v
+items_given parse parsed f es v r = one_read (parse f) (λ a. items_of (parsed a)) es v r
 
 pub imports_given : {K A : Type 0} (parse : List ℕ → K) (parsed : A → ParsedFile) (f : List ℕ) (es : List (K × A)) (v : Option (List Import))
     → Runs (λ (q : Unit {0}) (a : A). imports_advances (parsed a)) (imports_starts parse f) es (Done v) → AreImportsBy parse parsed f es v

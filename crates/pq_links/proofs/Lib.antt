@@ -10,5 +10,6 @@ pub mod NameKinds
 pub mod Reached
 pub mod FileAnswers
 pub mod PartSpans
+pub mod BareParts
 pub mod LinkedMeaning
 pub mod LinkedAnswers

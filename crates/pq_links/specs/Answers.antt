@@ -4,7 +4,8 @@
 -- `es` is the questions of a run in order, each with its answer.
 use Rattle.std.specs.Prelude.{ℕ, ◌≡◌, List, [], ◌∷◌, Option, Some, None}
 use Rattle.pq_links.specs.Visibility.{links_by, no_links}
-use Rattle.pq_links.specs.Files.{read_file, file_imports}
+use Rattle.pq_links.specs.Files.{read_file, file_imports, items_of}
+use Rattle.pq_links.specs.declared.file_items.FileItems.{FileItems}
 use Rattle.pq_links.specs.declared.files.ParsedFile.{ParsedFile}
 use Rattle.pq_links.specs.declared.links.Import.{Import}
 use Rattle.pq_links.specs.declared.links.Links.{Links}
@@ -13,6 +14,11 @@ use Rattle.pq_links.specs.declared.links.Links.{Links}
 -- `v` is what a file is read as with the text of the answer
 abbrev pub IsParsedBy : {K A : Type 0} → (List ℕ → K) → (A → Option (List ℕ)) → List ℕ → List (K × A) → ParsedFile → Type 0
 IsParsedBy {A = A} input text f es v = (a : A) × (es ≡ (input f, a) ∷ []) × (v ≡ read_file (text a))
+
+-- `AreItemsBy parse parsed f es v` is that the one question is for what the file `f` is read as, and
+-- that `v` is that without spans
+abbrev pub AreItemsBy : {K A : Type 0} → (List ℕ → K) → (A → ParsedFile) → List ℕ → List (K × A) → FileItems → Type 0
+AreItemsBy {A = A} parse parsed f es v = (a : A) × (es ≡ (parse f, a) ∷ []) × (v ≡ items_of (parsed a))
 
 -- `AreImportsBy parse parsed f es v` is that the one question is for what the file `f` is read as,
 -- and that `v` is the imports of that, or `None` where it is absent

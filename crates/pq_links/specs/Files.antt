@@ -4,7 +4,7 @@
 -- The definition of `parsed`, of the tree or first error of a text, is that of pq_syntax, whose law
 -- `each_parse` ties it to the grammar. `lines_of` is what an index keeps of the lines of a text, in
 -- pq_lex; the contracts of `LineIndex` tie it to positions.
-use Rattle.std.specs.Prelude.{ℕ, Bool, true, false, not, ◌&&◌, cond, bytes_eq, List, [], filter_map, Option, Some, None}
+use Rattle.std.specs.Prelude.{ℕ, Bool, true, false, not, ◌&&◌, cond, bytes_eq, List, [], filter_map, map, Option, Some, None}
 use Rattle.std.specs.Str.{is_utf8}
 use Rattle.pq_inputs.specs.Sources.{Sources, file_in}
 use Rattle.pq_lex.specs.aux.LineMarks.{lines_of}
@@ -16,8 +16,11 @@ use Rattle.pq_syntax.specs.declared.tree.ImportKind.{ImportKind}
 use Rattle.pq_syntax.specs.declared.tree.ImportKind.TheVariants.{Plain, Public, Weak}
 use Rattle.pq_syntax.specs.declared.tree.Statement.{Statement}
 use Rattle.pq_syntax.specs.declared.tree.Statement.TheVariants.{Import as ImportStatement}
+use Rattle.pq_links.specs.Bare.{bare}
 use Rattle.pq_links.specs.Once.{each_once}
 use Rattle.pq_links.specs.ImportGraph.{Graph}
+use Rattle.pq_links.specs.declared.file_items.FileItems.{FileItems}
+use Rattle.pq_links.specs.declared.file_items.FileItems.TheVariants as items
 use Rattle.pq_links.specs.declared.files.ParsedFile.{ParsedFile}
 use Rattle.pq_links.specs.declared.files.ParsedFile.TheVariants.{Absent, Present}
 use Rattle.pq_links.specs.declared.links.Import.{Import}
@@ -67,6 +70,30 @@ abbrev pub read_file : Option (List ℕ) → ParsedFile
 read_file None = Absent
 read_file (Some text) = Present (parsed text) (lines_of text)
 
+-- `read_in s f` is what the file `f` of the sources `s` is read as
+abbrev pub read_in : Sources → List ℕ → ParsedFile
+read_in s f = read_file (file_in s f).text
+
 -- `graph_of s` is the import graph of the sources `s`
 abbrev pub graph_of : Sources → Graph
-graph_of s f = file_imports (read_file (file_in s f).text)
+graph_of s f = file_imports (read_in s f)
+
+-- `parsed_items p` is what a text with the tree or error `p` is without spans
+abbrev pub parsed_items : Parsed → FileItems
+parsed_items (Tree nodes) = items.Tree (map bare nodes)
+parsed_items (Fault span code) = items.Fault
+
+-- `items_of file` is what a file that is read as `file` is without spans
+abbrev pub items_of : ParsedFile → FileItems
+items_of Absent = items.Absent
+items_of (Present p lines) = parsed_items p
+
+-- `items_in s f` is what the file `f` of the sources `s` is without spans
+abbrev pub items_in : Sources → List ℕ → FileItems
+items_in s f = items_of (read_in s f)
+
+-- `nodes_in i` is the statements without spans of a file that is `i`; only a tree has some
+abbrev pub nodes_in : FileItems → List Node
+nodes_in items.Absent = []
+nodes_in items.Fault = []
+nodes_in (items.Tree nodes) = nodes

@@ -1,6 +1,7 @@
 pub mod Once
 pub mod ImportGraph
 pub mod Visibility
+pub mod Bare
 pub mod Files
 pub mod Place
 pub mod Answers

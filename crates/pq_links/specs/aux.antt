@@ -1,4 +1,5 @@
 -- Auxiliary: nothing below this module has to be believed (used by proofs and invariants only).
+pub mod SameNodes
 pub mod Queries
 pub mod Falls
 pub mod Adding

@@ -1,6 +1,6 @@
 //! Laws of the queries, each as the contract of a function that does nothing.
 //!
-//! Each of the first three is of every sum of queries `S`, and of every list `es` of questions with
+//! Each of the first four is of every sum of queries `S`, and of every list `es` of questions with
 //! their answers by which the query's own rule runs from its start to a value. It says what the
 //! questions were, in order, and that the value is the definition, applied to what these answers
 //! say. The last is of the answers in a rule set.
@@ -11,10 +11,11 @@ ghost use Rattle.pq_rules.specs.declared.turn.Answer.{Answer};
 ghost use Rattle.pq_rules.specs.Embedding.{Runs};
 ghost use Rattle.pq_rules.specs.Turns.{over};
 ghost use Rattle.pq_rules.specs.Value.{Means};
-ghost use Rattle.pq_links.specs.Answers.{IsParsedBy, AreImportsBy, AreLinksBy};
+ghost use Rattle.pq_links.specs.Answers.{IsParsedBy, AreItemsBy, AreImportsBy, AreLinksBy};
 ghost use Rattle.pq_links.specs.ImportGraph.{Graph};
 ghost use Rattle.pq_links.specs.LinkedKeys.{EmbedsLinks, LinkedIs};
-ghost use Rattle.pq_links.specs.aux.Queries.{parse_starts, parse_advances, imports_starts, imports_advances, linked_starts, linked_advances};
+ghost use Rattle.pq_links.specs.aux.Queries.{parse_starts, parse_advances, items_starts, items_advances, imports_starts, imports_advances, linked_starts, linked_advances};
+ghost use Rattle.pq_links.specs.declared.file_items.FileItems.{FileItems};
 ghost use Rattle.pq_links.specs.declared.files.ParsedFile.{ParsedFile};
 ghost use Rattle.pq_links.specs.declared.linked.Linking.{Linking};
 ghost use Rattle.pq_links.specs.declared.links.Import.{Import};
@@ -26,6 +27,11 @@ use pq_rules::Rules;
 /// The parse of a file asks its text, and ends in what a file with that text is read as.
 pub fn parse_by_answers<S: LinkKeys>()
     ensures gives { (f : List ℕ) (es : List (S.Key × S.Answer)) (v : ParsedFile) → Runs (λ (q : Unit {0}) (a : S.Answer). parse_advances (S.text a)) (parse_starts S.input f) es (Done v) → IsParsedBy S.input S.text f es v }
+{}
+
+/// The tree without spans of a file asks its parse, and ends in what that is without spans.
+pub fn items_by_answers<S: LinkKeys>()
+    ensures gives { (f : List ℕ) (es : List (S.Key × S.Answer)) (v : FileItems) → Runs (λ (q : Unit {0}) (a : S.Answer). items_advances (S.parsed a)) (items_starts S.parse f) es (Done v) → AreItemsBy S.parse S.parsed f es v }
 {}
 
 /// The imports of a file ask its parse, and end in the imports of that, `None` where it is absent.

@@ -2,12 +2,13 @@
 //!
 //! What is said of a part by its place stays true while text around it moves. `place` turns a place
 //! into a span, in constant time.
-ghost use Rattle.std.specs.Prelude.{◌≡◌, ℕ, List, Some, length, slice_get};
+ghost use Rattle.std.specs.Prelude.{◌≡◌, ℕ, List, Some, is_some, length, map, slice_get};
 ghost use Rattle.std.specs.Option.{option_copied};
 ghost use Rattle.pq_lex.specs.declared.token.Span.{Span};
 ghost use Rattle.pq_syntax.specs.FaultPlace.{IsTree};
 ghost use Rattle.pq_syntax.specs.declared.tree.Node.{Node};
 ghost use Rattle.pq_links.specs.declared.places.Part.{Part};
+ghost use Rattle.pq_links.specs.Bare.{bare};
 ghost use Rattle.pq_links.specs.Place.{LiesIn, constant_span, name_span, number_span, place, range_span, ranges_of, settings_of, span_at, type_span};
 
 use pq_lex::Span;
@@ -172,3 +173,9 @@ pub fn parts_within()
 {
     spans_within();
 }
+
+/// Leaving spans out of a tree keeps which items it has, and which parts these have.
+pub fn parts_stay()
+    ensures stay { (nodes : List Node) (item : ℕ) (part : Part) →
+        is_some (place (map bare nodes) item part) ≡ is_some (place nodes item part) }
+{}

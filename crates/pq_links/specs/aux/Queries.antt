@@ -1,19 +1,24 @@
--- Auxiliary: the three queries as functions of the key makers of a sum of queries and of what the
+-- Auxiliary: the four queries as functions of the key makers of a sum of queries and of what the
 -- sum's readers say of an answer. The public laws tie them to `specs/Answers`.
 use Rattle.std.specs.Prelude.{ℕ, List, [], ◌∷◌, ◌++◌, length, Option, Some, None}
 use Rattle.pq_rules.specs.declared.turn.Turn.{Turn}
 use Rattle.pq_rules.specs.declared.turn.Turn.TheVariants.{Ask, Done}
 use Rattle.pq_links.specs.Visibility.{links_by, no_links}
-use Rattle.pq_links.specs.Files.{read_file, file_imports}
+use Rattle.pq_links.specs.Files.{read_file, file_imports, items_of}
+use Rattle.pq_links.specs.declared.file_items.FileItems.{FileItems}
 use Rattle.pq_links.specs.declared.files.ParsedFile.{ParsedFile}
 use Rattle.pq_links.specs.declared.linked.Linking.{Linking}
 use Rattle.pq_links.specs.declared.linked.Linking.TheVariants.{Reading, Joining}
 use Rattle.pq_links.specs.declared.links.Import.{Import}
 use Rattle.pq_links.specs.declared.links.Links.{Links}
 
--- `parse_level`, `imports_level` and `linked_level` are the levels of the queries' keys
+-- `parse_level`, `items_level`, `imports_level` and `linked_level` are the levels of the queries'
+-- keys
 abbrev pub parse_level : ℕ
 parse_level = 1
+
+abbrev pub items_level : ℕ
+items_level = 2
 
 abbrev pub imports_level : ℕ
 imports_level = 2
@@ -28,6 +33,15 @@ parse_starts input f = Ask (input f) tt
 -- `parse_advances text` is the turn after that: it is done with what the file is read as
 abbrev pub parse_advances : {K : Type 0} → Option (List ℕ) → Turn K (Unit {0}) ParsedFile
 parse_advances text = Done (read_file text)
+
+-- `items_starts parse f` is the first turn of the tree without spans of the file `f`: it asks for
+-- the parse
+abbrev pub items_starts : {K : Type 0} → (List ℕ → K) → List ℕ → Turn K (Unit {0}) FileItems
+items_starts parse f = Ask (parse f) tt
+
+-- `items_advances file` is the turn after that: it is done with what `file` is without spans
+abbrev pub items_advances : {K : Type 0} → ParsedFile → Turn K (Unit {0}) FileItems
+items_advances file = Done (items_of file)
 
 -- `imports_starts parse f` is the first turn of the imports of the file `f`: it asks for the parse
 abbrev pub imports_starts : {K : Type 0} → (List ℕ → K) → List ℕ → Turn K (Unit {0}) (Option (List Import))
