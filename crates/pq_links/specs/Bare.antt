@@ -1,6 +1,6 @@
 -- Statements without spans: each span is the empty one at the start of a text. So two statements
 -- that differ only in where they are have the same copy.
-use Rattle.std.specs.Prelude.{List, map}
+use Rattle.std.specs.Prelude.{ℕ, map}
 use Rattle.pq_lex.specs.declared.token.Span.{Span}
 use Rattle.pq_syntax.specs.declared.parts.Constant.{Constant}
 use Rattle.pq_syntax.specs.declared.parts.MethodType.{MethodType}
@@ -77,6 +77,10 @@ bare_statement (Service name) = Service (bare_name name)
 bare_statement (Method name input output) = Method (bare_name name) (bare_type input) (bare_type output)
 bare_statement (Extend type_name) = Extend (bare_name type_name)
 
+-- `node_at depth s` is the statement `s` at the depth `depth`, with the empty span
+abbrev pub node_at : ℕ → Statement → Node
+node_at depth s = record { depth = depth; span = nowhere; statement = s }
+
 -- `bare n` is the statement `n` of a file without spans; its depth stays
 abbrev pub bare : Node → Node
-bare n = record { depth = n.depth; span = nowhere; statement = bare_statement n.statement }
+bare n = node_at n.depth (bare_statement n.statement)

@@ -1,14 +1,15 @@
 //! Copies of a tree's parts without their spans, in time linear in the tree.
 //!
 //! Names of up to 24 bytes are copied, and longer ones shared; the bytes of strings are copied.
-ghost use Rattle.std.specs.Prelude.{◌≡◌, IfOk, map};
-ghost use Rattle.pq_links.specs.Bare.{bare, bare_constant, bare_end, bare_name, bare_number, bare_part, bare_range, bare_setting, bare_statement, bare_strings, bare_type, nowhere};
+ghost use Rattle.std.specs.Prelude.{◌≡◌, [], ◌∷◌, ◌++◌, IfOk, OnOk, map};
+ghost use Rattle.pq_links.specs.Bare.{bare, bare_constant, bare_end, bare_name, bare_number, bare_part, bare_range, bare_setting, bare_statement, bare_strings, bare_type, node_at, nowhere};
+ghost use Rattle.pq_syntax.specs.declared.tree.Statement.TheVariants.{Field, MapField, Method, Value};
 
 use crate::Memory;
 use pq_lex::Span;
 use pq_syntax::{
-    Constant, Items, MethodType, Name, NamePart, Node, Number, Range, RangeEnd, Setting, Statement,
-    Strings,
+    Constant, Items, Label, MethodType, Name, NamePart, Node, Number, Range, RangeEnd, Setting,
+    Statement, Strings,
 };
 use std::alloc::Global;
 
@@ -42,7 +43,7 @@ fn bare_all<T: Bare>(alloc: Global, items: &[T]) -> Result<Vec<T>, Memory>
 }
 
 /// The list `items` without spans.
-pub(crate) fn bare_list<T: Bare>(alloc: Global, items: &Items<T>) -> Result<Items<T>, Memory>
+fn bare_list<T: Bare>(alloc: Global, items: &Items<T>) -> Result<Items<T>, Memory>
     ensures bare { IfOk result (λ v. v ≡ map T.bares items.now) }
 {
     Ok(Items::new(bare_all(alloc, items.as_slice())?))
@@ -160,97 +161,209 @@ impl Bare for MethodType {
     }
 }
 
-impl Bare for Statement {
-    ghost bares = { bare_statement };
+/// Adds the statement `statement` at the depth `depth`.
+#[inline]
+fn push_node(nodes: &mut Vec<Node>, depth: u8, statement: Statement) -> Result<(), Memory>
+    ensures pushed { OnOk result
+        (nodes.new.items ≡ nodes.old.items ++ node_at depth statement ∷ []) }
+{
+    nodes.reserve(1)?;
+    nodes.push_reserved(Node {
+        depth,
+        span: nowhere(),
+        statement,
+    });
+    Ok(())
+}
 
-    #[tactic(auto, unfolding(crate::specs::Bare::bare_statement))]
-    fn bare(&self, alloc: Global) -> Result<Statement, Memory> {
-        match self {
-            Statement::Import { kind, file } => Ok(Statement::Import {
-                kind: *kind,
-                file: file.bare(alloc)?,
-            }),
-            Statement::Package { name } => Ok(Statement::Package {
-                name: name.bare(alloc)?,
-            }),
-            Statement::Option(setting) => Ok(Statement::Option(setting.bare(alloc)?)),
-            Statement::Message { name } => Ok(Statement::Message {
-                name: name.bare(alloc)?,
-            }),
-            Statement::Field {
-                label,
-                type_name,
-                name,
-                number,
-                options,
-            } => Ok(Statement::Field {
-                label: *label,
-                type_name: type_name.bare(alloc)?,
-                name: name.bare(alloc)?,
-                number: bare_number(*number),
-                options: bare_list(alloc, options)?,
-            }),
-            Statement::MapField {
-                key,
-                value,
-                name,
-                number,
-                options,
-            } => Ok(Statement::MapField {
-                key: key.bare(alloc)?,
-                value: value.bare(alloc)?,
-                name: name.bare(alloc)?,
-                number: bare_number(*number),
-                options: bare_list(alloc, options)?,
-            }),
-            Statement::Oneof { name } => Ok(Statement::Oneof {
-                name: name.bare(alloc)?,
-            }),
-            Statement::ReservedNumbers(ranges) => {
-                Ok(Statement::ReservedNumbers(bare_list(alloc, ranges)?))
-            }
-            Statement::ReservedNames(names) => {
-                Ok(Statement::ReservedNames(bare_list(alloc, names)?))
-            }
-            Statement::Enum { name } => Ok(Statement::Enum {
-                name: name.bare(alloc)?,
-            }),
-            Statement::Value {
-                name,
-                number,
-                options,
-            } => Ok(Statement::Value {
-                name: name.bare(alloc)?,
-                number: bare_number(*number),
-                options: bare_list(alloc, options)?,
-            }),
-            Statement::Service { name } => Ok(Statement::Service {
-                name: name.bare(alloc)?,
-            }),
-            Statement::Method {
-                name,
-                input,
-                output,
-            } => Ok(Statement::Method {
-                name: name.bare(alloc)?,
-                input: input.bare(alloc)?,
-                output: output.bare(alloc)?,
-            }),
-            Statement::Extend { type_name } => Ok(Statement::Extend {
-                type_name: type_name.bare(alloc)?,
-            }),
+/// Adds a field at the depth `depth`, without spans.
+#[inline]
+fn push_field(
+    nodes: &mut Vec<Node>,
+    alloc: Global,
+    depth: u8,
+    label: Option<Label>,
+    type_name: &Name,
+    name: &Name,
+    number: Number,
+    options: &Items<Setting>,
+) -> Result<(), Memory>
+    ensures pushed { OnOk result (nodes.new.items ≡ nodes.old.items ++ node_at depth
+        (Field label (bare_name type_name.now) (bare_name name.now) (bare_number number) (map bare_setting options.now)) ∷ []) }
+{
+    push_node(
+        nodes,
+        depth,
+        Statement::Field {
+            label,
+            type_name: type_name.bare(alloc)?,
+            name: name.bare(alloc)?,
+            number: bare_number(number),
+            options: bare_list(alloc, options)?,
+        },
+    )
+}
+
+/// Adds a map field at the depth `depth`, without spans.
+#[inline]
+fn push_map_field(
+    nodes: &mut Vec<Node>,
+    alloc: Global,
+    depth: u8,
+    key: &Name,
+    value: &Name,
+    name: &Name,
+    number: Number,
+    options: &Items<Setting>,
+) -> Result<(), Memory>
+    ensures pushed { OnOk result (nodes.new.items ≡ nodes.old.items ++ node_at depth
+        (MapField (bare_name key.now) (bare_name value.now) (bare_name name.now) (bare_number number) (map bare_setting options.now)) ∷ []) }
+{
+    push_node(
+        nodes,
+        depth,
+        Statement::MapField {
+            key: key.bare(alloc)?,
+            value: value.bare(alloc)?,
+            name: name.bare(alloc)?,
+            number: bare_number(number),
+            options: bare_list(alloc, options)?,
+        },
+    )
+}
+
+/// Adds an enum value at the depth `depth`, without spans.
+#[inline]
+fn push_value(
+    nodes: &mut Vec<Node>,
+    alloc: Global,
+    depth: u8,
+    name: &Name,
+    number: Number,
+    options: &Items<Setting>,
+) -> Result<(), Memory>
+    ensures pushed { OnOk result (nodes.new.items ≡ nodes.old.items ++ node_at depth
+        (Value (bare_name name.now) (bare_number number) (map bare_setting options.now)) ∷ []) }
+{
+    push_node(
+        nodes,
+        depth,
+        Statement::Value {
+            name: name.bare(alloc)?,
+            number: bare_number(number),
+            options: bare_list(alloc, options)?,
+        },
+    )
+}
+
+/// Adds a method at the depth `depth`, without spans.
+#[inline]
+fn push_method(
+    nodes: &mut Vec<Node>,
+    alloc: Global,
+    depth: u8,
+    name: &Name,
+    input: &MethodType,
+    output: &MethodType,
+) -> Result<(), Memory>
+    ensures pushed { OnOk result (nodes.new.items ≡ nodes.old.items ++ node_at depth
+        (Method (bare_name name.now) (bare_type input.now) (bare_type output.now)) ∷ []) }
+{
+    push_node(
+        nodes,
+        depth,
+        Statement::Method {
+            name: name.bare(alloc)?,
+            input: input.bare(alloc)?,
+            output: output.bare(alloc)?,
+        },
+    )
+}
+
+/// Adds a copy of `node` without spans.
+#[inline]
+#[tactic(auto, unfolding(crate::specs::Bare::bare_statement))]
+fn push_bare(nodes: &mut Vec<Node>, alloc: Global, node: &Node) -> Result<(), Memory>
+    ensures pushed { OnOk result (nodes.new.items ≡ nodes.old.items ++ bare node.now ∷ []) }
+{
+    let depth = node.depth;
+    match &node.statement {
+        Statement::Import { kind, file } => {
+            let file = file.bare(alloc)?;
+            push_node(nodes, depth, Statement::Import { kind: *kind, file })
+        }
+        Statement::Package { name } => {
+            let name = name.bare(alloc)?;
+            push_node(nodes, depth, Statement::Package { name })
+        }
+        Statement::Option(setting) => {
+            let setting = setting.bare(alloc)?;
+            push_node(nodes, depth, Statement::Option(setting))
+        }
+        Statement::Message { name } => {
+            let name = name.bare(alloc)?;
+            push_node(nodes, depth, Statement::Message { name })
+        }
+        Statement::Field {
+            label,
+            type_name,
+            name,
+            number,
+            options,
+        } => push_field(
+            nodes, alloc, depth, *label, type_name, name, *number, options,
+        ),
+        Statement::MapField {
+            key,
+            value,
+            name,
+            number,
+            options,
+        } => push_map_field(nodes, alloc, depth, key, value, name, *number, options),
+        Statement::Oneof { name } => {
+            let name = name.bare(alloc)?;
+            push_node(nodes, depth, Statement::Oneof { name })
+        }
+        Statement::ReservedNumbers(ranges) => {
+            let ranges = bare_list(alloc, ranges)?;
+            push_node(nodes, depth, Statement::ReservedNumbers(ranges))
+        }
+        Statement::ReservedNames(names) => {
+            let names = bare_list(alloc, names)?;
+            push_node(nodes, depth, Statement::ReservedNames(names))
+        }
+        Statement::Enum { name } => {
+            let name = name.bare(alloc)?;
+            push_node(nodes, depth, Statement::Enum { name })
+        }
+        Statement::Value {
+            name,
+            number,
+            options,
+        } => push_value(nodes, alloc, depth, name, *number, options),
+        Statement::Service { name } => {
+            let name = name.bare(alloc)?;
+            push_node(nodes, depth, Statement::Service { name })
+        }
+        Statement::Method {
+            name,
+            input,
+            output,
+        } => push_method(nodes, alloc, depth, name, input, output),
+        Statement::Extend { type_name } => {
+            let type_name = type_name.bare(alloc)?;
+            push_node(nodes, depth, Statement::Extend { type_name })
         }
     }
 }
 
-impl Bare for Node {
-    ghost bares = { bare };
-
-    fn bare(&self, alloc: Global) -> Result<Node, Memory> {
-        Ok(Node {
-            depth: self.depth,
-            span: nowhere(),
-            statement: self.statement.bare(alloc)?,
-        })
+/// Copies of the statements `nodes` without spans, in order.
+pub(crate) fn bare_nodes(alloc: Global, nodes: &[Node]) -> Result<Items<Node>, Memory>
+    ensures bare { IfOk result (λ v. v ≡ map bare nodes.now) }
+{
+    let mut copies = Vec::with_capacity(alloc, nodes.len())?;
+    'nodes: for node in nodes {
+        push_bare(&mut copies, alloc, node)?;
     }
+    Ok(Items::new(copies))
 }

@@ -7,7 +7,7 @@ ghost use Rattle.pq_links.specs.Bare.{bare};
 ghost use Rattle.pq_links.specs.Files.{items_of, nodes_in, parsed_items};
 
 use crate::Memory;
-use crate::bare::bare_list;
+use crate::bare::bare_nodes;
 use crate::files::ParsedFile;
 use pq_syntax::{File, Node, Parsed};
 use std::alloc::Global;
@@ -36,7 +36,7 @@ impl BareFile {
         ensures bare { IfOk result (λ f. f ≡ map bare file.now) }
     {
         Ok(BareFile {
-            nodes: bare_list(alloc, file)?,
+            nodes: bare_nodes(alloc, file.as_slice())?,
         })
     }
 
