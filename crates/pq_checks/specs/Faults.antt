@@ -22,8 +22,8 @@ use Rattle.pq_syntax.specs.declared.tree.Statement.TheVariants.{Field, MapField,
 use Rattle.pq_schema.specs.declared.definitions.Definition.{Definition}
 use Rattle.pq_schema.specs.declared.definitions.DefinitionKind.{DefinitionKind}
 use Rattle.pq_schema.specs.declared.definitions.DefinitionKind.TheVariants as kinds
-use Rattle.pq_schema.specs.declared.references.TypePart.{TypePart}
-use Rattle.pq_schema.specs.declared.references.TypePart.TheVariants as parts
+use Rattle.pq_links.specs.declared.places.TypePart.{TypePart}
+use Rattle.pq_links.specs.declared.places.TypePart.TheVariants as parts
 use Rattle.pq_schema.specs.declared.resolution.Resolution.{Resolution}
 use Rattle.pq_schema.specs.declared.resolution.Resolution.TheVariants as resolutions
 use Rattle.pq_schema.specs.declared.resolved.ResolvedReference.{ResolvedReference}

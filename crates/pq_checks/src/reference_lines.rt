@@ -8,7 +8,8 @@ use crate::code::Code;
 use crate::fault::Fault;
 use crate::said::{around_file, push, say_name};
 use crate::tell::{both, tell_name};
-use pq_schema::{Resolution, ResolvedReference, TypePart};
+use pq_links::TypePart;
+use pq_schema::{Resolution, ResolvedReference};
 use pq_syntax::{Name, Node, Statement};
 use std::alloc::Global;
 

@@ -4,7 +4,7 @@ use Rattle.std.specs.Prelude.{None}
 use Rattle.std.proofs.lemmas.List.{at_drop_all, at_drop_more}
 use Rattle.std.proofs.lemmas.Bool.{cond-true, cond-false}
 use Rattle.pq_syntax.specs.declared.tree.Node.{Node}
-use Rattle.pq_schema.specs.declared.references.TypePart.{TypePart}
+use Rattle.pq_links.specs.declared.places.TypePart.{TypePart}
 use Rattle.pq_schema.specs.declared.resolved.ResolvedReference.{ResolvedReference}
 use Rattle.pq_proto.specs.Types.{is_part, no_type, referred, type_to}
 use Rattle.pq_proto.specs.Definition.{definition_at, holds, span_of, type_item}

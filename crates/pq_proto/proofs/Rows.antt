@@ -14,7 +14,7 @@ use Rattle.pq_syntax.specs.declared.tree.Node.{Node}
 use Rattle.pq_syntax.specs.declared.tree.Statement.{Statement}
 use Rattle.pq_syntax.specs.declared.tree.Statement.TheVariants as statements
 use Rattle.pq_schema.specs.Definitions.{package_of, camel}
-use Rattle.pq_schema.specs.declared.references.TypePart.TheVariants as parts
+use Rattle.pq_links.specs.declared.places.TypePart.TheVariants as parts
 use Rattle.pq_schema.specs.declared.resolution.Resolution.TheVariants as resolutions
 use Rattle.pq_schema.specs.declared.resolved.ResolvedReference.{ResolvedReference}
 use Rattle.pq_proto.specs.Bodies.{body_at, each}

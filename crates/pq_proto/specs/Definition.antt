@@ -4,8 +4,8 @@ use Rattle.pq_lex.specs.declared.token.Span.{Span}
 use Rattle.pq_syntax.specs.declared.tree.Node.{Node}
 use Rattle.pq_syntax.specs.declared.tree.Statement.{Statement}
 use Rattle.pq_syntax.specs.declared.tree.Statement.TheVariants.{Field, MapField, Method}
-use Rattle.pq_schema.specs.declared.references.TypePart.{TypePart}
-use Rattle.pq_schema.specs.declared.references.TypePart.TheVariants as parts
+use Rattle.pq_links.specs.declared.places.TypePart.{TypePart}
+use Rattle.pq_links.specs.declared.places.TypePart.TheVariants as parts
 use Rattle.pq_schema.specs.declared.resolution.Resolution.{Resolution}
 use Rattle.pq_schema.specs.declared.resolution.Resolution.TheVariants as resolutions
 use Rattle.pq_schema.specs.declared.resolved.ResolvedReference.{ResolvedReference}

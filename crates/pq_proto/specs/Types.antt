@@ -3,8 +3,8 @@
 use Rattle.std.specs.Prelude.{ℕ, Bool, true, false, cond, ◌&&◌, nat_eq, List, [], ◌∷◌, ◌++◌, codes, Option, Some, None}
 use Rattle.std.specs.Str.{bytes_eq}
 use Rattle.serde_json.specs.Data.{Data, null, string}
-use Rattle.pq_schema.specs.declared.references.TypePart.{TypePart}
-use Rattle.pq_schema.specs.declared.references.TypePart.TheVariants as parts
+use Rattle.pq_links.specs.declared.places.TypePart.{TypePart}
+use Rattle.pq_links.specs.declared.places.TypePart.TheVariants as parts
 use Rattle.pq_schema.specs.declared.resolution.Resolution.{Resolution}
 use Rattle.pq_schema.specs.declared.resolution.Resolution.TheVariants as resolutions
 use Rattle.pq_schema.specs.declared.resolved.ResolvedReference.{ResolvedReference}

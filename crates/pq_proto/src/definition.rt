@@ -5,8 +5,9 @@ ghost use Rattle.pq_proto.specs.Definition.{definition_at, holds, part_span, spa
 
 use crate::Memory;
 use pq_lex::Span;
+use pq_links::TypePart;
 use pq_names::Text;
-use pq_schema::{Resolution, ResolvedReference, TypePart};
+use pq_schema::{Resolution, ResolvedReference};
 use pq_syntax::{Node, Statement};
 use std::alloc::Global;
 

@@ -5,7 +5,7 @@ use Rattle.pq_inputs.specs.Sources.{Sources, file_in}
 use Rattle.pq_rules.specs.declared.turn.Answer.{Answer}
 use Rattle.pq_rules.specs.declared.turn.Answer.TheVariants.{Value}
 use Rattle.pq_syntax.specs.declared.tree.Node.{Node}
-use Rattle.pq_links.specs.Files.{graph_of, read_file}
+use Rattle.pq_links.specs.Files.{graph_of, read_in}
 use Rattle.pq_links.specs.ImportGraph.{IsRingOf}
 use Rattle.pq_links.specs.LinkedKeys.{LinkedIs}
 use Rattle.pq_links.specs.Visibility.{AreLinks}
@@ -26,7 +26,7 @@ use Rattle.pq_schema.specs.declared.scope.FileDefs.{FileDefs}
 
 -- `nodes_at files f` is the statements of the file `f`
 abbrev pub nodes_at : Sources → List ℕ → List Node
-nodes_at files f = nodes_of (read_file (file_in files f).text)
+nodes_at files f = nodes_of (read_in files f)
 
 -- `defs_at files f` is the package and the definitions of the file `f`; a file that is absent or
 -- has a syntax error has neither
@@ -70,7 +70,7 @@ AreResolved files f rs =
 -- are the cycle of the ring of imports into which it leads.
 abbrev pub Compiles : Sources → SchemaKey → Answer SchemaKey SchemaValue → Type 0
 Compiles files (keys.Input f) a = a ≡ Value (values.Source (file_in files f).text)
-Compiles files (keys.Parse f) a = a ≡ Value (values.Parse (read_file (file_in files f).text))
+Compiles files (keys.Parse f) a = a ≡ Value (values.Parse (read_in files f))
 Compiles files (keys.Imports f) a = a ≡ Value (values.Imports (graph_of files f))
 Compiles files (keys.Linked f) a = LinkedIs (graph_of files) (λ n. keys.Linked n) (λ l. values.Linked l) f a
 Compiles files (keys.Defs f) a = a ≡ Value (values.Defs (defs_at files f))

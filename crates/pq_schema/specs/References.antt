@@ -8,7 +8,7 @@ use Rattle.pq_syntax.specs.declared.tree.Statement.TheVariants.{Field, MapField,
 use Rattle.pq_syntax.specs.Places.{Place, places}
 use Rattle.pq_schema.specs.Definitions.{package_of, scope_in}
 use Rattle.pq_schema.specs.declared.references.Reference.{Reference}
-use Rattle.pq_schema.specs.declared.references.TypePart.TheVariants as parts
+use Rattle.pq_links.specs.declared.places.TypePart.TheVariants as parts
 
 -- `scalars` lists the names of the scalar types
 abbrev pub scalars : List (List ℕ)

@@ -10,7 +10,7 @@ use Rattle.pq_rules.specs.declared.turn.Answer.TheVariants.{Value, Cycle}
 use Rattle.pq_rules.specs.Turns.{Instance}
 use Rattle.pq_rules.specs.Value.{Means}
 use Rattle.pq_rules.specs.Embedding.{Embeds}
-use Rattle.pq_links.specs.Files.{read_file, graph_of}
+use Rattle.pq_links.specs.Files.{read_in, graph_of}
 use Rattle.pq_links.specs.LinkedKeys.{LinkedIs}
 use Rattle.pq_links.specs.Visibility.{no_links}
 use Rattle.pq_links.specs.aux.Queries.{parse_level, imports_level, linked_level, parse_starts, parse_advances, imports_starts, imports_advances, linked_starts, linked_advances}
@@ -87,7 +87,7 @@ pub record SchemaSum {K P V : Type 0} (m : Instance K P V) (files : Sources) : T
 -- m key a` holds exactly of these answers `a`
 pub record SchemaMeans {K P V : Type 0} (m : Instance K P V) (files : Sources) (s : SchemaSum m files) : Type 0 where
   pub input : (f : List ℕ) (a : Answer K V) → Means m (s.input f) a ↔ (a ≡ Value (s.text_value (file_in files f).text))
-  pub parse : (f : List ℕ) (a : Answer K V) → Means m (s.parse f) a ↔ (a ≡ Value (s.parse_value (read_file (file_in files f).text)))
+  pub parse : (f : List ℕ) (a : Answer K V) → Means m (s.parse f) a ↔ (a ≡ Value (s.parse_value (read_in files f)))
   pub imports : (f : List ℕ) (a : Answer K V) → Means m (s.imports f) a ↔ (a ≡ Value (s.imports_value (graph_of files f)))
   pub linked : (f : List ℕ) (a : Answer K V) → Means m (s.linked f) a ↔ LinkedIs (graph_of files) s.linked s.linked_value f a
   pub defs : (f : List ℕ) (a : Answer K V) → Means m (s.defs f) a ↔ (a ≡ Value (s.defs_value (defs_at files f)))

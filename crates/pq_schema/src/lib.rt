@@ -65,7 +65,7 @@ pub use map_entries::entry_name;
 pub use other_files::OtherFiles;
 pub use pq_rules::{Shared, Text};
 pub use pq_syntax::Items;
-pub use references::{Reference, TypePart, references_in};
+pub use references::{Reference, references_in};
 pub use resolution::{Resolution, ResolveFault, Target, resolve};
 pub use resolved::{ResolvedPart, ResolvedQuery, ResolvedReference};
 pub use rules::{SchemaKey, SchemaPart, SchemaRules, SchemaValue};

@@ -7,19 +7,9 @@ use crate::enclosing::Enclosing;
 use crate::full_name::{FullName, with_dot};
 use crate::outline::{innermost, package_of, scope_of};
 use crate::{Memory, Text};
+use pq_links::TypePart;
 use pq_syntax::{Name, Node, Stack, Statement};
 use std::alloc::Global;
-
-/// The part of an item that a type reference is.
-#[derive(Clone, Copy, Debug, PartialEq, Eq)]
-pub enum TypePart {
-    /// The type of a field, or the value type of a map field.
-    Type,
-    /// The input type of a method.
-    Input,
-    /// The output type of a method.
-    Output,
-}
 
 /// A type reference: a name that has to be resolved to a type.
 #[derive(Drop, PartialEq, Eq)]

@@ -4,11 +4,9 @@ use Rattle.std.proofs.Common.{◌≡◌, IsTrue}
 use Rattle.std.specs.Cmp.{unsigned_Decides, booleans_Decides}
 use Rattle.std.specs.Cmp.Lexicographic.{pointwise_decides, bytes_decides}
 use Rattle.pq_syntax.proofs.Equality.{Told, no_field, one_field, fields, of_struct, no_variant, variants, of_enum, of_bare, option}
-use Rattle.pq_links.proofs.Equality.{parsed_file, file_imports, file_links}
+use Rattle.pq_links.proofs.Equality.{parsed_file, file_imports, file_links, type_part}
 use Rattle.pq_schema.specs.aux.SameContents.{contents}
 use Rattle.pq_schema.specs.aux.SameScopes.{lists}
-use Rattle.pq_schema.specs.contracts.references.TypePart as type_part_type
-use Rattle.pq_schema.specs.contracts.references.TypePartPartialEq.TheImpl as type_part_eq
 use Rattle.pq_schema.specs.contracts.resolution.Resolution as resolution_type
 use Rattle.pq_schema.specs.contracts.resolution.ResolutionPartialEq.TheImpl as resolution_eq
 use Rattle.pq_schema.specs.contracts.resolved.ResolvedReference as reference_type
@@ -26,9 +24,6 @@ use Rattle.pq_proto.specs.contracts.value.LocationPartialEq.TheImpl as location_
 use Rattle.pq_proto.specs.contracts.value.ProtoValue as value_type
 use Rattle.pq_proto.specs.contracts.value.ProtoValuePartialEq.TheImpl as value_eq
 use Rattle.pq_proto.specs.declared.value.ProtoValue.{ProtoValue}
-
-type_part : Told type_part_eq.ghosts.eq
-type_part = of_bare type_part_type.the_type tt
 
 one_resolution : Told resolution_eq.ghosts.eq
 one_resolution =

@@ -1,6 +1,6 @@
 -- Auxiliary: the first reference of each item, by which a look-up takes constant time.
 use Rattle.std.specs.Prelude.{◌≡◌, ℕ, suc, ◌<◌, ◌&&◌, nat_eq, cond, get_or, length, List, [], ◌∷◌}
-use Rattle.pq_schema.specs.declared.references.TypePart.{TypePart}
+use Rattle.pq_links.specs.declared.places.TypePart.{TypePart}
 use Rattle.pq_schema.specs.declared.resolved.ResolvedReference.{ResolvedReference}
 use Rattle.pq_proto.specs.Types.{is_part}
 

@@ -8,7 +8,8 @@ ghost use Rattle.pq_proto.specs.Types.{is_part, no_type, referred, type_to};
 ghost use Rattle.pq_proto.specs.aux.Firsts.{IsFirsts, first_at};
 
 use crate::Memory;
-use pq_schema::{ResolvedReference, TypePart};
+use pq_links::TypePart;
+use pq_schema::ResolvedReference;
 use std::alloc::Global;
 use std::marker::Model;
 
@@ -27,7 +28,7 @@ pub(crate) struct References<'a> {
 impl<'a> Model for References<'a> {
     ghost use Rattle.std.specs.Prelude.{List};
     ghost use Rattle.pq_schema.specs.declared.resolved.ResolvedReference.{ResolvedReference as Resolved};
-    ghost use Rattle.pq_schema.specs.declared.references.TypePart.TheVariants as parts;
+    ghost use Rattle.pq_links.specs.declared.places.TypePart.TheVariants as parts;
     ghost use Rattle.pq_proto.specs.aux.Firsts.{IsFirsts};
 
     ghost Value = { List Resolved };

@@ -15,7 +15,7 @@ use crate::descriptor::settings::print_options_in;
 use crate::descriptor::types::{TypeName, referred};
 use crate::printing::lists::{Part, print_list};
 use crate::printing::printer::Printer;
-use pq_schema::TypePart;
+use pq_links::TypePart;
 use pq_syntax::Statement;
 use std::alloc::Global;
 

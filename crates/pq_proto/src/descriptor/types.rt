@@ -5,7 +5,8 @@ ghost use Rattle.pq_proto.specs.aux.Views.{type_of};
 
 use crate::Memory;
 use crate::descriptor::references::References;
-use pq_schema::{FullName, Resolution, TypePart};
+use pq_links::TypePart;
+use pq_schema::{FullName, Resolution};
 use std::alloc::Global;
 
 /// A type as descriptors tell it.

@@ -7,20 +7,16 @@ use Rattle.std.specs.Ordering.{nat_cmp}
 use Rattle.std.specs.declared.cmp.Ordering.TheVariants.{Equal}
 use Rattle.std.proofs.lemmas.Map.Text.{is_eq-slice_cmp}
 use Rattle.std.proofs.lemmas.Slice.Eq.{bytes_eq-Decides}
-use Rattle.pq_syntax.proofs.Equality.{Told, no_field, one_field, fields, of_struct, no_variant, variants, of_enum, of_bare, option}
-use Rattle.pq_links.proofs.Equality.{parsed_file, file_imports, file_links}
+use Rattle.pq_syntax.proofs.Equality.{Told, no_field, one_field, fields, of_struct, no_variant, variants, of_enum, option}
+use Rattle.pq_links.proofs.Equality.{parsed_file, file_imports, file_links, type_part}
 use Rattle.pq_schema.specs.aux.SameContents.{contents}
 use Rattle.pq_schema.specs.aux.SameScopes.{lists}
-use Rattle.pq_schema.specs.contracts.references as references
 use Rattle.pq_schema.specs.contracts.resolution as resolution
 use Rattle.pq_schema.specs.contracts.resolved as resolved
 use Rattle.pq_schema.specs.contracts.rules as rules
 use Rattle.pq_schema.specs.declared.rules.SchemaKey.{SchemaKey}
 use Rattle.pq_schema.specs.declared.rules.SchemaKey.TheVariants.{Input, Parse, Imports, Linked, Defs, Scope, Resolved}
 use Rattle.pq_schema.specs.declared.rules.SchemaValue.{SchemaValue}
-
-type_part : Told references.TypePartPartialEq.TheImpl.ghosts.eq
-type_part = of_bare references.TypePart.the_type tt
 
 one_resolution : Told resolution.ResolutionPartialEq.TheImpl.ghosts.eq
 one_resolution =

@@ -1,9 +1,9 @@
 //! Answers as text.
-use pq_links::{Import, Links, ParsedFile};
+use pq_links::{Import, Links, ParsedFile, TypePart};
 use pq_rules::{Answer, Ring, Text};
 use pq_schema::{
     Definition, DefinitionKind, Defs, FileDefs, FullName, Resolution, ResolveFault,
-    ResolvedReference, SchemaKey, SchemaValue, Scope, Target, TypePart,
+    ResolvedReference, SchemaKey, SchemaValue, Scope, Target,
 };
 use pq_syntax::Parsed;
 use test_support::Page;
