@@ -1,7 +1,7 @@
 //! Copies of a tree's parts without their spans, in time linear in the tree.
 //!
 //! Names of up to 24 bytes are copied, and longer ones shared; the bytes of strings are copied.
-ghost use Rattle.std.specs.Prelude.{◌≡◌, [], ◌∷◌, ◌++◌, IfOk, OnOk, map};
+ghost use Rattle.std.specs.Prelude.{◌≡◌, ◌<◌, [], ◌∷◌, ◌++◌, IfOk, OnOk, map, vec_len, vec_capacity};
 ghost use Rattle.pq_links.specs.Bare.{bare, bare_constant, bare_end, bare_name, bare_number, bare_part, bare_range, bare_setting, bare_statement, bare_strings, bare_type, node_at, nowhere};
 ghost use Rattle.pq_syntax.specs.declared.tree.Statement.TheVariants.{Field, MapField, Method, Value};
 
@@ -161,13 +161,13 @@ impl Bare for MethodType {
     }
 }
 
-/// Adds the statement `statement` at the depth `depth`.
+/// Adds the statement `statement` at the depth `depth`. `nodes` has room for it.
 #[inline]
 fn push_node(nodes: &mut Vec<Node>, depth: u8, statement: Statement) -> Result<(), Memory>
+    requires room { vec_len nodes.old < vec_capacity nodes.old }
     ensures pushed { OnOk result
         (nodes.new.items ≡ nodes.old.items ++ node_at depth statement ∷ []) }
 {
-    nodes.reserve(1)?;
     nodes.push_reserved(Node {
         depth,
         span: nowhere(),
@@ -176,7 +176,7 @@ fn push_node(nodes: &mut Vec<Node>, depth: u8, statement: Statement) -> Result<(
     Ok(())
 }
 
-/// Adds a field at the depth `depth`, without spans.
+/// Adds a field at the depth `depth`, without spans. `nodes` has room for it.
 #[inline]
 fn push_field(
     nodes: &mut Vec<Node>,
@@ -188,6 +188,7 @@ fn push_field(
     number: Number,
     options: &Items<Setting>,
 ) -> Result<(), Memory>
+    requires room { vec_len nodes.old < vec_capacity nodes.old }
     ensures pushed { OnOk result (nodes.new.items ≡ nodes.old.items ++ node_at depth
         (Field label (bare_name type_name.now) (bare_name name.now) (bare_number number) (map bare_setting options.now)) ∷ []) }
 {
@@ -204,7 +205,7 @@ fn push_field(
     )
 }
 
-/// Adds a map field at the depth `depth`, without spans.
+/// Adds a map field at the depth `depth`, without spans. `nodes` has room for it.
 #[inline]
 fn push_map_field(
     nodes: &mut Vec<Node>,
@@ -216,6 +217,7 @@ fn push_map_field(
     number: Number,
     options: &Items<Setting>,
 ) -> Result<(), Memory>
+    requires room { vec_len nodes.old < vec_capacity nodes.old }
     ensures pushed { OnOk result (nodes.new.items ≡ nodes.old.items ++ node_at depth
         (MapField (bare_name key.now) (bare_name value.now) (bare_name name.now) (bare_number number) (map bare_setting options.now)) ∷ []) }
 {
@@ -232,7 +234,7 @@ fn push_map_field(
     )
 }
 
-/// Adds an enum value at the depth `depth`, without spans.
+/// Adds an enum value at the depth `depth`, without spans. `nodes` has room for it.
 #[inline]
 fn push_value(
     nodes: &mut Vec<Node>,
@@ -242,6 +244,7 @@ fn push_value(
     number: Number,
     options: &Items<Setting>,
 ) -> Result<(), Memory>
+    requires room { vec_len nodes.old < vec_capacity nodes.old }
     ensures pushed { OnOk result (nodes.new.items ≡ nodes.old.items ++ node_at depth
         (Value (bare_name name.now) (bare_number number) (map bare_setting options.now)) ∷ []) }
 {
@@ -256,7 +259,7 @@ fn push_value(
     )
 }
 
-/// Adds a method at the depth `depth`, without spans.
+/// Adds a method at the depth `depth`, without spans. `nodes` has room for it.
 #[inline]
 fn push_method(
     nodes: &mut Vec<Node>,
@@ -266,6 +269,7 @@ fn push_method(
     input: &MethodType,
     output: &MethodType,
 ) -> Result<(), Memory>
+    requires room { vec_len nodes.old < vec_capacity nodes.old }
     ensures pushed { OnOk result (nodes.new.items ≡ nodes.old.items ++ node_at depth
         (Method (bare_name name.now) (bare_type input.now) (bare_type output.now)) ∷ []) }
 {
@@ -286,6 +290,7 @@ fn push_method(
 fn push_bare(nodes: &mut Vec<Node>, alloc: Global, node: &Node) -> Result<(), Memory>
     ensures pushed { OnOk result (nodes.new.items ≡ nodes.old.items ++ bare node.now ∷ []) }
 {
+    nodes.reserve(1)?;
     let depth = node.depth;
     match &node.statement {
         Statement::Import { kind, file } => {
