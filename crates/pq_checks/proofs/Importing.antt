@@ -1,14 +1,12 @@
 -- The errors of imports, by what the code looks up: states by name, and names listed before.
-use Rattle.std.proofs.Common.{◌≡◌, ℕ, zero, suc, arith, ◌+◌, ◌<◌, Bool, true, false, cond, List, [], ◌∷◌, ◌++◌, drop, length, get_or, refl, sym, ◌∙◌, ap, append_assoc, add-one, drop-cons}
+use Rattle.std.proofs.Common.{◌≡◌, ℕ, ◌+◌, ◌<◌, Bool, true, false, cond, List, [], ◌∷◌, ◌++◌, drop, length, get_or, refl, sym, ◌∙◌, ap, append_assoc, add-one, drop-cons}
 use Rattle.std.specs.Prelude.{bytes_eq, codes, Option, Some, None, unwrap_or}
-use Rattle.std.specs.Borrow.{Bor}
-use Rattle.pq_syntax.specs.declared.parts.Strings.{Strings}
 use Rattle.std.specs.Str.{is_utf8}
 use Rattle.pq_checks.specs.declared.code.Code.TheVariants as code
 use Rattle.pq_checks.specs.Faults.{at, arrowed, ring_text, ring_faults, import_faults, is_listed, state_faults}
+use Rattle.pq_checks.specs.Members.{ImportName}
 use Rattle.pq_checks.specs.Surroundings.{state_in}
 use Rattle.pq_checks.specs.aux.Imports.{found_in, first_name, import_line, ring_line, listed_line, by_imports}
-use Rattle.pq_checks.specs.aux.Views.{all_now}
 use Rattle.pq_checks.specs.declared.surroundings.FileState.{FileState}
 use Rattle.pq_checks.specs.declared.surroundings.FileState.TheVariants.{Readable}
 use Rattle.pq_checks.specs.declared.surroundings.Imported.{Imported}
@@ -52,33 +50,19 @@ pub ring_said : (ring : List (List ℕ)) → ring_text ring ≡ codes "import cy
 ring_said [] = refl
 ring_said (f ∷ fs) = refl
 
--- ---- lists of what references lend
-
-pub length_now : {A : Type 0} (xs : List (Bor A)) → length (all_now xs) ≡ length xs
-length_now [] = refl
-length_now (x ∷ xs) = ap (λ n. suc n) (length_now xs)
-
-at_map : {A : Type 0} (xs : List (Bor A)) (i : ℕ) (d : Bor A) → i < length xs → get_or (all_now xs) i d.now ≡ (get_or xs i d).now
-at_map [] i d lt = absurd (omega arith)
-at_map (x ∷ xs) zero d lt = refl
-at_map (x ∷ xs) (suc i) d lt = at_map xs i d (omega arith)
-
-pub now_at : {A : Type 0} (xs : List (Bor A)) (i : ℕ) (d : Bor A) → i < length xs → d ≡ get_or xs i d → d.now ≡ get_or (all_now xs) i d.now
-now_at {A = A} xs i d lt is = ap (λ (x : Bor A). x.now) is ∙ sym (at_map xs i d lt)
-
 -- ---- one import
 
-ring_same : (ring : Option (List (List ℕ))) (next : Option (List ℕ)) (earlier : List Strings) (i : Strings)
-    → ring_faults ring next earlier i ≡ ring_line ring next (is_listed i.value earlier) i
+ring_same : (ring : Option (List (List ℕ))) (next : Option (List ℕ)) (earlier : List ImportName) (i : ImportName)
+    → ring_faults ring next earlier i ≡ ring_line ring next (is_listed i.name.value earlier) i
 ring_same None next earlier i = refl
 ring_same (Some ring) None earlier i = refl
 ring_same (Some ring) (Some next) earlier i = refl
 
 -- the errors of an import, by its state and whether its name is repeated
-pub import_said : (imported : List Imported) (ring : Option (List (List ℕ))) (next : Option (List ℕ)) (earlier : List Strings) (i : Strings) (state : FileState) (repeated : Bool)
-    → state ≡ state_in imported i.value → repeated ≡ is_listed i.value earlier → import_line state ring next repeated i ≡ import_faults (by_imports imported ring next) earlier i
+pub import_said : (imported : List Imported) (ring : Option (List (List ℕ))) (next : Option (List ℕ)) (earlier : List ImportName) (i : ImportName) (state : FileState) (repeated : Bool)
+    → state ≡ state_in imported i.name.value → repeated ≡ is_listed i.name.value earlier → import_line state ring next repeated i ≡ import_faults (by_imports imported ring next) earlier i
 import_said imported ring next earlier i state repeated is_state is_repeated =
     ap (λ s. import_line s ring next repeated i) is_state
-    ∙ ap (λ b. import_line (state_in imported i.value) ring next b i) is_repeated
-    ∙ ap (λ rs. cond (is_utf8 i.value) (state_faults (state_in imported i.value) i ++ listed_line (is_listed i.value earlier) i ++ rs) (at i.span code.ImportNotText (codes "import name is not UTF-8") ∷ []))
+    ∙ ap (λ b. import_line (state_in imported i.name.value) ring next b i) is_repeated
+    ∙ ap (λ rs. cond (is_utf8 i.name.value) (state_faults (state_in imported i.name.value) i ++ listed_line (is_listed i.name.value earlier) i ++ rs) (at i.name.span code.ImportNotText (codes "import name is not UTF-8") ∷ []))
     (sym (ring_same ring next earlier i))

@@ -1,7 +1,9 @@
 -- The steps of a loop over a list that appends what is said of each element, and its end.
-use Rattle.std.proofs.Common.{◌≡◌, ℕ, ◌+◌, ◌<◌, ◌≤◌, List, [], ◌∷◌, ◌++◌, map, take, drop, length, get_or, sym, ◌∙◌, ap, append_assoc, append-nil, add-one, drop-cons}
+use Rattle.std.proofs.Common.{◌≡◌, ℕ, zero, suc, ◌+◌, ◌<◌, ◌≤◌, List, [], ◌∷◌, ◌++◌, map, take, drop, length, get_or, refl, sym, ◌∙◌, ap, append_assoc, append-nil, add-one, drop-cons, arith}
 use Rattle.std.specs.Prelude.{flat_map}
+use Rattle.std.specs.List.{enumerate_from}
 use Rattle.std.proofs.lemmas.List.{drop_all}
+use Rattle.std.proofs.lemmas.List.FromFn.{length-enumerate_from, get_or-enumerate_from}
 use Rattle.pq_checks.specs.Earlier.{of_each_after}
 use Rattle.pq_checks.proofs.SaidAfter.{each_said_more}
 
@@ -66,3 +68,26 @@ module _ {A B : Type 0} (f : List A → A → List B) where
   unfolding of_each_after
   after_all done whole xs i past so_far =
       sym (append-nil done) ∙ ap (λ ys. done ++ of_each_after f (take i xs) ys) (sym (drop_all i xs past)) ∙ so_far
+
+-- ---- a list whose elements are numbered from 0
+
+get_again : {A : Type 0} (xs : List A) (i : ℕ) (d : A) → i < length xs → get_or xs i d ≡ get_or xs i (get_or xs i d)
+get_again [] i d lt = absurd (omega arith)
+get_again (x ∷ xs) zero d lt = refl
+get_again (x ∷ xs) (suc i) d lt = get_again xs i d (omega arith)
+
+-- the element at `i` with its number
+pub numbered_at : {A : Type 0} (xs : List A) (i : ℕ) (x : A) → i < length xs → x ≡ get_or xs i x → (i, x) ≡ get_or (enumerate_from 0 xs) i (i, x)
+numbered_at {A = A} xs i x lt at =
+    let from_zero : i ≡ 0 + i = omega arith in
+    ap {B = ℕ × A} (λ y. (i, y)) at ∙ ap {B = ℕ × A} (λ n. (n, get_or xs i x)) from_zero ∙ sym (get_or-enumerate_from 0 xs i (i, x) lt)
+
+pub numbered_within : {A : Type 0} (xs : List A) (i : ℕ) → i < length xs → i < length (enumerate_from 0 xs)
+numbered_within xs i lt = omega (arith, length-enumerate_from 0 xs)
+
+pub numbered_past : {A : Type 0} (xs : List A) (i : ℕ) → length xs ≤ i → length (enumerate_from 0 xs) ≤ i
+numbered_past xs i past = omega (arith, length-enumerate_from 0 xs)
+
+-- the same of an element that the code looks up with a default value
+pub numbered_or : {A : Type 0} (xs : List A) (i : ℕ) (d : A) → i < length xs → (i, get_or xs i d) ≡ get_or (enumerate_from 0 xs) i (i, get_or xs i d)
+numbered_or xs i d lt = numbered_at xs i (get_or xs i d) lt (get_again xs i d lt)

@@ -15,7 +15,6 @@ use Rattle.pq_syntax.specs.declared.parts.ConstantKind.{ConstantKind}
 use Rattle.pq_syntax.specs.declared.parts.ConstantKind.TheVariants.{Identifier, Float, Aggregate}
 use Rattle.pq_syntax.specs.declared.parts.Name.{Name}
 use Rattle.pq_syntax.specs.declared.parts.NamePart.{NamePart}
-use Rattle.pq_syntax.specs.declared.parts.Strings.{Strings}
 use Rattle.pq_syntax.specs.declared.tree.Node.{Node}
 use Rattle.pq_syntax.specs.declared.tree.Statement.{Statement}
 use Rattle.pq_syntax.specs.declared.tree.Statement.TheVariants.{Field, MapField, Method}
@@ -29,7 +28,7 @@ use Rattle.pq_schema.specs.declared.resolution.Resolution.TheVariants as resolut
 use Rattle.pq_schema.specs.declared.resolved.ResolvedReference.{ResolvedReference}
 use Rattle.pq_schema.specs.declared.scope.FileDefs.{FileDefs}
 use Rattle.pq_checks.specs.Earlier.{of_each_after}
-use Rattle.pq_checks.specs.Members.{Member, fields, values, Body, oneofs, enums, ranges, ReservedName, reserved_names, packages, imports, Opted, option_statements, constants, extends}
+use Rattle.pq_checks.specs.Members.{Member, fields, values, Titled, packages, oneofs, enums, ranges, ReservedName, reserved_names, ImportName, imports, Opted, option_statements, Assigned, constants, extends}
 use Rattle.pq_checks.specs.Numbers.{Limits, field_limits, enum_limits, number_in, bounds_of, is_between}
 use Rattle.pq_checks.specs.Owners.{limits_by}
 use Rattle.pq_checks.specs.Surroundings.{Surroundings, state_in, first_with}
@@ -72,9 +71,9 @@ kind_faults Aggregate span = at span code.AggregateConstant (codes "aggregate op
 kind_faults Float span = at span code.FloatConstant (codes "float literal is not read") ∷ []
 kind_faults _ span = []
 
--- `constant_faults c` is the errors of the constant `c` of an option
-abbrev pub constant_faults : Constant → List Fault
-constant_faults c = kind_faults c.kind c.span
+-- `constant_faults a` is the errors of the constant `a` of an option
+abbrev pub constant_faults : Assigned → List Fault
+constant_faults a = kind_faults a.constant.kind a.constant.span
 
 -- `extend_faults span` is P021 of an extend block at `span`
 abbrev pub extend_faults : Span → List Fault
@@ -83,22 +82,21 @@ extend_faults span = at span code.ExtendBlock (codes "extend block is not read")
 -- ---- P101: the package
 
 -- `package_faults earlier p` is the error of the package `p` after the packages `earlier`
-abbrev pub package_faults : List Name → Name → List Fault
+abbrev pub package_faults : List Titled → Titled → List Fault
 package_faults [] p = []
-package_faults (q ∷ qs) p = at p.span code.PackageTwice (codes "package is given twice") ∷ []
+package_faults (q ∷ qs) p = at p.name.span code.PackageTwice (codes "package is given twice") ∷ []
 
 -- ---- P102 to P106: imports
 
--- `state_faults state s` is P102 and P104 of an import of the name `s` of a file in the state
--- `state`
-abbrev pub state_faults : FileState → Strings → List Fault
-state_faults Missing s = at s.span code.ImportNotFound (codes "import " ++ quoted s.value ++ codes " is not found") ∷ []
-state_faults Unreadable s = at s.span code.ImportWithError (codes "import " ++ quoted s.value ++ codes " has a syntax fault") ∷ []
-state_faults Readable s = []
+-- `state_faults state i` is P102 and P104 of the import `i` of a file in the state `state`
+abbrev pub state_faults : FileState → ImportName → List Fault
+state_faults Missing i = at i.name.span code.ImportNotFound (codes "import " ++ quoted i.name.value ++ codes " is not found") ∷ []
+state_faults Unreadable i = at i.name.span code.ImportWithError (codes "import " ++ quoted i.name.value ++ codes " has a syntax fault") ∷ []
+state_faults Readable i = []
 
 -- `is_listed name earlier` is whether one of the imports `earlier` has the name `name`
-abbrev pub is_listed : List ℕ → List Strings → Bool
-is_listed name earlier = list_any (λ (e : Strings). bytes_eq name e.value) earlier
+abbrev pub is_listed : List ℕ → List ImportName → Bool
+is_listed name earlier = list_any (λ (e : ImportName). bytes_eq name e.name.value) earlier
 
 -- `arrowed files last` is the names `files` and then `last`, with arrows between
 abbrev pub arrowed : List (List ℕ) → List ℕ → List ℕ
@@ -111,22 +109,22 @@ abbrev pub ring_text : List (List ℕ) → List ℕ
 ring_text [] = codes "import cycle: "
 ring_text (f ∷ fs) = codes "import cycle: " ++ arrowed (f ∷ fs) f
 
--- `ring_faults ring next earlier s` is P105 of the import of the name `s` after the imports
--- `earlier`, in a file with the ring `ring` and the first bad import `next`
-abbrev pub ring_faults : Option (List (List ℕ)) → Option (List ℕ) → List Strings → Strings → List Fault
-ring_faults (Some ring) (Some next) earlier s =
-    when (bytes_eq s.value next && not (is_listed s.value earlier)) (at s.span code.ImportCycle (ring_text ring))
-ring_faults _ _ earlier s = []
+-- `ring_faults ring next earlier i` is P105 of the import `i` after the imports `earlier`, in a
+-- file with the ring `ring` and the first bad import `next`
+abbrev pub ring_faults : Option (List (List ℕ)) → Option (List ℕ) → List ImportName → ImportName → List Fault
+ring_faults (Some ring) (Some next) earlier i =
+    when (bytes_eq i.name.value next && not (is_listed i.name.value earlier)) (at i.name.span code.ImportCycle (ring_text ring))
+ring_faults _ _ earlier i = []
 
--- `import_faults s earlier i` is the errors of the import of the name `i` after the imports
--- `earlier`, in a file with the surroundings `s`. Of a name that is not UTF-8 only that is said.
-abbrev pub import_faults : Surroundings → List Strings → Strings → List Fault
+-- `import_faults s earlier i` is the errors of the import `i` after the imports `earlier`, in a
+-- file with the surroundings `s`. Of a name that is not UTF-8 only that is said.
+abbrev pub import_faults : Surroundings → List ImportName → ImportName → List Fault
 import_faults s earlier i =
-    cond (is_utf8 i.value)
-    (state_faults (state_in s.imported i.value) i
-    ++ when (is_listed i.value earlier) (at i.span code.ImportTwice (codes "import " ++ quoted i.value ++ codes " is listed twice"))
+    cond (is_utf8 i.name.value)
+    (state_faults (state_in s.imported i.name.value) i
+    ++ when (is_listed i.name.value earlier) (at i.name.span code.ImportTwice (codes "import " ++ quoted i.name.value ++ codes " is listed twice"))
     ++ ring_faults s.ring s.next earlier i)
-    (at i.span code.ImportNotText (codes "import name is not UTF-8") ∷ [])
+    (at i.name.span code.ImportNotText (codes "import name is not UTF-8") ∷ [])
 
 -- ---- P110 and P111: definitions
 
@@ -225,12 +223,12 @@ abbrev pub is_empty : ℕ → List Member → Bool
 is_empty body members = not (list_any (λ (m : Member). same_item (Some body) m.holder) members)
 
 -- `oneof_faults fields o` is P126 of the oneof `o`
-abbrev pub oneof_faults : List Member → Body → List Fault
-oneof_faults fields o = when (is_empty o.number fields) (at o.name.span code.EmptyOneof (codes "oneof has no field"))
+abbrev pub oneof_faults : List Member → Titled → List Fault
+oneof_faults fields o = when (is_empty o.item fields) (at o.name.span code.EmptyOneof (codes "oneof has no field"))
 
 -- `enum_faults values e` is P130 of the enum `e`
-abbrev pub enum_faults : List Member → Body → List Fault
-enum_faults values e = when (is_empty e.number values) (at e.name.span code.EmptyEnum (codes "enum has no value"))
+abbrev pub enum_faults : List Member → Titled → List Fault
+enum_faults values e = when (is_empty e.item values) (at e.name.span code.EmptyEnum (codes "enum has no value"))
 
 -- `is_named name parts` is whether an option's name with the parts `parts` is the one name `name`
 abbrev pub is_named : List ℕ → List NamePart → Bool

@@ -1,6 +1,7 @@
 -- What the checks look at in a tree: its fields, enum values, reserved ranges and the like, each
--- list in text order.
-use Rattle.std.specs.Prelude.{ℕ, List, [], ◌∷◌, map, flat_map, Option, Bool}
+-- list in text order. `item` is the number of the statement, `nth` counts its parts from 0.
+use Rattle.std.specs.Prelude.{ℕ, List, [], ◌∷◌, map, flat_map, Option}
+use Rattle.std.specs.List.{enumerate_from}
 use Rattle.pq_lex.specs.declared.token.Span.{Span}
 use Rattle.pq_syntax.specs.declared.parts.Constant.{Constant}
 use Rattle.pq_syntax.specs.declared.parts.Name.{Name}
@@ -12,101 +13,96 @@ use Rattle.pq_syntax.specs.declared.tree.Node.{Node}
 use Rattle.pq_syntax.specs.declared.tree.Statement.{Statement}
 use Rattle.pq_syntax.specs.declared.tree.Statement.TheVariants.{Import, Package, Option as OptionStatement, Field, MapField, Oneof, ReservedNumbers, ReservedNames, Enum, Value, Extend}
 use Rattle.pq_syntax.specs.Places.{Place, places}
-use Rattle.pq_checks.specs.Owners.{holder_of, owner_of, is_in_enum}
+use Rattle.pq_checks.specs.Owners.{Site, site_of}
 use Rattle.pq_checks.specs.declared.members.Reserved.{Reserved}
+
+-- `each_at f nodes` joins what `f` lists of each of the statements `nodes`, with what contains it
+abbrev pub each_at : {A : Type 0} → (Site → Statement → List A) → List Node → List A
+each_at f nodes = flat_map (λ (p : Place). f (site_of p) p.item.node.statement) (places nodes)
 
 -- ---- fields and enum values
 
 -- A `Member` is a field or an enum value. `owner` is the number of the message or enum whose member
 -- it is, `holder` that of the message, oneof or enum whose body it is in.
 pub record Member : Type 0 where
+  pub item : ℕ
   pub owner : Option ℕ
   pub holder : Option ℕ
   pub name : Name
   pub number : Number
 
--- `one_member owner holder name number` is the list of that one member
-abbrev pub one_member : Option ℕ → Option ℕ → Name → Number → List Member
-one_member owner holder name number = record { owner = owner; holder = holder; name = name; number = number } ∷ []
+-- `member_at s name number` is the member with the name `name` and the number `number` that the
+-- statement at `s` is
+abbrev pub member_at : Site → Name → Number → Member
+member_at s name number = record { item = s.item; owner = s.around.owner; holder = s.around.holder; name = name; number = number }
 
--- `field_by owner holder s` lists the field that the statement `s` is, if any; a map field is one
-abbrev pub field_by : Option ℕ → Option ℕ → Statement → List Member
-field_by owner holder (Field label kind name number options) = one_member owner holder name number
-field_by owner holder (MapField key value name number options) = one_member owner holder name number
-field_by owner holder _ = []
-
--- `field_at p` lists the field at the place `p`, if any
-abbrev pub field_at : Place → List Member
-field_at p = field_by (owner_of p.within) (holder_of p.within) p.item.node.statement
+-- `field_at s t` lists the field that the statement `t` at `s` is, if any; a map field is one
+abbrev pub field_at : Site → Statement → List Member
+field_at s (Field label kind name number options) = member_at s name number ∷ []
+field_at s (MapField key value name number options) = member_at s name number ∷ []
+field_at s _ = []
 
 -- `fields nodes` lists the fields of the statements `nodes`, those of oneofs among them
 abbrev pub fields : List Node → List Member
-fields nodes = flat_map field_at (places nodes)
+fields nodes = each_at field_at nodes
 
--- `value_by owner holder s` lists the enum value that the statement `s` is, if any
-abbrev pub value_by : Option ℕ → Option ℕ → Statement → List Member
-value_by owner holder (Value name number options) = one_member owner holder name number
-value_by owner holder _ = []
-
--- `value_at p` lists the enum value at the place `p`, if any
-abbrev pub value_at : Place → List Member
-value_at p = value_by (owner_of p.within) (holder_of p.within) p.item.node.statement
+-- `value_at s t` lists the enum value that the statement `t` at `s` is, if any
+abbrev pub value_at : Site → Statement → List Member
+value_at s (Value name number options) = member_at s name number ∷ []
+value_at s _ = []
 
 -- `values nodes` lists the enum values of the statements `nodes`
 abbrev pub values : List Node → List Member
-values nodes = flat_map value_at (places nodes)
+values nodes = each_at value_at nodes
 
--- ---- oneofs and enums
+-- ---- packages, oneofs and enums
 
--- A `Body` is a oneof or an enum: the number of its statement, and its name
-pub record Body : Type 0 where
-  pub number : ℕ
+-- A `Titled` is a package, a oneof or an enum, with its name
+pub record Titled : Type 0 where
+  pub item : ℕ
   pub name : Name
 
--- `oneof_by number s` lists the oneof that the statement `s` of the number `number` is, if any
-abbrev pub oneof_by : ℕ → Statement → List Body
-oneof_by number (Oneof name) = record { number = number; name = name } ∷ []
-oneof_by number _ = []
+-- `package_at s t` lists the package that the statement `t` at `s` is, if any
+abbrev pub package_at : Site → Statement → List Titled
+package_at s (Package name) = record { item = s.item; name = name } ∷ []
+package_at s _ = []
 
--- `oneof_at p` lists the oneof at the place `p`, if any
-abbrev pub oneof_at : Place → List Body
-oneof_at p = oneof_by p.item.number p.item.node.statement
+-- `packages nodes` lists the package statements of `nodes`
+abbrev pub packages : List Node → List Titled
+packages nodes = each_at package_at nodes
+
+-- `oneof_at s t` lists the oneof that the statement `t` at `s` is, if any
+abbrev pub oneof_at : Site → Statement → List Titled
+oneof_at s (Oneof name) = record { item = s.item; name = name } ∷ []
+oneof_at s _ = []
 
 -- `oneofs nodes` lists the oneofs of the statements `nodes`
-abbrev pub oneofs : List Node → List Body
-oneofs nodes = flat_map oneof_at (places nodes)
+abbrev pub oneofs : List Node → List Titled
+oneofs nodes = each_at oneof_at nodes
 
--- `enum_by number s` lists the enum that the statement `s` of the number `number` is, if any
-abbrev pub enum_by : ℕ → Statement → List Body
-enum_by number (Enum name) = record { number = number; name = name } ∷ []
-enum_by number _ = []
-
--- `enum_at p` lists the enum at the place `p`, if any
-abbrev pub enum_at : Place → List Body
-enum_at p = enum_by p.item.number p.item.node.statement
+-- `enum_at s t` lists the enum that the statement `t` at `s` is, if any
+abbrev pub enum_at : Site → Statement → List Titled
+enum_at s (Enum name) = record { item = s.item; name = name } ∷ []
+enum_at s _ = []
 
 -- `enums nodes` lists the enums of the statements `nodes`
-abbrev pub enums : List Node → List Body
-enums nodes = flat_map enum_at (places nodes)
+abbrev pub enums : List Node → List Titled
+enums nodes = each_at enum_at nodes
 
 -- ---- what is reserved
 
--- `reserved_range owner in_enum range` is that reserved range
-abbrev pub reserved_range : Option ℕ → Bool → Range → Reserved
-reserved_range owner in_enum range = record { owner = owner; in_enum = in_enum; range = range }
+-- `reserved_range s r` is the reserved range `r.1`, the range `r.0` of the statement at `s`
+abbrev pub reserved_range : Site → ℕ × Range → Reserved
+reserved_range s r = record { item = s.item; nth = r.0; owner = s.around.owner; in_enum = s.around.in_enum; range = r.1 }
 
--- `ranges_by owner in_enum s` lists the reserved ranges of the statement `s`
-abbrev pub ranges_by : Option ℕ → Bool → Statement → List Reserved
-ranges_by owner in_enum (ReservedNumbers ranges) = map (reserved_range owner in_enum) ranges
-ranges_by owner in_enum _ = []
-
--- `ranges_at p` lists the reserved ranges at the place `p`
-abbrev pub ranges_at : Place → List Reserved
-ranges_at p = ranges_by (owner_of p.within) (is_in_enum p.within) p.item.node.statement
+-- `range_at s t` lists the reserved ranges of the statement `t` at `s`
+abbrev pub range_at : Site → Statement → List Reserved
+range_at s (ReservedNumbers ranges) = map (reserved_range s) (enumerate_from 0 ranges)
+range_at s _ = []
 
 -- `ranges nodes` lists the reserved ranges of the statements `nodes`
 abbrev pub ranges : List Node → List Reserved
-ranges nodes = flat_map ranges_at (places nodes)
+ranges nodes = each_at range_at nodes
 
 -- A `ReservedName` is a reserved name of the message or enum of the number `owner`
 pub record ReservedName : Type 0 where
@@ -117,75 +113,78 @@ pub record ReservedName : Type 0 where
 abbrev pub reserved_name : Option ℕ → Strings → ReservedName
 reserved_name owner name = record { owner = owner; value = name.value }
 
--- `names_by owner s` lists the reserved names of the statement `s`
-abbrev pub names_by : Option ℕ → Statement → List ReservedName
-names_by owner (ReservedNames names) = map (reserved_name owner) names
-names_by owner _ = []
-
--- `names_at p` lists the reserved names at the place `p`
-abbrev pub names_at : Place → List ReservedName
-names_at p = names_by (owner_of p.within) p.item.node.statement
+-- `name_at s t` lists the reserved names of the statement `t` at `s`
+abbrev pub name_at : Site → Statement → List ReservedName
+name_at s (ReservedNames names) = map (reserved_name s.around.owner) names
+name_at s _ = []
 
 -- `reserved_names nodes` lists the reserved names of the statements `nodes`
 abbrev pub reserved_names : List Node → List ReservedName
-reserved_names nodes = flat_map names_at (places nodes)
+reserved_names nodes = each_at name_at nodes
 
--- ---- packages, imports, options, extend blocks
+-- ---- imports, options, extend blocks
 
--- `package_by s` lists the name of the package that the statement `s` is, if any
-abbrev pub package_by : Statement → List Name
-package_by (Package name) = name ∷ []
-package_by _ = []
+-- An `ImportName` is an import with the name of its file
+pub record ImportName : Type 0 where
+  pub item : ℕ
+  pub name : Strings
 
--- `packages nodes` lists the names of the package statements of `nodes`
-abbrev pub packages : List Node → List Name
-packages nodes = flat_map (λ (n : Node). package_by n.statement) nodes
+-- `import_at s t` lists the import that the statement `t` at `s` is, if any
+abbrev pub import_at : Site → Statement → List ImportName
+import_at s (Import kind file) = record { item = s.item; name = file } ∷ []
+import_at s _ = []
 
--- `import_by s` lists the name of the import that the statement `s` is, if any
-abbrev pub import_by : Statement → List Strings
-import_by (Import kind file) = file ∷ []
-import_by _ = []
-
--- `imports nodes` lists the names of the import statements of `nodes`
-abbrev pub imports : List Node → List Strings
-imports nodes = flat_map (λ (n : Node). import_by n.statement) nodes
+-- `imports nodes` lists the import statements of `nodes`
+abbrev pub imports : List Node → List ImportName
+imports nodes = each_at import_at nodes
 
 -- An `Opted` is an option statement in the body of the statement of the number `holder`
 pub record Opted : Type 0 where
   pub holder : Option ℕ
   pub setting : Setting
 
--- `option_by holder s` lists the option that the statement `s` is, if any
-abbrev pub option_by : Option ℕ → Statement → List Opted
-option_by holder (OptionStatement setting) = record { holder = holder; setting = setting } ∷ []
-option_by holder _ = []
-
--- `option_at p` lists the option statement at the place `p`, if any
-abbrev pub option_at : Place → List Opted
-option_at p = option_by (holder_of p.within) p.item.node.statement
+-- `option_at s t` lists the option that the statement `t` at `s` is, if any
+abbrev pub option_at : Site → Statement → List Opted
+option_at s (OptionStatement setting) = record { holder = s.around.holder; setting = setting } ∷ []
+option_at s _ = []
 
 -- `option_statements nodes` lists the option statements of `nodes`
 abbrev pub option_statements : List Node → List Opted
-option_statements nodes = flat_map option_at (places nodes)
+option_statements nodes = each_at option_at nodes
 
--- `constants_by s` lists the constants of the options of the statement `s`, an option statement or
--- one with options in brackets
-abbrev pub constants_by : Statement → List Constant
-constants_by (OptionStatement s) = s.constant ∷ []
-constants_by (Field label kind name number options) = map (λ s. s.constant) options
-constants_by (MapField key value name number options) = map (λ s. s.constant) options
-constants_by (Value name number options) = map (λ s. s.constant) options
-constants_by _ = []
+-- An `Assigned` is the constant of an option: of the option `nth` of its statement
+pub record Assigned : Type 0 where
+  pub item : ℕ
+  pub nth : ℕ
+  pub constant : Constant
+
+-- `assigned item o` is the constant of the option `o.1`, the option `o.0` of the statement of the
+-- number `item`
+abbrev pub assigned : ℕ → ℕ × Setting → Assigned
+assigned item o = record { item = item; nth = o.0; constant = o.1.constant }
+
+-- `all_assigned item options` lists the constants of all options `options` of that statement
+abbrev pub all_assigned : ℕ → List Setting → List Assigned
+all_assigned item options = map (assigned item) (enumerate_from 0 options)
+
+-- `constant_at s t` lists the constants of the options of the statement `t` at `s`, an option
+-- statement or one with options in brackets
+abbrev pub constant_at : Site → Statement → List Assigned
+constant_at s (OptionStatement setting) = assigned s.item (0, setting) ∷ []
+constant_at s (Field label kind name number options) = all_assigned s.item options
+constant_at s (MapField key value name number options) = all_assigned s.item options
+constant_at s (Value name number options) = all_assigned s.item options
+constant_at s _ = []
 
 -- `constants nodes` lists the constants of the options of the statements `nodes`
-abbrev pub constants : List Node → List Constant
-constants nodes = flat_map (λ (n : Node). constants_by n.statement) nodes
+abbrev pub constants : List Node → List Assigned
+constants nodes = each_at constant_at nodes
 
--- `extend_by span s` lists the span of the extend block that the statement `s` at `span` is, if any
-abbrev pub extend_by : Span → Statement → List Span
-extend_by span (Extend kind) = span ∷ []
-extend_by span _ = []
+-- `extend_at s t` lists the span of the extend block that the statement `t` at `s` is, if any
+abbrev pub extend_at : Site → Statement → List Span
+extend_at s (Extend kind) = s.node.span ∷ []
+extend_at s _ = []
 
 -- `extends nodes` lists the spans of the extend blocks of `nodes`
 abbrev pub extends : List Node → List Span
-extends nodes = flat_map (λ (n : Node). extend_by n.span n.statement) nodes
+extends nodes = each_at extend_at nodes

@@ -1,9 +1,11 @@
 -- What contains a statement, as the checks see it.
 use Rattle.std.specs.Prelude.{ℕ, Bool, true, false, cond, List, [], ◌∷◌, Option, Some, None}
-use Rattle.pq_syntax.specs.Places.{Item}
+use Rattle.pq_syntax.specs.Places.{Item, Place}
+use Rattle.pq_syntax.specs.declared.tree.Node.{Node}
 use Rattle.pq_syntax.specs.declared.tree.Statement.{Statement}
 use Rattle.pq_syntax.specs.declared.tree.Statement.TheVariants.{Oneof, Enum}
 use Rattle.pq_checks.specs.Numbers.{Limits, field_limits, enum_limits}
+use Rattle.pq_checks.specs.declared.spots.Around.{Around}
 
 -- `is_oneof s` is whether the statement `s` is a oneof
 abbrev pub is_oneof : Statement → Bool
@@ -35,3 +37,17 @@ limits_by in_enum = cond in_enum enum_limits field_limits
 abbrev pub is_in_enum : List Item → Bool
 is_in_enum [] = false
 is_in_enum (i ∷ outer) = is_enum i.node.statement
+
+-- `around_of within` is what contains a statement within the items `within`
+abbrev pub around_of : List Item → Around
+around_of within = record { holder = holder_of within; owner = owner_of within; in_enum = is_in_enum within }
+
+-- A `Site` is a statement with its number and what contains it
+pub record Site : Type 0 where
+  pub item : ℕ
+  pub around : Around
+  pub node : Node
+
+-- `site_of p` is the statement at the place `p` with its number and what contains it
+abbrev pub site_of : Place → Site
+site_of p = record { item = p.item.number; around = around_of p.within; node = p.item.node }

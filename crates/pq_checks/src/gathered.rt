@@ -1,10 +1,12 @@
 //! What the rule of a file's checks has gathered, and the errors by it.
-ghost use Rattle.std.specs.Prelude.{◌≡◌, ◌-◌, ◌∷◌, [], ◌++◌, None, IfOk, OnOk, OnErr, cond, drop, flat_map, is_some, take, length, slice_get};
+ghost use Rattle.std.specs.Prelude.{◌≡◌, ◌-◌, ◌∷◌, List, [], ◌++◌, None, IfOk, OnOk, OnErr, cond, drop, flat_map, is_some, take, length, slice_get};
 ghost use Rattle.std.specs.Option.{option_copied};
 ghost use Rattle.pq_checks.specs.Compile.{parsed_faults, file_faults};
 ghost use Rattle.pq_checks.specs.Faults.{elsewhere_faults, faults, link_faults, definition_faults, type_faults};
 ghost use Rattle.pq_schema.specs.Others.{other_files};
 ghost use Rattle.pq_checks.specs.aux.Gathering.{surroundings_of, checked_of};
+ghost use Rattle.pq_checks.specs.aux.Spots.{AreSpots};
+ghost use Rattle.pq_syntax.specs.declared.tree.Node.{Node as NodeContents};
 
 use crate::Memory;
 use crate::code::{syntax_code, syntax_text};
@@ -14,6 +16,7 @@ use crate::import_lines::push_import_faults;
 use crate::member_lines::push_member_faults;
 use crate::reference_lines::push_reference_faults;
 use crate::said::tell;
+use crate::spots::{Spot, spots};
 use crate::surroundings::{Checked, Imported};
 use crate::unread_lines::{push_package_faults, push_unread_faults};
 use pq_links::{Import, ParsedFile};
@@ -180,13 +183,13 @@ fn push_links(
     known: &Known,
     imported: &[Imported],
     next: Option<&Text>,
-    nodes: &[Node],
+    spots: &[Spot<'_>],
 ) -> Result<(), Memory>
-    ensures said { IfOk result (λ _. faults.new.items ≡ faults.old.items
-        ++ link_faults (surroundings_of known.now imported.now (option_copied next.entry)) nodes.now) }
+    ensures said { IfOk result (λ _. (nodes : List NodeContents) → AreSpots spots.now nodes → faults.new.items ≡ faults.old.items
+        ++ link_faults (surroundings_of known.now imported.now (option_copied next.entry)) nodes) }
 {
-    push_package_faults(alloc, faults, nodes)?;
-    push_import_faults(alloc, faults, nodes, imported, known.linked.ring(), next)
+    push_package_faults(alloc, faults, spots)?;
+    push_import_faults(alloc, faults, spots, imported, known.linked.ring(), next)
 }
 
 /// Adds the errors of definitions that other files have too, in a good file.
@@ -253,11 +256,13 @@ fn tree_faults(
     ensures faults { IfOk result (λ fs. fs.items
         ≡ faults (surroundings_of known.now imported.now (option_copied next.entry)) nodes.now) }
 {
+    let spots = spots(alloc, nodes)?;
+    let spots = spots.as_slice();
     let mut faults = Vec::new(alloc);
-    push_unread_faults(alloc, &mut faults, nodes)?;
-    push_links(alloc, &mut faults, known, imported, next, nodes)?;
+    push_unread_faults(alloc, &mut faults, spots)?;
+    push_links(alloc, &mut faults, known, imported, next, spots)?;
     push_definitions(alloc, &mut faults, known, nodes)?;
-    push_member_faults(alloc, &mut faults, nodes)?;
+    push_member_faults(alloc, &mut faults, spots)?;
     push_types(alloc, &mut faults, known, nodes)?;
     Ok(faults)
 }

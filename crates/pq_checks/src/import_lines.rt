@@ -4,25 +4,28 @@
 //! The states of the imported files lie in a map by name, and the names so far in a set, so a file
 //! with N imports takes N log N comparisons. Both are ordered and nothing is hashed: whoever writes
 //! the names could make them collide.
-ghost use Rattle.std.specs.Prelude.{◌≡◌, ◌++◌, [], List, cond, IfOk, Some, None, string_bytes};
+ghost use Rattle.std.specs.Prelude.{◌≡◌, ◌++◌, [], List, cond, IfOk, map, Some, None, string_bytes};
 ghost use Rattle.std.specs.Option.{option_copied};
 ghost use Rattle.std.specs.Str.{is_utf8};
 ghost use Rattle.pq_checks.specs.Earlier.{of_each_after};
 ghost use Rattle.pq_checks.specs.Faults.{ring_text, state_faults, import_faults};
-ghost use Rattle.pq_checks.specs.Members.{import_by, imports};
+ghost use Rattle.pq_checks.specs.Members.{imports};
 ghost use Rattle.pq_checks.specs.Surroundings.{state_in};
 ghost use Rattle.pq_checks.specs.aux.Imports.{IsStateMap, by_imports, first_name, import_line, text_line, ring_line, listed_line};
-ghost use Rattle.pq_checks.specs.aux.Views.{all_now};
+ghost use Rattle.pq_checks.specs.aux.Seen.{import_seen};
+ghost use Rattle.pq_checks.specs.aux.Spots.{AreSpots};
 ghost use Rattle.pq_checks.specs.declared.surroundings.Imported.{Imported};
+ghost use Rattle.pq_syntax.specs.declared.tree.Node.{Node};
 
 use crate::Memory;
 use crate::code::Code;
 use crate::fault::Fault;
+use crate::members::{ImportName, imports};
 use crate::said::{push, say_name, tell};
+use crate::spots::Spot;
 use crate::surroundings::{FileState, Imported};
 use crate::tell::tell_name;
 use pq_names::Text;
-use pq_syntax::{Node, Statement, Strings};
 use std::alloc::Global;
 use std::collections::{BTreeMap, BTreeSet};
 
@@ -51,30 +54,6 @@ fn state_named<'a>(states: &States<'a>, name: &'a [u8]) -> FileState
         Some(state) => *state,
         None => FileState::Readable,
     }
-}
-
-/// Adds the name of the import that `statement` is, if any.
-fn push_import_name<'a>(
-    names: &mut Vec<&'a Strings>,
-    statement: &'a Statement,
-) -> Result<(), Memory>
-    ensures { IfOk result (λ _. all_now names.new.items ≡ all_now names.old.items ++ import_by statement.entry.now) }
-{
-    if let Statement::Import { file, .. } = statement {
-        names.push(file)?;
-    }
-    Ok(())
-}
-
-/// The names of the imports among the statements `nodes`.
-fn import_names(alloc: Global, nodes: &[Node]) -> Result<Vec<&Strings>, Memory>
-    ensures { IfOk result (λ v. all_now v.items ≡ imports nodes.entry.now) }
-{
-    let mut names = Vec::new(alloc);
-    'nodes: for node in nodes {
-        push_import_name(&mut names, &node.statement)?;
-    }
-    Ok(names)
 }
 
 /// The text of `bytes`, if they are UTF-8.
@@ -115,12 +94,12 @@ fn push_state(
     alloc: Global,
     faults: &mut Vec<Fault>,
     state: FileState,
-    import: &Strings,
+    import: ImportName<'_>,
     name: &str,
 ) -> Result<(), Memory>
-    requires named { name.now ≡ import.now.value }
+    requires named { name.now ≡ import.name.now.value }
     ensures said { IfOk result
-        (λ _. faults.new.items ≡ faults.old.items ++ state_faults state import.now) }
+        (λ _. faults.new.items ≡ faults.old.items ++ state_faults state (import_seen import.entry)) }
 {
     match state {
         FileState::Missing => {
@@ -128,7 +107,7 @@ fn push_state(
             say_name(
                 alloc,
                 faults,
-                import.span,
+                import.name.span,
                 code,
                 "import ",
                 name,
@@ -140,7 +119,7 @@ fn push_state(
             say_name(
                 alloc,
                 faults,
-                import.span,
+                import.name.span,
                 code,
                 "import ",
                 name,
@@ -156,19 +135,19 @@ fn push_listed(
     alloc: Global,
     faults: &mut Vec<Fault>,
     repeated: bool,
-    import: &Strings,
+    import: ImportName<'_>,
     name: &str,
 ) -> Result<(), Memory>
-    requires named { name.now ≡ import.now.value }
+    requires named { name.now ≡ import.name.now.value }
     ensures said { IfOk result
-        (λ _. faults.new.items ≡ faults.old.items ++ listed_line repeated import.now) }
+        (λ _. faults.new.items ≡ faults.old.items ++ listed_line repeated (import_seen import.entry)) }
 {
     let code = Code::ImportTwice;
     tell_name(
         alloc,
         faults,
         repeated,
-        import.span,
+        import.name.span,
         code,
         "import ",
         name,
@@ -184,12 +163,12 @@ fn push_ring(
     ring: Option<&[Text]>,
     next: Option<&Text>,
     repeated: bool,
-    import: &Strings,
+    import: ImportName<'_>,
     name: &str,
 ) -> Result<(), Memory>
-    requires named { name.now ≡ import.now.value }
+    requires named { name.now ≡ import.name.now.value }
     ensures said { IfOk result (λ _. faults.new.items ≡ faults.old.items
-        ++ ring_line (option_copied ring.entry) (option_copied next.entry) repeated import.now) }
+        ++ ring_line (option_copied ring.entry) (option_copied next.entry) repeated (import_seen import.entry)) }
 {
     let Some(ring) = ring else {
         return Ok(());
@@ -199,7 +178,7 @@ fn push_ring(
     };
     if name == next.as_str() && !repeated {
         let text = ring_text(alloc, ring)?;
-        return push(faults, import.span, Code::ImportCycle, text);
+        return push(faults, import.name.span, Code::ImportCycle, text);
     }
     Ok(())
 }
@@ -212,12 +191,12 @@ fn push_named(
     ring: Option<&[Text]>,
     next: Option<&Text>,
     repeated: bool,
-    import: &Strings,
+    import: ImportName<'_>,
     name: &str,
 ) -> Result<(), Memory>
-    requires named { name.now ≡ import.now.value }
+    requires named { name.now ≡ import.name.now.value }
     ensures said { IfOk result (λ _. faults.new.items ≡ faults.old.items
-        ++ text_line state (option_copied ring.entry) (option_copied next.entry) repeated import.now) }
+        ++ text_line state (option_copied ring.entry) (option_copied next.entry) repeated (import_seen import.entry)) }
 {
     push_state(alloc, faults, state, import, name)?;
     push_listed(alloc, faults, repeated, import, name)?;
@@ -233,59 +212,59 @@ fn push_import(
     ring: Option<&[Text]>,
     next: Option<&Text>,
     repeated: bool,
-    import: &Strings,
+    import: ImportName<'_>,
 ) -> Result<(), Memory>
     ensures said { IfOk result (λ _. faults.new.items ≡ faults.old.items
-        ++ import_line state (option_copied ring.entry) (option_copied next.entry) repeated import.now) }
+        ++ import_line state (option_copied ring.entry) (option_copied next.entry) repeated (import_seen import.entry)) }
 {
-    match as_text(import.value.as_slice()) {
+    match as_text(import.name.value.as_slice()) {
         Some(name) => push_named(alloc, faults, state, ring, next, repeated, import, name),
         None => tell(
             alloc,
             faults,
-            import.span,
+            import.name.span,
             Code::ImportNotText,
             "import name is not UTF-8",
         ),
     }
 }
 
-/// Adds the errors of the imports `names`, where the files of `states` have these states.
+/// Adds the errors of the imports `imports`, where the files of `states` have these states.
 fn push_each<'a>(
     alloc: Global,
     faults: &mut Vec<Fault>,
     states: &States<'a>,
     ring: Option<&[Text]>,
     next: Option<&Text>,
-    names: &[&'a Strings],
+    imports: &[ImportName<'a>],
 ) -> Result<(), Memory>
     ensures said { (imported : List Imported) → IsStateMap states.now imported → IfOk result (λ _. faults.new.items
-        ≡ faults.old.items ++ of_each_after (import_faults (by_imports imported (option_copied ring.entry) (option_copied next.entry))) [] (all_now names.now)) }
+        ≡ faults.old.items ++ of_each_after (import_faults (by_imports imported (option_copied ring.entry) (option_copied next.entry))) [] (map import_seen imports.now)) }
 {
     let mut seen = BTreeSet::new(alloc);
-    'names: for name in names {
-        let import = *name;
-        let is_new = seen.insert(import.value.as_slice())?;
-        let state = state_named(states, import.value.as_slice());
-        push_import(alloc, faults, state, ring, next, !is_new, import)?;
+    'imports: for i in 0..imports.len() {
+        let import = &imports[i];
+        let is_new = seen.insert(import.name.value.as_slice())?;
+        let state = state_named(states, import.name.value.as_slice());
+        push_import(alloc, faults, state, ring, next, !is_new, *import)?;
     }
     Ok(())
 }
 
-/// Adds the errors of the imports among the statements `nodes` of a file that imports the files
+/// Adds the errors of the imports among the statements `spots` of a file that imports the files
 /// `imported`. A bad file leads into the ring `ring`, and its first bad import is `next`.
 pub(crate) fn push_import_faults(
     alloc: Global,
     faults: &mut Vec<Fault>,
-    nodes: &[Node],
+    spots: &[Spot<'_>],
     imported: &[Imported],
     ring: Option<&[Text]>,
     next: Option<&Text>,
 ) -> Result<(), Memory>
-    ensures said { IfOk result (λ _. faults.new.items ≡ faults.old.items
-        ++ of_each_after (import_faults (by_imports imported.now (option_copied ring.entry) (option_copied next.entry))) [] (imports nodes.now)) }
+    ensures said { IfOk result (λ _. (nodes : List Node) → AreSpots spots.now nodes → faults.new.items ≡ faults.old.items
+        ++ of_each_after (import_faults (by_imports imported.now (option_copied ring.entry) (option_copied next.entry))) [] (imports nodes)) }
 {
     let states = states_of(alloc, imported)?;
-    let names = import_names(alloc, nodes)?;
-    push_each(alloc, faults, &states, ring, next, names.as_slice())
+    let imports = imports(alloc, spots)?;
+    push_each(alloc, faults, &states, ring, next, imports.as_slice())
 }

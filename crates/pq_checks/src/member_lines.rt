@@ -1,11 +1,14 @@
 //! Errors P120 to P135: the members of messages and enums, and what these reserve.
 //!
-//! One walk gives each statement with what contains it (`spots`), and what the errors speak of is
-//! read off these. For N statements the checks take N log N time.
-ghost use Rattle.std.specs.Prelude.{◌≡◌, ◌++◌, flat_map, map, IfOk};
+//! What the errors speak of is read off the statements of `spots`. For N statements the checks take
+//! N log N time.
+ghost use Rattle.std.specs.Prelude.{◌≡◌, ◌++◌, List, flat_map, map, IfOk};
 ghost use Rattle.pq_checks.specs.Faults.{enumeration_faults, message_faults};
+ghost use Rattle.pq_checks.specs.Members.{enum_at, field_at, oneof_at, option_at, value_at};
 ghost use Rattle.pq_checks.specs.aux.Lines.{enumeration_lines, message_lines};
-ghost use Rattle.pq_checks.specs.aux.Seen.{enum_in, field_in, name_seen, oneof_in, option_in, value_in};
+ghost use Rattle.pq_checks.specs.aux.Seen.{name_seen};
+ghost use Rattle.pq_checks.specs.aux.Spots.{AreSpots, in_spot};
+ghost use Rattle.pq_syntax.specs.declared.tree.Node.{Node};
 
 use crate::Memory;
 use crate::body_lines::push_body_faults;
@@ -17,9 +20,8 @@ use crate::members::{
 };
 use crate::name_lines::push_name_faults;
 use crate::range_lines::push_range_faults;
-use crate::spots::{Spot, spots};
+use crate::spots::Spot;
 use crate::value_lines::push_value_number_faults;
-use pq_syntax::Node;
 use std::alloc::Global;
 
 /// Adds errors P120 to P126 of a file with the statements `spots`, the reserved ranges `ranges` and
@@ -32,7 +34,7 @@ fn push_message_faults<'a>(
     names: &[ReservedName<'a>],
 ) -> Result<(), Memory>
     ensures { IfOk result (λ _. faults.new.items ≡ faults.old.items
-        ++ message_lines (flat_map field_in spots.now) ranges.now (map name_seen names.now) (flat_map oneof_in spots.now)) }
+        ++ message_lines (flat_map (in_spot field_at) spots.now) ranges.now (map name_seen names.now) (flat_map (in_spot oneof_at) spots.now)) }
 {
     let fields = fields(alloc, spots)?;
     let fields = fields.as_slice();
@@ -63,7 +65,7 @@ fn push_enumeration_faults<'a>(
     names: &[ReservedName<'a>],
 ) -> Result<(), Memory>
     ensures { IfOk result (λ _. faults.new.items ≡ faults.old.items
-        ++ enumeration_lines (flat_map value_in spots.now) (flat_map enum_in spots.now) ranges.now (flat_map option_in spots.now) (map name_seen names.now)) }
+        ++ enumeration_lines (flat_map (in_spot value_at) spots.now) (flat_map (in_spot enum_at) spots.now) ranges.now (flat_map (in_spot option_at) spots.now) (map name_seen names.now)) }
 {
     let values = values(alloc, spots)?;
     let values = values.as_slice();
@@ -85,16 +87,15 @@ fn push_enumeration_faults<'a>(
     )
 }
 
-/// Adds errors P120 to P135 of a file with the statements `nodes`.
+/// Adds errors P120 to P135 of a file with the statements `spots`.
 pub(crate) fn push_member_faults(
     alloc: Global,
     faults: &mut Vec<Fault>,
-    nodes: &[Node],
+    spots: &[Spot<'_>],
 ) -> Result<(), Memory>
-    ensures said { IfOk result (λ _. faults.new.items ≡ faults.old.items ++ (message_faults nodes.now ++ enumeration_faults nodes.now)) }
+    ensures said { IfOk result (λ _. (nodes : List Node) → AreSpots spots.now nodes → faults.new.items
+        ≡ faults.old.items ++ (message_faults nodes ++ enumeration_faults nodes)) }
 {
-    let spots = spots(alloc, nodes)?;
-    let spots = spots.as_slice();
     let ranges = ranges(alloc, spots)?;
     let ranges = ranges.as_slice();
     let names = reserved_names(alloc, spots)?;

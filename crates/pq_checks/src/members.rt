@@ -1,16 +1,21 @@
-//! What the checks look at in a tree: fields, enum values, oneofs, enums, and what is reserved.
+//! What the checks look at in a tree: fields, enum values, packages, oneofs, enums, imports,
+//! options, and what is reserved.
 ghost use Rattle.std.specs.Prelude.{◌≡◌, ◌++◌, flat_map, IfOk, map};
-ghost use Rattle.pq_checks.specs.aux.Seen.{body_seen, enum_in, field_in, member_seen, name_seen, names_in, oneof_in, opted_seen, option_in, range_in, value_in};
-ghost use Rattle.pq_checks.specs.Members.{reserved_name, reserved_range};
+ghost use Rattle.std.specs.List.{enumerate_from};
+ghost use Rattle.pq_checks.specs.Members.{enum_at, field_at, import_at, member_at, name_at, oneof_at, option_at, package_at, range_at, reserved_name, reserved_range, value_at};
+ghost use Rattle.pq_checks.specs.aux.Seen.{import_seen, member_seen, name_seen, opted_seen, titled_seen};
+ghost use Rattle.pq_checks.specs.aux.Spots.{in_spot, seen};
 
 use crate::Memory;
-use crate::spots::{Around, Spot};
+use crate::spots::Spot;
 use pq_syntax::{Name, Number, Range, Setting, Statement, Strings};
 use std::alloc::Global;
 
 /// A field or an enum value.
 #[derive(Clone, Copy)]
 pub(crate) struct Member<'a> {
+    /// The number of its statement.
+    pub(crate) item: usize,
     /// The number of the message or enum whose member it is.
     pub(crate) owner: Option<usize>,
     /// The number of the statement in whose body it is.
@@ -19,17 +24,21 @@ pub(crate) struct Member<'a> {
     pub(crate) number: Number,
 }
 
-/// A oneof or an enum.
+/// A package, a oneof or an enum.
 #[derive(Clone, Copy)]
-pub(crate) struct Body<'a> {
+pub(crate) struct Titled<'a> {
     /// The number of its statement.
-    pub(crate) number: usize,
+    pub(crate) item: usize,
     pub(crate) name: &'a Name,
 }
 
 /// A reserved range.
 #[derive(Clone, Copy)]
 pub(crate) struct Reserved {
+    /// The number of its statement.
+    pub(crate) item: usize,
+    /// Its number among the ranges of its statement, from 0.
+    pub(crate) nth: usize,
     /// The number of the message or enum that reserves it.
     pub(crate) owner: Option<usize>,
     /// Whether its bounds are numbers of an enum.
@@ -45,6 +54,15 @@ pub(crate) struct ReservedName<'a> {
     pub(crate) value: &'a Strings,
 }
 
+/// An import.
+#[derive(Clone, Copy)]
+pub(crate) struct ImportName<'a> {
+    /// The number of its statement.
+    pub(crate) item: usize,
+    /// The name of its file.
+    pub(crate) name: &'a Strings,
+}
+
 /// An option statement.
 #[derive(Clone, Copy)]
 pub(crate) struct Opted<'a> {
@@ -53,13 +71,14 @@ pub(crate) struct Opted<'a> {
     pub(crate) setting: &'a Setting,
 }
 
-/// The member with `name` and `number` that `around` contains.
-fn member_of<'a>(around: Around, name: &'a Name, number: Number) -> Member<'a>
-    ensures { member_seen result ≡ record { owner = around.owner; holder = around.holder; name = name.entry.now; number = number } }
+/// The member with `name` and `number` that the statement at `spot` is.
+fn member_of<'a>(spot: Spot<'a>, name: &'a Name, number: Number) -> Member<'a>
+    ensures { member_seen result ≡ member_at (seen spot.entry) name.entry.now number }
 {
     Member {
-        owner: around.owner,
-        holder: around.holder,
+        item: spot.item,
+        owner: spot.around.owner,
+        holder: spot.around.holder,
         name,
         number,
     }
@@ -67,20 +86,20 @@ fn member_of<'a>(around: Around, name: &'a Name, number: Number) -> Member<'a>
 
 /// Adds the field at `spot`, if any.
 fn push_field<'a>(members: &mut Vec<Member<'a>>, spot: Spot<'a>) -> Result<(), Memory>
-    ensures { IfOk result (λ _. map member_seen members.new.items ≡ map member_seen members.old.items ++ field_in spot.entry) }
+    ensures { IfOk result (λ _. map member_seen members.new.items ≡ map member_seen members.old.items ++ in_spot field_at spot.entry) }
 {
     let (name, number) = match &spot.node.statement {
         Statement::Field { name, number, .. } => (name, number),
         Statement::MapField { name, number, .. } => (name, number),
         _ => return Ok(()),
     };
-    members.push(member_of(spot.around, name, *number))?;
+    members.push(member_of(spot, name, *number))?;
     Ok(())
 }
 
 /// The fields at `spots`, in text order.
 pub(crate) fn fields<'a>(alloc: Global, spots: &[Spot<'a>]) -> Result<Vec<Member<'a>>, Memory>
-    ensures fields { IfOk result (λ ms. map member_seen ms.items ≡ flat_map field_in spots.now) }
+    ensures fields { IfOk result (λ ms. map member_seen ms.items ≡ flat_map (in_spot field_at) spots.now) }
 {
     let mut members = Vec::new(alloc);
     'spots: for i in 0..spots.len() {
@@ -92,17 +111,17 @@ pub(crate) fn fields<'a>(alloc: Global, spots: &[Spot<'a>]) -> Result<Vec<Member
 
 /// Adds the enum value at `spot`, if any.
 fn push_value<'a>(members: &mut Vec<Member<'a>>, spot: Spot<'a>) -> Result<(), Memory>
-    ensures { IfOk result (λ _. map member_seen members.new.items ≡ map member_seen members.old.items ++ value_in spot.entry) }
+    ensures { IfOk result (λ _. map member_seen members.new.items ≡ map member_seen members.old.items ++ in_spot value_at spot.entry) }
 {
     if let Statement::Value { name, number, .. } = &spot.node.statement {
-        members.push(member_of(spot.around, name, *number))?;
+        members.push(member_of(spot, name, *number))?;
     }
     Ok(())
 }
 
 /// The enum values at `spots`, in text order.
 pub(crate) fn values<'a>(alloc: Global, spots: &[Spot<'a>]) -> Result<Vec<Member<'a>>, Memory>
-    ensures values { IfOk result (λ ms. map member_seen ms.items ≡ flat_map value_in spots.now) }
+    ensures values { IfOk result (λ ms. map member_seen ms.items ≡ flat_map (in_spot value_at) spots.now) }
 {
     let mut members = Vec::new(alloc);
     'spots: for i in 0..spots.len() {
@@ -112,64 +131,111 @@ pub(crate) fn values<'a>(alloc: Global, spots: &[Spot<'a>]) -> Result<Vec<Member
     Ok(members)
 }
 
+/// Adds the package at `spot`, if any.
+fn push_package<'a>(packages: &mut Vec<Titled<'a>>, spot: Spot<'a>) -> Result<(), Memory>
+    ensures { IfOk result (λ _. map titled_seen packages.new.items ≡ map titled_seen packages.old.items ++ in_spot package_at spot.entry) }
+{
+    if let Statement::Package { name } = &spot.node.statement {
+        let item = spot.item;
+        packages.push(Titled { item, name })?;
+    }
+    Ok(())
+}
+
+/// The packages at `spots`, in text order.
+pub(crate) fn packages<'a>(alloc: Global, spots: &[Spot<'a>]) -> Result<Vec<Titled<'a>>, Memory>
+    ensures packages { IfOk result (λ ts. map titled_seen ts.items ≡ flat_map (in_spot package_at) spots.now) }
+{
+    let mut packages = Vec::new(alloc);
+    'spots: for i in 0..spots.len() {
+        let spot = &spots[i];
+        push_package(&mut packages, *spot)?;
+    }
+    Ok(packages)
+}
+
 /// Adds the oneof at `spot`, if any.
-fn push_oneof<'a>(bodies: &mut Vec<Body<'a>>, spot: Spot<'a>) -> Result<(), Memory>
-    ensures { IfOk result (λ _. map body_seen bodies.new.items ≡ map body_seen bodies.old.items ++ oneof_in spot.entry) }
+fn push_oneof<'a>(oneofs: &mut Vec<Titled<'a>>, spot: Spot<'a>) -> Result<(), Memory>
+    ensures { IfOk result (λ _. map titled_seen oneofs.new.items ≡ map titled_seen oneofs.old.items ++ in_spot oneof_at spot.entry) }
 {
     if let Statement::Oneof { name } = &spot.node.statement {
-        bodies.push(Body {
-            number: spot.item,
-            name,
-        })?;
+        let item = spot.item;
+        oneofs.push(Titled { item, name })?;
     }
     Ok(())
 }
 
 /// The oneofs at `spots`, in text order.
-pub(crate) fn oneofs<'a>(alloc: Global, spots: &[Spot<'a>]) -> Result<Vec<Body<'a>>, Memory>
-    ensures oneofs { IfOk result (λ bs. map body_seen bs.items ≡ flat_map oneof_in spots.now) }
+pub(crate) fn oneofs<'a>(alloc: Global, spots: &[Spot<'a>]) -> Result<Vec<Titled<'a>>, Memory>
+    ensures oneofs { IfOk result (λ ts. map titled_seen ts.items ≡ flat_map (in_spot oneof_at) spots.now) }
 {
-    let mut bodies = Vec::new(alloc);
+    let mut oneofs = Vec::new(alloc);
     'spots: for i in 0..spots.len() {
         let spot = &spots[i];
-        push_oneof(&mut bodies, *spot)?;
+        push_oneof(&mut oneofs, *spot)?;
     }
-    Ok(bodies)
+    Ok(oneofs)
 }
 
 /// Adds the enum at `spot`, if any.
-fn push_enum<'a>(bodies: &mut Vec<Body<'a>>, spot: Spot<'a>) -> Result<(), Memory>
-    ensures { IfOk result (λ _. map body_seen bodies.new.items ≡ map body_seen bodies.old.items ++ enum_in spot.entry) }
+fn push_enum<'a>(enums: &mut Vec<Titled<'a>>, spot: Spot<'a>) -> Result<(), Memory>
+    ensures { IfOk result (λ _. map titled_seen enums.new.items ≡ map titled_seen enums.old.items ++ in_spot enum_at spot.entry) }
 {
     if let Statement::Enum { name } = &spot.node.statement {
-        bodies.push(Body {
-            number: spot.item,
-            name,
-        })?;
+        let item = spot.item;
+        enums.push(Titled { item, name })?;
     }
     Ok(())
 }
 
 /// The enums at `spots`, in text order.
-pub(crate) fn enums<'a>(alloc: Global, spots: &[Spot<'a>]) -> Result<Vec<Body<'a>>, Memory>
-    ensures enums { IfOk result (λ bs. map body_seen bs.items ≡ flat_map enum_in spots.now) }
+pub(crate) fn enums<'a>(alloc: Global, spots: &[Spot<'a>]) -> Result<Vec<Titled<'a>>, Memory>
+    ensures enums { IfOk result (λ ts. map titled_seen ts.items ≡ flat_map (in_spot enum_at) spots.now) }
 {
-    let mut bodies = Vec::new(alloc);
+    let mut enums = Vec::new(alloc);
     'spots: for i in 0..spots.len() {
         let spot = &spots[i];
-        push_enum(&mut bodies, *spot)?;
+        push_enum(&mut enums, *spot)?;
     }
-    Ok(bodies)
+    Ok(enums)
 }
 
-/// Adds the reserved ranges `ranges`, which `around` contains.
-fn push_ranges(reserved: &mut Vec<Reserved>, around: Around, ranges: &[Range]) -> Result<(), Memory>
-    ensures { IfOk result (λ _. reserved.new.items ≡ reserved.old.items ++ map (reserved_range around.owner around.in_enum) ranges.now) }
+/// Adds the import at `spot`, if any.
+fn push_import<'a>(imports: &mut Vec<ImportName<'a>>, spot: Spot<'a>) -> Result<(), Memory>
+    ensures { IfOk result (λ _. map import_seen imports.new.items ≡ map import_seen imports.old.items ++ in_spot import_at spot.entry) }
 {
-    'each: for range in ranges {
+    if let Statement::Import { file, .. } = &spot.node.statement {
+        imports.push(ImportName {
+            item: spot.item,
+            name: file,
+        })?;
+    }
+    Ok(())
+}
+
+/// The imports at `spots`, in text order.
+pub(crate) fn imports<'a>(alloc: Global, spots: &[Spot<'a>]) -> Result<Vec<ImportName<'a>>, Memory>
+    ensures imports { IfOk result (λ is. map import_seen is.items ≡ flat_map (in_spot import_at) spots.now) }
+{
+    let mut imports = Vec::new(alloc);
+    'spots: for i in 0..spots.len() {
+        let spot = &spots[i];
+        push_import(&mut imports, *spot)?;
+    }
+    Ok(imports)
+}
+
+/// Adds the reserved ranges `ranges` of the statement at `spot`.
+fn push_ranges(reserved: &mut Vec<Reserved>, spot: Spot<'_>, ranges: &[Range]) -> Result<(), Memory>
+    ensures { IfOk result (λ _. reserved.new.items ≡ reserved.old.items ++ map (reserved_range (seen spot.entry)) (enumerate_from 0 ranges.now)) }
+{
+    'each: for nth in 0..ranges.len() {
+        let range = &ranges[nth];
         reserved.push(Reserved {
-            owner: around.owner,
-            in_enum: around.in_enum,
+            item: spot.item,
+            nth,
+            owner: spot.around.owner,
+            in_enum: spot.around.in_enum,
             range: *range,
         })?;
     }
@@ -178,19 +244,17 @@ fn push_ranges(reserved: &mut Vec<Reserved>, around: Around, ranges: &[Range]) -
 
 /// Adds the reserved ranges at `spot`.
 fn push_reserved(reserved: &mut Vec<Reserved>, spot: Spot<'_>) -> Result<(), Memory>
-    ensures { IfOk result (λ _. reserved.new.items ≡ reserved.old.items ++ range_in spot.entry) }
+    ensures { IfOk result (λ _. reserved.new.items ≡ reserved.old.items ++ in_spot range_at spot.entry) }
 {
     match &spot.node.statement {
-        Statement::ReservedNumbers(ranges) => {
-            push_ranges(reserved, spot.around, ranges.as_slice())
-        }
+        Statement::ReservedNumbers(ranges) => push_ranges(reserved, spot, ranges.as_slice()),
         _ => Ok(()),
     }
 }
 
 /// The reserved ranges at `spots`, in text order.
 pub(crate) fn ranges(alloc: Global, spots: &[Spot<'_>]) -> Result<Vec<Reserved>, Memory>
-    ensures ranges { IfOk result (λ rs. rs.items ≡ flat_map range_in spots.now) }
+    ensures ranges { IfOk result (λ rs. rs.items ≡ flat_map (in_spot range_at) spots.now) }
 {
     let mut reserved = Vec::new(alloc);
     'spots: for i in 0..spots.len() {
@@ -200,29 +264,28 @@ pub(crate) fn ranges(alloc: Global, spots: &[Spot<'_>]) -> Result<Vec<Reserved>,
     Ok(reserved)
 }
 
-/// Adds the reserved names `values`, which `around` contains.
+/// Adds the reserved names `values` of the message or enum `owner`.
 fn push_names<'a>(
     names: &mut Vec<ReservedName<'a>>,
-    around: Around,
+    owner: Option<usize>,
     values: &'a [Strings],
 ) -> Result<(), Memory>
-    ensures { IfOk result (λ _. map name_seen names.new.items ≡ map name_seen names.old.items ++ map (reserved_name around.owner) values.entry.now) }
+    ensures { IfOk result (λ _. map name_seen names.new.items ≡ map name_seen names.old.items ++ map (reserved_name owner) values.entry.now) }
 {
     'each: for value in values {
-        names.push(ReservedName {
-            owner: around.owner,
-            value,
-        })?;
+        names.push(ReservedName { owner, value })?;
     }
     Ok(())
 }
 
 /// Adds the reserved names at `spot`.
 fn push_reserved_names<'a>(names: &mut Vec<ReservedName<'a>>, spot: Spot<'a>) -> Result<(), Memory>
-    ensures { IfOk result (λ _. map name_seen names.new.items ≡ map name_seen names.old.items ++ names_in spot.entry) }
+    ensures { IfOk result (λ _. map name_seen names.new.items ≡ map name_seen names.old.items ++ in_spot name_at spot.entry) }
 {
     match &spot.node.statement {
-        Statement::ReservedNames(values) => push_names(names, spot.around, values.as_slice()),
+        Statement::ReservedNames(values) => {
+            push_names(names, spot.around.owner, values.as_slice())
+        }
         _ => Ok(()),
     }
 }
@@ -232,7 +295,7 @@ pub(crate) fn reserved_names<'a>(
     alloc: Global,
     spots: &[Spot<'a>],
 ) -> Result<Vec<ReservedName<'a>>, Memory>
-    ensures names { IfOk result (λ ns. map name_seen ns.items ≡ flat_map names_in spots.now) }
+    ensures names { IfOk result (λ ns. map name_seen ns.items ≡ flat_map (in_spot name_at) spots.now) }
 {
     let mut names = Vec::new(alloc);
     'spots: for i in 0..spots.len() {
@@ -244,7 +307,7 @@ pub(crate) fn reserved_names<'a>(
 
 /// Adds the option statement at `spot`, if any.
 fn push_option<'a>(options: &mut Vec<Opted<'a>>, spot: Spot<'a>) -> Result<(), Memory>
-    ensures { IfOk result (λ _. map opted_seen options.new.items ≡ map opted_seen options.old.items ++ option_in spot.entry) }
+    ensures { IfOk result (λ _. map opted_seen options.new.items ≡ map opted_seen options.old.items ++ in_spot option_at spot.entry) }
 {
     if let Statement::Option(setting) = &spot.node.statement {
         options.push(Opted {
@@ -257,7 +320,7 @@ fn push_option<'a>(options: &mut Vec<Opted<'a>>, spot: Spot<'a>) -> Result<(), M
 
 /// The option statements at `spots`, in text order.
 pub(crate) fn options<'a>(alloc: Global, spots: &[Spot<'a>]) -> Result<Vec<Opted<'a>>, Memory>
-    ensures options { IfOk result (λ os. map opted_seen os.items ≡ flat_map option_in spots.now) }
+    ensures options { IfOk result (λ os. map opted_seen os.items ≡ flat_map (in_spot option_at) spots.now) }
 {
     let mut options = Vec::new(alloc);
     'spots: for i in 0..spots.len() {

@@ -1,9 +1,8 @@
 //! The statements of a tree, each with what contains it, by one walk.
-ghost use Rattle.std.specs.Prelude.{◌≡◌, IfOk, map, unwrap_or};
-ghost use Rattle.pq_syntax.specs.Places.{places};
+ghost use Rattle.std.specs.Prelude.{◌≡◌, IfOk, unwrap_or};
 ghost use Rattle.pq_syntax.specs.Stacks.{innermost};
 ghost use Rattle.pq_checks.specs.Owners.{is_enum, is_oneof};
-ghost use Rattle.pq_checks.specs.aux.Spots.{opened, outside, seen, seen_at};
+ghost use Rattle.pq_checks.specs.aux.Spots.{AreSpots, opened, outside};
 
 use crate::Memory;
 use pq_syntax::{Node, Stack, Statement};
@@ -79,7 +78,7 @@ fn innermost(stack: &Stack<Around>) -> Around
 
 /// The statements `nodes` of a file, each with what contains it, in text order.
 pub(crate) fn spots(alloc: Global, nodes: &[Node]) -> Result<Vec<Spot<'_>>, Memory>
-    ensures spots { IfOk result (λ v. map seen v.items ≡ map seen_at (places nodes.entry.now)) }
+    ensures spots { IfOk result (λ v. AreSpots v.items nodes.entry.now) }
 {
     let mut stack: Stack<Around> = Stack::new(alloc);
     let mut spots = Vec::new(alloc);

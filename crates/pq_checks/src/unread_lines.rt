@@ -1,17 +1,22 @@
 //! Errors P020 to P022 and P101: skipped constructs, and a second package.
-ghost use Rattle.std.specs.Prelude.{◌≡◌, ◌++◌, [], flat_map, map, IfOk};
+ghost use Rattle.std.specs.Prelude.{◌≡◌, ◌++◌, [], List, flat_map, map, IfOk};
+ghost use Rattle.std.specs.List.{enumerate_from};
 ghost use Rattle.pq_checks.specs.Earlier.{of_each_after};
-ghost use Rattle.pq_checks.specs.Faults.{constant_faults, extend_faults, kind_faults, package_faults, unread_faults};
-ghost use Rattle.pq_checks.specs.Members.{constants_by, extend_by, package_by, packages};
+ghost use Rattle.pq_checks.specs.Faults.{constant_faults, kind_faults, package_faults, unread_faults};
+ghost use Rattle.pq_checks.specs.Members.{constant_at, packages};
 ghost use Rattle.pq_checks.specs.aux.Lines.{package_line};
-ghost use Rattle.pq_checks.specs.aux.Seen.{constants_of_node, extends_of_node, named, setting_faults};
+ghost use Rattle.pq_checks.specs.aux.Seen.{constants_in, extends_in, setting_faults, titled_seen};
+ghost use Rattle.pq_checks.specs.aux.Spots.{AreSpots, in_spot};
+ghost use Rattle.pq_syntax.specs.declared.tree.Node.{Node};
 
 use crate::Memory;
 use crate::code::Code;
 use crate::fault::Fault;
+use crate::members::{Titled, packages};
 use crate::said::tell;
+use crate::spots::Spot;
 use pq_lex::Span;
-use pq_syntax::{Constant, ConstantKind, Name, Node, Setting, Statement};
+use pq_syntax::{ConstantKind, Setting, Statement};
 use std::alloc::Global;
 
 /// Adds the errors of a constant of the kind `kind` at `span`.
@@ -36,34 +41,26 @@ fn push_kind(
     }
 }
 
-/// Adds the errors of the constant `constant` of an option.
-fn push_constant(alloc: Global, faults: &mut Vec<Fault>, constant: &Constant) -> Result<(), Memory>
-    ensures { IfOk result (λ _. faults.new.items ≡ faults.old.items ++ constant_faults constant.now) }
-{
-    push_kind(alloc, faults, constant.kind, constant.span)
-}
-
 /// Adds the errors of the constants of the options `settings`.
 fn push_settings(alloc: Global, faults: &mut Vec<Fault>, settings: &[Setting]) -> Result<(), Memory>
-    ensures { IfOk result (λ _. faults.new.items ≡ faults.old.items ++ flat_map setting_faults settings.now) }
+    ensures { IfOk result (λ _. faults.new.items ≡ faults.old.items ++ flat_map setting_faults (enumerate_from 0 settings.now)) }
 {
-    'settings: for setting in settings {
+    'settings: for nth in 0..settings.len() {
+        let setting = &settings[nth];
         push_kind(alloc, faults, setting.constant.kind, setting.constant.span)?;
     }
     Ok(())
 }
 
-/// Adds the errors of the constants of the options of `statement`.
+/// Adds the errors of the constants of the options of the statement of `spot`.
 #[tactic(auto, using(crate::proofs::SaidOfParts::of_settings))]
-fn push_statement(
-    alloc: Global,
-    faults: &mut Vec<Fault>,
-    statement: &Statement,
-) -> Result<(), Memory>
-    ensures { IfOk result (λ _. faults.new.items ≡ faults.old.items ++ flat_map constant_faults (constants_by statement.now)) }
+fn push_constants(alloc: Global, faults: &mut Vec<Fault>, spot: Spot<'_>) -> Result<(), Memory>
+    ensures { IfOk result (λ _. faults.new.items ≡ faults.old.items ++ flat_map constant_faults (in_spot constant_at spot.entry)) }
 {
-    match statement {
-        Statement::Option(setting) => push_constant(alloc, faults, &setting.constant),
+    match &spot.node.statement {
+        Statement::Option(setting) => {
+            push_kind(alloc, faults, setting.constant.kind, setting.constant.span)
+        }
         Statement::Field { options, .. } => push_settings(alloc, faults, options.as_slice()),
         Statement::MapField { options, .. } => push_settings(alloc, faults, options.as_slice()),
         Statement::Value { options, .. } => push_settings(alloc, faults, options.as_slice()),
@@ -71,100 +68,78 @@ fn push_statement(
     }
 }
 
-/// Adds the errors of the constants of the options of `nodes`.
-#[tactic(auto, using(crate::proofs::SaidOfParts::of_constants))]
-fn push_constants(alloc: Global, faults: &mut Vec<Fault>, nodes: &[Node]) -> Result<(), Memory>
-    ensures { IfOk result (λ _. faults.new.items ≡ faults.old.items ++ flat_map constants_of_node nodes.now) }
+/// Adds the errors of the constants of the options of the statements `spots`.
+fn push_all_constants(
+    alloc: Global,
+    faults: &mut Vec<Fault>,
+    spots: &[Spot<'_>],
+) -> Result<(), Memory>
+    ensures { IfOk result (λ _. faults.new.items ≡ faults.old.items ++ flat_map constants_in spots.now) }
 {
-    'nodes: for node in nodes {
-        push_statement(alloc, faults, &node.statement)?;
+    'spots: for i in 0..spots.len() {
+        let spot = &spots[i];
+        push_constants(alloc, faults, *spot)?;
     }
     Ok(())
 }
 
-/// Adds the error of `statement` at `span`, if it is an extend block.
-fn push_extend(
-    alloc: Global,
-    faults: &mut Vec<Fault>,
-    span: Span,
-    statement: &Statement,
-) -> Result<(), Memory>
-    ensures { IfOk result (λ _. faults.new.items ≡ faults.old.items ++ flat_map extend_faults (extend_by span statement.now)) }
+/// Adds the error of the statement of `spot`, if it is an extend block.
+fn push_extend(alloc: Global, faults: &mut Vec<Fault>, spot: Spot<'_>) -> Result<(), Memory>
+    ensures { IfOk result (λ _. faults.new.items ≡ faults.old.items ++ extends_in spot.entry) }
 {
-    match statement {
+    match &spot.node.statement {
         Statement::Extend { .. } => {
             let text = "extend block is not read";
-            tell(alloc, faults, span, Code::ExtendBlock, text)
+            tell(alloc, faults, spot.node.span, Code::ExtendBlock, text)
         }
         _ => Ok(()),
     }
 }
 
-/// Adds the errors of the extend blocks of `nodes`.
-fn push_extends(alloc: Global, faults: &mut Vec<Fault>, nodes: &[Node]) -> Result<(), Memory>
-    ensures { IfOk result (λ _. faults.new.items ≡ faults.old.items ++ flat_map extends_of_node nodes.now) }
+/// Adds the errors of the extend blocks among the statements `spots`.
+fn push_extends(alloc: Global, faults: &mut Vec<Fault>, spots: &[Spot<'_>]) -> Result<(), Memory>
+    ensures { IfOk result (λ _. faults.new.items ≡ faults.old.items ++ flat_map extends_in spots.now) }
 {
-    'nodes: for node in nodes {
-        push_extend(alloc, faults, node.span, &node.statement)?;
+    'spots: for i in 0..spots.len() {
+        let spot = &spots[i];
+        push_extend(alloc, faults, *spot)?;
     }
     Ok(())
 }
 
-/// Adds the errors of a file with the statements `nodes` about skipped constructs.
-#[tactic(auto, using(crate::proofs::SaidOfParts::of_constants, crate::proofs::SaidOfParts::of_extends))]
+/// Adds the errors of a file with the statements `spots` about skipped constructs.
 pub(crate) fn push_unread_faults(
     alloc: Global,
     faults: &mut Vec<Fault>,
-    nodes: &[Node],
+    spots: &[Spot<'_>],
 ) -> Result<(), Memory>
-    ensures { IfOk result (λ _. faults.new.items ≡ faults.old.items ++ unread_faults nodes.now) }
+    ensures said { IfOk result (λ _. (nodes : List Node) → AreSpots spots.now nodes → faults.new.items ≡ faults.old.items ++ unread_faults nodes) }
 {
-    push_constants(alloc, faults, nodes)?;
-    push_extends(alloc, faults, nodes)
-}
-
-/// Adds the name of the package that `statement` is, if any.
-fn push_package<'a>(names: &mut Vec<&'a Name>, statement: &'a Statement) -> Result<(), Memory>
-    ensures { IfOk result (λ _. map named names.new.items ≡ map named names.old.items ++ package_by statement.entry.now) }
-{
-    if let Statement::Package { name } = statement {
-        names.push(name)?;
-    }
-    Ok(())
-}
-
-/// The names of the packages of `nodes`, in text order.
-fn packages(alloc: Global, nodes: &[Node]) -> Result<Vec<&Name>, Memory>
-    ensures { IfOk result (λ ns. map named ns.items ≡ packages nodes.entry.now) }
-{
-    let mut names = Vec::new(alloc);
-    'nodes: for node in nodes {
-        push_package(&mut names, &node.statement)?;
-    }
-    Ok(names)
+    push_all_constants(alloc, faults, spots)?;
+    push_extends(alloc, faults, spots)
 }
 
 /// Adds the errors of the packages `later`, of which none is the first.
-fn push_later(alloc: Global, faults: &mut Vec<Fault>, later: &[&Name]) -> Result<(), Memory>
-    ensures { IfOk result (λ _. faults.new.items ≡ faults.old.items ++ flat_map package_line (map named later.now)) }
+fn push_later(alloc: Global, faults: &mut Vec<Fault>, later: &[Titled<'_>]) -> Result<(), Memory>
+    ensures { IfOk result (λ _. faults.new.items ≡ faults.old.items ++ flat_map package_line (map titled_seen later.now)) }
 {
-    'names: for name in later {
+    'later: for package in later {
         let text = "package is given twice";
-        tell(alloc, faults, name.span, Code::PackageTwice, text)?;
+        tell(alloc, faults, package.name.span, Code::PackageTwice, text)?;
     }
     Ok(())
 }
 
-/// Adds the errors of a file with the statements `nodes` about its packages.
+/// Adds the errors of a file with the statements `spots` about its packages.
 pub(crate) fn push_package_faults(
     alloc: Global,
     faults: &mut Vec<Fault>,
-    nodes: &[Node],
+    spots: &[Spot<'_>],
 ) -> Result<(), Memory>
-    ensures { IfOk result (λ _. faults.new.items ≡ faults.old.items ++ of_each_after package_faults [] (packages nodes.now)) }
+    ensures said { IfOk result (λ _. (nodes : List Node) → AreSpots spots.now nodes → faults.new.items ≡ faults.old.items ++ of_each_after package_faults [] (packages nodes)) }
 {
-    let names = packages(alloc, nodes)?;
-    match names.split_first() {
+    let packages = packages(alloc, spots)?;
+    match packages.split_first() {
         Some((_, later)) => push_later(alloc, faults, later),
         None => Ok(()),
     }

@@ -6,10 +6,9 @@ use Rattle.std.specs.Cmp.Lexicographic.{slice_cmp}
 use Rattle.std.specs.Option.{option_cmp}
 use Rattle.std.specs.Ordering.{ordering_then, nat_cmp, int_cmp}
 use Rattle.std.specs.declared.cmp.Ordering.{Ordering}
-use Rattle.pq_syntax.specs.declared.parts.Name.{Name}
 use Rattle.pq_checks.specs.Earlier.{of_each_after}
 use Rattle.pq_checks.specs.Faults.{at, when, number_text, quoted, is_for_protobuf, is_reserved_name, is_zero, is_empty, field_number_faults, field_name_faults, range_faults, oneof_faults, enum_faults, value_number_faults, value_name_faults}
-use Rattle.pq_checks.specs.Members.{Member, Body, ReservedName, Opted}
+use Rattle.pq_checks.specs.Members.{Member, Titled, ReservedName, Opted}
 use Rattle.pq_checks.specs.Numbers.{bounds_of}
 use Rattle.pq_checks.specs.Owners.{limits_by}
 use Rattle.pq_checks.specs.declared.code.Code.{Code}
@@ -60,8 +59,8 @@ name_line c before names m =
     when (is_reserved_name m.owner m.name.text names) (at m.name.span c (before ++ quoted m.name.text ++ codes " is reserved"))
 
 -- `package_line p` is P101 of a package `p` that is not the first
-abbrev pub package_line : Name → List Fault
-package_line p = at p.span code.PackageTwice (codes "package is given twice") ∷ []
+abbrev pub package_line : Titled → List Fault
+package_line p = at p.name.span code.PackageTwice (codes "package is given twice") ∷ []
 
 -- `NameKey` is a name in a message or an enum, as the code keeps it
 abbrev pub NameKey : Type 0
@@ -73,11 +72,11 @@ name_cmp a b = ordering_then (option_cmp nat_cmp a.0 b.0) (slice_cmp nat_cmp a.1
 
 -- `body_line c text members b` is the error of the code `c` of the body `b`, if it has none of
 -- `members`
-abbrev pub body_line : Code → List ℕ → List Member → Body → List Fault
-body_line c text members b = when (is_empty b.number members) (at b.name.span c text)
+abbrev pub body_line : Code → List ℕ → List Member → Titled → List Fault
+body_line c text members b = when (is_empty b.item members) (at b.name.span c text)
 
 -- `message_lines fields ranges names oneofs` is P120 to P126 of these
-abbrev pub message_lines : List Member → List Reserved → List ReservedName → List Body → List Fault
+abbrev pub message_lines : List Member → List Reserved → List ReservedName → List Titled → List Fault
 message_lines fields ranges names oneofs =
     of_each_after (field_number_faults ranges) [] fields
     ++ flat_map (field_name_faults names) fields
@@ -85,7 +84,7 @@ message_lines fields ranges names oneofs =
     ++ flat_map (oneof_faults fields) oneofs
 
 -- `enumeration_lines values enums ranges options names` is P130 to P135 of these
-abbrev pub enumeration_lines : List Member → List Body → List Reserved → List Opted → List ReservedName → List Fault
+abbrev pub enumeration_lines : List Member → List Titled → List Reserved → List Opted → List ReservedName → List Fault
 enumeration_lines values enums ranges options names =
     flat_map (enum_faults values) enums
     ++ of_each_after (value_number_faults ranges options) [] values

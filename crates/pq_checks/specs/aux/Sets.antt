@@ -7,9 +7,8 @@ use Rattle.std.specs.List.{list_any}
 use Rattle.std.specs.Option.{option_eq}
 use Rattle.std.specs.Ordering.{int_eq}
 use Rattle.std.specs.declared.cmp.Ordering.{Ordering}
-use Rattle.pq_syntax.specs.declared.parts.Strings.{Strings}
 use Rattle.pq_checks.specs.Faults.{same_item}
-use Rattle.pq_checks.specs.Members.{Member, ReservedName}
+use Rattle.pq_checks.specs.Members.{Member, ReservedName, ImportName}
 use Rattle.pq_checks.specs.Numbers.{Limits, number_in}
 use Rattle.pq_checks.specs.aux.Lines.{Key, NameKey}
 
@@ -36,5 +35,5 @@ abbrev pub is_name : NameKey → ReservedName → Bool
 is_name q n = same_item q.0 n.owner && bytes_eq q.1.now n.value
 
 -- `is_import q i` is whether the import `i` has the name that `q` lends
-abbrev pub is_import : Bor (List ℕ) → Strings → Bool
-is_import q i = bytes_eq q.now i.value
+abbrev pub is_import : Bor (List ℕ) → ImportName → Bool
+is_import q i = bytes_eq q.now i.name.value

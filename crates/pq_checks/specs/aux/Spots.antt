@@ -1,10 +1,10 @@
--- Auxiliary: the statements of a tree, each with what contains it (used by proofs and invariants
--- only).
-use Rattle.std.specs.Prelude.{ℕ, false, cond, List, Some, None}
-use Rattle.pq_syntax.specs.Places.{Item, Place}
+-- Auxiliary: the statements of a tree, each with what contains it, as the walk keeps them (used by
+-- proofs and invariants only).
+use Rattle.std.specs.Prelude.{ℕ, ◌≡◌, false, cond, List, Some, None, map}
+use Rattle.pq_syntax.specs.Places.{places}
 use Rattle.pq_syntax.specs.declared.tree.Node.{Node}
 use Rattle.pq_syntax.specs.declared.tree.Statement.{Statement}
-use Rattle.pq_checks.specs.Owners.{holder_of, owner_of, is_in_enum, is_enum, is_oneof}
+use Rattle.pq_checks.specs.Owners.{is_enum, is_oneof, Site, site_of}
 use Rattle.pq_checks.specs.declared.spots.Around.{Around}
 use Rattle.pq_checks.specs.declared.spots.Spot.{Spot}
 
@@ -17,20 +17,14 @@ outside = record { holder = None; owner = None; in_enum = false }
 abbrev pub opened : Around → ℕ → Statement → Around
 opened a number s = record { holder = Some number; owner = cond (is_oneof s) a.owner (Some number); in_enum = is_enum s }
 
--- `around_of within` is what contains a statement within the items `within`
-abbrev pub around_of : List Item → Around
-around_of within = record { holder = holder_of within; owner = owner_of within; in_enum = is_in_enum within }
-
--- `Seen` is a spot as contracts see it
-pub record Seen : Type 0 where
-  pub item : ℕ
-  pub around : Around
-  pub node : Node
-
 -- `seen s` is what contracts see of the spot `s`
-abbrev pub seen : Spot → Seen
+abbrev pub seen : Spot → Site
 seen s = record { item = s.item; around = s.around; node = s.node.now }
 
--- `seen_at p` is the spot of the place `p`
-abbrev pub seen_at : Place → Seen
-seen_at p = record { item = p.item.number; around = around_of p.within; node = p.item.node }
+-- `in_spot f s` is what `f` lists of the statement of the spot `s`
+abbrev pub in_spot : {A : Type 0} → (Site → Statement → List A) → Spot → List A
+in_spot f s = f (seen s) s.node.now.statement
+
+-- `AreSpots spots nodes` is that `spots` are the statements `nodes` with what contains them
+abbrev pub AreSpots : List Spot → List Node → Type 0
+AreSpots spots nodes = map seen spots ≡ map site_of (places nodes)

@@ -1,6 +1,6 @@
 -- Auxiliary: words between the definitions and the code that keeps its own look-ups (used by proofs
 -- and invariants only).
-use Rattle.std.specs.Prelude.{ℕ, Bool, not, bytes_eq, List, [], ◌++◌, codes, map}
+use Rattle.std.specs.Prelude.{ℕ, Bool, not, bytes_eq, List, [], ◌++◌, codes}
 use Rattle.std.specs.Borrow.{Bor}
 use Rattle.std.specs.Cmp.Lexicographic.{slice_cmp}
 use Rattle.std.specs.Ordering.{nat_cmp}
@@ -10,10 +10,6 @@ use Rattle.pq_schema.specs.declared.scope.FileDefs.{FileDefs}
 use Rattle.pq_checks.specs.Faults.{at, when, quoted}
 use Rattle.pq_checks.specs.declared.code.Code.TheVariants as code
 use Rattle.pq_checks.specs.declared.fault.Fault.{Fault}
-
--- `all_now xs` is the values of the references `xs`
-abbrev pub all_now : {A : Type 0} → List (Bor A) → List A
-all_now {A = A} xs = map (λ (x : Bor A). x.now) xs
 
 -- `twice_line repeated d` is the error of the definition `d` if its full name is `repeated`. The
 -- message ends in the name of no file.

@@ -1,7 +1,9 @@
 use Rattle.std.proofs.Common.{◌≡◌, ◌++◌, map, drop}
 use Rattle.std.specs.Prelude.{flat_map}
-use Rattle.pq_checks.specs.aux.Seen.{body_seen, enum_in}
+use Rattle.pq_checks.specs.Members.{enum_at}
+use Rattle.pq_checks.specs.aux.Seen.{titled_seen}
+use Rattle.pq_checks.specs.aux.Spots.{in_spot}
 use Rattle.pq_checks.proofs.members.enums.Given as goal
 
 abbrev pub invariant-spots : goal.invariant-spots
-invariant-spots l = map body_seen l.bodies.items ++ flat_map enum_in (drop l.i l.spots) ≡ flat_map enum_in l.spots
+invariant-spots l = map titled_seen l.enums.items ++ flat_map (in_spot enum_at) (drop l.i l.spots) ≡ flat_map (in_spot enum_at) l.spots

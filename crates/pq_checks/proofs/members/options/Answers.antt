@@ -1,9 +1,10 @@
-use Rattle.pq_checks.specs.aux.Seen.{option_in}
+use Rattle.pq_checks.specs.Members.{option_at}
+use Rattle.pq_checks.specs.aux.Spots.{in_spot}
 use Rattle.pq_checks.proofs.Passes.{each_more, each_all}
 use Rattle.pq_checks.proofs.members.options.Goals as goal
 
 pub spots-preserved : goal.spots-preserved
-spots-preserved c = each_more option_in _ _ _ _ _ _ c.spots-test.true c.index-spots-i.is c.in_ok-push_option.ensures c.spots.invariant
+spots-preserved c = each_more (in_spot option_at) _ _ _ _ _ _ c.spots-test.true c.index-spots-i.is c.in_ok-push_option.ensures c.spots.invariant
 
 pub returns : goal.returns
-returns c = record { options = each_all option_in _ _ _ _ c.spots-test.false c.spots.invariant }
+returns c = record { options = each_all (in_spot option_at) _ _ _ _ c.spots-test.false c.spots.invariant }

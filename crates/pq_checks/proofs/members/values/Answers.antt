@@ -1,9 +1,10 @@
-use Rattle.pq_checks.specs.aux.Seen.{value_in}
+use Rattle.pq_checks.specs.Members.{value_at}
+use Rattle.pq_checks.specs.aux.Spots.{in_spot}
 use Rattle.pq_checks.proofs.Passes.{each_more, each_all}
 use Rattle.pq_checks.proofs.members.values.Goals as goal
 
 pub spots-preserved : goal.spots-preserved
-spots-preserved c = each_more value_in _ _ _ _ _ _ c.spots-test.true c.index-spots-i.is c.in_ok-push_value.ensures c.spots.invariant
+spots-preserved c = each_more (in_spot value_at) _ _ _ _ _ _ c.spots-test.true c.index-spots-i.is c.in_ok-push_value.ensures c.spots.invariant
 
 pub returns : goal.returns
-returns c = record { values = each_all value_in _ _ _ _ c.spots-test.false c.spots.invariant }
+returns c = record { values = each_all (in_spot value_at) _ _ _ _ c.spots-test.false c.spots.invariant }

@@ -1,9 +1,9 @@
-use Rattle.pq_checks.specs.aux.Seen.{extends_of_node}
+use Rattle.pq_checks.specs.aux.Seen.{extends_in}
 use Rattle.pq_checks.proofs.Passes.{each_more, each_all}
 use Rattle.pq_checks.proofs.unread_lines.push_extends.Goals as goal
 
-pub nodes-preserved : goal.nodes-preserved
-nodes-preserved c = each_more extends_of_node _ _ _ _ _ _ c.nodes-test.true c.node-item.is c.in_ok-push_extend.ensures c.nodes.invariant
+pub spots-preserved : goal.spots-preserved
+spots-preserved c = each_more extends_in _ _ _ _ _ _ c.spots-test.true c.index-spots-i.is c.in_ok-push_extend.ensures c.spots.invariant
 
 pub returns : goal.returns
-returns c = each_all extends_of_node _ _ _ _ c.nodes-test.false c.nodes.invariant
+returns c = each_all extends_in _ _ _ _ c.spots-test.false c.spots.invariant

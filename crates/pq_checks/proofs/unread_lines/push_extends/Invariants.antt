@@ -1,7 +1,7 @@
 use Rattle.std.proofs.Common.{◌≡◌, ◌++◌, drop}
 use Rattle.std.specs.Prelude.{flat_map}
-use Rattle.pq_checks.specs.aux.Seen.{extends_of_node}
+use Rattle.pq_checks.specs.aux.Seen.{extends_in}
 use Rattle.pq_checks.proofs.unread_lines.push_extends.Given as goal
 
-abbrev pub invariant-nodes : goal.invariant-nodes
-invariant-nodes l = l.faults.items ++ flat_map extends_of_node (drop l.node-index l.nodes) ≡ l.fn.faults.items ++ flat_map extends_of_node l.nodes
+abbrev pub invariant-spots : goal.invariant-spots
+invariant-spots l = l.faults.items ++ flat_map extends_in (drop l.i l.spots) ≡ l.fn.faults.items ++ flat_map extends_in l.spots

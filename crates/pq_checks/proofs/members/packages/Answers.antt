@@ -1,0 +1,10 @@
+use Rattle.pq_checks.specs.Members.{package_at}
+use Rattle.pq_checks.specs.aux.Spots.{in_spot}
+use Rattle.pq_checks.proofs.Passes.{each_more, each_all}
+use Rattle.pq_checks.proofs.members.packages.Goals as goal
+
+pub spots-preserved : goal.spots-preserved
+spots-preserved c = each_more (in_spot package_at) _ _ _ _ _ _ c.spots-test.true c.index-spots-i.is c.in_ok-push_package.ensures c.spots.invariant
+
+pub returns : goal.returns
+returns c = record { packages = each_all (in_spot package_at) _ _ _ _ c.spots-test.false c.spots.invariant }
