@@ -2,7 +2,8 @@
 //!
 //! Beside the list lies a set of its items, so that a further item takes logarithmic time. A hash
 //! set would not do: whoever writes the names could make them collide.
-ghost use Rattle.std.specs.Prelude.{◌≡◌, [], OnOk};
+ghost use Rattle.std.specs.Prelude.{◌≡◌, [], OnOk, slice_get};
+ghost use Rattle.std.specs.Option.{option_copied};
 ghost use Rattle.std.specs.Ordering.{eq_by_cmp};
 ghost use Rattle.pq_links.specs.aux.Adding.{add_first};
 
@@ -52,6 +53,13 @@ impl<T: Ord + Drop> Firsts<T> {
             self.items.push_reserved(item);
         }
         Ok(())
+    }
+
+    /// The item at `place`, if there are as many.
+    pub(crate) fn at(&self, place: usize) -> Option<&T>
+        ensures item { option_copied result ≡ slice_get self.now place }
+    {
+        self.items.get(place)
     }
 
     /// The items.

@@ -2,9 +2,9 @@
 //!
 //! Each takes N log N time for N names in the lists of these files, and one walk where one file is
 //! imported. Names are shared, not copied.
-ghost use Rattle.std.specs.Prelude.{◌≡◌, [], ◌∷◌, ◌++◌, cond, IfOk, OnOk};
+ghost use Rattle.std.specs.Prelude.{◌≡◌, [], ◌∷◌, ◌++◌, true, cond, IfOk, OnOk};
 ghost use Rattle.pq_links.specs.Visibility.{firsts, links_by, no_links, passed_on, shown, reached};
-ghost use Rattle.pq_links.specs.aux.Adding.{add_first, add_firsts, same_name};
+ghost use Rattle.pq_links.specs.aux.Adding.{add_first, add_firsts, has, same_name};
 
 use crate::Memory;
 use crate::file_names::FileNames;
@@ -22,12 +22,44 @@ fn add_name(names: &mut Firsts<Text>, name: &Text) -> Result<(), Memory>
     names.add(item, key)
 }
 
-/// Adds each name of `more` in order, if it is not there yet.
+/// Whether the name at `place` is `name`.
+fn is_at(names: &Firsts<Text>, place: usize, name: &Text) -> bool
+    ensures there { result ≡ true → has same_name names.now name.now ≡ true }
+{
+    match names.at(place) {
+        Some(own) => own == name,
+        None => false,
+    }
+}
+
+/// Adds `name`, if it is not there yet. The answer is where the name that follows it in the list of
+/// an import may be, where `place` is where `name` may be: there or behind, or anywhere.
+fn add_near(names: &mut Firsts<Text>, place: usize, name: &Text) -> Result<usize, Memory>
+    ensures added { OnOk result (names.new ≡ add_first same_name names.old name.now) }
+{
+    let next = place.saturating_add(1);
+    if is_at(names, place, name) {
+        return Ok(next);
+    }
+    if is_at(names, next, name) {
+        return Ok(next.saturating_add(1));
+    }
+    add_name(names, name)?;
+    Ok(place)
+}
+
+/// The place after the name of the file itself.
+const SECOND: usize = 1;
+
+/// Adds each name of `more` in order, if it is not there yet. Imports whose files reach the same
+/// files mostly have them in the same order. So the name after one that was there is looked for
+/// beside it, before the set is searched.
 fn add_names(names: &mut Firsts<Text>, more: &[Text]) -> Result<(), Memory>
     ensures added { OnOk result (names.new ≡ add_firsts same_name names.old more.now) }
 {
+    let mut place = SECOND;
     'each_name: for name in more {
-        add_name(names, name)?;
+        place = add_near(names, place, name)?;
     }
     Ok(())
 }
