@@ -72,7 +72,8 @@ impl FrameReader {
         })
     }
 
-    /// A reader after `header` and the bytes `body` of a body of `needed` bytes.
+    /// A reader after `header` and the bytes `body` of a body of `needed` bytes, for all of which it
+    /// has room.
     fn in_body(
         alloc: Global,
         header: &[u8],
@@ -84,10 +85,12 @@ impl FrameReader {
         requires cut { length body.now < needed }
         ensures { IfOk result (λ r. r ≡ Reading (header.now ++ body.now)) }
     {
+        let mut kept = Vec::with_capacity(alloc, needed)?;
+        kept.extend_from_slice(body)?;
         Ok(FrameReader {
             alloc,
             header: Vec::from_slice(alloc, header)?,
-            body: Vec::from_slice(alloc, body)?,
+            body: kept,
             needed: Some(needed),
             fault: None,
         })
@@ -114,7 +117,7 @@ impl FrameReader {
     }
 
     /// Takes `piece`, the next bytes of the stream, and returns the bodies that it completes, in
-    /// order.
+    /// order. It reserves room for a whole body when the header part of that body is complete.
     ///
     /// An error of the stream is returned as soon as the bytes show it. If the piece completes
     /// bodies before the error, this call returns them and the next call returns the error, also

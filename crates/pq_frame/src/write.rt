@@ -1,9 +1,18 @@
 //! Writes a frame.
-ghost use Rattle.std.specs.Prelude.{◌≡◌, length, IfOk};
-ghost use Rattle.pq_frame.specs.Written.{written};
+ghost use Rattle.std.specs.Prelude.{◌≡◌, length, string_bytes, IfOk};
+ghost use Rattle.pq_frame.specs.Written.{written, header_text};
 
 use crate::Memory;
 use std::alloc::Global;
+
+/// The header part of a body of `len` bytes: `Content-Length: N` and an empty line. With the body
+/// after it, it is the frame of that body: see `frame`. The only error is `Memory`, after an
+/// allocation failure.
+pub fn frame_header(alloc: Global, len: usize) -> Result<String, Memory>
+    ensures { IfOk result (λ text. string_bytes text ≡ header_text len) }
+{
+    format!(in alloc; "Content-Length: {len}\r\n\r\n")
+}
 
 /// The frame of `body`: `Content-Length: N`, an empty line and `body`, where N is its length in
 /// bytes (LSP 3.17, "Base Protocol").
@@ -15,9 +24,8 @@ use std::alloc::Global;
 pub fn frame(alloc: Global, body: &[u8]) -> Result<Vec<u8>, Memory>
     ensures { IfOk result (λ bytes. bytes.items ≡ written body.now) }
 {
-    let len = body.len();
-    let header = format!(in alloc; "Content-Length: {len}\r\n\r\n")?;
-    let mut bytes = Vec::with_capacity(alloc, header.len().saturating_add(len))?;
+    let header = frame_header(alloc, body.len())?;
+    let mut bytes = Vec::with_capacity(alloc, header.len().saturating_add(body.len()))?;
     bytes.extend_from_slice(header.as_bytes())?;
     bytes.extend_from_slice(body)?;
     Ok(bytes)
