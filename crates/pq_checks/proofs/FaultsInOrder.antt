@@ -1,8 +1,10 @@
--- Errors that tie are one: they have the same offsets, code and message.
+-- Errors that tie are one: they have the same offsets, code and message. The order that the type
+-- derives is that of the definition.
 use Rattle.std.specs.Prelude.{◌≡◌, ℕ, List, [], ◌∷◌, refl}
 use Rattle.std.proofs.Common.{sym, ◌∙◌, ap, inl, inr}
+use mathlib.Core.Path.{fun_ext}
 use Rattle.std.specs.Cmp.{IsTotalOrder, nat_cmp_total}
-use Rattle.std.specs.Cmp.Derive.{points, by_total, Totals, point_total}
+use Rattle.std.specs.Cmp.Derive.{points}
 use Rattle.std.proofs.lemmas.Cmp.{then_total, on_total, lists_total}
 use Rattle.std.specs.Cmp.Lexicographic.{slice_cmp}
 use Rattle.std.specs.Ordering.{nat_cmp, ordering_then}
@@ -13,11 +15,14 @@ use denote.Enum.Declared.{Choice, values_one}
 use denote.Enum.Bare.{Bare}
 use denote.Enum.Compared.{by}
 use denote.Struct.Field.{Field}
+use Rattle.pq_checks.specs.Codes.{code_text}
 use Rattle.pq_checks.specs.contracts.code as code
 use Rattle.pq_checks.specs.contracts.code.CodeOrd.TheImpl as code_order
+use Rattle.pq_checks.specs.contracts.fault.FaultOrd.TheImpl as derived
 use Rattle.pq_checks.specs.FaultOrder.{fault_cmp}
 use Rattle.pq_checks.specs.declared.fault.Fault.{Fault}
 use Rattle.pq_checks.specs.declared.code.Code.{Code}
+use Rattle.pq_checks.proofs.PrintedOrder.{codes_order, text_cmp, texts_total}
 
 exact_choice : (Fss : List (List Field)) → Bare Fss → (c d : Choice Fss) → by Less Greater Fss (points Equal Fss) c d ≡ Equal → c ≡ d
 exact_choice [] bare c d e = absurd c
@@ -27,8 +32,10 @@ exact_choice ([] ∷ Fss) bare (inr x) (inl y) e = cc
 exact_choice ([] ∷ Fss) bare (inr x) (inr y) e = ap (λ z. inr z) (exact_choice Fss bare x y e)
 exact_choice ((F ∷ Fs) ∷ Fss) bare c d e = absurd bare
 
-code_exact : (a b : Code) → code_order.ghosts.cmp a b ≡ Equal → a ≡ b
-code_exact a b e = values_one code.Code.enum a b (exact_choice code.Code.enum.parts tt (code.Code.enum.as_values a) (code.Code.enum.as_values b) e)
+code_exact : (a b : Code) → text_cmp (code_text a) (code_text b) ≡ Equal → a ≡ b
+code_exact a b e =
+    let one : code_order.ghosts.cmp a b ≡ Equal = codes_order a b ∙ e in
+    values_one code.Code.enum a b (exact_choice code.Code.enum.parts tt (code.Code.enum.as_values a) (code.Code.enum.as_values b) one)
 
 then_left : (p q : Ordering) → ordering_then p q ≡ Equal → p ≡ Equal
 then_left Less q e = cc
@@ -40,17 +47,13 @@ then_right Less q e = cc
 then_right Equal q e = e
 then_right Greater q e = cc
 
-fault_shape : (a b : Fault) → fault_cmp a b ≡ ordering_then (nat_cmp a.start b.start) (ordering_then (nat_cmp a.end b.end) (ordering_then (code_order.ghosts.cmp a.code b.code) (slice_cmp nat_cmp a.text b.text)))
-fault_shape a b = refl
-
 made : ℕ → ℕ → Code → List ℕ → Fault
 made s e c t = record { start = s; end = e; code = c; text = t }
 
 pub fault_exact : (a b : Fault) → fault_cmp a b ≡ Equal → a ≡ b
 unfolding made
-fault_exact a b e =
-    let all = sym (fault_shape a b) ∙ e in
-    let p = nat_cmp a.start b.start in let q = nat_cmp a.end b.end in let r = code_order.ghosts.cmp a.code b.code in let t = slice_cmp nat_cmp a.text b.text in
+fault_exact a b all =
+    let p = nat_cmp a.start b.start in let q = nat_cmp a.end b.end in let r = text_cmp (code_text a.code) (code_text b.code) in let t = slice_cmp nat_cmp a.text b.text in
     let rest : ordering_then q (ordering_then r t) ≡ Equal = then_right p (ordering_then q (ordering_then r t)) all in
     let last : ordering_then r t ≡ Equal = then_right q (ordering_then r t) rest in
     let starts = exact_unsigned a.start b.start (then_left p (ordering_then q (ordering_then r t)) all) in
@@ -59,14 +62,18 @@ fault_exact a b e =
     let texts = exact_bytes a.text b.text (then_right r t last) in
     ap (λ s. made s a.end a.code a.text) starts ∙ ap (λ n. made b.start n a.code a.text) ends ∙ ap (λ c. made b.start b.end c a.text) codes_same ∙ ap (λ x. made b.start b.end b.code x) texts
 
-points_totals : (Fss : List (List Field)) → Totals Fss (points Equal Fss)
-points_totals [] = tt
-points_totals (Fs ∷ Fss) = (point_total, points_totals Fss)
-
-codes_total : IsTotalOrder code_order.ghosts.cmp
-codes_total = by_total code.Code.enum (points Equal code.Code.enum.parts) (points_totals code.Code.enum.parts)
-
 pub fault_total : IsTotalOrder fault_cmp
 fault_total =
     then_total (on_total (λ (f : Fault). f.start) nat_cmp_total) (then_total (on_total (λ (f : Fault). f.end) nat_cmp_total)
-    (then_total (on_total (λ (f : Fault). f.code) codes_total) (on_total (λ (f : Fault). f.text) (lists_total nat_cmp_total))))
+    (then_total (on_total (λ (f : Fault). code_text f.code) texts_total) (on_total (λ (f : Fault). f.text) (lists_total nat_cmp_total))))
+
+-- the order that the type derives
+derived_order : (f g : Fault) → derived.ghosts.cmp f g ≡ fault_cmp f g
+derived_order f g =
+    ap (λ (o : Ordering). ordering_then (nat_cmp f.start g.start) (ordering_then (nat_cmp f.end g.end) (ordering_then o (slice_cmp nat_cmp f.text g.text)))) (codes_order f.code g.code)
+
+pub derived_is : derived.ghosts.cmp ≡ fault_cmp
+derived_is = fun_ext (λ f. fun_ext (derived_order f))
+
+pub derived_exact : (a b : Fault) → derived.ghosts.cmp a b ≡ Equal → a ≡ b
+derived_exact a b e = fault_exact a b (sym (derived_order a b) ∙ e)

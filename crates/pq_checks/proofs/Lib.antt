@@ -8,6 +8,7 @@ pub mod Elsewhere
 pub mod Taken
 pub mod Ties
 pub mod Flags
+pub mod PrintedOrder
 pub mod FaultsInOrder
 pub mod EachLine
 pub mod Joined
