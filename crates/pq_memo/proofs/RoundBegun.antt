@@ -15,9 +15,8 @@ use Rattle.pq_memo.specs.declared.frame.Frame.{Frame}
 use Rattle.pq_memo.specs.Sound.{Memo, at}
 use Rattle.pq_memo.specs.Table.{HasIn}
 use Rattle.pq_memo.specs.Demand.{Differ}
-use Rattle.pq_memo.specs.Frames.{Awaits, IsRound, IsWaitRound, frame_keys}
+use Rattle.pq_memo.specs.Frames.{Awaits, IsRound, IsWaitRound, frame_keys, AreMembers}
 use Rattle.pq_memo.specs.aux.Demand.{IsLeastKey}
-use Rattle.pq_memo.specs.aux.Frames.{AreMembers}
 use Rattle.pq_memo.proofs.RoundClosed.{Closed, round_each, round_closed}
 use Rattle.pq_memo.proofs.RoundTurned.{turned, least_less, turned_in, turned_from}
 

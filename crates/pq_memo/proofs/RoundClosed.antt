@@ -17,8 +17,8 @@ use Rattle.pq_memo.specs.Sound.{Memo, at, HasReads}
 use Rattle.pq_memo.specs.Look.{IsUpToDate}
 use Rattle.pq_memo.specs.Table.{HasIn}
 use Rattle.pq_memo.specs.Writes.{ring_keys, fronts}
-use Rattle.pq_memo.specs.Frames.{Sits, Awaits, RoundOf, IsRound, front_of, reads_of, frame_keys}
-use Rattle.pq_memo.specs.aux.Frames.{RingSits, members, pairs, IsMember, AreMembers}
+use Rattle.pq_memo.specs.Frames.{Sits, Awaits, RoundOf, IsRound, front_of, reads_of, frame_keys, IsMember, AreMembers}
+use Rattle.pq_memo.specs.aux.Frames.{RingSits, members, pairs}
 use Rattle.pq_memo.proofs.RingClosed.{ring_closed, ring_fresh}
 
 module _ {K P V : Type 0} (order : K → K → Ordering) (m : Machine K P V) (history : List Sources) (now : ℕ) (table : K → Option (Memo K V)) where

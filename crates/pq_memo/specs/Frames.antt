@@ -1,6 +1,6 @@
 -- Frames: keys that are being brought up to date. A frame walks over the recorded reads of its
 -- key's memo, or its key's rule waits for an answer. The names are those of `specs/Sound`.
-use Rattle.std.specs.Prelude.{ℕ, ◌≡◌, ◌<◌, ◌≤◌, List, [], ◌∷◌, length, take, slice_get, Option, Some, None}
+use Rattle.std.specs.Prelude.{ℕ, ◌≡◌, ◌<◌, ◌≤◌, List, [], ◌∷◌, ◌++◌, length, take, slice_get, Option, Some, None}
 use Rattle.std.specs.declared.cmp.Ordering.{Ordering}
 use Rattle.std.specs.declared.cmp.Ordering.TheVariants.{Less}
 use Rattle.pq_inputs.specs.Sources.{Sources}
@@ -102,3 +102,17 @@ IsRound order m history now table (f ∷ fs) =
 abbrev pub IsWaitRound : {K P V : Type 0} → (K → K → Ordering) → Machine K P V → List Sources → ℕ → (K → Option (Memo K V)) → List (Frame K P) → Type 0
 IsWaitRound order m history now table [] = ⊥
 IsWaitRound order m history now table (f ∷ fs) = RoundOf order m history now table f.key (f ∷ fs)
+
+-- `IsMember order m history now table frame member` is that `member` is the key of `frame` with its
+-- reads, the one that it waits for included
+abbrev pub IsMember : {K P V : Type 0} → (K → K → Ordering) → Machine K P V → List Sources → ℕ → (K → Option (Memo K V)) → Frame K P → K × List K → Type 0
+IsMember {K} order m history now table frame member =
+    (q : K) → Awaits order m history now (HasIn table) frame.key frame.stage q
+    → member ≡ (frame.key, front_of table frame.key frame.stage ++ q ∷ [])
+
+-- `AreMembers order m history now table frames members` is that `members` are those of `frames`
+abbrev pub AreMembers : {K P V : Type 0} → (K → K → Ordering) → Machine K P V → List Sources → ℕ → (K → Option (Memo K V)) → List (Frame K P) → List (K × List K) → Type 0
+AreMembers order m history now table [] [] = Unit {0}
+AreMembers order m history now table [] (e ∷ es) = ⊥
+AreMembers order m history now table (f ∷ fs) [] = ⊥
+AreMembers order m history now table (f ∷ fs) (e ∷ es) = IsMember order m history now table f e × AreMembers order m history now table fs es

@@ -10,13 +10,13 @@ ghost use Rattle.pq_memo.specs.declared.frame.Frame.{Frame};
 ghost use Rattle.pq_memo.specs.Sound.{Memo};
 ghost use Rattle.pq_memo.specs.Table.{memo_at, HasIn, IsSameTable, KeptOver};
 ghost use Rattle.pq_memo.specs.Writes.{RingWritten, ring_keys};
-ghost use Rattle.pq_memo.specs.Frames.{IsRound, Awaits, front_of, frame_keys};
-ghost use Rattle.pq_memo.specs.aux.Frames.{AreMembers, IsMember};
+ghost use Rattle.pq_memo.specs.Frames.{IsRound, Awaits, front_of, frame_keys, AreMembers, IsMember};
 
 use crate::entry::number_at;
 use crate::frame::{Frame, Stage};
 use crate::member::Member;
 use crate::memos::Memos;
+use crate::slots::NOWHERE;
 use pq_inputs::Inputs;
 use pq_rules::{Memory, Rules, push};
 use std::alloc::Global;
@@ -146,6 +146,47 @@ impl<R: Rules> Memos<R> {
         let _latest = inputs.now();
         let members = self.members_of(alloc, frames, numbers, inputs)?;
         match self.publish_ring_near(alloc, members, numbers, inputs) {
+            Ok(()) => return Ok(()),
+            Err(_) => {}
+        }
+        Err(Memory)
+    }
+
+    /// Makes the member of a ring for `frame`, which waits for a key: its key, with its reads and
+    /// the one that it waits for.
+    pub fn round_member(
+        &self,
+        alloc: Global,
+        frame: &Frame<R::Key, R::Part>,
+        inputs: &Inputs,
+    ) -> Result<Member<R::Key>, Memory>
+        requires { (q : R.Key) × Awaits R.Key.cmp (R.machine self.now.rules) inputs.now.history inputs.now.revision (HasIn (memo_at R.Key.cmp self.now.places)) frame.now.key frame.now.stage q }
+        ensures { IfOk result (IsMember R.Key.cmp (R.machine self.now.rules) inputs.now.history inputs.now.revision (memo_at R.Key.cmp self.now.places) frame.now) }
+    {
+        let key = self.rules().copy_key(alloc, &frame.key)?;
+        let reads = self.frame_reads(alloc, frame, NOWHERE, inputs)?;
+        Ok(Member::new(key, reads))
+    }
+
+    /// Publishes the ring of `members`, which are those of frames that wait for each other in a
+    /// round, the least key first. The frames may be of several stacks. If an allocation fails, no
+    /// key gets another memo.
+    pub fn publish_members(
+        &mut self,
+        alloc: Global,
+        members: Vec<Member<R::Key>>,
+        inputs: &Inputs,
+    ) -> Result<(), Memory>
+        requires kept { KeptOver R.Key.cmp (R.machine self.old.rules) inputs.now self.old.places }
+        requires round { (frames : List (Frame R.Key R.Part)) × IsRound R.Key.cmp (R.machine self.old.rules) inputs.now.history inputs.now.revision (memo_at R.Key.cmp self.old.places) frames
+            × AreMembers R.Key.cmp (R.machine self.old.rules) inputs.now.history inputs.now.revision (memo_at R.Key.cmp self.old.places) frames members.items }
+        ensures rules { self.new.rules ≡ self.old.rules }
+        ensures kept { KeptOver R.Key.cmp (R.machine self.old.rules) inputs.now self.new.places }
+        ensures published { OnOk result ((durability : Durability) × RingWritten inputs.now.revision (HasIn (memo_at R.Key.cmp self.old.places)) (HasIn (memo_at R.Key.cmp self.new.places)) members.items durability) }
+        ensures refused { OnErr result (IsSameTable (memo_at R.Key.cmp self.old.places) (memo_at R.Key.cmp self.new.places)) }
+    {
+        let _latest = inputs.now();
+        match self.publish_ring(alloc, members, inputs) {
             Ok(()) => return Ok(()),
             Err(_) => {}
         }

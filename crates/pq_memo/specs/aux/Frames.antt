@@ -78,17 +78,3 @@ WaitsAt (Waiting other question reads) part asked front = (other ≡ part) × (q
 abbrev pub pairs : {K P V : Type 0} → (K → Option (Memo K V)) → List (Frame K P) → List (K × List K)
 pairs table [] = []
 pairs table (f ∷ fs) = (f.key, front_of table f.key f.stage) ∷ pairs table fs
-
--- `IsMember order m history now table frame member` is that `member` is the key of `frame` with its
--- reads, the one that it waits for included
-abbrev pub IsMember : {K P V : Type 0} → (K → K → Ordering) → Machine K P V → List Sources → ℕ → (K → Option (Memo K V)) → Frame K P → K × List K → Type 0
-IsMember {K} order m history now table frame member =
-    (q : K) → Awaits order m history now (HasIn table) frame.key frame.stage q
-    → member ≡ (frame.key, front_of table frame.key frame.stage ++ q ∷ [])
-
--- `AreMembers order m history now table frames members` is that `members` are those of `frames`
-abbrev pub AreMembers : {K P V : Type 0} → (K → K → Ordering) → Machine K P V → List Sources → ℕ → (K → Option (Memo K V)) → List (Frame K P) → List (K × List K) → Type 0
-AreMembers order m history now table [] [] = Unit {0}
-AreMembers order m history now table [] (e ∷ es) = ⊥
-AreMembers order m history now table (f ∷ fs) [] = ⊥
-AreMembers order m history now table (f ∷ fs) (e ∷ es) = IsMember order m history now table f e × AreMembers order m history now table fs es

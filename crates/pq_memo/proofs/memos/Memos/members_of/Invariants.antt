@@ -1,6 +1,6 @@
 use Rattle.std.proofs.Common.{take}
 use Rattle.pq_memo.specs.Table.{memo_at}
-use Rattle.pq_memo.specs.aux.Frames.{AreMembers}
+use Rattle.pq_memo.specs.Frames.{AreMembers}
 use Rattle.pq_memo.proofs.memos.Memos.members_of.Given as goal
 
 abbrev pub invariant-loop-i : goal.invariant-loop-i
