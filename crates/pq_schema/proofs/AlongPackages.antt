@@ -12,7 +12,7 @@ use Rattle.std.proofs.lemmas.Slice.Eq.{starts_is}
 use Rattle.pq_schema.specs.Definitions.{qualified}
 use Rattle.pq_schema.specs.Resolution.{is_package}
 use Rattle.pq_schema.specs.declared.scope.FileDefs.{FileDefs}
-use Rattle.pq_schema.specs.aux.Along.{AllMeet, HasMet, IsAlong, IsPlain, IsStart, Meets, NoneBelow, is_longer, scope_before}
+use Rattle.pq_schema.specs.aux.Along.{AllMeet, HasMet, IsAlong, IsPlain, IsStart, Meets, scope_before}
 use Rattle.pq_schema.specs.aux.Grouping.{IsIndex, root_order}
 use Rattle.pq_schema.specs.aux.InPackage.{dotted}
 use Rattle.pq_schema.specs.aux.NameParts.{leading}
@@ -181,42 +181,3 @@ along_from parts packages files root x sorted meet met = record {
       (meets root name (get_or packages some.0 ([], 0)).0 start s
       (subst (λ (e : List ℕ × ℕ). starts_with nat_eq e.0 (dotted (qualified scope name)) ≡ true) (sym is) some.4));
 }
-
--- ---- packages below a package
-
-longer : (entry root name : List ℕ) → starts_with nat_eq entry (dotted (root ++ codes "." ++ name)) ≡ true → is_longer entry root ≡ true
-longer entry root name h =
-    let q = dotted (root ++ codes "." ++ name) in
-    let is : entry ≡ q ++ drop (length q) entry = (starts_is Decides-eqb entry q (starts_with nat_eq entry q) refl).0 h in
-    let more = name ++ 46 ∷ [] ++ drop (length q) entry in
-    let split : entry ≡ dotted root ++ more =
-    is ∙ append_assoc (dotted root ++ name) (46 ∷ []) (drop (length q) entry) ∙ append_assoc (dotted root) name (46 ∷ [] ++ drop (length q) entry)
-    ∙ ap (λ (xs : List ℕ). dotted root ++ xs) (sym (append_assoc name (46 ∷ []) (drop (length q) entry))) in
-    let begins : starts_with nat_eq entry (dotted root) ≡ true = (starts_is Decides-eqb entry (dotted root) (starts_with nat_eq entry (dotted root)) refl).1 more split in
-    let a = ap length split ∙ length-append (dotted root) more in
-    let b = length-append root (46 ∷ []) in
-    let d = length-append (name ++ 46 ∷ []) (drop (length q) entry) in
-    let e = length-append name (46 ∷ []) in
-    let long : length root + 1 < length entry = omega (arith, a, b, d, e) in
-    let test : nat_lt (length root + 1) (length entry) ≡ true = grind (arith, nat_tests) in
-    ap (λ (t : Bool). t && nat_lt (length root + 1) (length entry)) begins ∙ test
-
-pub none_below : (packages : List (List ℕ × ℕ)) (files : List FileDefs) (root : List ℕ) → IsIndex packages files
-    → list_any (λ (e : List ℕ × ℕ). is_longer e.0 root) packages ≡ false → NoneBelow files root
-none_below packages files root x none name =
-    let q = root ++ codes "." ++ name in
-    either (is_package files q) (λ b. b ≡ false)
-    (λ t.
-    let some = Any-from_list_any (λ (e : List ℕ × ℕ). starts_with nat_eq e.0 (dotted q)) packages (known_package files x q long ∙ t) in
-    let is : get_or packages some.0 ([], 0) ≡ some.1 = get_or_default packages some.0 ([], 0) some.1 some.2 ∙ some.3 in
-    absurd (true≢false (sym (list_any_at (λ (e : List ℕ × ℕ). is_longer e.0 root) packages some.0 ([], 0) some.2
-    (longer (get_or packages some.0 ([], 0)).0 root name (subst (λ (e : List ℕ × ℕ). starts_with nat_eq e.0 (dotted q) ≡ true) (sym is) some.4))) ∙ none)))
-    (λ _. refl)
-  where
-    not_none : (r : List ℕ) → 0 < length r → (length r == 0) ≡ false
-    not_none [] some = absurd (omega arith)
-    not_none (c ∷ cs) some = grind (arith, nat_tests)
-
-    long : (length (root ++ codes "." ++ name) == 0) ≡ false
-    long = not_none (root ++ codes "." ++ name)
-        (let a = length-append (root ++ codes ".") name in let b = length-append root (46 ∷ []) in omega (arith, a, b))

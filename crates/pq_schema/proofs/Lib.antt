@@ -17,7 +17,8 @@ pub mod Near
 pub mod PartsAlong
 pub mod AlongScopes
 pub mod PartSearch
-pub mod AlongPackages
+pub mod AllPlaces
+mod AlongPackages
 pub mod Around
 pub mod ScopesWithin
 pub mod Marks

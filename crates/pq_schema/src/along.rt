@@ -10,21 +10,20 @@
 //! The table takes one walk over the bytes of each package, up to the part after the last scope
 //! that it shares, and a sort of as many parts as there are packages and parts of the searching
 //! package. Packages of one name are looked at once.
-ghost use Rattle.std.specs.Prelude.{◌≡◌, ◌≢◌, ℕ, ◌<◌, ◌≤◌, ◌++◌, ◌∷◌, ◌+◌, ◌-◌, [], IfOk, OnOk, List, codes, false, true, find, get_or, length, option_map, bytes_eq, nat_eq, not, ◌&&◌};
+ghost use Rattle.std.specs.Prelude.{◌≡◌, ◌≢◌, ℕ, ◌<◌, ◌≤◌, ◌++◌, ◌∷◌, ◌+◌, ◌-◌, [], IfOk, OnOk, List, false, true, find, get_or, length, option_map, bytes_eq, not};
 ghost use Rattle.std.specs.Cmp.Lexicographic.{slice_cmp};
 ghost use Rattle.std.specs.Cmp.Rules.{comparing};
 ghost use Rattle.std.specs.Cmp.{partial_order_from_own_ties};
-ghost use Rattle.std.specs.List.{Contains, list_any, slice_range, starts_with};
+ghost use Rattle.std.specs.List.{Contains, slice_range};
 ghost use Rattle.std.specs.Ordering.{as_partial_cmp, is_lt, nat_cmp};
 ghost use Rattle.std.proofs.Common.{rules};
 ghost use Rattle.std.specs.List.Sorted.{IsSorted};
 ghost use Rattle.pq_schema.specs.Definitions.{qualified};
 ghost use Rattle.pq_schema.specs.Resolution.{is_package, scopes};
-ghost use Rattle.pq_schema.specs.aux.Along.{AllMeet, AreKept, HasMet, IsAlong, IsCovered, IsLastStart, IsPlain, IsSame, IsStart, MeetBeside, Meets, NoneBelow, is_longer};
+ghost use Rattle.pq_schema.specs.aux.Along.{AllMeet, AreKept, HasMet, IsAlong, IsCovered, IsLastStart, IsPlain, IsSame, IsStart, MeetBeside, Meets};
 ghost use Rattle.pq_schema.specs.aux.Grouping.{root_order};
-ghost use Rattle.pq_schema.specs.aux.InPackage.{dotted};
 
-use crate::by_package::{Entry, is_inside};
+use crate::by_package::Entry;
 use crate::files::Files;
 use pq_names::Memory;
 use std::alloc::Global;
@@ -236,30 +235,6 @@ fn table<'a>(alloc: Global, files: &'a Files, root: &str) -> Result<Vec<Met<'a>>
     Ok(parts)
 }
 
-/// Whether one of the packages begins with `name` and a dot, and is longer.
-fn has_deeper(packages: &[Entry], name: &str) -> bool
-    ensures is { result ≡ list_any (λ e. is_longer e.0 name.now) packages.now }
-{
-    packages.iter().any(
-        |entry: &Entry| -> bool
-            ensures { result ≡ is_longer entry.now.0 name.entry.now }
-        {
-            let entry = entry.0.as_str().as_bytes();
-            is_inside(entry, name.as_bytes()) && entry.len() > name.len().saturating_add(1)
-        },
-    )
-}
-
-/// Whether a scope that is longer than `root` can be in a package.
-fn can_be_deeper(files: &Files, root: &str) -> bool
-    ensures below { result ≡ false → NoneBelow files.now root.now }
-{
-    if root.is_empty() {
-        return true;
-    }
-    has_deeper(files.packages(), root)
-}
-
 /// The number of `parts` that do not come after `name`.
 fn count_to(parts: &[Met<'_>], name: &[u8]) -> usize
     requires { IsSorted root_order parts.now }
@@ -300,19 +275,16 @@ pub(crate) struct Along<'a> {
     root: &'a str,
     /// The parts that the packages of the files meet, sorted.
     parts: Vec<Met<'a>>,
-    /// Whether some package is below `root`.
-    deeper: bool,
 }
 
 impl<'a> Model for Along<'a> {
-    ghost use Rattle.std.specs.Prelude.{◌≡◌, false, ◌++◌, codes, List, ℕ};
-    ghost use Rattle.pq_schema.specs.aux.Along.{Contents, IsAlong, NoneBelow};
+    ghost use Rattle.pq_schema.specs.aux.Along.{Contents, IsAlong};
 
     ghost Value = { Contents };
 
     ghost view = { λ a. record { files = a.files.now; root = a.root.now } };
 
-    ghost invariant = { λ a. IsAlong a.parts.items a.files.now a.root.now × (a.deeper ≡ false → NoneBelow a.files.now a.root.now) };
+    ghost invariant = { λ a. IsAlong a.parts.items a.files.now a.root.now };
 }
 
 impl<'a> Along<'a> {
@@ -321,13 +293,7 @@ impl<'a> Along<'a> {
         ensures { IfOk result (λ a. a ≡ record { files = files.now; root = root.now }) }
     {
         let parts = table(alloc, files, root)?;
-        let deeper = can_be_deeper(files, root);
-        Ok(Along {
-            files,
-            root,
-            parts,
-            deeper,
-        })
+        Ok(Along { files, root, parts })
     }
 
     /// The length of the innermost of the scopes from `root` outwards in which `name` is a package.
@@ -340,12 +306,5 @@ impl<'a> Along<'a> {
             Some(start) => Some(start.saturating_sub(1)),
             None => None,
         }
-    }
-
-    /// Whether some package can begin with `root` and a dot; `false` says that none does.
-    pub(crate) fn is_deeper(&self) -> bool
-        ensures { result ≡ false → NoneBelow self.now.files self.now.root }
-    {
-        self.deeper
     }
 }

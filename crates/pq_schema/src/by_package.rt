@@ -52,7 +52,7 @@ fn is_before(entry: &[u8], name: &[u8]) -> bool
 }
 
 /// Whether `entry` begins with `name` and a dot.
-pub(crate) fn is_inside(entry: &[u8], name: &[u8]) -> bool
+fn is_inside(entry: &[u8], name: &[u8]) -> bool
     ensures is { result ≡ starts_with nat_eq entry.now (dotted name.now) }
 {
     match entry.get(name.len()) {

@@ -34,6 +34,7 @@ mod full_name;
 mod index;
 mod keys;
 mod laws;
+mod lookup;
 mod map_entries;
 mod named;
 mod near_names;

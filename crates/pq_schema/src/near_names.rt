@@ -59,7 +59,7 @@ fn count_at(files: &[FileDefs], place: usize) -> usize {
 }
 
 /// The number of definitions in the files at `places`.
-fn count_of(files: &[FileDefs], places: &[usize]) -> usize {
+pub(crate) fn count_of(files: &[FileDefs], places: &[usize]) -> usize {
     let mut count = 0usize;
     'places: for place in places {
         count = count.saturating_add(count_at(files, *place));
@@ -68,7 +68,7 @@ fn count_of(files: &[FileDefs], places: &[usize]) -> usize {
 }
 
 /// The index of the files at `places`, which have `count` definitions.
-fn names_of<'a>(
+pub(crate) fn names_of<'a>(
     alloc: Global,
     files: &'a [FileDefs],
     places: &[usize],

@@ -15,7 +15,7 @@ ghost use Rattle.pq_schema.specs.aux.Scopes.{chain};
 ghost use Rattle.pq_schema.specs.aux.Spots.{IsPlain};
 
 use crate::along::Along;
-use crate::files::Files;
+use crate::lookup::Lookup;
 use crate::search::{Hit, find_any, has_names, hit_at, qualify, unless_type};
 use pq_names::{Memory, Text};
 use std::alloc::Global;
@@ -58,7 +58,7 @@ fn spell(buffer: &mut String, spot: &Text, name: &str) -> Result<(), Memory>
 
 /// What the full name `name` is found as in `files`, where packages do not count. `near` has the
 /// places of the files that can have the name.
-fn find_defined<'a>(files: &'a Files, near: &[usize], name: &str) -> Hit<'a>
+fn find_defined<'a>(files: &Lookup<'a>, near: &[usize], name: &str) -> Hit<'a>
     requires near { AreNear near.now files.now (around name.now) }
     ensures is { found_at result ≡ defined files.now name.now }
 {
@@ -70,7 +70,7 @@ fn find_defined<'a>(files: &'a Files, near: &[usize], name: &str) -> Hit<'a>
 
 /// Whether the full name `name` is that of a definition that can have names in it. `near` has the
 /// places of the files that can have the name.
-fn is_open(files: &Files, near: &[usize], name: &str) -> bool
+fn is_open(files: &Lookup<'_>, near: &[usize], name: &str) -> bool
     requires near { AreNear near.now files.now (around name.now) }
     ensures is { result ≡ opens (meaning files.now name.now) }
 {
@@ -83,7 +83,7 @@ fn is_open(files: &Files, near: &[usize], name: &str) -> bool
 /// What the name `name` is found as in the scopes `spots`, where packages do not count.
 fn find_in_spots<'a>(
     buffer: &mut String,
-    files: &'a Files,
+    files: &Lookup<'a>,
     near: &[usize],
     spots: &[Text],
     name: &str,
@@ -106,7 +106,7 @@ fn find_in_spots<'a>(
 /// `near` has the places of the files whose package is one of these scopes.
 pub(crate) fn single_outward<'a>(
     buffer: &mut String,
-    files: &'a Files,
+    files: &Lookup<'a>,
     near: &[usize],
     outward: Outward<'_>,
     name: &str,
@@ -134,7 +134,7 @@ pub(crate) fn single_outward<'a>(
 /// The first of the scopes `spots` in which `name` is a definition that can have names in it.
 fn open_spot<'b>(
     buffer: &mut String,
-    files: &Files,
+    files: &Lookup<'_>,
     near: &[usize],
     spots: &'b [Text],
     name: &str,
@@ -174,7 +174,7 @@ fn beyond<'b>(spot: Option<&'b Text>, place: Option<usize>) -> Option<&'b Text>
 fn find_from<'a>(
     alloc: Global,
     buffer: &mut String,
-    files: &'a Files,
+    files: &Lookup<'a>,
     root: &str,
     count: Option<usize>,
     name: &str,
@@ -197,7 +197,7 @@ fn find_from<'a>(
 pub(crate) fn dotted_outward<'a>(
     alloc: Global,
     buffer: &mut String,
-    files: &'a Files,
+    files: &Lookup<'a>,
     near: &[usize],
     outward: Outward<'_>,
     first: &str,

@@ -7,6 +7,7 @@ ghost use Rattle.pq_schema.specs.declared.resolution.ResolveFault.TheVariants.{M
 
 use crate::definitions::DefinitionKind;
 use crate::full_name::FullName;
+use crate::lookup::Lookup;
 use crate::named::Place;
 use crate::scope::Scope;
 use crate::search::{Outcome, look_up, near_scopes};
@@ -82,7 +83,8 @@ pub fn resolve(
     ensures resolved { (result ≡ Err ResolveFault.Memory)
         ⊎ (result ≡ resolved scope.now within.now name.now) }
 {
-    let near = near_scopes(alloc, scope.visible_files(), within)?;
+    let visible = Lookup::plain(alloc, scope.visible_files());
+    let near = near_scopes(alloc, &visible, within)?;
     match look_up(alloc, scope, &near, within, name)? {
         Outcome::Type(place) => Ok(target_at(place)?),
         Outcome::NotFound => Err(ResolveFault::NotFound),

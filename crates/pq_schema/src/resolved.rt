@@ -17,6 +17,8 @@ use crate::along::Along;
 use crate::defined::statements;
 use crate::files::Files;
 use crate::keys::SchemaKeys;
+use crate::lookup::{Lookup, most_of_one};
+use crate::nesting::innermost;
 use crate::outline::package_of;
 use crate::outward::Outward;
 use crate::references::{Reference, references_in};
@@ -69,7 +71,7 @@ impl<S> ResolvedQuery<S> {
 fn find_one<'a>(
     alloc: Global,
     buffer: &mut String,
-    files: &'a Files,
+    files: &Lookup<'a>,
     near: &[usize],
     outward: Outward<'_>,
     within: &str,
@@ -85,11 +87,45 @@ fn find_one<'a>(
 }
 
 /// Adds what `first` is found as in `files`, and what those of `others` are before the first that is
+/// used in another scope. Answers the number of these others. `within` is the text of the scope, and
+/// `near` has the places of the files whose package is one of the scopes of `within`.
+fn find_near<'a>(
+    alloc: Global,
+    files: &Lookup<'a>,
+    near: &[usize],
+    outward: Outward<'_>,
+    within: &str,
+    first: &Reference,
+    others: &[Reference],
+    hits: &mut Vec<Hit<'a>>,
+) -> Result<usize, Memory>
+    requires near { AreNear near.now files.now (scopes within.now) }
+    requires outward { IsOutward files.now outward.along.now outward.root.now outward.spots.now }
+    requires within { within.now ≡ first.now.within }
+    ensures within { IfOk result (λ n. n ≤ length others.now) }
+    ensures found { IfOk result (λ n. map found_at hits.new.items ++ map (found_in files.now) (drop n others.now)
+        ≡ map found_at hits.old.items ++ found_in files.now first.now ∷ map (found_in files.now) others.now) }
+{
+    let mut buffer = String::new(alloc);
+    let hit = find_one(alloc, &mut buffer, files, near, outward, within, first)?;
+    hits.push(hit)?;
+    'others: for i in 0..others.len() {
+        let other = &others[i];
+        if other.within != first.within {
+            return Ok(i);
+        }
+        let hit = find_one(alloc, &mut buffer, files, near, outward, within, other)?;
+        hits.push(hit)?;
+    }
+    Ok(others.len())
+}
+
+/// Adds what `first` is found as in `files`, and what those of `others` are before the first that is
 /// used in another scope. Answers the number of these others. What depends on the scope alone is
 /// made once.
 fn find_run<'a>(
     alloc: Global,
-    files: &'a Files,
+    files: &Lookup<'a>,
     outward: Outward<'_>,
     first: &Reference,
     others: &[Reference],
@@ -102,19 +138,60 @@ fn find_run<'a>(
 {
     let within = first.within.text(alloc)?;
     let within = within.as_str();
-    let near = near_scopes(alloc, files, within)?;
-    let mut buffer = String::new(alloc);
-    let hit = find_one(alloc, &mut buffer, files, &near, outward, within, first)?;
-    hits.push(hit)?;
-    'others: for i in 0..others.len() {
-        let other = &others[i];
-        if other.within != first.within {
-            return Ok(i);
+    match files.all() {
+        Some(all) => find_near(alloc, files, all, outward, within, first, others, hits),
+        None => {
+            let near = near_scopes(alloc, files, within)?;
+            find_near(alloc, files, &near, outward, within, first, others, hits)
         }
-        let hit = find_one(alloc, &mut buffer, files, &near, outward, within, other)?;
-        hits.push(hit)?;
     }
-    Ok(others.len())
+}
+
+/// How many searches of one file the look-ups of `references` take, where a name is looked up in
+/// `near` files, and a dotted one perhaps in `most`.
+fn searches_of(references: &[Reference], near: usize, most: usize) -> usize {
+    let mut searches = 0usize;
+    'references: for i in 0..references.len() {
+        let is_dotted = references[i].name.as_str().contains('.');
+        let files = if is_dotted && near < most { most } else { near };
+        searches = searches.saturating_add(files);
+    }
+    searches
+}
+
+/// The files `files`, for the look-up of `references`, which are used in a file of the package
+/// `root`.
+fn lookup_for<'a>(
+    alloc: Global,
+    files: &'a Files,
+    root: &str,
+    references: &[Reference],
+) -> Result<Lookup<'a>, Memory>
+    ensures files { IfOk result (λ l. l ≡ files.now) }
+{
+    let near = files.near(alloc, innermost(root))?.len();
+    let most = most_of_one(files.packages());
+    Lookup::new(alloc, files, searches_of(references, near, most))
+}
+
+/// What each of `references` is found as in `files`.
+fn find_all<'a>(
+    alloc: Global,
+    files: &Lookup<'a>,
+    outward: Outward<'_>,
+    references: &[Reference],
+) -> Result<Vec<Hit<'a>>, Memory>
+    requires outward { IsOutward files.now outward.along.now outward.root.now outward.spots.now }
+    ensures found { IfOk result
+        (λ v. map found_at v.items ≡ map (found_in files.now) references.now) }
+{
+    let mut hits = Vec::new(alloc);
+    let mut left = references;
+    'runs: while let Some((first, others)) = left.split_first() {
+        let more = find_run(alloc, files, outward, first, others, &mut hits)?;
+        left = &others[more..];
+    }
+    Ok(hits)
 }
 
 /// What each of `references`, which are used in a file of the package `root`, is found as in
@@ -128,7 +205,7 @@ fn find_each<'a>(
     ensures found { IfOk result
         (λ v. map found_at v.items ≡ map (found_in files.now) references.now) }
 {
-    let mut hits = Vec::new(alloc);
+    let lookup = lookup_for(alloc, files, root, references)?;
     let along = Along::new(alloc, files, root)?;
     let spots = spots_of(alloc, files, root)?;
     let outward = Outward {
@@ -136,12 +213,7 @@ fn find_each<'a>(
         along: &along,
         spots: &spots,
     };
-    let mut left = references;
-    'runs: while let Some((first, others)) = left.split_first() {
-        let more = find_run(alloc, files, outward, first, others, &mut hits)?;
-        left = &others[more..];
-    }
-    Ok(hits)
+    find_all(alloc, &lookup, outward, references)
 }
 
 /// Whether `hit` is nothing.

@@ -12,6 +12,7 @@ ghost use Rattle.pq_schema.specs.aux.Outward.{IsOutward};
 
 use crate::definitions::DefinitionKind;
 use crate::files::Files;
+use crate::lookup::Lookup;
 use crate::named::Place;
 use crate::nesting::{innermost, outer, scope_or_empty};
 use crate::outward::{Outward, dotted_outward, from_here, single_outward};
@@ -58,7 +59,7 @@ pub(crate) fn has_names(kind: DefinitionKind) -> bool
 
 /// What the full name `name` is found as in `files`. `near` has the places of the files that can
 /// have the name.
-fn find_full<'a>(files: &'a Files, near: &[usize], name: &str) -> Hit<'a>
+fn find_full<'a>(files: &Lookup<'a>, near: &[usize], name: &str) -> Hit<'a>
     requires near { AreNear near.now files.now (around name.now) }
     ensures is { found_at result ≡ found files.now name.now }
 {
@@ -75,16 +76,21 @@ fn find_full<'a>(files: &'a Files, near: &[usize], name: &str) -> Hit<'a>
 }
 
 /// What the full name `name` is found as in `files`.
-pub(crate) fn find_any<'a>(alloc: Global, files: &'a Files, name: &str) -> Result<Hit<'a>, Memory>
+pub(crate) fn find_any<'a>(alloc: Global, files: &Lookup<'a>, name: &str) -> Result<Hit<'a>, Memory>
     ensures is { IfOk result (λ hit. found_at hit ≡ found files.now name.now) }
 {
-    let near = files.near(alloc, outer(name))?;
-    Ok(find_full(files, &near, name))
+    match files.all() {
+        Some(all) => Ok(find_full(files, all, name)),
+        None => {
+            let near = files.near(alloc, outer(name))?;
+            Ok(find_full(files, &near, name))
+        }
+    }
 }
 
 /// Whether the full name `name` decides for a dotted name whose first part it is. `near` has the
 /// places of the files that can have the name.
-fn decides(files: &Files, near: &[usize], name: &str) -> bool
+fn decides(files: &Lookup<'_>, near: &[usize], name: &str) -> bool
     requires near { AreNear near.now files.now (around name.now) }
     ensures is { result ≡ decides files.now name.now }
 {
@@ -124,7 +130,7 @@ pub(crate) fn qualify(buffer: &mut String, scope: &str, name: &str) -> Result<()
 /// places of the files whose package is one of these scopes.
 fn find_single<'a>(
     buffer: &mut String,
-    files: &'a Files,
+    files: &Lookup<'a>,
     near: &[usize],
     outward: Option<Outward<'_>>,
     within: &str,
@@ -160,7 +166,7 @@ fn find_single<'a>(
 fn find_dotted<'a>(
     alloc: Global,
     buffer: &mut String,
-    files: &'a Files,
+    files: &Lookup<'a>,
     near: &[usize],
     outward: Option<Outward<'_>>,
     within: &str,
@@ -198,7 +204,7 @@ fn find_dotted<'a>(
 pub(crate) fn find<'a>(
     alloc: Global,
     buffer: &mut String,
-    files: &'a Files,
+    files: &Lookup<'a>,
     near: &[usize],
     outward: Option<Outward<'_>>,
     within: &str,
@@ -223,7 +229,11 @@ pub(crate) fn find<'a>(
 }
 
 /// The places of those of `files` whose package is one of the scopes of `within`.
-pub(crate) fn near_scopes(alloc: Global, files: &Files, within: &str) -> Result<Vec<usize>, Memory>
+pub(crate) fn near_scopes(
+    alloc: Global,
+    files: &Lookup<'_>,
+    within: &str,
+) -> Result<Vec<usize>, Memory>
     ensures near { IfOk result (λ v. AreNear v.items files.now (scopes within.now)) }
 {
     files.near(alloc, innermost(within))
@@ -239,8 +249,9 @@ fn find_reached<'a>(
 ) -> Result<Hit<'a>, Memory>
     ensures is { IfOk result (λ hit. found_at hit ≡ search files.now (scopes within.now) name.now) }
 {
-    let near = near_scopes(alloc, files, within)?;
-    find(alloc, buffer, files, &near, None, within, name)
+    let files = Lookup::plain(alloc, files);
+    let near = near_scopes(alloc, &files, within)?;
+    find(alloc, buffer, &files, &near, None, within, name)
 }
 
 /// What `name` resolves to in the message, service or package `within` of a file with the scope
@@ -256,16 +267,9 @@ pub(crate) fn look_up<'a>(
     requires near { AreNear near.now scope.now.visible (scopes within.now) }
     ensures is { IfOk result (λ o. lookup_at o ≡ lookup scope.now within.now name.now) }
 {
+    let visible = Lookup::plain(alloc, scope.visible_files());
     let mut buffer = String::new(alloc);
-    match find(
-        alloc,
-        &mut buffer,
-        scope.visible_files(),
-        near,
-        None,
-        within,
-        name,
-    )? {
+    match find(alloc, &mut buffer, &visible, near, None, within, name)? {
         Hit::Type(place) => Ok(Outcome::Type(place)),
         Hit::Other => Ok(Outcome::NotAType),
         Hit::Nothing => match find_reached(

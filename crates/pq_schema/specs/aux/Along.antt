@@ -77,17 +77,9 @@ pub record IsCovered (parts : List (List ℕ × ℕ)) (root : List ℕ) (covered
   pub has : (entry name : List ℕ) (start inner : ℕ) → IsStart root inner → inner ≤ covered → IsSame root entry inner
       → start < inner → IsPlain name → IsStart root start → Meets root entry name start → Contains parts (name, start)
 
--- `is_longer entry name` is that `entry` begins with `name` and a dot, and goes on
-abbrev pub is_longer : List ℕ → List ℕ → Bool
-is_longer entry name = starts_with nat_eq entry (dotted name) && nat_lt (length name + 1) (length entry)
-
 -- `IsLastStart parts name answer` is that `answer` is the greatest start that `parts` has for
 -- `name`, or `None` if it has none
 abbrev pub IsLastStart : List (List ℕ × ℕ) → List ℕ → Option ℕ → Type 0
 IsLastStart parts name None = (start : ℕ) → Contains parts (name, start) → ⊥
 IsLastStart parts name (Some start) =
     Contains parts (name, start) × ((other : ℕ) → Contains parts (name, other) → other ≤ start)
-
--- `NoneBelow files root` is that no name below `root` is a package of `files`
-abbrev pub NoneBelow : List FileDefs → List ℕ → Type 0
-NoneBelow files root = (name : List ℕ) → is_package files (root ++ codes "." ++ name) ≡ false

@@ -9,7 +9,7 @@ use Rattle.std.specs.Ordering.{nat_cmp, ordering_then}
 use Rattle.pq_rules.specs.Relations.{Each, In}
 use Rattle.pq_schema.specs.declared.scope.FileDefs.{FileDefs}
 use Rattle.pq_schema.specs.aux.FirstOf.{answer_at}
-use Rattle.pq_schema.specs.aux.Grouping.{find_in}
+use Rattle.pq_schema.specs.aux.Grouping.{AreNear, find_in}
 use Rattle.pq_schema.specs.aux.NameCodes.{code_order}
 
 -- `Rises places` is that no place is after a greater one
@@ -67,3 +67,9 @@ IsFirst (Some k) files places name =
 abbrev pub AreNames : Option (Vec (Bor (List ℕ) × ℕ) Global) → List FileDefs → List ℕ → Type 0
 AreNames None files places = Unit {0}
 AreNames (Some names) files places = IsNamesOf names.items files places
+
+-- `HasAll names places files` is that `places`, if the index `names` is there, has the place of each
+-- of `files` in order
+abbrev pub HasAll : Option (Vec (Bor (List ℕ) × ℕ) Global) → List ℕ → List FileDefs → Type 0
+HasAll None places files = Unit {0}
+HasAll (Some names) places files = (roots : List (List ℕ)) → AreNear places files roots

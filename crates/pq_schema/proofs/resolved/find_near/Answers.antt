@@ -1,6 +1,6 @@
 use Rattle.std.proofs.Common.{◌≡◌, sym}
 use Rattle.pq_schema.proofs.ResolvedRuns.{run_more}
-use Rattle.pq_schema.proofs.resolved.find_run.Goals as goal
+use Rattle.pq_schema.proofs.resolved.find_near.Goals as goal
 
 pub others-preserved : goal.others-preserved
 others-preserved c =

@@ -1,0 +1,156 @@
+//! Files, for the look-up of many full names in them.
+//!
+//! A look-up asks the files whose package the name can be in, one after the other. Where many come
+//! and many files would be asked, one index of the names of all files is made, and each look-up is
+//! one binary search in it. So n names that n files of one package define cost n log n.
+ghost use Rattle.std.specs.Prelude.{◌≡◌, ℕ, List, length, IfOk, IfSome};
+ghost use Rattle.std.specs.Option.{option_copied};
+ghost use Rattle.pq_schema.specs.declared.scope.FileDefs.{FileDefs};
+ghost use Rattle.pq_schema.specs.Resolution.{is_package, meaning};
+ghost use Rattle.pq_schema.specs.aux.Grouping.{AreNear, around};
+ghost use Rattle.pq_schema.specs.aux.Hits.{meaning_at};
+ghost use Rattle.pq_schema.specs.aux.Scopes.{chain};
+
+use crate::by_package::Entry;
+use crate::files::Files;
+use crate::named::{Place, first_listed};
+use crate::near_names::{Named, count_of, names_of};
+use crate::spelled::Spelled;
+use pq_names::Memory;
+use std::alloc::Global;
+use std::marker::Model;
+
+/// Files, for the look-up of full names. Contracts see the list of the files.
+#[derive(Drop)]
+pub(crate) struct Lookup<'a> {
+    files: &'a Files,
+    /// The places of all files, where there is an index.
+    all: Vec<usize>,
+    /// The index of all files, where it was worth making.
+    names: Option<Vec<Named<'a>>>,
+}
+
+impl<'a> Model for Lookup<'a> {
+    ghost use Rattle.std.specs.Prelude.{List};
+    ghost use Rattle.pq_schema.specs.declared.scope.FileDefs.{FileDefs};
+    ghost use Rattle.pq_schema.specs.aux.NearNames.{AreNames, HasAll};
+
+    ghost Value = { List FileDefs };
+
+    ghost view = { λ l. l.files.now };
+
+    ghost invariant = { λ l. AreNames l.names l.files.now l.all.items × HasAll l.names l.all.items l.files.now };
+}
+
+/// The numbers below `count`, in order.
+fn all_places(alloc: Global, count: usize) -> Result<Vec<usize>, Memory>
+    ensures near { IfOk result (λ v. (files : List FileDefs) (roots : List (List ℕ))
+        → length files ≡ count → AreNear v.items files roots) }
+{
+    let mut all = Vec::with_capacity(alloc, count)?;
+    'places: for place in 0..count {
+        all.push(place)?;
+    }
+    all.sort_unstable();
+    Ok(all)
+}
+
+/// The most files of one package.
+pub(crate) fn most_of_one(packages: &[Entry]) -> usize {
+    let mut most = 0usize;
+    let mut count = 0usize;
+    'packages: for at in 0..packages.len() {
+        if at > 0 && packages[at].0 == packages[at - 1].0 {
+            count = count.saturating_add(1);
+        } else {
+            count = 1;
+        }
+        if most < count {
+            most = count;
+        }
+    }
+    most
+}
+
+/// How many searches of a file the index takes for each definition.
+const SEARCHES: usize = 2;
+
+impl<'a> Lookup<'a> {
+    /// The files `files`, without an index.
+    pub(crate) fn plain(alloc: Global, files: &'a Files) -> Lookup<'a>
+        ensures files { result ≡ files.now }
+    {
+        Lookup {
+            files,
+            all: Vec::new(alloc),
+            names: None,
+        }
+    }
+
+    /// The files `files`, whose look-ups take about `searches` searches of one file where there is no
+    /// index. There is one where it costs less.
+    pub(crate) fn new(
+        alloc: Global,
+        files: &'a Files,
+        searches: usize,
+    ) -> Result<Lookup<'a>, Memory>
+        ensures files { IfOk result (λ l. l ≡ files.now) }
+    {
+        let count = files.as_slice().len();
+        if searches < count {
+            return Ok(Lookup::plain(alloc, files));
+        }
+        let all = all_places(alloc, count)?;
+        let definitions = count_of(files.as_slice(), &all);
+        if searches / SEARCHES < definitions {
+            return Ok(Lookup::plain(alloc, files));
+        }
+        let names = names_of(alloc, files.as_slice(), &all, definitions)?;
+        Ok(Lookup {
+            files,
+            all,
+            names: Some(names),
+        })
+    }
+
+    /// The places of all files, where there is an index.
+    pub(crate) fn all(&self) -> Option<&[usize]>
+        ensures all { IfSome result (λ ks. (roots : List (List ℕ)) → AreNear ks.now self.now roots) }
+    {
+        match &self.names {
+            Some(_) => Some(&self.all),
+            None => None,
+        }
+    }
+
+    /// The places of the files whose package is `within`, a prefix of it before a dot, or empty, in
+    /// order.
+    pub(crate) fn near(&self, alloc: Global, within: Option<&str>) -> Result<Vec<usize>, Memory>
+        ensures near { IfOk result
+            (λ v. AreNear v.items self.now (chain (option_copied within.entry))) }
+    {
+        self.files.near(alloc, within)
+    }
+
+    /// The first definition with the full name `name`: the files in order, then each in text order.
+    /// `near` has the places of the files that can have the name.
+    pub(crate) fn definition(&self, near: &[usize], name: &str) -> Option<Place<'a>>
+        requires near { AreNear near.now self.now (around name.now) }
+        ensures first { meaning_at result ≡ meaning self.now name.now }
+    {
+        match &self.names {
+            Some(_) => {
+                let name = Spelled::new(&[], name);
+                first_listed(self.files.files(), &self.all, &self.names, &name)
+            }
+            None => self.files.definition(near, name),
+        }
+    }
+
+    /// Whether `name` is a package of the files, or the part of one before a dot.
+    pub(crate) fn is_package(&self, name: &str) -> bool
+        ensures is { result ≡ is_package self.now name.now }
+    {
+        self.files.is_package(name)
+    }
+}
