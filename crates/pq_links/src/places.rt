@@ -92,7 +92,7 @@ fn type_span(part: TypePart, statement: &Statement) -> Option<Span>
     }
 }
 
-/// The option of `statement` with the number `number`, if it has so many.
+/// The option of `statement` with the number `number`, if there is one.
 #[tactic(auto, unfolding(crate::specs::Place::settings_of))]
 fn setting_at(statement: &Statement, number: usize) -> Option<&Setting>
     ensures setting { option_copied result ≡ slice_get (settings_of statement.now) number }
@@ -119,7 +119,7 @@ fn constant_span(number: usize, statement: &Statement) -> Option<Span>
     }
 }
 
-/// The range of `statement` with the number `number`, if it has so many.
+/// The range of `statement` with the number `number`, if there is one.
 #[tactic(auto, unfolding(crate::specs::Place::ranges_of))]
 fn range_at(statement: &Statement, number: usize) -> Option<&Range>
     ensures range { option_copied result ≡ slice_get (ranges_of statement.now) number }
