@@ -84,7 +84,7 @@ module _ {K V O : Type 0} where
 
   pub shut_looks : {R P : Type 0} (means : Sources → K → Answer K V → Type 0) (rules : R) (c run : ℕ) (answer : Result (Move (WorkView R K P V)) LookFault) (l m : Ledger K V O) (shut : IsClosed l c) → LooksFor means rules run answer l m → Stays l c shut m
   shut_looks means rules c run (Ok (Carry work)) l m shut s = stays_alike l m c shut s.0.c s.0.client _ s.1.runs.is_entry.client_here refl refl (clients_of _ m s.3)
-  shut_looks means rules c run (Ok (Blocked other)) l m shut s = stays_as l m c shut s.5
+  shut_looks means rules c run (Ok (Blocked other)) l m shut s = stays_as l m c shut s.4
   shut_looks means rules c run (Ok MoveStepped) l m shut s = stays_as l m c shut s.2
   shut_looks means rules c run (Ok MoveAnswered) l m shut s = stays_alike l m c shut s.0.c s.0.client _ s.1.runs.is_entry.client_here refl refl (clients_of _ m s.2.2)
   shut_looks means rules c run (Ok MoveStopped) l m shut s = stays_alike l m c shut s.0.c s.0.client _ s.1.is_entry.client_here refl refl (clients_of _ m s.3)

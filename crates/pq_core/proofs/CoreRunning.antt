@@ -26,7 +26,7 @@ use Rattle.pq_core.specs.RightReply.{answer_by}
 use Rattle.pq_core.specs.Kept.{Kept, IsDemand}
 use Rattle.pq_core.specs.Works.{DoneView, WorkView, HasWhy}
 use Rattle.pq_rules.specs.declared.turn.Answer.{Answer}
-use Rattle.pq_core.specs.Moves.{Reaches, RunAt, Runs, NoneRuns, IsOvertaken, IsCurrent, GoesOn, IsOf, LooksFor, Gives, out_of, Stops, ended, ended_entry, place_ended, reply_at, with_out}
+use Rattle.pq_core.specs.Moves.{Reaches, RunAt, Runs, NoneRuns, IsOvertaken, IsCurrent, IsBlocked, GoesOn, IsOf, LooksFor, Gives, out_of, Stops, ended, ended_entry, place_ended, reply_at, with_out}
 use Rattle.pq_core.specs.Cores.{Held, fields_of, run_seen as seen_of, StandsOf}
 use Rattle.pq_core.specs.aux.Stands.{RunSeen}
 use Rattle.pq_core.specs.declared.rising.Place.{Place}
@@ -386,6 +386,17 @@ module _ {R K P V O : Type 0} (order : K → K → Ordering) (m : Machine K P V)
       some_of : (o : Option (Out K)) → IsSome o → (out : Out K) × (o ≡ Some out)
       some_of None e = absurd (cc)
       some_of (Some out) e = (out, refl)
+
+  -- a run waits for another run
+  pub look_held : (b : Held K P V O) (l : Ledger K V O) (r : ℕ) (run : RunView K P) (other : ℕ) (there : RunView K P) → StandsOf order m puts b l → found b.runs r ≡ Some run
+      → ((run.started < b.inputs.revision) ⊎ (found b.lanes run.client ≡ None) → ⊥) → out_at run.top ≡ None → other ≢ r → found b.runs other ≡ Some there
+      → (at : RunAt K V O) × Runs l r at × IsCurrent l at × IsBlocked l r at other
+  look_held b l r run other there s h early empty ne e =
+      let x = run_here order m puts b l r run s h in
+      let y = run_here order m puts b l other there s e in
+      let now = (current order m puts b l r run s x early).0 in
+      let past : y.at.started ≤ l.inputs.revision = (runs_placed (answer_by order m) puts l other y.at s.kept y.runs).3 in
+      (x.at, x.runs, now, inr (idle_of l r run x empty, ne, (y.at, y.runs, subst (λ (i : ℕ). y.at.started ≤ i) (sym now.now) past)))
 
   -- a run hands work out
   pub carry_moved : (b a : Held K P V O) (l : Ledger K V O) (r : ℕ) (run after : RunView K P) (work : WorkView R K P V) (table : K → Option (Memo K V))

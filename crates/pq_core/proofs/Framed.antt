@@ -1,5 +1,5 @@
 -- The frames of a run, when some are pushed, popped and cut, and the round that they close.
-use Rattle.std.proofs.Common.{◌≡◌, ◌≢◌, ℕ, zero, suc, ◌-◌, ◌<◌, ◌≤◌, List, [], ◌∷◌, ◌++◌, length, take, drop, get_or, Option, None, refl, sym, ◌∙◌, ap, subst, inl, inr, arith}
+use Rattle.std.proofs.Common.{◌≡◌, ◌≢◌, ℕ, zero, suc, ◌-◌, ◌<◌, ◌≤◌, List, [], ◌∷◌, ◌++◌, length, take, drop, get_or, Option, Some, None, Result, Ok, Err, refl, sym, ◌∙◌, ap, subst, inl, inr, arith}
 use Rattle.std.specs.declared.cmp.Ordering.{Ordering}
 use Rattle.std.proofs.lemmas.List.{take_all, length-drop}
 use Rattle.pq_inputs.specs.declared.durability.Durability.{Durability}
@@ -26,7 +26,8 @@ use Rattle.pq_memo.proofs.TableCalls.{zero_or}
 use Rattle.pq_memo.proofs.Wrote.{wrote_ring}
 use Rattle.pq_core.specs.declared.frames.Top.{Top}
 use Rattle.pq_core.specs.declared.frames.Top.TheVariants.{Empty, At, Away}
-use Rattle.pq_core.specs.aux.Runs.{Renewed, CanGoOn, WaitsFor, first_key, WaitsUp, KeptBelow, FramesKept, IsLowered, out_at}
+use Rattle.pq_claims.specs.Claims.{Hold}
+use Rattle.pq_core.specs.aux.Runs.{Enters, Renewed, CanGoOn, WaitsFor, first_key, WaitsUp, KeptBelow, FramesKept, IsLowered, out_at}
 use Rattle.pq_core.proofs.Renewed.{renewed_wrote}
 
 not_empty : {K : Type 0} (front : List K) (k : K) → front ++ k ∷ [] ≢ []
@@ -211,6 +212,16 @@ module _ {K P V : Type 0} (order : K → K → Ordering) (m : Machine K P V) (in
   -- what the invariant says of a top that is known
   pub kept_as : (stack : List (Frame K P)) (top other : Top K P) → top ≡ other → FramesKept order m inputs table stack top → FramesKept order m inputs table stack other
   kept_as stack top other e kept = subst (λ (t : Top K P). FramesKept order m inputs table stack t) e kept
+
+  -- a key was entered, or the last frame is the top again
+  pub entered_kept : {E : Type 0} (claims : List (ℕ × Hold K)) (id : ℕ) (next : K) (answer : Result (Option ℕ) E) (before after : List (Frame K P)) (top : Top K P)
+      → Enters claims id next answer before after top → Waits next before → Differ (frame_keys before) → (In next (frame_keys before) → ⊥)
+      → (IsUpToDate m inputs.revision (HasIn table) next → ⊥) → FramesKept order m inputs table after top
+  entered_kept claims id next (Ok None) before after top e w d apart stale =
+      kept_as after (At (record { key = next; stage = Walking 0 })) top (sym e.1)
+      (subst (λ (l : List (Frame K P)). KeptBelow order m inputs table l next) (sym e.0) (record { waits = w; differ = d; apart = apart }), inr (walked next stale))
+  entered_kept claims id next (Ok (Some other)) before after top e w d apart stale = lowered next before after top w d e.0
+  entered_kept claims id next (Err failure) before after top e w d apart stale = lowered next before after top w d e
 
 -- the ring of the frames from a place on was published
 pub renewed_ring : {K P V : Type 0} (order : K → K → Ordering) → Exact order → (m : Machine K P V) (inputs : Table) (before after : K → Option (Memo K V))

@@ -328,7 +328,7 @@ module _ {K V O : Type 0} (means : Sources → K → Answer K V → Type 0) (put
 
   pub kept_looks : {R P : Type 0} (rules : R) (run : ℕ) (answer : Result (Move (WorkView R K P V)) LookFault) (l m : Ledger K V O) → Kept means puts l → LooksFor means rules run answer l m → Kept means puts m
   kept_looks rules run (Ok (Carry work)) l m k s = subst (Kept means puts) (sym s.3) (kept_out l run s.0 (Some (out_of work.done)) k s.1.runs)
-  kept_looks rules run (Ok (Blocked other)) l m k s = subst (Kept means puts) (sym s.5) k
+  kept_looks rules run (Ok (Blocked other)) l m k s = subst (Kept means puts) (sym s.4) k
   kept_looks rules run (Ok MoveStepped) l m k s = subst (Kept means puts) (sym s.2) k
   kept_looks rules run (Ok MoveAnswered) l m k s =
       let at = s.0 in

@@ -5,6 +5,8 @@ pub mod Calling
 pub mod Moving
 pub mod Ending
 pub mod Changing
+pub mod Claiming
+pub mod Beginning
 pub mod CoreOpening
 pub mod CoreAccepting
 pub mod CoreRunning

@@ -1,6 +1,6 @@
--- What contracts see of a core: its rule set, the places of its memos, its inputs, and what it
--- keeps of clients and runs.
-use Rattle.std.specs.Prelude.{ℕ, ◌≡◌, ◌≤◌, List, length, Option, Some}
+-- What contracts see of a core: its rule set, the places of its memos, its inputs, its claims, and
+-- what it keeps of clients and runs.
+use Rattle.std.specs.Prelude.{ℕ, ◌≡◌, ◌≢◌, ◌⊎◌, ◌≤◌, List, length, Option, Some}
 use Rattle.std.specs.Option.{option_map}
 use Rattle.std.specs.declared.cmp.Ordering.{Ordering}
 use Rattle.pq_inputs.specs.Sources.{Table}
@@ -8,6 +8,7 @@ use Rattle.pq_rules.specs.Turns.{Machine}
 use Rattle.pq_memo.specs.Sound.{Memo}
 use Rattle.pq_memo.specs.Table.{memo_at, HasIn, KeptOver}
 use Rattle.pq_memo.specs.Cause.{IsCause}
+use Rattle.pq_claims.specs.Claims.{Hold, WaitsFor}
 use Rattle.pq_core.specs.Works.{WorkView, IsWorkOf, HasWhy}
 use Rattle.pq_core.specs.declared.moves.Move.{Move}
 use Rattle.pq_core.specs.declared.moves.Move.TheVariants.{Carry, Blocked, Stepped, Answered, Stopped}
@@ -17,7 +18,7 @@ use Rattle.pq_core.specs.RightReply.{answer_by}
 use Rattle.pq_core.specs.declared.rising.Place.{Place}
 use Rattle.pq_core.specs.aux.Rising.{Slots, found, IsAbove}
 use Rattle.pq_core.specs.aux.Lanes.{LaneView, LaneStands}
-use Rattle.pq_core.specs.aux.Runs.{RunView, RunKept, out_at}
+use Rattle.pq_core.specs.aux.Runs.{RunView, RunKept, AreClaimed, out_at}
 use Rattle.pq_core.specs.aux.Stands.{RunSeen, Fields, Stands}
 use Rattle.pq_core.specs.aux.Queue.{IsQueue}
 
@@ -32,6 +33,7 @@ pub record CoreView (R K P V O : Type 0) : Type 0 where
   pub waiting : List (ℕ × ℕ)
   pub runs : Slots (RunView K P)
   pub started : ℕ
+  pub claims : List (ℕ × Hold K)
 
 -- `run_seen run` is what the ledger knows of `run`
 abbrev pub run_seen : {K P : Type 0} → RunView K P → RunSeen K
@@ -78,8 +80,8 @@ StandsFor order m puts core l = StandsOf order m puts (held core) l
 
 -- `IsWhole order m puts core` is the invariant of a core: its table keeps its invariant; the
 -- numbers of clients and runs are above those given; its queue is of the requests that wait, and
--- there is room for a run of each; the frames of the current runs are in order; and it stands for a
--- ledger
+-- there is room for a run of each; the frames of the current runs are in order; each run holds the
+-- keys of its frames; and it stands for a ledger
 pub record IsWhole {R K P V O : Type 0} (order : K → K → Ordering) (m : Machine K P V) (puts : O → List (ReplyView K V)) (core : CoreView R K P V O) : Type 0 where
   pub kept : KeptOver order m core.inputs core.places
   pub lanes_above : IsAbove core.clients core.lanes.items
@@ -88,6 +90,7 @@ pub record IsWhole {R K P V O : Type 0} (order : K → K → Ordering) (m : Mach
   pub room : length core.waiting ≤ core.runs.room
   pub current : (r : ℕ) (run : RunView K P) → found core.runs.items r ≡ Some run → run.started ≡ core.inputs.revision
       → RunKept order m core.inputs (memo_at order core.places) run
+  pub claimed : AreClaimed core.claims core.runs.items
   pub ledger : (l : Ledger K V O) × StandsOf order m puts (held core) l
 
 -- `OnCarry Says move` is that `Says` holds of the work that `move` hands out, if it hands out work
@@ -112,3 +115,12 @@ NamesCause order m core work =
 -- `HasCause order m core move` is that the work that `move` hands out, if it does, names its cause
 abbrev pub HasCause : {R K P V O : Type 0} → (K → K → Ordering) → Machine K P V → CoreView R K P V O → Move (WorkView R K P V) → Type 0
 HasCause order m core move = OnCarry (NamesCause order m core) move
+
+-- `NamesHolder claims run move` is that the run by which `move` is blocked, if it is, is `run` itself,
+-- or another run, which holds the key that `run` waits for
+abbrev pub NamesHolder : {W K : Type 0} → List (ℕ × Hold K) → ℕ → Move W → Type 0
+NamesHolder claims run (Carry work) = Unit {0}
+NamesHolder claims run (Blocked other) = (other ≡ run) ⊎ ((other ≢ run) × WaitsFor claims run other)
+NamesHolder claims run Stepped = Unit {0}
+NamesHolder claims run Answered = Unit {0}
+NamesHolder claims run Stopped = Unit {0}

@@ -2,7 +2,7 @@
 -- which ledger is reached. Each relation goes by cases on the answer. A refusal names its
 -- condition; `Memory` comes only where none of the other refusals holds. Every refusal leaves the
 -- ledger as it was and hands back what was handed in.
-use Rattle.std.specs.Prelude.{ℕ, ◌≡◌, ◌+◌, ◌-◌, ◌<◌, ◌≤◌, ◌^◌, ◌⊎◌, Bool, true, false, List, [], ◌∷◌, ◌++◌, length, slice_get, slice_set, Option, Some, None, Ok, Err, Result}
+use Rattle.std.specs.Prelude.{ℕ, ◌≡◌, ◌≢◌, ◌+◌, ◌-◌, ◌<◌, ◌≤◌, ◌^◌, ◌⊎◌, Bool, true, false, List, [], ◌∷◌, ◌++◌, length, slice_get, slice_set, Option, Some, None, Ok, Err, Result}
 use Rattle.std.specs.declared.cmp.Ordering.{Ordering}
 use Rattle.pq_inputs.specs.Sources.{File, Sources, Table, with_file}
 use Rattle.pq_inputs.specs.Refusal.{refusal}
@@ -270,14 +270,21 @@ pub record AnswersWith {K V O : Type 0} (means : Sources → K → Answer K V �
 abbrev pub out_of : {R K P V : Type 0} → DoneView R K P V → Out K
 out_of done = record { key = done.key; reads = length done.front }
 
+-- `IsBlocked l run at other` is that `run`, the run `at`, waits for the run `other`: for itself while
+-- its work is out, else for another run, which started no later
+abbrev pub IsBlocked : {K V O : Type 0} → Ledger K V O → ℕ → RunAt K V O → ℕ → Type 0
+IsBlocked {K} {V} {O} l run at other =
+    (((out : Out K) × (at.out ≡ Some out)) × (other ≡ run))
+    ⊎ ((at.out ≡ None) × (other ≢ run) × ((there : RunAt K V O) × Runs l other there × (there.started ≤ at.started)))
+
 -- `LooksFor means rules run answer l m` is one step of `run`: it stops exactly where it was
--- overtaken; while its work is out it is blocked by itself; else it hands out work, goes on, or
--- answers
+-- overtaken; while its work is out it is blocked by itself; else it hands out work, goes on,
+-- answers, or is blocked by another run
 abbrev pub LooksFor : {R K P V O : Type 0} → (Sources → K → Answer K V → Type 0) → R → ℕ → Result (Move (WorkView R K P V)) LookFault → Ledger K V O → Ledger K V O → Type 0
 LooksFor {R} {K} {P} {V} {O} means rules run (Ok (Carry work)) l m =
     (at : RunAt K V O) × GoesOn l run at × IsWorkOf rules run at.started l.inputs.files work × (m ≡ with_out l run at (Some (out_of work.done)))
 LooksFor {R} {K} {P} {V} {O} means rules run (Ok (Blocked other)) l m =
-    (at : RunAt K V O) × Runs l run at × IsCurrent l at × ((out : Out K) × (at.out ≡ Some out)) × (other ≡ run) × (m ≡ l)
+    (at : RunAt K V O) × Runs l run at × IsCurrent l at × IsBlocked l run at other × (m ≡ l)
 LooksFor {R} {K} {P} {V} {O} means rules run (Ok Stepped) l m = (at : RunAt K V O) × GoesOn l run at × (m ≡ l)
 LooksFor {R} {K} {P} {V} {O} means rules run (Ok MoveAnswered) l m =
     (at : RunAt K V O) × GoesOn l run at

@@ -5,6 +5,9 @@
 //! numbers in logarithmic time. `accept` makes the room that `start` needs, so that starting,
 //! starving, releasing and closing take no memory.
 //!
+//! A run claims the keys of its frames. A run that needs a key of another run waits until that run
+//! releases it. A run that was overtaken keeps its claims until it is looked at, given to or starved.
+//!
 //! A run is current while no edit was accepted since its start. The invariant of a current run is
 //! that of its frames over the table of memos; it outlasts the steps of other runs.
 ghost use Rattle.std.specs.Prelude.{◌≡◌, None};
@@ -16,6 +19,7 @@ use crate::lane::Lane;
 use crate::outbox::Outbox;
 use crate::rising::Rising;
 use crate::run::Run;
+use pq_claims::Claims;
 use pq_inputs::Inputs;
 use pq_memo::Memos;
 use pq_rules::Rules;
@@ -35,6 +39,7 @@ pub struct Core<R: Rules, O: Outbox<R::Key, R::Value>> {
     pub(crate) waiting: VecDeque<(u64, u64)>,
     pub(crate) runs: Rising<Run<R>>,
     pub(crate) started: u64,
+    pub(crate) claims: Claims<R>,
 }
 
 impl<R: Rules, O: Outbox<R::Key, R::Value>> Model for Core<R, O> {
@@ -42,9 +47,9 @@ impl<R: Rules, O: Outbox<R::Key, R::Value>> Model for Core<R, O> {
 
     ghost Value = { CoreView R R.Key R.Part R.Value O };
 
-    ghost view = { λ c. record { rules = c.memos.rules; places = c.memos.places; inputs = c.inputs; lanes = c.lanes; opened = c.opened; clients = c.clients; waiting = c.waiting.items; runs = c.runs; started = c.started } };
+    ghost view = { λ c. record { rules = c.memos.rules; places = c.memos.places; inputs = c.inputs; lanes = c.lanes; opened = c.opened; clients = c.clients; waiting = c.waiting.items; runs = c.runs; started = c.started; claims = c.claims } };
 
-    ghost invariant = { λ c. IsWhole R.Key.cmp (R.machine c.memos.rules) O.puts (record { rules = c.memos.rules; places = c.memos.places; inputs = c.inputs; lanes = c.lanes; opened = c.opened; clients = c.clients; waiting = c.waiting.items; runs = c.runs; started = c.started }) };
+    ghost invariant = { λ c. IsWhole R.Key.cmp (R.machine c.memos.rules) O.puts (record { rules = c.memos.rules; places = c.memos.places; inputs = c.inputs; lanes = c.lanes; opened = c.opened; clients = c.clients; waiting = c.waiting.items; runs = c.runs; started = c.started; claims = c.claims }) };
 }
 
 impl<R: Rules, O: Outbox<R::Key, R::Value> + Drop> Core<R, O> {
@@ -66,6 +71,7 @@ impl<R: Rules, O: Outbox<R::Key, R::Value> + Drop> Core<R, O> {
             waiting: VecDeque::new(alloc),
             runs: Rising::new(alloc),
             started: 0,
+            claims: Claims::new(alloc, rules),
         }
     }
 

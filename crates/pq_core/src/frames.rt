@@ -1,24 +1,28 @@
 //! The frames of a run: what it brings up to date, and the step that it takes next.
 //!
 //! The top is a frame, or a rule that is carried out elsewhere. Each frame below it waits for the
-//! key of the one above. Other runs write memos of the same keys, so the key of a frame may be up
-//! to date before its turn comes: then the frame leaves. A step costs what one step of a frame
-//! costs, or, where it closes a round, time and memory linear in its keys and their reads.
-ghost use Rattle.std.specs.Prelude.{◌≡◌, ◌≢◌, ◌<◌, [], length, drop, None, HoldsAt, IfOk, IfErr, IfSome, IfNone, OnOk, OnErr};
-ghost use Rattle.pq_rules.specs.Relations.{Each};
-ghost use Rattle.pq_memo.specs.declared.frame.Frame.{Frame};
+//! key of the one above. A run claims a key before it enters it, and releases the key where its
+//! frame leaves. A key that another run holds is not entered: the run is blocked.
+//!
+//! Where the wait for another run would close a ring of runs, the run releases its keys and claims
+//! none from then on. It brings up to date itself all that it needs. So the key of a frame may be up
+//! to date before its turn comes: then the frame leaves.
+//!
+//! A step costs what one step of a frame costs and at most one claim or release; or, where it closes
+//! a round, time and memory linear in its keys and their reads.
+ghost use Rattle.std.specs.Prelude.{◌≡◌, ◌≢◌, ◌++◌, ◌∷◌, [], length, None, false, IfOk, IfErr, OnOk, OnErr};
 ghost use Rattle.pq_memo.specs.Look.{IsUpToDate};
 ghost use Rattle.pq_memo.specs.Table.{memo_at, HasIn, IsSameTable, KeptOver};
 ghost use Rattle.pq_memo.specs.Frames.{Came, IsFrame, Awaits, frame_keys};
 ghost use Rattle.pq_memo.specs.Steps.{IsWhy};
-ghost use Rattle.pq_memo.specs.Demand.{Differ};
+ghost use Rattle.pq_claims.specs.Claims.{hold_of};
 ghost use Rattle.pq_core.specs.Moves.{out_of};
-ghost use Rattle.pq_core.specs.aux.Runs.{FramesKept, HandedOut, HasAdvanced, IsLowered, KeptBelow, CanGoOn, CanTake, Renewed, WaitsUp, out_at};
+ghost use Rattle.pq_core.specs.aux.Runs.{FramesKept, HandedOut, HasAdvanced, IsLowered, KeptBelow, CanGoOn, CanTake, Loosens, OthersHold, Renewed, keys_held, out_at, run_keys};
 ghost use Rattle.pq_core.specs.declared.frames.Top.TheVariants.{Empty};
 
 use crate::fault::Memory;
-use crate::ids::RunId;
 use crate::work::{Done, Task, Work};
+use pq_claims::{Claims, RunId};
 use pq_inputs::Inputs;
 use pq_memo::{Frame, Memos, Stack, Stage, Step, Unpublished, Why, turns_are_right};
 use pq_rules::{Answer, Rules, Shared, Turn};
@@ -42,28 +46,23 @@ pub(crate) enum Top<K, P> {
     Away(Pending<K>),
 }
 
-/// The frames of a run.
+/// What a step of a run came to. `W` is the work that it may hand out.
+#[derive(Drop)]
+pub(crate) enum Went<W> {
+    /// This work is handed out.
+    Carry(W),
+    /// The run went on.
+    Stepped,
+    /// The run waits for this other run.
+    Blocked(RunId),
+}
+
+/// The frames of a run, and whether it claims no keys any more.
 #[derive(Drop)]
 pub(crate) struct Frames<R: Rules> {
     pub(crate) stack: Stack<R>,
     pub(crate) top: Top<R::Key, R::Part>,
-}
-
-/// The place of the first of `frames` whose key is up to date.
-fn first_usable<R: Rules>(
-    memos: &Memos<R>,
-    frames: &[Frame<R::Key, R::Part>],
-    inputs: &Inputs,
-) -> Option<usize>
-    ensures within { IfSome result (λ i. i < length frames.now) }
-    ensures none { IfNone result (Each (λ (f : Frame R.Key R.Part). IsUpToDate (R.machine memos.now.rules) inputs.now.revision (HasIn (memo_at R.Key.cmp memos.now.places)) f.key → ⊥) frames.now) }
-{
-    for i in 0..frames.len() {
-        if memos.is_up_to_date(&frames[i].key, inputs) {
-            return Some(i);
-        }
-    }
-    None
+    pub(crate) loose: bool,
 }
 
 /// The answer that is this value.
@@ -118,16 +117,19 @@ impl<R: Rules> Frames<R> {
     pub(crate) fn new(alloc: Global) -> Self
         ensures stack { result.stack ≡ [] }
         ensures top { result.top ≡ Empty }
+        ensures claims { result.loose ≡ false }
     {
         Frames {
             stack: Stack::new(alloc),
             top: Top::Empty,
+            loose: false,
         }
     }
 
     /// Makes the last frame below the top the top, in the place of that.
     pub(crate) fn lower(&mut self)
-        ensures { IsLowered self.old.stack self.new.stack self.new.top }
+        ensures lowered { IsLowered self.old.stack self.new.stack self.new.top }
+        ensures same { self.new.loose ≡ self.old.loose }
     {
         match self.stack.pop() {
             Some(frame) => {
@@ -135,112 +137,6 @@ impl<R: Rules> Frames<R> {
             }
             None => {
                 self.top = Top::Empty;
-            }
-        }
-    }
-
-    /// Publishes the ring of the frames from `place` on, which wait for each other in a round. They
-    /// leave. If an allocation fails, they stay.
-    fn publish(
-        &mut self,
-        alloc: Global,
-        memos: &mut Memos<R>,
-        inputs: &Inputs,
-        place: usize,
-        _next: &R::Key,
-    ) -> Result<(), Memory>
-        requires kept { KeptOver R.Key.cmp (R.machine memos.old.rules) inputs.now memos.old.places }
-        requires waits { WaitsUp R.Key.cmp (R.machine memos.old.rules) inputs.now (memo_at R.Key.cmp memos.old.places) _next.now self.old.stack }
-        requires differ { Differ (frame_keys self.old.stack) }
-        requires within { place < length self.old.stack }
-        requires there { HoldsAt (λ f. f.key ≡ _next.now) self.old.stack place }
-        requires stale { Each (λ (f : Frame R.Key R.Part). IsUpToDate (R.machine memos.old.rules) inputs.now.revision (HasIn (memo_at R.Key.cmp memos.old.places)) f.key → ⊥) (drop place self.old.stack) }
-        ensures rules { memos.new.rules ≡ memos.old.rules }
-        ensures kept { KeptOver R.Key.cmp (R.machine memos.old.rules) inputs.now memos.new.places }
-        ensures renewed { Renewed (R.machine memos.old.rules) inputs.now.revision (memo_at R.Key.cmp memos.old.places) (memo_at R.Key.cmp memos.new.places) }
-        ensures frames_kept { FramesKept R.Key.cmp (R.machine memos.old.rules) inputs.now (memo_at R.Key.cmp memos.new.places) self.new.stack self.new.top }
-        ensures idle { out_at self.new.top ≡ None }
-    {
-        match memos.publish_waiting(alloc, &self.stack.frames()[place..], inputs) {
-            Ok(()) => {
-                self.stack.cut(place);
-                self.lower();
-                Ok(())
-            }
-            Err(_) => {
-                self.lower();
-                Err(Memory)
-            }
-        }
-    }
-
-    /// Takes the frames from `place` on off the stack, the last of which waits for `_next`, the key
-    /// of the first: where a key of them is up to date, the frames from there on, and else their
-    /// ring is published. If an allocation fails, they stay.
-    fn close(
-        &mut self,
-        alloc: Global,
-        memos: &mut Memos<R>,
-        inputs: &Inputs,
-        place: usize,
-        _next: &R::Key,
-    ) -> Result<(), Memory>
-        requires kept { KeptOver R.Key.cmp (R.machine memos.old.rules) inputs.now memos.old.places }
-        requires waits { WaitsUp R.Key.cmp (R.machine memos.old.rules) inputs.now (memo_at R.Key.cmp memos.old.places) _next.now self.old.stack }
-        requires differ { Differ (frame_keys self.old.stack) }
-        requires within { place < length self.old.stack }
-        requires there { HoldsAt (λ f. f.key ≡ _next.now) self.old.stack place }
-        ensures rules { memos.new.rules ≡ memos.old.rules }
-        ensures kept { KeptOver R.Key.cmp (R.machine memos.old.rules) inputs.now memos.new.places }
-        ensures renewed { Renewed (R.machine memos.old.rules) inputs.now.revision (memo_at R.Key.cmp memos.old.places) (memo_at R.Key.cmp memos.new.places) }
-        ensures frames_kept { FramesKept R.Key.cmp (R.machine memos.old.rules) inputs.now (memo_at R.Key.cmp memos.new.places) self.new.stack self.new.top }
-        ensures idle { out_at self.new.top ≡ None }
-    {
-        let frames = self.stack.frames();
-        let _count = frames.len();
-        match first_usable(memos, &frames[place..], inputs) {
-            Some(after) => {
-                self.stack.cut(place + after);
-                self.lower();
-                Ok(())
-            }
-            None => self.publish(alloc, memos, inputs, place, _next),
-        }
-    }
-
-    /// The frame `frame` waits for `next`, which is not up to date: brings that up to date first.
-    /// If it is on the stack, the frames from its place on wait for each other in a round.
-    fn wait(
-        &mut self,
-        alloc: Global,
-        memos: &mut Memos<R>,
-        inputs: &Inputs,
-        frame: Frame<R::Key, R::Part>,
-        next: R::Key,
-    ) -> Result<(), Memory>
-        requires kept { KeptOver R.Key.cmp (R.machine memos.old.rules) inputs.now memos.old.places }
-        requires below { KeptBelow R.Key.cmp (R.machine memos.old.rules) inputs.now (memo_at R.Key.cmp memos.old.places) self.old.stack frame.key }
-        requires awaits { Awaits R.Key.cmp (R.machine memos.old.rules) inputs.now.history inputs.now.revision (HasIn (memo_at R.Key.cmp memos.old.places)) frame.key frame.stage next }
-        requires stale { IsUpToDate (R.machine memos.old.rules) inputs.now.revision (HasIn (memo_at R.Key.cmp memos.old.places)) next → ⊥ }
-        ensures rules { memos.new.rules ≡ memos.old.rules }
-        ensures kept { KeptOver R.Key.cmp (R.machine memos.old.rules) inputs.now memos.new.places }
-        ensures renewed { Renewed (R.machine memos.old.rules) inputs.now.revision (memo_at R.Key.cmp memos.old.places) (memo_at R.Key.cmp memos.new.places) }
-        ensures frames_kept { FramesKept R.Key.cmp (R.machine memos.old.rules) inputs.now (memo_at R.Key.cmp memos.new.places) self.new.stack self.new.top }
-        ensures idle { out_at self.new.top ≡ None }
-    {
-        match self.stack.put(alloc, memos.rules(), frame) {
-            Ok(()) => {}
-            Err(frame) => {
-                self.top = Top::At(frame);
-                return Err(Memory);
-            }
-        }
-        match self.stack.place_of(memos.rules(), &next) {
-            Some(place) => self.close(alloc, memos, inputs, place, &next),
-            None => {
-                let stage = Stage::Walking(0);
-                self.top = Top::At(Frame { key: next, stage });
-                Ok(())
             }
         }
     }
@@ -260,6 +156,8 @@ impl<R: Rules> Frames<R> {
         requires below { KeptBelow R.Key.cmp (R.machine memos.now.rules) inputs.now (memo_at R.Key.cmp memos.now.places) self.old.stack key }
         requires copied { copy ≡ key }
         requires because { IsWhy (R.machine memos.now.rules) inputs.now.history inputs.now.revision (HasIn (memo_at R.Key.cmp memos.now.places)) key why }
+        ensures keys { run_keys self.new.stack self.new.top ≡ frame_keys self.old.stack ++ key ∷ [] }
+        ensures same { self.new.loose ≡ self.old.loose }
         ensures frames_kept { FramesKept R.Key.cmp (R.machine memos.now.rules) inputs.now (memo_at R.Key.cmp memos.now.places) self.new.stack self.new.top }
         ensures handed { HandedOut (R.machine memos.now.rules) memos.now.rules inputs.now (memo_at R.Key.cmp memos.now.places) id self.new.top result }
     {
@@ -296,6 +194,8 @@ impl<R: Rules> Frames<R> {
         requires copied { copy ≡ key }
         requires came { Came R.Key.cmp (R.machine memos.now.rules) inputs.now.history inputs.now.revision (HasIn (memo_at R.Key.cmp memos.now.places)) key ((R.machine memos.now.rules).advance part answer) reads.items }
         requires read { reads.items ≢ [] }
+        ensures keys { run_keys self.new.stack self.new.top ≡ frame_keys self.old.stack ++ key ∷ [] }
+        ensures same { self.new.loose ≡ self.old.loose }
         ensures frames_kept { FramesKept R.Key.cmp (R.machine memos.now.rules) inputs.now (memo_at R.Key.cmp memos.now.places) self.new.stack self.new.top }
         ensures handed { HandedOut (R.machine memos.now.rules) memos.now.rules inputs.now (memo_at R.Key.cmp memos.now.places) id self.new.top result }
     {
@@ -313,37 +213,44 @@ impl<R: Rules> Frames<R> {
         alloc: Global,
         id: RunId,
         memos: &mut Memos<R>,
+        claims: &mut Claims<R>,
         inputs: &Inputs,
         frame: Frame<R::Key, R::Part>,
         copy: R::Key,
-    ) -> Result<Option<Work<R>>, Memory>
+    ) -> Result<Went<Work<R>>, Memory>
         requires kept { KeptOver R.Key.cmp (R.machine memos.old.rules) inputs.now memos.old.places }
         requires below { KeptBelow R.Key.cmp (R.machine memos.old.rules) inputs.now (memo_at R.Key.cmp memos.old.places) self.old.stack frame.key }
         requires stale { IsUpToDate (R.machine memos.old.rules) inputs.now.revision (HasIn (memo_at R.Key.cmp memos.old.places)) frame.key → ⊥ }
         requires frame { IsFrame R.Key.cmp (R.machine memos.old.rules) inputs.now.history inputs.now.revision (HasIn (memo_at R.Key.cmp memos.old.places)) frame.key frame.stage }
         requires copied { copy ≡ frame.key }
+        requires claimed { (hold_of claims.old id).keys ≡ keys_held self.old.loose (frame_keys self.old.stack ++ frame.key ∷ []) }
         ensures rules { memos.new.rules ≡ memos.old.rules }
         ensures kept { KeptOver R.Key.cmp (R.machine memos.old.rules) inputs.now memos.new.places }
         ensures renewed { Renewed (R.machine memos.old.rules) inputs.now.revision (memo_at R.Key.cmp memos.old.places) (memo_at R.Key.cmp memos.new.places) }
         ensures frames_kept { FramesKept R.Key.cmp (R.machine memos.old.rules) inputs.now (memo_at R.Key.cmp memos.new.places) self.new.stack self.new.top }
-        ensures advanced { IfOk result (λ o. HasAdvanced (R.machine memos.old.rules) memos.old.rules inputs.now (memo_at R.Key.cmp memos.old.places) id self.new.top o) }
+        ensures claimed { (hold_of claims.new id).keys ≡ keys_held self.new.loose (run_keys self.new.stack self.new.top) }
+        ensures others { OthersHold id claims.old claims.new }
+        ensures loosens { Loosens R.Key.cmp claims.old id self.old.loose self.new.loose }
+        ensures advanced { IfOk result (λ w. HasAdvanced (R.machine memos.old.rules) memos.old.rules inputs.now (memo_at R.Key.cmp memos.old.places) claims.new id self.new.top w) }
         ensures refused { OnErr result (out_at self.new.top ≡ None) }
     {
         match memos.step(alloc, frame, inputs) {
             Ok(Step::Finished) => {
-                self.lower();
-                Ok(None)
+                self.leave(id, claims);
+                Ok(Went::Stepped)
             }
             Ok(Step::Needs(frame, next)) => {
-                self.wait(alloc, memos, inputs, frame, next)?;
-                Ok(None)
+                match self.wait(alloc, id, memos, claims, inputs, frame, next)? {
+                    Some(other) => Ok(Went::Blocked(other)),
+                    None => Ok(Went::Stepped),
+                }
             }
             Ok(Step::Starts(key, why)) => {
-                Ok(Some(self.start(alloc, id, memos, inputs, key, copy, why)))
+                Ok(Went::Carry(self.start(alloc, id, memos, inputs, key, copy, why)))
             }
-            Ok(Step::GoesOn(key, part, answer, reads)) => Ok(Some(self.go_on(
-                id, memos, inputs, key, copy, part, answer, reads,
-            ))),
+            Ok(Step::GoesOn(key, part, answer, reads)) => {
+                Ok(Went::Carry(self.go_on(id, memos, inputs, key, copy, part, answer, reads)))
+            }
             Err(frame) => {
                 self.top = Top::At(frame);
                 Err(Memory)
@@ -357,25 +264,30 @@ impl<R: Rules> Frames<R> {
         alloc: Global,
         id: RunId,
         memos: &mut Memos<R>,
+        claims: &mut Claims<R>,
         inputs: &Inputs,
         frame: Frame<R::Key, R::Part>,
-    ) -> Result<Option<Work<R>>, Memory>
+    ) -> Result<Went<Work<R>>, Memory>
         requires kept { KeptOver R.Key.cmp (R.machine memos.old.rules) inputs.now memos.old.places }
         requires below { KeptBelow R.Key.cmp (R.machine memos.old.rules) inputs.now (memo_at R.Key.cmp memos.old.places) self.old.stack frame.key }
         requires can { CanGoOn R.Key.cmp (R.machine memos.old.rules) inputs.now (memo_at R.Key.cmp memos.old.places) frame }
+        requires claimed { (hold_of claims.old id).keys ≡ keys_held self.old.loose (frame_keys self.old.stack ++ frame.key ∷ []) }
         ensures rules { memos.new.rules ≡ memos.old.rules }
         ensures kept { KeptOver R.Key.cmp (R.machine memos.old.rules) inputs.now memos.new.places }
         ensures renewed { Renewed (R.machine memos.old.rules) inputs.now.revision (memo_at R.Key.cmp memos.old.places) (memo_at R.Key.cmp memos.new.places) }
         ensures frames_kept { FramesKept R.Key.cmp (R.machine memos.old.rules) inputs.now (memo_at R.Key.cmp memos.new.places) self.new.stack self.new.top }
-        ensures advanced { IfOk result (λ o. HasAdvanced (R.machine memos.old.rules) memos.old.rules inputs.now (memo_at R.Key.cmp memos.old.places) id self.new.top o) }
+        ensures claimed { (hold_of claims.new id).keys ≡ keys_held self.new.loose (run_keys self.new.stack self.new.top) }
+        ensures others { OthersHold id claims.old claims.new }
+        ensures loosens { Loosens R.Key.cmp claims.old id self.old.loose self.new.loose }
+        ensures advanced { IfOk result (λ w. HasAdvanced (R.machine memos.old.rules) memos.old.rules inputs.now (memo_at R.Key.cmp memos.old.places) claims.new id self.new.top w) }
         ensures refused { OnErr result (out_at self.new.top ≡ None) }
     {
         if memos.is_up_to_date(&frame.key, inputs) {
-            self.lower();
-            return Ok(None);
+            self.leave(id, claims);
+            return Ok(Went::Stepped);
         }
         match memos.rules().copy_key(alloc, &frame.key) {
-            Ok(copy) => self.step(alloc, id, memos, inputs, frame, copy),
+            Ok(copy) => self.step(alloc, id, memos, claims, inputs, frame, copy),
             Err(_) => {
                 self.top = Top::At(frame);
                 Err(Memory)
@@ -388,7 +300,9 @@ impl<R: Rules> Frames<R> {
     fn take_turn(
         &mut self,
         alloc: Global,
+        id: RunId,
         memos: &mut Memos<R>,
+        claims: &mut Claims<R>,
         inputs: &Inputs,
         pending: Pending<R::Key>,
         done: Done<R>,
@@ -399,10 +313,14 @@ impl<R: Rules> Frames<R> {
         requires came { Came R.Key.cmp (R.machine memos.old.rules) inputs.now.history inputs.now.revision (HasIn (memo_at R.Key.cmp memos.old.places)) pending.key done.turn pending.reads.items }
         requires counted { length pending.reads.items ≡ length done.front }
         requires key { pending.key ≡ done.key }
+        requires claimed { (hold_of claims.old id).keys ≡ keys_held self.old.loose (frame_keys self.old.stack ++ pending.key ∷ []) }
         ensures rules { memos.new.rules ≡ memos.old.rules }
         ensures kept { KeptOver R.Key.cmp (R.machine memos.old.rules) inputs.now memos.new.places }
         ensures renewed { Renewed (R.machine memos.old.rules) inputs.now.revision (memo_at R.Key.cmp memos.old.places) (memo_at R.Key.cmp memos.new.places) }
         ensures frames_kept { FramesKept R.Key.cmp (R.machine memos.old.rules) inputs.now (memo_at R.Key.cmp memos.new.places) self.new.stack self.new.top }
+        ensures claimed { (hold_of claims.new id).keys ≡ keys_held self.new.loose (run_keys self.new.stack self.new.top) }
+        ensures others { OthersHold id claims.old claims.new }
+        ensures same { self.new.loose ≡ self.old.loose }
         ensures taken { OnOk result (out_at self.new.top ≡ None) }
         ensures back { IfErr result (λ d. d ≡ done) }
         ensures refused { OnErr result (out_at self.new.top ≡ Some (out_of done)) }
@@ -429,7 +347,7 @@ impl<R: Rules> Frames<R> {
             }
             Turn::Done(value) => match publish_value(alloc, memos, inputs, pending, &value) {
                 Ok(()) => {
-                    self.lower();
+                    self.leave(id, claims);
                     Ok(())
                 }
                 Err(pending) => {
@@ -455,7 +373,9 @@ impl<R: Rules> Frames<R> {
     pub(crate) fn take(
         &mut self,
         alloc: Global,
+        id: RunId,
         memos: &mut Memos<R>,
+        claims: &mut Claims<R>,
         inputs: &Inputs,
         pending: Pending<R::Key>,
         done: Done<R>,
@@ -467,19 +387,23 @@ impl<R: Rules> Frames<R> {
         requires files { done.files ≡ inputs.now.files }
         requires counted { length pending.reads.items ≡ length done.front }
         requires key { pending.key ≡ done.key }
+        requires claimed { (hold_of claims.old id).keys ≡ keys_held self.old.loose (frame_keys self.old.stack ++ pending.key ∷ []) }
         ensures rules { memos.new.rules ≡ memos.old.rules }
         ensures kept { KeptOver R.Key.cmp (R.machine memos.old.rules) inputs.now memos.new.places }
         ensures renewed { Renewed (R.machine memos.old.rules) inputs.now.revision (memo_at R.Key.cmp memos.old.places) (memo_at R.Key.cmp memos.new.places) }
         ensures frames_kept { FramesKept R.Key.cmp (R.machine memos.old.rules) inputs.now (memo_at R.Key.cmp memos.new.places) self.new.stack self.new.top }
+        ensures claimed { (hold_of claims.new id).keys ≡ keys_held self.new.loose (run_keys self.new.stack self.new.top) }
+        ensures others { OthersHold id claims.old claims.new }
+        ensures same { self.new.loose ≡ self.old.loose }
         ensures taken { OnOk result (out_at self.new.top ≡ None) }
         ensures back { IfErr result (λ d. d ≡ done) }
         ensures refused { OnErr result (out_at self.new.top ≡ Some (out_of done)) }
     {
         let _latest = inputs.now();
         if memos.is_up_to_date(&pending.key, inputs) {
-            self.lower();
+            self.leave(id, claims);
             return Ok(());
         }
-        self.take_turn(alloc, memos, inputs, pending, done)
+        self.take_turn(alloc, id, memos, claims, inputs, pending, done)
     }
 }

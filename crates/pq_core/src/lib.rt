@@ -12,11 +12,12 @@
 //! call is refused), `moves` (what runs and releases come to), `outbox` (where replies go), `work`
 //! (a rule that is to be carried out), `cores` (the core), `opening`, `accepting`, `starting`,
 //! `running` and `releasing` (its calls), `lane` and `in_lanes` (an open client), `rising` (a map from
-//! rising numbers), `run` and `frames` (how a run goes on), `laws` (what each move keeps).
+//! rising numbers), `run`, `frames` and `entering` (how a run goes on), `laws` (what each move keeps).
 #![tactic(auto)]
 
 mod accepting;
 mod cores;
+mod entering;
 mod fault;
 mod frames;
 mod ids;
@@ -44,7 +45,7 @@ pub use fault::{
     AcceptFault, AcceptRefused, EditFault, EditRefused, GiveFault, GiveRefused, LookFault, Memory,
     OpenFault, OpenRefused,
 };
-pub use ids::{ClientId, Number, RunId};
+pub use ids::{ClientId, Number};
 pub use label::Label;
 pub use laws::{closed_for_good, core_is_sound, moves_keep};
 pub use limits::{MAX_CLIENTS, WINDOW};
@@ -52,6 +53,7 @@ pub use list_outbox::ListOutbox;
 pub use moves::{Move, Released};
 pub use outbox::{Outbox, PutFault, Taking};
 pub use outcome::Outcome;
+pub use pq_claims::RunId;
 pub use reply::Reply;
 pub use request::{Change, Request, Want, copy_change, copy_request, is_same_request};
 pub use work::{Done, Work};

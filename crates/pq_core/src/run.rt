@@ -4,20 +4,20 @@
 //! A run takes steps, and other runs take steps on the same table in between. Its invariant
 //! (`specs/aux/Runs`) holds while its start is the revision now. It outlasts each write of a key
 //! that was not up to date, so every write is of such a key.
-ghost use Rattle.std.specs.Prelude.{◌≡◌, ◌↔◌, [], length, None, Some, IsTrue, IsSome, IfOk, IfErr, IfSome, IfNone, OnOk, OnErr};
+ghost use Rattle.std.specs.Prelude.{◌≡◌, ◌↔◌, [], length, None, Some, false, IsTrue, IsSome, IfOk, IfErr, IfSome, IfNone, OnOk, OnErr};
 ghost use Rattle.pq_memo.specs.Table.{memo_at, HasIn, KeptOver};
-ghost use Rattle.pq_memo.specs.declared.frame.Stage.TheVariants.{Walking};
+ghost use Rattle.pq_claims.specs.Claims.{hold_of};
 ghost use Rattle.pq_core.specs.Kept.{IsDemand};
 ghost use Rattle.pq_core.specs.Moves.{out_of};
-ghost use Rattle.pq_core.specs.aux.Runs.{HasLooked, IsAnswer, IsSameRun, IsStale, Renewed, RunKept, out_at};
-ghost use Rattle.pq_core.specs.declared.frames.Top.TheVariants.{Empty};
+ghost use Rattle.pq_core.specs.aux.Runs.{FramesKept, HasLooked, IsAnswer, IsSameRun, IsStale, Loosens, OthersHold, Renewed, RunKept, keys_held, out_at, run_keys};
+ghost use Rattle.pq_core.specs.declared.frames.Top.TheVariants.{Empty, At};
 ghost use Rattle.pq_core.specs.declared.request.Want.TheVariants.{Demand};
 
 use crate::fault::Memory;
-use crate::frames::{Frames, Pending, Top};
-use crate::ids::RunId;
+use crate::frames::{Frames, Pending, Top, Went};
 use crate::request::{Request, Want};
 use crate::work::{Done, Work};
+use pq_claims::{Claims, RunId};
 use pq_inputs::{Inputs, Revision};
 use pq_memo::{Frame, Memos, Stage};
 use pq_rules::{Answer, Rules, Shared, is_same_key};
@@ -32,6 +32,8 @@ pub(crate) enum Looked<W, A> {
     Carry(W),
     /// The run went on.
     Stepped,
+    /// The run waits for this other run.
+    Blocked(RunId),
     /// This is the answer of the request's key.
     Answered(A),
 }
@@ -51,7 +53,7 @@ impl<R: Rules> Model for Run<R> {
 
     ghost Value = { RunView R.Key R.Part };
 
-    ghost view = { λ r. record { client = r.client; number = r.number; request = r.request; started = r.started; stack = r.frames.stack; top = r.frames.top } };
+    ghost view = { λ r. record { client = r.client; number = r.number; request = r.request; started = r.started; stack = r.frames.stack; top = r.frames.top; loose = r.frames.loose } };
 }
 
 /// Whether `done` is of the key of `pending`, after as many reads.
@@ -72,7 +74,7 @@ impl<R: Rules> Run<R> {
         request: Request<R::Key>,
         started: Revision,
     ) -> Self
-        ensures { result ≡ record { client = client; number = number; request = request; started = started; stack = []; top = Empty } }
+        ensures { result ≡ record { client = client; number = number; request = request; started = started; stack = []; top = Empty; loose = false } }
     {
         Run {
             client,
@@ -124,57 +126,95 @@ impl<R: Rules> Run<R> {
         }
     }
 
-    /// The frame of the request's key, at the first read of its memo.
-    fn first_frame(&self, alloc: Global, rules: &R) -> Result<Frame<R::Key, R::Part>, Memory>
+    /// A copy of the request's key.
+    fn first_key(&self, alloc: Global, rules: &R) -> Result<R::Key, Memory>
         requires demand { IsDemand self.now.request.want }
-        ensures { IfOk result (λ f. (self.now.request.want ≡ Demand f.key) × (f.stage ≡ Walking 0)) }
+        ensures { IfOk result (λ k. self.now.request.want ≡ Demand k) }
     {
         match &self.request.want {
-            Want::Demand(key) => {
-                let key = rules.copy_key(alloc, key)?;
-                let stage = Stage::Walking(0);
-                Ok(Frame { key, stage })
-            }
+            Want::Demand(key) => rules.copy_key(alloc, key),
             Want::Fixed(_) => unreachable!(),
         }
     }
 
-    /// Takes the first step: finds the answer of the request's key, or begins with it.
-    fn begin(
+    /// Takes one step of `frame`, which was the top.
+    fn advance(
         &mut self,
         alloc: Global,
         id: RunId,
         memos: &mut Memos<R>,
+        claims: &mut Claims<R>,
         inputs: &Inputs,
+        frame: Frame<R::Key, R::Part>,
     ) -> Result<Looked<Work<R>, Shared<Answer<R::Key, R::Value>>>, Memory>
-        requires demand { IsDemand self.old.request.want }
-        requires empty { (self.old.stack ≡ []) × (self.old.top ≡ Empty) }
         requires kept { KeptOver R.Key.cmp (R.machine memos.old.rules) inputs.now memos.old.places }
+        requires frames_kept { FramesKept R.Key.cmp (R.machine memos.old.rules) inputs.now (memo_at R.Key.cmp memos.old.places) self.old.stack (At frame) }
+        requires claimed { (hold_of claims.old id).keys ≡ keys_held self.old.loose (run_keys self.old.stack (At frame)) }
         ensures rules { memos.new.rules ≡ memos.old.rules }
         ensures kept { KeptOver R.Key.cmp (R.machine memos.old.rules) inputs.now memos.new.places }
         ensures renewed { Renewed (R.machine memos.old.rules) inputs.now.revision (memo_at R.Key.cmp memos.old.places) (memo_at R.Key.cmp memos.new.places) }
         ensures same { IsSameRun self.old self.new }
         ensures run_kept { RunKept R.Key.cmp (R.machine memos.old.rules) inputs.now (memo_at R.Key.cmp memos.new.places) self.new }
-        ensures looked { IfOk result (λ l. HasLooked R.Key.cmp (R.machine memos.old.rules) memos.old.rules inputs.now (memo_at R.Key.cmp memos.old.places) id self.old.request self.new.top l) }
+        ensures claimed { (hold_of claims.new id).keys ≡ keys_held self.new.loose (run_keys self.new.stack self.new.top) }
+        ensures others { OthersHold id claims.old claims.new }
+        ensures loosens { Loosens R.Key.cmp claims.old id self.old.loose self.new.loose }
+        ensures looked { IfOk result (λ l. HasLooked R.Key.cmp (R.machine memos.old.rules) memos.old.rules inputs.now (memo_at R.Key.cmp memos.old.places) claims.new id self.old.request self.new.top l) }
+        ensures refused { OnErr result (out_at self.new.top ≡ None) }
+    {
+        match self
+            .frames
+            .advance(alloc, id, memos, claims, inputs, frame)?
+        {
+            Went::Carry(work) => Ok(Looked::Carry(work)),
+            Went::Stepped => Ok(Looked::Stepped),
+            Went::Blocked(other) => Ok(Looked::Blocked(other)),
+        }
+    }
+
+    /// Takes the first step: finds the answer of the request's key, or claims it and begins with
+    /// it.
+    fn begin(
+        &mut self,
+        alloc: Global,
+        id: RunId,
+        memos: &mut Memos<R>,
+        claims: &mut Claims<R>,
+        inputs: &Inputs,
+    ) -> Result<Looked<Work<R>, Shared<Answer<R::Key, R::Value>>>, Memory>
+        requires demand { IsDemand self.old.request.want }
+        requires empty { (self.old.stack ≡ []) × (self.old.top ≡ Empty) }
+        requires kept { KeptOver R.Key.cmp (R.machine memos.old.rules) inputs.now memos.old.places }
+        requires claimed { (hold_of claims.old id).keys ≡ keys_held self.old.loose (run_keys self.old.stack self.old.top) }
+        ensures rules { memos.new.rules ≡ memos.old.rules }
+        ensures kept { KeptOver R.Key.cmp (R.machine memos.old.rules) inputs.now memos.new.places }
+        ensures renewed { Renewed (R.machine memos.old.rules) inputs.now.revision (memo_at R.Key.cmp memos.old.places) (memo_at R.Key.cmp memos.new.places) }
+        ensures same { IsSameRun self.old self.new }
+        ensures run_kept { RunKept R.Key.cmp (R.machine memos.old.rules) inputs.now (memo_at R.Key.cmp memos.new.places) self.new }
+        ensures claimed { (hold_of claims.new id).keys ≡ keys_held self.new.loose (run_keys self.new.stack self.new.top) }
+        ensures others { OthersHold id claims.old claims.new }
+        ensures loosens { Loosens R.Key.cmp claims.old id self.old.loose self.new.loose }
+        ensures looked { IfOk result (λ l. HasLooked R.Key.cmp (R.machine memos.old.rules) memos.old.rules inputs.now (memo_at R.Key.cmp memos.old.places) claims.new id self.old.request self.new.top l) }
         ensures refused { OnErr result (out_at self.new.top ≡ None) }
     {
         if let Some(answer) = self.answer(alloc, memos, inputs)? {
             return Ok(Looked::Answered(answer));
         }
-        let frame = self.first_frame(alloc, memos.rules())?;
-        match self.frames.advance(alloc, id, memos, inputs, frame)? {
-            Some(work) => Ok(Looked::Carry(work)),
-            None => Ok(Looked::Stepped),
+        let key = self.first_key(alloc, memos.rules())?;
+        if let Some(other) = self.frames.claim_next(alloc, id, claims, &key)? {
+            return Ok(Looked::Blocked(other));
         }
+        let stage = Stage::Walking(0);
+        self.advance(alloc, id, memos, claims, inputs, Frame { key, stage })
     }
 
-    /// Takes one step: hands out work, goes on, or finds the answer of the request's key. If an
-    /// allocation fails, no key gets another memo.
+    /// Takes one step: hands out work, goes on, waits for another run, or finds the answer of the
+    /// request's key. If an allocation fails, no key gets another memo.
     pub(crate) fn look(
         &mut self,
         alloc: Global,
         id: RunId,
         memos: &mut Memos<R>,
+        claims: &mut Claims<R>,
         inputs: &Inputs,
     ) -> Result<Looked<Work<R>, Shared<Answer<R::Key, R::Value>>>, Memory>
         requires demand { IsDemand self.old.request.want }
@@ -182,20 +222,21 @@ impl<R: Rules> Run<R> {
         requires current { self.old.started ≡ inputs.now.revision }
         requires kept { KeptOver R.Key.cmp (R.machine memos.old.rules) inputs.now memos.old.places }
         requires run_kept { RunKept R.Key.cmp (R.machine memos.old.rules) inputs.now (memo_at R.Key.cmp memos.old.places) self.old }
+        requires claimed { (hold_of claims.old id).keys ≡ keys_held self.old.loose (run_keys self.old.stack self.old.top) }
         ensures rules { memos.new.rules ≡ memos.old.rules }
         ensures kept { KeptOver R.Key.cmp (R.machine memos.old.rules) inputs.now memos.new.places }
         ensures renewed { Renewed (R.machine memos.old.rules) inputs.now.revision (memo_at R.Key.cmp memos.old.places) (memo_at R.Key.cmp memos.new.places) }
         ensures same { IsSameRun self.old self.new }
         ensures run_kept { RunKept R.Key.cmp (R.machine memos.old.rules) inputs.now (memo_at R.Key.cmp memos.new.places) self.new }
-        ensures looked { IfOk result (λ l. HasLooked R.Key.cmp (R.machine memos.old.rules) memos.old.rules inputs.now (memo_at R.Key.cmp memos.old.places) id self.old.request self.new.top l) }
+        ensures claimed { (hold_of claims.new id).keys ≡ keys_held self.new.loose (run_keys self.new.stack self.new.top) }
+        ensures others { OthersHold id claims.old claims.new }
+        ensures loosens { Loosens R.Key.cmp claims.old id self.old.loose self.new.loose }
+        ensures looked { IfOk result (λ l. HasLooked R.Key.cmp (R.machine memos.old.rules) memos.old.rules inputs.now (memo_at R.Key.cmp memos.old.places) claims.new id self.old.request self.new.top l) }
         ensures refused { OnErr result (out_at self.new.top ≡ None) }
     {
         match replace(&mut self.frames.top, Top::Empty) {
-            Top::At(frame) => match self.frames.advance(alloc, id, memos, inputs, frame)? {
-                Some(work) => Ok(Looked::Carry(work)),
-                None => Ok(Looked::Stepped),
-            },
-            Top::Empty => self.begin(alloc, id, memos, inputs),
+            Top::At(frame) => self.advance(alloc, id, memos, claims, inputs, frame),
+            Top::Empty => self.begin(alloc, id, memos, claims, inputs),
             Top::Away(_) => unreachable!(),
         }
     }
@@ -205,7 +246,9 @@ impl<R: Rules> Run<R> {
     pub(crate) fn give(
         &mut self,
         alloc: Global,
+        id: RunId,
         memos: &mut Memos<R>,
+        claims: &mut Claims<R>,
         inputs: &Inputs,
         done: Done<R>,
     ) -> Result<(), Done<R>>
@@ -215,17 +258,23 @@ impl<R: Rules> Run<R> {
         requires current { self.old.started ≡ inputs.now.revision }
         requires kept { KeptOver R.Key.cmp (R.machine memos.old.rules) inputs.now memos.old.places }
         requires run_kept { RunKept R.Key.cmp (R.machine memos.old.rules) inputs.now (memo_at R.Key.cmp memos.old.places) self.old }
+        requires claimed { (hold_of claims.old id).keys ≡ keys_held self.old.loose (run_keys self.old.stack self.old.top) }
         ensures rules { memos.new.rules ≡ memos.old.rules }
         ensures kept { KeptOver R.Key.cmp (R.machine memos.old.rules) inputs.now memos.new.places }
         ensures renewed { Renewed (R.machine memos.old.rules) inputs.now.revision (memo_at R.Key.cmp memos.old.places) (memo_at R.Key.cmp memos.new.places) }
         ensures same { IsSameRun self.old self.new }
         ensures run_kept { RunKept R.Key.cmp (R.machine memos.old.rules) inputs.now (memo_at R.Key.cmp memos.new.places) self.new }
+        ensures claimed { (hold_of claims.new id).keys ≡ keys_held self.new.loose (run_keys self.new.stack self.new.top) }
+        ensures others { OthersHold id claims.old claims.new }
+        ensures same_loose { self.new.loose ≡ self.old.loose }
         ensures taken { OnOk result (out_at self.new.top ≡ None) }
         ensures back { IfErr result (λ d. d ≡ done) }
         ensures refused { OnErr result (out_at self.new.top ≡ Some (out_of done)) }
     {
         match replace(&mut self.frames.top, Top::Empty) {
-            Top::Away(pending) => self.frames.take(alloc, memos, inputs, pending, done),
+            Top::Away(pending) => self
+                .frames
+                .take(alloc, id, memos, claims, inputs, pending, done),
             _ => unreachable!(),
         }
     }

@@ -8,16 +8,17 @@ ghost use Rattle.pq_memo.specs.Demand.{NoneLost};
 ghost use Rattle.pq_core.specs.Replies.{IsFair};
 ghost use Rattle.pq_core.specs.Ledger.{Ledger};
 ghost use Rattle.pq_core.specs.Moves.{Reaches, Looks, Gives, Starves, IsMade, IsRequestOf};
-ghost use Rattle.pq_core.specs.Cores.{StandsFor, HandsOut, HasCause};
+ghost use Rattle.pq_core.specs.Cores.{StandsFor, HandsOut, HasCause, NamesHolder};
 ghost use Rattle.pq_core.specs.aux.Rising.{found, IsAbove};
 ghost use Rattle.pq_core.specs.aux.Changes.{IsSetAt, IsSameMap};
+ghost use Rattle.pq_core.specs.aux.Runs.{LoosensEach};
 ghost use Rattle.pq_core.specs.aux.Lanes.{LaneView, with_owed};
 ghost use Rattle.pq_core.specs.declared.lane.Owed.TheVariants.{Ready as OwedReady};
 ghost use Rattle.pq_core.specs.declared.outcome.Outcome.TheVariants.{Cancelled, Starved, Answered};
 
 use crate::cores::Core;
 use crate::fault::{GiveFault, GiveRefused, LookFault};
-use crate::ids::{ClientId, Number, RunId};
+use crate::ids::{ClientId, Number};
 use crate::in_lanes::finish_in;
 use crate::lane::Lane;
 use crate::moves::Move;
@@ -27,6 +28,7 @@ use crate::reply::Reply;
 use crate::rising::Rising;
 use crate::run::{Looked, Run};
 use crate::work::{Done, Work};
+use pq_claims::RunId;
 use pq_inputs::Revision;
 use pq_memo::look_is_right;
 use pq_rules::Rules;
@@ -115,9 +117,12 @@ impl<R: Rules, O: Outbox<R::Key, R::Value> + Drop> Core<R, O> {
         ensures moved { (l : Ledger R.Key R.Value O) → StandsFor R.Key.cmp (R.machine self.old.rules) O.puts self.old l
             → Reaches (Looks R.Key.cmp (R.machine self.old.rules) self.old.rules run result) l (StandsFor R.Key.cmp (R.machine self.old.rules) O.puts self.new) }
         ensures handed { IfOk result (HandsOut self.old run) }
+        ensures holder { IfOk result (NamesHolder self.new.claims run) }
+        ensures loosens { LoosensEach R.Key.cmp self.old.claims self.old.runs.items self.new.runs.items }
         ensures cause { IfOk result (HasCause R.Key.cmp (R.machine self.old.rules) self.old) }
     {
         look_is_right(&self.memos);
+        let who = run;
         let id = run.number();
         let now = self.inputs.now();
         match self.runs.take(id) {
@@ -125,26 +130,34 @@ impl<R: Rules, O: Outbox<R::Key, R::Value> + Drop> Core<R, O> {
             Some(taken) => {
                 let mut run = taken;
                 if is_overtaken(&self.lanes, &run, now) {
+                    self.claims.release_all(who);
                     stop_run(&mut self.lanes, run, now);
                     return Ok(Move::Stopped);
                 }
                 if run.is_out() {
                     self.runs.put_back(id, run);
-                    return Ok(Move::Blocked(RunId::new(id)));
+                    return Ok(Move::Blocked(who));
                 }
-                match run.look(alloc, RunId::new(id), &mut self.memos, &self.inputs) {
-                    Ok(Looked::Carry(work)) => {
-                        self.runs.put_back(id, run);
-                        return Ok(Move::Carry(work));
-                    }
-                    Ok(Looked::Stepped) => {
-                        self.runs.put_back(id, run);
-                        return Ok(Move::Stepped);
-                    }
-                    Ok(Looked::Answered(answer)) => {
-                        end_run(&mut self.lanes, run, now, Outcome::Answered(answer));
-                        return Ok(Move::Answered);
-                    }
+                match run.look(alloc, who, &mut self.memos, &mut self.claims, &self.inputs) {
+                    Ok(looked) => match looked {
+                        Looked::Carry(work) => {
+                            self.runs.put_back(id, run);
+                            return Ok(Move::Carry(work));
+                        }
+                        Looked::Stepped => {
+                            self.runs.put_back(id, run);
+                            return Ok(Move::Stepped);
+                        }
+                        Looked::Blocked(other) => {
+                            self.runs.put_back(id, run);
+                            return Ok(Move::Blocked(other));
+                        }
+                        Looked::Answered(answer) => {
+                            self.claims.release_all(who);
+                            end_run(&mut self.lanes, run, now, Outcome::Answered(answer));
+                            return Ok(Move::Answered);
+                        }
+                    },
                     Err(_) => {
                         self.runs.put_back(id, run);
                         return Err(LookFault::Memory);
@@ -171,9 +184,11 @@ impl<R: Rules, O: Outbox<R::Key, R::Value> + Drop> Core<R, O> {
         ensures inputs { self.new.inputs ≡ self.old.inputs }
         ensures none_lost { NoneLost (memo_at R.Key.cmp self.old.places) (memo_at R.Key.cmp self.new.places) }
         ensures back { IfErr result (λ refused. refused.done ≡ done) }
+        ensures loosens { LoosensEach R.Key.cmp self.old.claims self.old.runs.items self.new.runs.items }
         ensures moved { (l : Ledger R.Key R.Value O) → StandsFor R.Key.cmp (R.machine self.old.rules) O.puts self.old l
             → Reaches (Gives run done result) l (StandsFor R.Key.cmp (R.machine self.old.rules) O.puts self.new) }
     {
+        let who = run;
         let id = run.number();
         let now = self.inputs.now();
         match self.runs.take(id) {
@@ -183,16 +198,24 @@ impl<R: Rules, O: Outbox<R::Key, R::Value> + Drop> Core<R, O> {
             }
             Some(taken) => {
                 let mut run = taken;
-                if !run.fits(self.memos.rules(), RunId::new(id), &done) {
+                if !run.fits(self.memos.rules(), who, &done) {
                     self.runs.put_back(id, run);
                     let fault = GiveFault::NotThisRun;
                     return Err(GiveRefused { fault, done });
                 }
                 if is_overtaken(&self.lanes, &run, now) {
+                    self.claims.release_all(who);
                     stop_run(&mut self.lanes, run, now);
                     return Ok(Move::Stopped);
                 }
-                match run.give(alloc, &mut self.memos, &self.inputs, done) {
+                match run.give(
+                    alloc,
+                    who,
+                    &mut self.memos,
+                    &mut self.claims,
+                    &self.inputs,
+                    done,
+                ) {
                     Ok(()) => {
                         self.runs.put_back(id, run);
                         return Ok(Move::Stepped);
@@ -217,8 +240,9 @@ impl<R: Rules, O: Outbox<R::Key, R::Value> + Drop> Core<R, O> {
     {
         let now = self.inputs.now();
         match self.runs.take(run.number()) {
-            Some(run) => {
-                end_run(&mut self.lanes, run, now, Outcome::Starved);
+            Some(taken) => {
+                self.claims.release_all(run);
+                end_run(&mut self.lanes, taken, now, Outcome::Starved);
                 return true;
             }
             None => return false,

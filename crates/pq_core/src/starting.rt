@@ -5,10 +5,10 @@ ghost use Rattle.pq_core.specs.Moves.{Reaches, Starts};
 ghost use Rattle.pq_core.specs.Cores.{StandsFor};
 
 use crate::cores::Core;
-use crate::ids::RunId;
 use crate::in_lanes::start_in;
 use crate::outbox::Outbox;
 use crate::run::Run;
+use pq_claims::RunId;
 use pq_rules::Rules;
 
 impl<R: Rules, O: Outbox<R::Key, R::Value> + Drop> Core<R, O> {

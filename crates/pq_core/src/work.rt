@@ -7,7 +7,7 @@ ghost use Rattle.std.specs.Prelude.{◌≡◌, length, Option, IfOk, IfErr};
 ghost use Rattle.pq_core.specs.Works.{IsDue};
 ghost use Rattle.pq_core.specs.aux.Tasks.{turn_of};
 
-use crate::ids::RunId;
+use pq_claims::RunId;
 use pq_inputs::{Inputs, Revision};
 use pq_memo::Why;
 use pq_rules::{Answer, Rules, Shared, Turn};

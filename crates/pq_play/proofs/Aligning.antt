@@ -152,7 +152,7 @@ module _ {K V : Type 0} (taken : List (List (ReplyView K V))) (seats : List (Sea
 
   pub aligned_looks : {R P : Type 0} (means : Sources → K → Answer K V → Type 0) (rules : R) (run : ℕ) (answer : Result (Move (WorkView R K P V)) LookFault) (l m : Ledger K V (Listed K V)) → LooksFor means rules run answer l m → Aligned l.clients taken seats → Aligned m.clients taken seats
   aligned_looks means rules run (Ok (Carry work)) l m s a = let e = s.1.runs.is_entry in aligned_entry l m s.0.c s.0.client s.0.n s.0.entry _ a e.client_here e.here refl (clients_of _ m s.3)
-  aligned_looks means rules run (Ok (Blocked other)) l m s a = aligned_along l m s.5 a
+  aligned_looks means rules run (Ok (Blocked other)) l m s a = aligned_along l m s.4 a
   aligned_looks means rules run (Ok MoveStepped) l m s a = aligned_along l m s.2 a
   aligned_looks means rules run (Ok MoveAnswered) l m s a = let e = s.1.runs.is_entry in aligned_entry l m s.0.c s.0.client s.0.n s.0.entry _ a e.client_here e.here refl (clients_of _ m s.2.2)
   aligned_looks means rules run (Ok MoveStopped) l m s a = let e = s.1.is_entry in aligned_entry l m s.0.c s.0.client s.0.n s.0.entry _ a e.client_here e.here refl (clients_of _ m s.3)

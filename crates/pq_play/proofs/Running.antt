@@ -427,7 +427,7 @@ module _ {R K P V O : Type 0} (rules : R) where
       ran_handed l m run s.0 work.done dones after_it s.1.runs s.3 h.rules_same h.run_same h.started
       (ap (slice_get l.inputs.history) now ∙ i.latest ∙ ap (λ (y : Sources). Some y) (sym h.files_same))
       (subst (λ (y : ℕ). IsPut dones after_it y (Some work.done)) h.run_same p) x
-  ran_looks means run (Blocked other) l m dones after_it i s p x = ran_same l m dones after_it (same_as l m s.5) p x
+  ran_looks means run (Blocked other) l m dones after_it i s p x = ran_same l m dones after_it (same_as l m s.4) p x
   ran_looks means run MoveStepped l m dones after_it i s p x = ran_same l m dones after_it (same_as l m s.2) p x
   ran_looks means run MoveAnswered l m dones after_it i s p x =
       ran_ended l m run s.0 _ _ dones after_it s.1.runs s.2.2 (put_idle l run s.0 dones after_it s.1.runs s.1.idle p x) x

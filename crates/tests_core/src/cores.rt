@@ -254,7 +254,7 @@ fn starved(rt: HostRuntime) {
         "\
         open 4 => 0; rest\n\
         accept 0 7 Sum a => 0\n\
-        accept 0 8 Sum a => 1\n\
+        accept 0 8 Sum b => 1\n\
         start => 0\n\
         start => 1\n\
         look 0 => Sum a fresh\n\
@@ -268,7 +268,61 @@ fn starved(rt: HostRuntime) {
         finish 1 => answered\n\
         release 0 => put 0\n\
         release 0 => put 1; rest\n\
-        close 0 => 0 7 Sum a @0 starved|1 8 Sum a @0 answered 1|0; rest\n\
+        close 0 => 0 7 Sum a @0 starved|1 8 Sum b @0 answered 1|0; rest\n\
+        ",
+    );
+}
+
+// A key is claimed by one run: another run that needs it is blocked, and goes on when the first is
+// over.
+#[test]
+fn one_run_for_a_key(rt: HostRuntime) {
+    check_rows(
+        &rt,
+        15,
+        "\
+        open 4 => 0; rest\n\
+        open 4 => 1; rest\n\
+        accept 0 7 Sum a => 0\n\
+        accept 1 7 Sum a => 0\n\
+        start => 0\n\
+        start => 1\n\
+        look 0 => Sum a fresh\n\
+        look 1 => blocked 0\n\
+        look 1 => blocked 0\n\
+        starve 0 => yes\n\
+        finish 1 => Sum a fresh;answered\n\
+        release 0 => put 0\n\
+        release 1 => put 0; rest\n\
+        close 0 => 0 7 Sum a @0 starved|0; rest\n\
+        close 1 => 0 7 Sum a @0 answered 1|0; rest\n\
+        ",
+    );
+}
+
+// A run that was overtaken keeps its keys until it is looked at.
+#[test]
+fn blocked_by_an_overtaken_run(rt: HostRuntime) {
+    check_rows(
+        &rt,
+        16,
+        "\
+        open 4 => 0; rest\n\
+        open 4 => 1; rest\n\
+        accept 0 7 Sum a => 0\n\
+        start => 0\n\
+        look 0 => Sum a fresh\n\
+        edit 1 low b=c => 1\n\
+        accept 1 7 Sum a => 0\n\
+        start => 1\n\
+        look 1 => blocked 0\n\
+        look 0 => stopped\n\
+        look 0 => no such run\n\
+        finish 1 => Sum a fresh;answered\n\
+        release 0 => put 0\n\
+        release 1 => put 0; rest\n\
+        close 0 => 0 7 Sum a @1 cancelled 0 1|0; rest\n\
+        close 1 => 0 7 Sum a @1 answered 1|0; rest\n\
         ",
     );
 }

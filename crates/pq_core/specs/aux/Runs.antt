@@ -4,7 +4,7 @@
 --
 -- `order` is the order of the keys, `m` the rule set, `inputs` the inputs, and a table is a
 -- function from keys.
-use Rattle.std.specs.Prelude.{ℕ, ◌≡◌, ◌⊎◌, List, [], ◌∷◌, ◌++◌, length, Option, Some, None}
+use Rattle.std.specs.Prelude.{ℕ, ◌≡◌, ◌≢◌, ◌⊎◌, Bool, true, false, List, [], ◌∷◌, ◌++◌, length, Option, Some, None, Result, Ok, Err}
 use Rattle.std.specs.declared.cmp.Ordering.{Ordering}
 use Rattle.pq_inputs.specs.Sources.{Table}
 use Rattle.pq_rules.specs.declared.turn.Turn.{Turn}
@@ -20,6 +20,8 @@ use Rattle.pq_memo.specs.Writes.{Dated}
 use Rattle.pq_memo.specs.Frames.{Came, IsFrame, Awaits, frame_keys}
 use Rattle.pq_memo.specs.Steps.{IsWhy}
 use Rattle.pq_memo.specs.Demand.{Differ}
+use Rattle.pq_memo.specs.declared.frame.Stage.TheVariants.{Walking}
+use Rattle.pq_claims.specs.Claims.{Hold, Holds, AreSound, IsClosed, WaitsFor as RunWaitsFor, hold_of}
 use Rattle.pq_core.specs.Ledger.{Out}
 use Rattle.pq_core.specs.Works.{WorkView, HasWhy}
 use Rattle.pq_core.specs.Moves.{out_of}
@@ -28,11 +30,15 @@ use Rattle.pq_core.specs.declared.request.Want.TheVariants.{Demand}
 use Rattle.pq_core.specs.declared.frames.Pending.{Pending}
 use Rattle.pq_core.specs.declared.frames.Top.{Top}
 use Rattle.pq_core.specs.declared.frames.Top.TheVariants.{Empty, At, Away}
+use Rattle.pq_core.specs.declared.frames.Went.{Went}
+use Rattle.pq_core.specs.declared.frames.Went.TheVariants.{Carry as WentCarry, Stepped as WentStepped, Blocked as WentBlocked}
 use Rattle.pq_core.specs.declared.run.Looked.{Looked}
-use Rattle.pq_core.specs.declared.run.Looked.TheVariants.{Carry, Stepped, Answered}
+use Rattle.pq_core.specs.declared.run.Looked.TheVariants.{Carry, Stepped, Blocked, Answered}
+use Rattle.pq_core.specs.declared.rising.Place.{Place}
+use Rattle.pq_core.specs.aux.Rising.{found}
 
 -- `RunView K P` is a run: its client, the number of its request, the request, the revision of its
--- start, the frames below the top, and the top
+-- start, the frames below the top, the top, and whether it claims no keys any more
 pub record RunView (K P : Type 0) : Type 0 where
   pub client : ℕ
   pub number : ℕ
@@ -40,6 +46,7 @@ pub record RunView (K P : Type 0) : Type 0 where
   pub started : ℕ
   pub stack : List (Frame K P)
   pub top : Top K P
+  pub loose : Bool
 
 -- `IsSameRun old new` is that `new` is the run `old` at another step
 pub record IsSameRun {K P : Type 0} (old new : RunView K P) : Type 0 where
@@ -53,6 +60,71 @@ abbrev pub out_at : {K P : Type 0} → Top K P → Option (Out K)
 out_at Empty = None
 out_at (At frame) = None
 out_at (Away pending) = Some (record { key = pending.key; reads = length pending.reads.items })
+
+-- `top_keys top` is the key of `top`, if it has one
+abbrev pub top_keys : {K P : Type 0} → Top K P → List K
+top_keys Empty = []
+top_keys (At frame) = frame.key ∷ []
+top_keys (Away pending) = pending.key ∷ []
+
+-- `run_keys stack top` is the keys of the frames of a run, the lowest first
+abbrev pub run_keys : {K P : Type 0} → List (Frame K P) → Top K P → List K
+run_keys stack top = frame_keys stack ++ top_keys top
+
+-- `keys_held loose keys` is the keys that a run holds whose frames have `keys`: all of them, or none
+-- where it claims no keys any more
+abbrev pub keys_held : {K : Type 0} → Bool → List K → List K
+keys_held true keys = []
+keys_held false keys = keys
+
+-- `claimed_keys run` is the keys that `run` holds, if it exists
+abbrev pub claimed_keys : {K P : Type 0} → Option (RunView K P) → List K
+claimed_keys None = []
+claimed_keys (Some run) = keys_held run.loose (run_keys run.stack run.top)
+
+-- `AreClaimed claims runs` is that each of `runs` holds the keys of its frames, and no other run any
+abbrev pub AreClaimed : {K P : Type 0} → List (ℕ × Hold K) → List (Place (RunView K P)) → Type 0
+AreClaimed claims runs = (r : ℕ) → (hold_of claims r).keys ≡ claimed_keys (found runs r)
+
+-- `HoldsBelow claims run loose stack` is that `run` holds the keys of `stack` and one key more
+abbrev pub HoldsBelow : {K P : Type 0} → List (ℕ × Hold K) → ℕ → Bool → List (Frame K P) → Type 0
+HoldsBelow {K} claims run loose stack = (k : K) × ((hold_of claims run).keys ≡ keys_held loose (frame_keys stack ++ k ∷ []))
+
+-- `OthersHold run before after` is that each run but `run` holds the same keys
+abbrev pub OthersHold : {K : Type 0} → ℕ → (before after : List (ℕ × Hold K)) → Type 0
+OthersHold run before after = (r : ℕ) → r ≢ run → (hold_of after r).keys ≡ (hold_of before r).keys
+
+-- `IsHeldUp claims run other` is that `run` waits for a key that `other` holds, which is another run
+abbrev pub IsHeldUp : {K : Type 0} → List (ℕ × Hold K) → ℕ → ℕ → Type 0
+IsHeldUp claims run other = (other ≢ run) × RunWaitsFor claims run other
+
+-- `OthersStay run before after` is that each run but `run` holds the same keys, and waits for the
+-- same key
+abbrev pub OthersStay : {K : Type 0} → ℕ → (before after : List (ℕ × Hold K)) → Type 0
+OthersStay run before after = (r : ℕ) → r ≢ run → hold_of after r ≡ hold_of before r
+
+-- `MayLetGo order claims run` is that `run` came to need a key that another run holds, where its
+-- wait for that would have closed a ring. Only `run` has claimed keys since `claims`.
+pub record MayLetGo {K : Type 0} (order : K → K → Ordering) (claims : List (ℕ × Hold K)) (run : ℕ) : Type 0 where
+  pub there : List (ℕ × Hold K)
+  pub sound : AreSound there
+  pub others : OthersStay run claims there
+  pub key : K
+  pub holder : ℕ
+  pub holds : Holds there holder key
+  pub another : holder ≢ run
+  pub ring : List K
+  pub closed : IsClosed order there run key ring
+
+-- `Loosens order claims run before after` is that `run` claims no keys any more, `after`, where it
+-- claimed none `before`, or where it may let go of its keys
+abbrev pub Loosens : {K : Type 0} → (K → K → Ordering) → List (ℕ × Hold K) → ℕ → (before after : Bool) → Type 0
+Loosens order claims run before after = (after ≡ before) ⊎ ((after ≡ true) × MayLetGo order claims run)
+
+-- `LoosensEach order claims before after` is that of each of the runs `before` that is one of `after`
+abbrev pub LoosensEach : {K P : Type 0} → (K → K → Ordering) → List (ℕ × Hold K) → (before after : List (Place (RunView K P))) → Type 0
+LoosensEach {K} {P} order claims before after =
+    (r : ℕ) (old new : RunView K P) → found before r ≡ Some old → found after r ≡ Some new → Loosens order claims r old.loose new.loose
 
 -- `IsRenewed m now before after k` is that `after` has of `k` the memo of `before`, or that `k` was
 -- not up to date and has a memo that was verified now, with the changed revision of its answer
@@ -132,10 +204,27 @@ pub record HandedOut {R K P V : Type 0} (m : Machine K P V) (rules : R) (inputs 
   pub out : out_at top ≡ Some (out_of work.done)
   pub why : HasWhy (IsWhy m inputs.history inputs.revision (HasIn table) work.done.key) work.done.front work.why
 
--- `HasAdvanced m rules inputs table run top work` is that a step handed out `work`, or none
-abbrev pub HasAdvanced : {R K P V : Type 0} → Machine K P V → R → Table → (K → Option (Memo K V)) → ℕ → Top K P → Option (WorkView R K P V) → Type 0
-HasAdvanced m rules inputs table run top None = out_at top ≡ None
-HasAdvanced m rules inputs table run top (Some work) = HandedOut m rules inputs table run top work
+-- `ClaimsNext claims run next answer loose stack` is that `run`, whose frames are `stack`, claimed
+-- `next`; or that another run holds it, or an allocation failed
+abbrev pub ClaimsNext : {E K P : Type 0} → List (ℕ × Hold K) → ℕ → K → Result (Option ℕ) E → Bool → List (Frame K P) → Type 0
+ClaimsNext claims run next (Ok None) loose stack = (hold_of claims run).keys ≡ keys_held loose (frame_keys stack ++ next ∷ [])
+ClaimsNext claims run next (Ok (Some other)) loose stack = ((hold_of claims run).keys ≡ keys_held loose (frame_keys stack)) × IsHeldUp claims run other
+ClaimsNext claims run next (Err failure) loose stack = (hold_of claims run).keys ≡ keys_held loose (frame_keys stack)
+
+-- `Enters claims run next answer before after top` is that the key `next` was entered, as the top
+-- over `before`; or that another run holds it, or an allocation failed, and the last of `before` is
+-- the top again
+abbrev pub Enters : {E K P : Type 0} → List (ℕ × Hold K) → ℕ → K → Result (Option ℕ) E → (before after : List (Frame K P)) → Top K P → Type 0
+Enters claims run next (Ok None) before after top = (after ≡ before) × (top ≡ At (record { key = next; stage = Walking 0 }))
+Enters claims run next (Ok (Some other)) before after top = IsLowered before after top × IsHeldUp claims run other
+Enters claims run next (Err failure) before after top = IsLowered before after top
+
+-- `HasAdvanced m rules inputs table claims run top went` is that a step handed out work, or went on,
+-- or that another run holds the key that it needs
+abbrev pub HasAdvanced : {R K P V : Type 0} → Machine K P V → R → Table → (K → Option (Memo K V)) → List (ℕ × Hold K) → ℕ → Top K P → Went (WorkView R K P V) → Type 0
+HasAdvanced m rules inputs table claims run top (WentCarry work) = HandedOut m rules inputs table run top work
+HasAdvanced m rules inputs table claims run top WentStepped = out_at top ≡ None
+HasAdvanced m rules inputs table claims run top (WentBlocked other) = (out_at top ≡ None) × IsHeldUp claims run other
 
 -- `IsAnswer order m inputs request answer` is that `answer` is that of the key of `request` at the
 -- sources now
@@ -146,10 +235,12 @@ IsAnswer {K} order m inputs request answer = (key : K) × (request.want ≡ Dema
 abbrev pub IsStale : {K P V : Type 0} → Machine K P V → ℕ → (K → Memo K V → Type 0) → Request K → Type 0
 IsStale {K} m now Has request = (key : K) → request.want ≡ Demand key → IsUpToDate m now Has key → ⊥
 
--- `HasLooked order m rules inputs table run request top looked` is that a look handed out work,
--- went on, or found the answer of the request's key at the sources now
-abbrev pub HasLooked : {R K P V : Type 0} → (K → K → Ordering) → Machine K P V → R → Table → (K → Option (Memo K V)) → ℕ → Request K → Top K P
+-- `HasLooked order m rules inputs table claims run request top looked` is that a look handed out
+-- work, went on, found that another run holds the key that it needs, or found the answer of the
+-- request's key at the sources now
+abbrev pub HasLooked : {R K P V : Type 0} → (K → K → Ordering) → Machine K P V → R → Table → (K → Option (Memo K V)) → List (ℕ × Hold K) → ℕ → Request K → Top K P
     → Looked (WorkView R K P V) (Answer K V) → Type 0
-HasLooked order m rules inputs table run request top (Carry work) = HandedOut m rules inputs table run top work
-HasLooked order m rules inputs table run request top Stepped = out_at top ≡ None
-HasLooked order m rules inputs table run request top (Answered answer) = IsAnswer order m inputs request answer × (out_at top ≡ None)
+HasLooked order m rules inputs table claims run request top (Carry work) = HandedOut m rules inputs table run top work
+HasLooked order m rules inputs table claims run request top Stepped = out_at top ≡ None
+HasLooked order m rules inputs table claims run request top (Blocked other) = (out_at top ≡ None) × IsHeldUp claims run other
+HasLooked order m rules inputs table claims run request top (Answered answer) = IsAnswer order m inputs request answer × (out_at top ≡ None)

@@ -1,6 +1,7 @@
 use Rattle.std.proofs.Common.{◌≡◌, ◌≤◌, ◌∷◌, ◌++◌, [], length, refl, sym, ◌∙◌, subst, arith}
 use Rattle.pq_core.specs.Cores.{CoreView, held}
 use Rattle.pq_core.specs.aux.Accepting.{MayNot, MayPost}
+use Rattle.pq_core.proofs.Claiming.{same_claimed}
 use Rattle.pq_core.proofs.CoreOpening.{unmoved}
 use Rattle.pq_core.proofs.CoreAccepting.{accept_refusal_so, may_post, accept_moved, queue_room, not_full, false_true}
 use Rattle.pq_core.proofs.Queued.{queue_same, queue_pushed, queue_fixed}
@@ -8,7 +9,7 @@ use Rattle.pq_core.proofs.cores.Core.accept.Goals as goal
 
 pub returns-in-Some-clause-moved : goal.returns-in-Some-clause-moved
 returns-in-Some-clause-moved g c =
-    let refused : MayNot (held (record { rules = c.self.inside.memos.rules; places = c.self.inside.memos.places; inputs = c.self.inside.inputs; lanes = c.self.inside.lanes; opened = c.self.inside.opened; clients = c.self.inside.clients; waiting = c.self.inside.waiting.items; runs = c.self.inside.runs; started = c.self.inside.started })) c.args.client c.in-Some.fault =
+    let refused : MayNot (held (record { rules = c.self.inside.memos.rules; places = c.self.inside.memos.places; inputs = c.self.inside.inputs; lanes = c.self.inside.lanes; opened = c.self.inside.opened; clients = c.self.inside.clients; waiting = c.self.inside.waiting.items; runs = c.self.inside.runs; started = c.self.inside.started; claims = c.self.inside.claims })) c.args.client c.in-Some.fault =
     subst (λ (v : CoreView g.row.R.Denot g.row.R-Key.Denot g.row.R-Part.Denot g.row.R-Value.Denot g.row.O.Denot). MayNot (held v) c.args.client c.in-Some.fault) (sym c.self.view_is)
     (rw c.number.ensures at (c.in-Some.ensures {u = tt}).refused) in
     rw (← c.self.view_is)
@@ -31,6 +32,7 @@ invariant_of-self g c =
           let b : c.self.inside.runs.room ≤ c.make_room.new.runs.room = c.make_room.ensures.runs.room in
           rw c.make_room.ensures.queue (omega arith);
       current = λ r run h e. w.current r run (sym (c.make_room.ensures.runs.found r) ∙ h) e;
+      claimed = same_claimed c.self.inside.claims _ _ c.make_room.ensures.runs.found w.claimed;
       ledger = (
         w.ledger.0,
         unmoved g.R.Key.Ord.cmp (g.R.Rules.machine c.self.inside.memos.rules) g.O.Outbox.puts _ _ w.ledger.0
@@ -48,7 +50,7 @@ invariant_of-self g c =
 
 pub returns-then-is_err-clause-moved : goal.returns-then-is_err-clause-moved
 returns-then-is_err-clause-moved g c =
-    let may : MayPost (held (record { rules = c.self.inside.memos.rules; places = c.self.inside.memos.places; inputs = c.self.inside.inputs; lanes = c.self.inside.lanes; opened = c.self.inside.opened; clients = c.self.inside.clients; waiting = c.self.inside.waiting.items; runs = c.self.inside.runs; started = c.self.inside.started })) c.args.client =
+    let may : MayPost (held (record { rules = c.self.inside.memos.rules; places = c.self.inside.memos.places; inputs = c.self.inside.inputs; lanes = c.self.inside.lanes; opened = c.self.inside.opened; clients = c.self.inside.clients; waiting = c.self.inside.waiting.items; runs = c.self.inside.runs; started = c.self.inside.started; claims = c.self.inside.claims })) c.args.client =
     subst (λ (v : CoreView g.row.R.Denot g.row.R-Key.Denot g.row.R-Part.Denot g.row.R-Value.Denot g.row.O.Denot). MayPost (held v) c.args.client) (sym c.self.view_is)
     (rw c.number.ensures at (c.in_default.ensures {u = tt}).may) in
     rw (← c.self.view_is)
@@ -70,16 +72,16 @@ returns-then-is_err-clause-moved g c =
 pub invariant_of-self-then-waits : goal.invariant_of-self-then-waits
 invariant_of-self-then-waits g c =
     let w = c.self.invariant in
-    let may : MayPost (held (record { rules = c.self.inside.memos.rules; places = c.self.inside.memos.places; inputs = c.self.inside.inputs; lanes = c.self.inside.lanes; opened = c.self.inside.opened; clients = c.self.inside.clients; waiting = c.self.inside.waiting.items; runs = c.self.inside.runs; started = c.self.inside.started })) c.args.client =
+    let may : MayPost (held (record { rules = c.self.inside.memos.rules; places = c.self.inside.memos.places; inputs = c.self.inside.inputs; lanes = c.self.inside.lanes; opened = c.self.inside.opened; clients = c.self.inside.clients; waiting = c.self.inside.waiting.items; runs = c.self.inside.runs; started = c.self.inside.started; claims = c.self.inside.claims })) c.args.client =
     subst (λ (v : CoreView g.row.R.Denot g.row.R-Key.Denot g.row.R-Part.Denot g.row.R-Value.Denot g.row.O.Denot). MayPost (held v) c.args.client) (sym c.self.view_is) (rw c.number.ensures at (c.in_default.ensures {u = tt}).may) in
     let told = (c.in-Ok.ensures {u = tt}).accepted in
     let pushed : c.push_back_reserved.new.self.items ≡ c.self.inside.waiting.items ++ (c.args.client, c.in-Ok.number) ∷ [] =
     rw c.make_room.ensures.queue at (rw c.number-then-waits-2.ensures at (rw c.number-then-waits.ensures at c.push_back_reserved.ensures.items)) in
     let moved = accept_moved g.R.Key.Ord.cmp (g.R.Rules.machine c.self.inside.memos.rules) g.O.Outbox.puts
-    (held (record { rules = c.self.inside.memos.rules; places = c.self.inside.memos.places; inputs = c.self.inside.inputs; lanes = c.self.inside.lanes; opened = c.self.inside.opened; clients = c.self.inside.clients; waiting = c.self.inside.waiting.items; runs = c.self.inside.runs; started = c.self.inside.started }))
+    (held (record { rules = c.self.inside.memos.rules; places = c.self.inside.memos.places; inputs = c.self.inside.inputs; lanes = c.self.inside.lanes; opened = c.self.inside.opened; clients = c.self.inside.clients; waiting = c.self.inside.waiting.items; runs = c.self.inside.runs; started = c.self.inside.started; claims = c.self.inside.claims }))
     (record { inputs = c.self.inside.inputs; lanes = c.accept_in.new.lanes.items; opened = c.self.inside.opened; clients = c.self.inside.clients; runs = c.make_room.new.runs.items; started = c.self.inside.started })
     c.args.client c.in-Ok.number c.now-revision.result c.args.request told.0 w.ledger.0 told.1
-    (not_full (held (record { rules = c.self.inside.memos.rules; places = c.self.inside.memos.places; inputs = c.self.inside.inputs; lanes = c.self.inside.lanes; opened = c.self.inside.opened; clients = c.self.inside.clients; waiting = c.self.inside.waiting.items; runs = c.self.inside.runs; started = c.self.inside.started })) c.args.client told.0 may told.1) told.3.found told.2 c.now-revision.ensures.now refl refl refl c.make_room.ensures.runs.found refl
+    (not_full (held (record { rules = c.self.inside.memos.rules; places = c.self.inside.memos.places; inputs = c.self.inside.inputs; lanes = c.self.inside.lanes; opened = c.self.inside.opened; clients = c.self.inside.clients; waiting = c.self.inside.waiting.items; runs = c.self.inside.runs; started = c.self.inside.started; claims = c.self.inside.claims })) c.args.client told.0 may told.1) told.3.found told.2 c.now-revision.ensures.now refl refl refl c.make_room.ensures.runs.found refl
     w.ledger.1 in
     record {
       kept = w.kept;
@@ -89,33 +91,34 @@ invariant_of-self-then-waits g c =
           told.2 told.1 told.3.found pushed w.queue;
       room = queue_room c.make_room.result c.make_room.new.waiting.items c.push_back_reserved.new.self.items _ c.make_room.ensures.run_room c.if-is_err.false c.is_err.ensures.value c.push_back_reserved.ensures.items;
       current = λ r run h e. w.current r run (sym (c.make_room.ensures.runs.found r) ∙ h) e;
+      claimed = same_claimed c.self.inside.claims _ _ c.make_room.ensures.runs.found w.claimed;
       ledger = (moved.0, moved.2);
     }
 
 pub returns-then-waits-clause-moved : goal.returns-then-waits-clause-moved
 returns-then-waits-clause-moved g c =
-    let may : MayPost (held (record { rules = c.self.inside.memos.rules; places = c.self.inside.memos.places; inputs = c.self.inside.inputs; lanes = c.self.inside.lanes; opened = c.self.inside.opened; clients = c.self.inside.clients; waiting = c.self.inside.waiting.items; runs = c.self.inside.runs; started = c.self.inside.started })) c.args.client =
+    let may : MayPost (held (record { rules = c.self.inside.memos.rules; places = c.self.inside.memos.places; inputs = c.self.inside.inputs; lanes = c.self.inside.lanes; opened = c.self.inside.opened; clients = c.self.inside.clients; waiting = c.self.inside.waiting.items; runs = c.self.inside.runs; started = c.self.inside.started; claims = c.self.inside.claims })) c.args.client =
     subst (λ (v : CoreView g.row.R.Denot g.row.R-Key.Denot g.row.R-Part.Denot g.row.R-Value.Denot g.row.O.Denot). MayPost (held v) c.args.client) (sym c.self.view_is) (rw c.number.ensures at (c.in_default.ensures {u = tt}).may) in
     let told = (c.in-Ok.ensures {u = tt}).accepted in
     rw (← c.self.view_is)
     (λ l s. accept_moved g.R.Key.Ord.cmp (g.R.Rules.machine c.self.inside.memos.rules) g.O.Outbox.puts
-    (held (record { rules = c.self.inside.memos.rules; places = c.self.inside.memos.places; inputs = c.self.inside.inputs; lanes = c.self.inside.lanes; opened = c.self.inside.opened; clients = c.self.inside.clients; waiting = c.self.inside.waiting.items; runs = c.self.inside.runs; started = c.self.inside.started }))
+    (held (record { rules = c.self.inside.memos.rules; places = c.self.inside.memos.places; inputs = c.self.inside.inputs; lanes = c.self.inside.lanes; opened = c.self.inside.opened; clients = c.self.inside.clients; waiting = c.self.inside.waiting.items; runs = c.self.inside.runs; started = c.self.inside.started; claims = c.self.inside.claims }))
     (record { inputs = c.self.inside.inputs; lanes = c.accept_in.new.lanes.items; opened = c.self.inside.opened; clients = c.self.inside.clients; runs = c.make_room.new.runs.items; started = c.self.inside.started })
     c.args.client c.in-Ok.number c.now-revision.result c.args.request told.0 l told.1
-    (not_full (held (record { rules = c.self.inside.memos.rules; places = c.self.inside.memos.places; inputs = c.self.inside.inputs; lanes = c.self.inside.lanes; opened = c.self.inside.opened; clients = c.self.inside.clients; waiting = c.self.inside.waiting.items; runs = c.self.inside.runs; started = c.self.inside.started })) c.args.client told.0 may told.1) told.3.found told.2 c.now-revision.ensures.now refl refl refl c.make_room.ensures.runs.found refl
+    (not_full (held (record { rules = c.self.inside.memos.rules; places = c.self.inside.memos.places; inputs = c.self.inside.inputs; lanes = c.self.inside.lanes; opened = c.self.inside.opened; clients = c.self.inside.clients; waiting = c.self.inside.waiting.items; runs = c.self.inside.runs; started = c.self.inside.started; claims = c.self.inside.claims })) c.args.client told.0 may told.1) told.3.found told.2 c.now-revision.ensures.now refl refl refl c.make_room.ensures.runs.found refl
     s)
 
 pub invariant_of-self-else-waits : goal.invariant_of-self-else-waits
 invariant_of-self-else-waits g c =
     let w = c.self.invariant in
-    let may : MayPost (held (record { rules = c.self.inside.memos.rules; places = c.self.inside.memos.places; inputs = c.self.inside.inputs; lanes = c.self.inside.lanes; opened = c.self.inside.opened; clients = c.self.inside.clients; waiting = c.self.inside.waiting.items; runs = c.self.inside.runs; started = c.self.inside.started })) c.args.client =
+    let may : MayPost (held (record { rules = c.self.inside.memos.rules; places = c.self.inside.memos.places; inputs = c.self.inside.inputs; lanes = c.self.inside.lanes; opened = c.self.inside.opened; clients = c.self.inside.clients; waiting = c.self.inside.waiting.items; runs = c.self.inside.runs; started = c.self.inside.started; claims = c.self.inside.claims })) c.args.client =
     subst (λ (v : CoreView g.row.R.Denot g.row.R-Key.Denot g.row.R-Part.Denot g.row.R-Value.Denot g.row.O.Denot). MayPost (held v) c.args.client) (sym c.self.view_is) (rw c.number.ensures at (c.in_default.ensures {u = tt}).may) in
     let told = (c.in-Ok.ensures {u = tt}).accepted in
     let moved = accept_moved g.R.Key.Ord.cmp (g.R.Rules.machine c.self.inside.memos.rules) g.O.Outbox.puts
-    (held (record { rules = c.self.inside.memos.rules; places = c.self.inside.memos.places; inputs = c.self.inside.inputs; lanes = c.self.inside.lanes; opened = c.self.inside.opened; clients = c.self.inside.clients; waiting = c.self.inside.waiting.items; runs = c.self.inside.runs; started = c.self.inside.started }))
+    (held (record { rules = c.self.inside.memos.rules; places = c.self.inside.memos.places; inputs = c.self.inside.inputs; lanes = c.self.inside.lanes; opened = c.self.inside.opened; clients = c.self.inside.clients; waiting = c.self.inside.waiting.items; runs = c.self.inside.runs; started = c.self.inside.started; claims = c.self.inside.claims }))
     (record { inputs = c.self.inside.inputs; lanes = c.accept_in.new.lanes.items; opened = c.self.inside.opened; clients = c.self.inside.clients; runs = c.make_room.new.runs.items; started = c.self.inside.started })
     c.args.client c.in-Ok.number c.now-revision.result c.args.request told.0 w.ledger.0 told.1
-    (not_full (held (record { rules = c.self.inside.memos.rules; places = c.self.inside.memos.places; inputs = c.self.inside.inputs; lanes = c.self.inside.lanes; opened = c.self.inside.opened; clients = c.self.inside.clients; waiting = c.self.inside.waiting.items; runs = c.self.inside.runs; started = c.self.inside.started })) c.args.client told.0 may told.1) told.3.found told.2 c.now-revision.ensures.now refl refl refl c.make_room.ensures.runs.found refl
+    (not_full (held (record { rules = c.self.inside.memos.rules; places = c.self.inside.memos.places; inputs = c.self.inside.inputs; lanes = c.self.inside.lanes; opened = c.self.inside.opened; clients = c.self.inside.clients; waiting = c.self.inside.waiting.items; runs = c.self.inside.runs; started = c.self.inside.started; claims = c.self.inside.claims })) c.args.client told.0 may told.1) told.3.found told.2 c.now-revision.ensures.now refl refl refl c.make_room.ensures.runs.found refl
     w.ledger.1 in
     record {
       kept = w.kept;
@@ -130,20 +133,21 @@ invariant_of-self-else-waits g c =
           let b : c.self.inside.runs.room ≤ c.make_room.new.runs.room = c.make_room.ensures.runs.room in
           rw c.make_room.ensures.queue (omega arith);
       current = λ r run h e. w.current r run (sym (c.make_room.ensures.runs.found r) ∙ h) e;
+      claimed = same_claimed c.self.inside.claims _ _ c.make_room.ensures.runs.found w.claimed;
       ledger = (moved.0, moved.2);
     }
 
 pub returns-in-Ok-clause-moved : goal.returns-in-Ok-clause-moved
 returns-in-Ok-clause-moved g c =
-    let may : MayPost (held (record { rules = c.self.inside.memos.rules; places = c.self.inside.memos.places; inputs = c.self.inside.inputs; lanes = c.self.inside.lanes; opened = c.self.inside.opened; clients = c.self.inside.clients; waiting = c.self.inside.waiting.items; runs = c.self.inside.runs; started = c.self.inside.started })) c.args.client =
+    let may : MayPost (held (record { rules = c.self.inside.memos.rules; places = c.self.inside.memos.places; inputs = c.self.inside.inputs; lanes = c.self.inside.lanes; opened = c.self.inside.opened; clients = c.self.inside.clients; waiting = c.self.inside.waiting.items; runs = c.self.inside.runs; started = c.self.inside.started; claims = c.self.inside.claims })) c.args.client =
     subst (λ (v : CoreView g.row.R.Denot g.row.R-Key.Denot g.row.R-Part.Denot g.row.R-Value.Denot g.row.O.Denot). MayPost (held v) c.args.client) (sym c.self.view_is) (rw c.number.ensures at (c.in_default.ensures {u = tt}).may) in
     let told = (c.in-Ok.ensures {u = tt}).accepted in
     rw (← c.self.view_is)
     (λ l s. accept_moved g.R.Key.Ord.cmp (g.R.Rules.machine c.self.inside.memos.rules) g.O.Outbox.puts
-    (held (record { rules = c.self.inside.memos.rules; places = c.self.inside.memos.places; inputs = c.self.inside.inputs; lanes = c.self.inside.lanes; opened = c.self.inside.opened; clients = c.self.inside.clients; waiting = c.self.inside.waiting.items; runs = c.self.inside.runs; started = c.self.inside.started }))
+    (held (record { rules = c.self.inside.memos.rules; places = c.self.inside.memos.places; inputs = c.self.inside.inputs; lanes = c.self.inside.lanes; opened = c.self.inside.opened; clients = c.self.inside.clients; waiting = c.self.inside.waiting.items; runs = c.self.inside.runs; started = c.self.inside.started; claims = c.self.inside.claims }))
     (record { inputs = c.self.inside.inputs; lanes = c.accept_in.new.lanes.items; opened = c.self.inside.opened; clients = c.self.inside.clients; runs = c.make_room.new.runs.items; started = c.self.inside.started })
     c.args.client c.in-Ok.number c.now-revision.result c.args.request told.0 l told.1
-    (not_full (held (record { rules = c.self.inside.memos.rules; places = c.self.inside.memos.places; inputs = c.self.inside.inputs; lanes = c.self.inside.lanes; opened = c.self.inside.opened; clients = c.self.inside.clients; waiting = c.self.inside.waiting.items; runs = c.self.inside.runs; started = c.self.inside.started })) c.args.client told.0 may told.1) told.3.found told.2 c.now-revision.ensures.now refl refl refl c.make_room.ensures.runs.found refl
+    (not_full (held (record { rules = c.self.inside.memos.rules; places = c.self.inside.memos.places; inputs = c.self.inside.inputs; lanes = c.self.inside.lanes; opened = c.self.inside.opened; clients = c.self.inside.clients; waiting = c.self.inside.waiting.items; runs = c.self.inside.runs; started = c.self.inside.started; claims = c.self.inside.claims })) c.args.client told.0 may told.1) told.3.found told.2 c.now-revision.ensures.now refl refl refl c.make_room.ensures.runs.found refl
     s)
 
 pub invariant_of-self-in-Err : goal.invariant_of-self-in-Err
@@ -160,6 +164,7 @@ invariant_of-self-in-Err g c =
           let b : c.self.inside.runs.room ≤ c.make_room.new.runs.room = c.make_room.ensures.runs.room in
           rw c.make_room.ensures.queue (omega arith);
       current = λ r run h e. w.current r run (sym (c.make_room.ensures.runs.found r) ∙ h) e;
+      claimed = same_claimed c.self.inside.claims _ _ c.make_room.ensures.runs.found w.claimed;
       ledger = (
         w.ledger.0,
         unmoved g.R.Key.Ord.cmp (g.R.Rules.machine c.self.inside.memos.rules) g.O.Outbox.puts _ _ w.ledger.0
@@ -177,7 +182,7 @@ invariant_of-self-in-Err g c =
 
 pub returns-in-Err-clause-moved : goal.returns-in-Err-clause-moved
 returns-in-Err-clause-moved g c =
-    let may : MayPost (held (record { rules = c.self.inside.memos.rules; places = c.self.inside.memos.places; inputs = c.self.inside.inputs; lanes = c.self.inside.lanes; opened = c.self.inside.opened; clients = c.self.inside.clients; waiting = c.self.inside.waiting.items; runs = c.self.inside.runs; started = c.self.inside.started })) c.args.client =
+    let may : MayPost (held (record { rules = c.self.inside.memos.rules; places = c.self.inside.memos.places; inputs = c.self.inside.inputs; lanes = c.self.inside.lanes; opened = c.self.inside.opened; clients = c.self.inside.clients; waiting = c.self.inside.waiting.items; runs = c.self.inside.runs; started = c.self.inside.started; claims = c.self.inside.claims })) c.args.client =
     subst (λ (v : CoreView g.row.R.Denot g.row.R-Key.Denot g.row.R-Part.Denot g.row.R-Value.Denot g.row.O.Denot). MayPost (held v) c.args.client) (sym c.self.view_is) (rw c.number.ensures at (c.in_default.ensures {u = tt}).may) in
     let same = (c.in-Err.ensures {u = tt}).refused in
     rw (← c.self.view_is)

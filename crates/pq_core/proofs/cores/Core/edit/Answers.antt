@@ -11,7 +11,7 @@ use Rattle.pq_core.proofs.cores.Core.edit.Goals as goal
 
 pub returns-in-Some-clause-moved : goal.returns-in-Some-clause-moved
 returns-in-Some-clause-moved g c =
-    let refused : MayNotEdit (held (record { rules = c.self.inside.memos.rules; places = c.self.inside.memos.places; inputs = c.self.inside.inputs; lanes = c.self.inside.lanes; opened = c.self.inside.opened; clients = c.self.inside.clients; waiting = c.self.inside.waiting.items; runs = c.self.inside.runs; started = c.self.inside.started })) c.args.client c.in-Some.fault =
+    let refused : MayNotEdit (held (record { rules = c.self.inside.memos.rules; places = c.self.inside.memos.places; inputs = c.self.inside.inputs; lanes = c.self.inside.lanes; opened = c.self.inside.opened; clients = c.self.inside.clients; waiting = c.self.inside.waiting.items; runs = c.self.inside.runs; started = c.self.inside.started; claims = c.self.inside.claims })) c.args.client c.in-Some.fault =
     subst (λ (v : CoreView g.row.R.Denot g.row.R-Key.Denot g.row.R-Part.Denot g.row.R-Value.Denot g.row.O.Denot). MayNotEdit (held v) c.args.client c.in-Some.fault) (sym c.self.view_is)
     (rw c.number.ensures at (c.in-Some.ensures {u = tt}).refused) in
     rw (← c.self.view_is)
@@ -29,7 +29,7 @@ invariant_of-self g c =
     let told = c.in-Ok.ensures {u = tt} in
     let table = table_is c.set.new.self c.self.inside.inputs (record { file = c.change.inside.file; text = option_map string_bytes c.change.inside.text; durability = c.change.inside.durability }) (rw c.as_str.ensures.same at told.files) (told.revision.1 ∙ told.revision.0) told.history in
     let moved = edit_moved g.R.Key.Ord.cmp (g.R.Rules.machine c.self.inside.memos.rules) g.O.Outbox.puts
-    (held (record { rules = c.self.inside.memos.rules; places = c.self.inside.memos.places; inputs = c.self.inside.inputs; lanes = c.self.inside.lanes; opened = c.self.inside.opened; clients = c.self.inside.clients; waiting = c.self.inside.waiting.items; runs = c.self.inside.runs; started = c.self.inside.started }))
+    (held (record { rules = c.self.inside.memos.rules; places = c.self.inside.memos.places; inputs = c.self.inside.inputs; lanes = c.self.inside.lanes; opened = c.self.inside.opened; clients = c.self.inside.clients; waiting = c.self.inside.waiting.items; runs = c.self.inside.runs; started = c.self.inside.started; claims = c.self.inside.claims }))
     (record { inputs = c.set.new.self; lanes = c.self.inside.lanes.items; opened = c.self.inside.opened; clients = c.self.inside.clients; runs = c.self.inside.runs.items; started = c.self.inside.started })
     c.args.client c.in-Ok.revision (record { file = c.change.inside.file; text = option_map string_bytes c.change.inside.text; durability = c.change.inside.durability }) w.ledger.0 may (rw c.as_str.ensures.same at told.accepted) told.revision.0 table (λ k. refl) refl refl (λ k. refl) refl w.ledger.1 in
     record {
@@ -40,9 +40,10 @@ invariant_of-self g c =
       queue = w.queue;
       room = w.room;
       current = λ r run h e.
-          let a = run_past g.R.Key.Ord.cmp (g.R.Rules.machine c.self.inside.memos.rules) g.O.Outbox.puts (held (record { rules = c.self.inside.memos.rules; places = c.self.inside.memos.places; inputs = c.self.inside.inputs; lanes = c.self.inside.lanes; opened = c.self.inside.opened; clients = c.self.inside.clients; waiting = c.self.inside.waiting.items; runs = c.self.inside.runs; started = c.self.inside.started })) w.ledger.0 r run w.ledger.1 h in
+          let a = run_past g.R.Key.Ord.cmp (g.R.Rules.machine c.self.inside.memos.rules) g.O.Outbox.puts (held (record { rules = c.self.inside.memos.rules; places = c.self.inside.memos.places; inputs = c.self.inside.inputs; lanes = c.self.inside.lanes; opened = c.self.inside.opened; clients = c.self.inside.clients; waiting = c.self.inside.waiting.items; runs = c.self.inside.runs; started = c.self.inside.started; claims = c.self.inside.claims })) w.ledger.0 r run w.ledger.1 h in
           let b = told.revision.1 ∙ told.revision.0 in
           absurd (omega (arith, a, b, e));
+      claimed = w.claimed;
       ledger = (moved.0, moved.2);
     }
 
@@ -55,7 +56,7 @@ returns-in-Ok-clause-moved g c =
     rw (← c.self.view_is)
     (rw (← c.change.view_is)
     (λ l s. edit_moved g.R.Key.Ord.cmp (g.R.Rules.machine c.self.inside.memos.rules) g.O.Outbox.puts
-    (held (record { rules = c.self.inside.memos.rules; places = c.self.inside.memos.places; inputs = c.self.inside.inputs; lanes = c.self.inside.lanes; opened = c.self.inside.opened; clients = c.self.inside.clients; waiting = c.self.inside.waiting.items; runs = c.self.inside.runs; started = c.self.inside.started }))
+    (held (record { rules = c.self.inside.memos.rules; places = c.self.inside.memos.places; inputs = c.self.inside.inputs; lanes = c.self.inside.lanes; opened = c.self.inside.opened; clients = c.self.inside.clients; waiting = c.self.inside.waiting.items; runs = c.self.inside.runs; started = c.self.inside.started; claims = c.self.inside.claims }))
     (record { inputs = c.set.new.self; lanes = c.self.inside.lanes.items; opened = c.self.inside.opened; clients = c.self.inside.clients; runs = c.self.inside.runs.items; started = c.self.inside.started })
     c.args.client c.in-Ok.revision (record { file = c.change.inside.file; text = option_map string_bytes c.change.inside.text; durability = c.change.inside.durability }) l may (rw c.as_str.ensures.same at told.accepted) told.revision.0 table (λ k. refl) refl refl (λ k. refl) refl s))
 
@@ -70,7 +71,7 @@ returns-in-Err-clause-moved g c =
       l,
       (
         ap (λ x. record { file = c.change.inside.file; text = option_map string_bytes x; durability = c.change.inside.durability }) told.back,
-        edit_refused g.R.Key.Ord.cmp (g.R.Rules.machine c.self.inside.memos.rules) g.O.Outbox.puts (held (record { rules = c.self.inside.memos.rules; places = c.self.inside.memos.places; inputs = c.self.inside.inputs; lanes = c.self.inside.lanes; opened = c.self.inside.opened; clients = c.self.inside.clients; waiting = c.self.inside.waiting.items; runs = c.self.inside.runs; started = c.self.inside.started })) c.args.client (record { file = c.change.inside.file; text = option_map string_bytes c.change.inside.text; durability = c.change.inside.durability }) c.in-Err.refused.fault l may
+        edit_refused g.R.Key.Ord.cmp (g.R.Rules.machine c.self.inside.memos.rules) g.O.Outbox.puts (held (record { rules = c.self.inside.memos.rules; places = c.self.inside.memos.places; inputs = c.self.inside.inputs; lanes = c.self.inside.lanes; opened = c.self.inside.opened; clients = c.self.inside.clients; waiting = c.self.inside.waiting.items; runs = c.self.inside.runs; started = c.self.inside.started; claims = c.self.inside.claims })) c.args.client (record { file = c.change.inside.file; text = option_map string_bytes c.change.inside.text; durability = c.change.inside.durability }) c.in-Err.refused.fault l may
             (rw c.as_str.ensures.same at told.fault) s,
         refl,
       ),

@@ -1,14 +1,16 @@
-use Rattle.std.proofs.Common.{ℕ, ◌≤◌, ◌<◌, ◌+◌, length, refl, sym, ◌∙◌, ap, subst, arith}
+use Rattle.std.proofs.Common.{ℕ, ◌≤◌, ◌<◌, ◌+◌, List, length, refl, sym, ◌∙◌, ap, subst, inl, inr, arith}
+use Rattle.pq_rules.specs.Relations.{In}
 use Rattle.pq_memo.specs.Table.{memo_at, HasIn}
 use Rattle.pq_core.specs.aux.Rising.{found}
 use Rattle.pq_core.specs.Cores.{held}
 use Rattle.pq_core.specs.Moves.{ended}
-use Rattle.pq_core.specs.aux.Runs.{out_at}
+use Rattle.pq_core.specs.aux.Runs.{claimed_keys, out_at}
 use Rattle.pq_core.specs.declared.outcome.Outcome.TheVariants.{Cancelled, Answered}
+use Rattle.pq_core.proofs.Claiming.{end_claimed, end_loosens, holder_there, others_same, put_claimed, put_loosens, same_claimed, same_loosens}
 use Rattle.pq_core.proofs.Changing.{none_taken, set_back}
 use Rattle.pq_core.proofs.CoreOpening.{unmoved}
 use Rattle.pq_core.proofs.CoreAccepting.{false_true}
-use Rattle.pq_core.proofs.CoreRunning.{end_queue, run_here, no_run, run_within, run_demands, current, stop_moved, back_moved, others_kept, all_kept, none_of, goes_on, look_blocked, carry_moved, answer_moved, why_cause, why_then, ended_as}
+use Rattle.pq_core.proofs.CoreRunning.{end_queue, run_here, no_run, run_within, run_demands, current, stop_moved, back_moved, others_kept, all_kept, none_of, goes_on, look_blocked, carry_moved, answer_moved, why_cause, why_then, ended_as, look_held}
 use Rattle.pq_core.proofs.Renewed.{renewed_same, renewed_none_lost, same_none_lost}
 use Rattle.pq_core.proofs.cores.Core.look.Goals as goal
 
@@ -27,6 +29,7 @@ invariant_of-self g c =
           let b = same.room in
           omega (arith, a, b);
       current = λ r run h e. w.current r run (sym (same.found r) ∙ h) e;
+      claimed = same_claimed c.self.inside.claims _ _ same.found w.claimed;
       ledger = (
         w.ledger.0,
         unmoved g.R.Key.Ord.cmp (g.R.Rules.machine c.self.inside.memos.rules) g.O.Outbox.puts _ _ w.ledger.0 (record {
@@ -51,7 +54,7 @@ returns-in-None-clause-moved g c =
     rw (← c.self.view_is)
     (λ l s. (
       l,
-      (no_run g.R.Key.Ord.cmp (g.R.Rules.machine c.self.inside.memos.rules) g.O.Outbox.puts (held (record { rules = c.self.inside.memos.rules; places = c.self.inside.memos.places; inputs = c.self.inside.inputs; lanes = c.self.inside.lanes; opened = c.self.inside.opened; clients = c.self.inside.clients; waiting = c.self.inside.waiting.items; runs = c.self.inside.runs; started = c.self.inside.started })) l c.args.run s nothing, refl),
+      (no_run g.R.Key.Ord.cmp (g.R.Rules.machine c.self.inside.memos.rules) g.O.Outbox.puts (held (record { rules = c.self.inside.memos.rules; places = c.self.inside.memos.places; inputs = c.self.inside.inputs; lanes = c.self.inside.lanes; opened = c.self.inside.opened; clients = c.self.inside.clients; waiting = c.self.inside.waiting.items; runs = c.self.inside.runs; started = c.self.inside.started; claims = c.self.inside.claims })) l c.args.run s nothing, refl),
       unmoved g.R.Key.Ord.cmp (g.R.Rules.machine c.self.inside.memos.rules) g.O.Outbox.puts _ _ l (record {
         inputs = refl;
         lanes = λ k. refl;
@@ -65,15 +68,15 @@ returns-in-None-clause-moved g c =
 pub stop_run-requires-clause-within : goal.stop_run-requires-clause-within
 stop_run-requires-clause-within g c =
     let here = sym (rw c.number-id.ensures at (c.in-Some.ensures {u = tt}).value) in
-    λ lane h. run_within g.R.Key.Ord.cmp (g.R.Rules.machine c.self.inside.memos.rules) g.O.Outbox.puts (held (record { rules = c.self.inside.memos.rules; places = c.self.inside.memos.places; inputs = c.self.inside.inputs; lanes = c.self.inside.lanes; opened = c.self.inside.opened; clients = c.self.inside.clients; waiting = c.self.inside.waiting.items; runs = c.self.inside.runs; started = c.self.inside.started })) c.self.invariant.ledger.0 c.args.run c.in-Some.taken lane c.self.invariant.ledger.1 here h
+    λ lane h. run_within g.R.Key.Ord.cmp (g.R.Rules.machine c.self.inside.memos.rules) g.O.Outbox.puts (held (record { rules = c.self.inside.memos.rules; places = c.self.inside.memos.places; inputs = c.self.inside.inputs; lanes = c.self.inside.lanes; opened = c.self.inside.opened; clients = c.self.inside.clients; waiting = c.self.inside.waiting.items; runs = c.self.inside.runs; started = c.self.inside.started; claims = c.self.inside.claims })) c.self.invariant.ledger.0 c.args.run c.in-Some.taken lane c.self.invariant.ledger.1 here h
 
 pub invariant_of-self-then-is_overtaken : goal.invariant_of-self-then-is_overtaken
 invariant_of-self-then-is_overtaken g c =
     let w = c.self.invariant in
     let here = sym (rw c.number-id.ensures at (c.in-Some.ensures {u = tt}).value) in
     let runs = rw c.number-id.ensures at c.take.ensures.found in
-    let x = run_here g.R.Key.Ord.cmp (g.R.Rules.machine c.self.inside.memos.rules) g.O.Outbox.puts (held (record { rules = c.self.inside.memos.rules; places = c.self.inside.memos.places; inputs = c.self.inside.inputs; lanes = c.self.inside.lanes; opened = c.self.inside.opened; clients = c.self.inside.clients; waiting = c.self.inside.waiting.items; runs = c.self.inside.runs; started = c.self.inside.started })) w.ledger.0 c.args.run c.in-Some.taken w.ledger.1 here in
-    let moved = stop_moved g.R.Key.Ord.cmp (g.R.Rules.machine c.self.inside.memos.rules) g.O.Outbox.puts c.self.inside.memos.rules (held (record { rules = c.self.inside.memos.rules; places = c.self.inside.memos.places; inputs = c.self.inside.inputs; lanes = c.self.inside.lanes; opened = c.self.inside.opened; clients = c.self.inside.clients; waiting = c.self.inside.waiting.items; runs = c.self.inside.runs; started = c.self.inside.started })) (record { inputs = c.self.inside.inputs; lanes = c.stop_run.new.lanes.items; opened = c.self.inside.opened; clients = c.self.inside.clients; runs = c.take.new.self.items; started = c.self.inside.started }) w.ledger.0 c.args.run c.in-Some.taken x w.ledger.1 here
+    let x = run_here g.R.Key.Ord.cmp (g.R.Rules.machine c.self.inside.memos.rules) g.O.Outbox.puts (held (record { rules = c.self.inside.memos.rules; places = c.self.inside.memos.places; inputs = c.self.inside.inputs; lanes = c.self.inside.lanes; opened = c.self.inside.opened; clients = c.self.inside.clients; waiting = c.self.inside.waiting.items; runs = c.self.inside.runs; started = c.self.inside.started; claims = c.self.inside.claims })) w.ledger.0 c.args.run c.in-Some.taken w.ledger.1 here in
+    let moved = stop_moved g.R.Key.Ord.cmp (g.R.Rules.machine c.self.inside.memos.rules) g.O.Outbox.puts c.self.inside.memos.rules (held (record { rules = c.self.inside.memos.rules; places = c.self.inside.memos.places; inputs = c.self.inside.inputs; lanes = c.self.inside.lanes; opened = c.self.inside.opened; clients = c.self.inside.clients; waiting = c.self.inside.waiting.items; runs = c.self.inside.runs; started = c.self.inside.started; claims = c.self.inside.claims })) (record { inputs = c.self.inside.inputs; lanes = c.stop_run.new.lanes.items; opened = c.self.inside.opened; clients = c.self.inside.clients; runs = c.take.new.self.items; started = c.self.inside.started }) w.ledger.0 c.args.run c.in-Some.taken x w.ledger.1 here
     (rw c.now-now.ensures.now at (c.is_overtaken.ensures.0 c.if-is_overtaken.true)) runs
     (λ lane h k. rw c.now-now.ensures.now at ((c.stop_run.ensures.«open» lane h).found k)) (λ h k. (c.stop_run.ensures.closed h).found k) (record { inputs = refl; opened = refl; clients = refl; started = refl }) in
     record {
@@ -87,6 +90,7 @@ invariant_of-self-then-is_overtaken g c =
           let b = c.take.ensures.room in
           omega (arith, a, b);
       current = others_kept g.R.Key.Ord.cmp (g.R.Rules.machine c.self.inside.memos.rules) c.self.inside.inputs (memo_at g.R.Key.Ord.cmp c.self.inside.memos.places) (memo_at g.R.Key.Ord.cmp c.self.inside.memos.places) c.self.inside.runs.items c.take.new.self.items c.args.run (renewed_same (g.R.Rules.machine c.self.inside.memos.rules) c.self.inside.inputs.revision _ _ (λ q. refl)) runs w.current;
+      claimed = end_claimed c.self.inside.claims c.release_all.new.self c.self.inside.runs.items c.take.new.self.items c.args.run c.self.inside.claims runs (others_same c.args.run c.self.inside.claims) c.release_all.ensures.released w.claimed;
       ledger = (ended w.ledger.0 x.at x.at.entry.starved (Cancelled x.at.started w.ledger.0.inputs.revision), moved.1);
     }
 
@@ -100,8 +104,8 @@ returns-then-is_overtaken-clause-moved g c =
     let runs = rw c.number-id.ensures at c.take.ensures.found in
     rw (← c.self.view_is)
     (λ l s.
-    let x = run_here g.R.Key.Ord.cmp (g.R.Rules.machine c.self.inside.memos.rules) g.O.Outbox.puts (held (record { rules = c.self.inside.memos.rules; places = c.self.inside.memos.places; inputs = c.self.inside.inputs; lanes = c.self.inside.lanes; opened = c.self.inside.opened; clients = c.self.inside.clients; waiting = c.self.inside.waiting.items; runs = c.self.inside.runs; started = c.self.inside.started })) l c.args.run c.in-Some.taken s here in
-    let moved = stop_moved g.R.Key.Ord.cmp (g.R.Rules.machine c.self.inside.memos.rules) g.O.Outbox.puts c.self.inside.memos.rules (held (record { rules = c.self.inside.memos.rules; places = c.self.inside.memos.places; inputs = c.self.inside.inputs; lanes = c.self.inside.lanes; opened = c.self.inside.opened; clients = c.self.inside.clients; waiting = c.self.inside.waiting.items; runs = c.self.inside.runs; started = c.self.inside.started })) (record { inputs = c.self.inside.inputs; lanes = c.stop_run.new.lanes.items; opened = c.self.inside.opened; clients = c.self.inside.clients; runs = c.take.new.self.items; started = c.self.inside.started }) l c.args.run c.in-Some.taken x s here
+    let x = run_here g.R.Key.Ord.cmp (g.R.Rules.machine c.self.inside.memos.rules) g.O.Outbox.puts (held (record { rules = c.self.inside.memos.rules; places = c.self.inside.memos.places; inputs = c.self.inside.inputs; lanes = c.self.inside.lanes; opened = c.self.inside.opened; clients = c.self.inside.clients; waiting = c.self.inside.waiting.items; runs = c.self.inside.runs; started = c.self.inside.started; claims = c.self.inside.claims })) l c.args.run c.in-Some.taken s here in
+    let moved = stop_moved g.R.Key.Ord.cmp (g.R.Rules.machine c.self.inside.memos.rules) g.O.Outbox.puts c.self.inside.memos.rules (held (record { rules = c.self.inside.memos.rules; places = c.self.inside.memos.places; inputs = c.self.inside.inputs; lanes = c.self.inside.lanes; opened = c.self.inside.opened; clients = c.self.inside.clients; waiting = c.self.inside.waiting.items; runs = c.self.inside.runs; started = c.self.inside.started; claims = c.self.inside.claims })) (record { inputs = c.self.inside.inputs; lanes = c.stop_run.new.lanes.items; opened = c.self.inside.opened; clients = c.self.inside.clients; runs = c.take.new.self.items; started = c.self.inside.started }) l c.args.run c.in-Some.taken x s here
     (rw c.now-now.ensures.now at (c.is_overtaken.ensures.0 c.if-is_overtaken.true)) runs
     (λ lane h k. rw c.now-now.ensures.now at ((c.stop_run.ensures.«open» lane h).found k)) (λ h k. (c.stop_run.ensures.closed h).found k) (record { inputs = refl; opened = refl; clients = refl; started = refl }) in
     (ended l x.at x.at.entry.starved (Cancelled x.at.started l.inputs.revision), moved.0, moved.1))
@@ -122,7 +126,8 @@ invariant_of-self-then-is_out g c =
           let b = set.room in
           omega (arith, a, b);
       current = all_kept g.R.Key.Ord.cmp (g.R.Rules.machine c.self.inside.memos.rules) c.self.inside.inputs (memo_at g.R.Key.Ord.cmp c.self.inside.memos.places) (memo_at g.R.Key.Ord.cmp c.self.inside.memos.places) c.self.inside.runs.items _ c.args.run c.in-Some.taken (renewed_same (g.R.Rules.machine c.self.inside.memos.rules) c.self.inside.inputs.revision _ _ (λ q. refl)) set.found w.current (w.current c.args.run c.in-Some.taken here);
-      ledger = (w.ledger.0, back_moved g.R.Key.Ord.cmp (g.R.Rules.machine c.self.inside.memos.rules) g.O.Outbox.puts (held (record { rules = c.self.inside.memos.rules; places = c.self.inside.memos.places; inputs = c.self.inside.inputs; lanes = c.self.inside.lanes; opened = c.self.inside.opened; clients = c.self.inside.clients; waiting = c.self.inside.waiting.items; runs = c.self.inside.runs; started = c.self.inside.started })) (record { inputs = c.self.inside.inputs; lanes = c.self.inside.lanes.items; opened = c.self.inside.opened; clients = c.self.inside.clients; runs = c.put_back.new.self.items; started = c.self.inside.started }) w.ledger.0 c.args.run c.in-Some.taken c.in-Some.taken w.ledger.1 here (record { client = refl; number = refl; request = refl; started = refl }) refl set.found (λ k. refl) (record { inputs = refl; opened = refl; clients = refl; started = refl }));
+      claimed = put_claimed c.self.inside.claims c.self.inside.claims c.self.inside.runs.items _ c.args.run c.in-Some.taken set.found (w.claimed c.args.run ∙ ap (λ o. claimed_keys o) here) (others_same c.args.run c.self.inside.claims) w.claimed;
+      ledger = (w.ledger.0, back_moved g.R.Key.Ord.cmp (g.R.Rules.machine c.self.inside.memos.rules) g.O.Outbox.puts (held (record { rules = c.self.inside.memos.rules; places = c.self.inside.memos.places; inputs = c.self.inside.inputs; lanes = c.self.inside.lanes; opened = c.self.inside.opened; clients = c.self.inside.clients; waiting = c.self.inside.waiting.items; runs = c.self.inside.runs; started = c.self.inside.started; claims = c.self.inside.claims })) (record { inputs = c.self.inside.inputs; lanes = c.self.inside.lanes.items; opened = c.self.inside.opened; clients = c.self.inside.clients; runs = c.put_back.new.self.items; started = c.self.inside.started }) w.ledger.0 c.args.run c.in-Some.taken c.in-Some.taken w.ledger.1 here (record { client = refl; number = refl; request = refl; started = refl }) refl set.found (λ k. refl) (record { inputs = refl; opened = refl; clients = refl; started = refl }));
     }
 
 pub returns-then-is_out-clause-none_lost : goal.returns-then-is_out-clause-none_lost
@@ -136,35 +141,35 @@ returns-then-is_out-clause-moved g c =
     (rw c.in-Some.is at c.take.ensures.more_room) (rw c.number-id.ensures at c.put_back.ensures.found) c.put_back.ensures.room c.put_back.ensures.above in
     rw (← c.self.view_is)
     (λ l s.
-    let b = look_blocked g.R.Key.Ord.cmp (g.R.Rules.machine c.self.inside.memos.rules) g.O.Outbox.puts c.self.inside.memos.rules (held (record { rules = c.self.inside.memos.rules; places = c.self.inside.memos.places; inputs = c.self.inside.inputs; lanes = c.self.inside.lanes; opened = c.self.inside.opened; clients = c.self.inside.clients; waiting = c.self.inside.waiting.items; runs = c.self.inside.runs; started = c.self.inside.started })) l c.args.run c.in-Some.taken s here (λ o. false_true (sym c.if-is_overtaken.false ∙ c.is_overtaken.ensures.1 (rw c.now-now.ensures.now o))) (c.is_out.ensures.0 c.if-is_out.true) in
-    (l, (b.0, b.1, b.2, b.3, c.new.ensures ∙ c.number-id.ensures, refl), back_moved g.R.Key.Ord.cmp (g.R.Rules.machine c.self.inside.memos.rules) g.O.Outbox.puts (held (record { rules = c.self.inside.memos.rules; places = c.self.inside.memos.places; inputs = c.self.inside.inputs; lanes = c.self.inside.lanes; opened = c.self.inside.opened; clients = c.self.inside.clients; waiting = c.self.inside.waiting.items; runs = c.self.inside.runs; started = c.self.inside.started })) (record { inputs = c.self.inside.inputs; lanes = c.self.inside.lanes.items; opened = c.self.inside.opened; clients = c.self.inside.clients; runs = c.put_back.new.self.items; started = c.self.inside.started }) l c.args.run c.in-Some.taken c.in-Some.taken s here (record { client = refl; number = refl; request = refl; started = refl }) refl set.found (λ k. refl) (record { inputs = refl; opened = refl; clients = refl; started = refl })))
+    let b = look_blocked g.R.Key.Ord.cmp (g.R.Rules.machine c.self.inside.memos.rules) g.O.Outbox.puts c.self.inside.memos.rules (held (record { rules = c.self.inside.memos.rules; places = c.self.inside.memos.places; inputs = c.self.inside.inputs; lanes = c.self.inside.lanes; opened = c.self.inside.opened; clients = c.self.inside.clients; waiting = c.self.inside.waiting.items; runs = c.self.inside.runs; started = c.self.inside.started; claims = c.self.inside.claims })) l c.args.run c.in-Some.taken s here (λ o. false_true (sym c.if-is_overtaken.false ∙ c.is_overtaken.ensures.1 (rw c.now-now.ensures.now o))) (c.is_out.ensures.0 c.if-is_out.true) in
+    (l, (b.0, b.1, b.2, inl (b.3, refl), refl), back_moved g.R.Key.Ord.cmp (g.R.Rules.machine c.self.inside.memos.rules) g.O.Outbox.puts (held (record { rules = c.self.inside.memos.rules; places = c.self.inside.memos.places; inputs = c.self.inside.inputs; lanes = c.self.inside.lanes; opened = c.self.inside.opened; clients = c.self.inside.clients; waiting = c.self.inside.waiting.items; runs = c.self.inside.runs; started = c.self.inside.started; claims = c.self.inside.claims })) (record { inputs = c.self.inside.inputs; lanes = c.self.inside.lanes.items; opened = c.self.inside.opened; clients = c.self.inside.clients; runs = c.put_back.new.self.items; started = c.self.inside.started }) l c.args.run c.in-Some.taken c.in-Some.taken s here (record { client = refl; number = refl; request = refl; started = refl }) refl set.found (λ k. refl) (record { inputs = refl; opened = refl; clients = refl; started = refl })))
 
 pub look-requires-clause-demand : goal.look-requires-clause-demand
 look-requires-clause-demand g c =
     let here = sym (rw c.number-id.ensures at (c.in-Some.ensures {u = tt}).value) in
-    run_demands g.R.Key.Ord.cmp (g.R.Rules.machine c.self.inside.memos.rules) g.O.Outbox.puts (held (record { rules = c.self.inside.memos.rules; places = c.self.inside.memos.places; inputs = c.self.inside.inputs; lanes = c.self.inside.lanes; opened = c.self.inside.opened; clients = c.self.inside.clients; waiting = c.self.inside.waiting.items; runs = c.self.inside.runs; started = c.self.inside.started })) c.self.invariant.ledger.0 c.args.run c.in-Some.taken c.self.invariant.ledger.1 here
+    run_demands g.R.Key.Ord.cmp (g.R.Rules.machine c.self.inside.memos.rules) g.O.Outbox.puts (held (record { rules = c.self.inside.memos.rules; places = c.self.inside.memos.places; inputs = c.self.inside.inputs; lanes = c.self.inside.lanes; opened = c.self.inside.opened; clients = c.self.inside.clients; waiting = c.self.inside.waiting.items; runs = c.self.inside.runs; started = c.self.inside.started; claims = c.self.inside.claims })) c.self.invariant.ledger.0 c.args.run c.in-Some.taken c.self.invariant.ledger.1 here
 
 pub look-requires-clause-current : goal.look-requires-clause-current
 look-requires-clause-current g c =
     let here = sym (rw c.number-id.ensures at (c.in-Some.ensures {u = tt}).value) in
-    let x = run_here g.R.Key.Ord.cmp (g.R.Rules.machine c.self.inside.memos.rules) g.O.Outbox.puts (held (record { rules = c.self.inside.memos.rules; places = c.self.inside.memos.places; inputs = c.self.inside.inputs; lanes = c.self.inside.lanes; opened = c.self.inside.opened; clients = c.self.inside.clients; waiting = c.self.inside.waiting.items; runs = c.self.inside.runs; started = c.self.inside.started })) c.self.invariant.ledger.0 c.args.run c.in-Some.taken c.self.invariant.ledger.1 here in
-    let now = (current g.R.Key.Ord.cmp (g.R.Rules.machine c.self.inside.memos.rules) g.O.Outbox.puts (held (record { rules = c.self.inside.memos.rules; places = c.self.inside.memos.places; inputs = c.self.inside.inputs; lanes = c.self.inside.lanes; opened = c.self.inside.opened; clients = c.self.inside.clients; waiting = c.self.inside.waiting.items; runs = c.self.inside.runs; started = c.self.inside.started })) c.self.invariant.ledger.0 c.args.run c.in-Some.taken c.self.invariant.ledger.1 x (λ o. false_true (sym c.if-is_overtaken.false ∙ c.is_overtaken.ensures.1 (rw c.now-now.ensures.now o)))).1 in
+    let x = run_here g.R.Key.Ord.cmp (g.R.Rules.machine c.self.inside.memos.rules) g.O.Outbox.puts (held (record { rules = c.self.inside.memos.rules; places = c.self.inside.memos.places; inputs = c.self.inside.inputs; lanes = c.self.inside.lanes; opened = c.self.inside.opened; clients = c.self.inside.clients; waiting = c.self.inside.waiting.items; runs = c.self.inside.runs; started = c.self.inside.started; claims = c.self.inside.claims })) c.self.invariant.ledger.0 c.args.run c.in-Some.taken c.self.invariant.ledger.1 here in
+    let now = (current g.R.Key.Ord.cmp (g.R.Rules.machine c.self.inside.memos.rules) g.O.Outbox.puts (held (record { rules = c.self.inside.memos.rules; places = c.self.inside.memos.places; inputs = c.self.inside.inputs; lanes = c.self.inside.lanes; opened = c.self.inside.opened; clients = c.self.inside.clients; waiting = c.self.inside.waiting.items; runs = c.self.inside.runs; started = c.self.inside.started; claims = c.self.inside.claims })) c.self.invariant.ledger.0 c.args.run c.in-Some.taken c.self.invariant.ledger.1 x (λ o. false_true (sym c.if-is_overtaken.false ∙ c.is_overtaken.ensures.1 (rw c.now-now.ensures.now o)))).1 in
     now
 
 pub look-requires-clause-run_kept : goal.look-requires-clause-run_kept
 look-requires-clause-run_kept g c =
     let here = sym (rw c.number-id.ensures at (c.in-Some.ensures {u = tt}).value) in
-    let x = run_here g.R.Key.Ord.cmp (g.R.Rules.machine c.self.inside.memos.rules) g.O.Outbox.puts (held (record { rules = c.self.inside.memos.rules; places = c.self.inside.memos.places; inputs = c.self.inside.inputs; lanes = c.self.inside.lanes; opened = c.self.inside.opened; clients = c.self.inside.clients; waiting = c.self.inside.waiting.items; runs = c.self.inside.runs; started = c.self.inside.started })) c.self.invariant.ledger.0 c.args.run c.in-Some.taken c.self.invariant.ledger.1 here in
-    let now = (current g.R.Key.Ord.cmp (g.R.Rules.machine c.self.inside.memos.rules) g.O.Outbox.puts (held (record { rules = c.self.inside.memos.rules; places = c.self.inside.memos.places; inputs = c.self.inside.inputs; lanes = c.self.inside.lanes; opened = c.self.inside.opened; clients = c.self.inside.clients; waiting = c.self.inside.waiting.items; runs = c.self.inside.runs; started = c.self.inside.started })) c.self.invariant.ledger.0 c.args.run c.in-Some.taken c.self.invariant.ledger.1 x (λ o. false_true (sym c.if-is_overtaken.false ∙ c.is_overtaken.ensures.1 (rw c.now-now.ensures.now o)))).1 in
+    let x = run_here g.R.Key.Ord.cmp (g.R.Rules.machine c.self.inside.memos.rules) g.O.Outbox.puts (held (record { rules = c.self.inside.memos.rules; places = c.self.inside.memos.places; inputs = c.self.inside.inputs; lanes = c.self.inside.lanes; opened = c.self.inside.opened; clients = c.self.inside.clients; waiting = c.self.inside.waiting.items; runs = c.self.inside.runs; started = c.self.inside.started; claims = c.self.inside.claims })) c.self.invariant.ledger.0 c.args.run c.in-Some.taken c.self.invariant.ledger.1 here in
+    let now = (current g.R.Key.Ord.cmp (g.R.Rules.machine c.self.inside.memos.rules) g.O.Outbox.puts (held (record { rules = c.self.inside.memos.rules; places = c.self.inside.memos.places; inputs = c.self.inside.inputs; lanes = c.self.inside.lanes; opened = c.self.inside.opened; clients = c.self.inside.clients; waiting = c.self.inside.waiting.items; runs = c.self.inside.runs; started = c.self.inside.started; claims = c.self.inside.claims })) c.self.invariant.ledger.0 c.args.run c.in-Some.taken c.self.invariant.ledger.1 x (λ o. false_true (sym c.if-is_overtaken.false ∙ c.is_overtaken.ensures.1 (rw c.now-now.ensures.now o)))).1 in
     c.self.invariant.current c.args.run c.in-Some.taken here now
 
-pub invariant_of-self-in-Ok-Carry : goal.invariant_of-self-in-Ok-Carry
-invariant_of-self-in-Ok-Carry g c =
+pub invariant_of-self-in-Carry : goal.invariant_of-self-in-Carry
+invariant_of-self-in-Carry g c =
     let w = c.self.invariant in
     let here = sym (rw c.number-id.ensures at (c.in-Some.ensures {u = tt}).value) in
-    let set = set_back c.self.inside.runs c.take.new.self c.put_back-in-Ok-Carry.new.self c.args.run c.look.new.self (rw c.number-id.ensures at c.take.ensures.found) c.take.ensures.above
-    (rw c.in-Some.is at c.take.ensures.more_room) (rw c.number-id.ensures at c.put_back-in-Ok-Carry.ensures.found) c.put_back-in-Ok-Carry.ensures.room c.put_back-in-Ok-Carry.ensures.above in
-    let moved = carry_moved g.R.Key.Ord.cmp (g.R.Rules.machine c.self.inside.memos.rules) g.O.Outbox.puts c.self.inside.memos.rules (held (record { rules = c.self.inside.memos.rules; places = c.self.inside.memos.places; inputs = c.self.inside.inputs; lanes = c.self.inside.lanes; opened = c.self.inside.opened; clients = c.self.inside.clients; waiting = c.self.inside.waiting.items; runs = c.self.inside.runs; started = c.self.inside.started })) (record { inputs = c.self.inside.inputs; lanes = c.self.inside.lanes.items; opened = c.self.inside.opened; clients = c.self.inside.clients; runs = c.put_back-in-Ok-Carry.new.self.items; started = c.self.inside.started }) w.ledger.0 c.args.run c.in-Some.taken c.look.new.self c.in-Ok-Carry.work (memo_at g.R.Key.Ord.cmp c.self.inside.memos.places) w.ledger.1 here (λ o. false_true (sym c.if-is_overtaken.false ∙ c.is_overtaken.ensures.1 (rw c.now-now.ensures.now o))) (none_of (out_at c.in-Some.taken.top) (λ e. false_true (sym c.if-is_out.false ∙ c.is_out.ensures.1 e))) c.look.ensures.same (rw c.number-id.ensures at (rw c.new-in-Some.ensures at (rw c.in-Ok-Carry.field-0-is at (c.in-Ok-Carry.ensures {u = tt}).looked))) set.found (λ k. refl) (record { inputs = refl; opened = refl; clients = refl; started = refl }) in
+    let set = set_back c.self.inside.runs c.take.new.self c.put_back-in-Carry.new.self c.args.run c.look.new.self (rw c.number-id.ensures at c.take.ensures.found) c.take.ensures.above
+    (rw c.in-Some.is at c.take.ensures.more_room) (rw c.number-id.ensures at c.put_back-in-Carry.ensures.found) c.put_back-in-Carry.ensures.room c.put_back-in-Carry.ensures.above in
+    let moved = carry_moved g.R.Key.Ord.cmp (g.R.Rules.machine c.self.inside.memos.rules) g.O.Outbox.puts c.self.inside.memos.rules (held (record { rules = c.self.inside.memos.rules; places = c.self.inside.memos.places; inputs = c.self.inside.inputs; lanes = c.self.inside.lanes; opened = c.self.inside.opened; clients = c.self.inside.clients; waiting = c.self.inside.waiting.items; runs = c.self.inside.runs; started = c.self.inside.started; claims = c.self.inside.claims })) (record { inputs = c.self.inside.inputs; lanes = c.self.inside.lanes.items; opened = c.self.inside.opened; clients = c.self.inside.clients; runs = c.put_back-in-Carry.new.self.items; started = c.self.inside.started }) w.ledger.0 c.args.run c.in-Some.taken c.look.new.self c.in-Carry.work (memo_at g.R.Key.Ord.cmp c.self.inside.memos.places) w.ledger.1 here (λ o. false_true (sym c.if-is_overtaken.false ∙ c.is_overtaken.ensures.1 (rw c.now-now.ensures.now o))) (none_of (out_at c.in-Some.taken.top) (λ e. false_true (sym c.if-is_out.false ∙ c.is_out.ensures.1 e))) c.look.ensures.same (rw c.in-Carry.is at (c.in-Ok.ensures {u = tt}).looked) set.found (λ k. refl) (record { inputs = refl; opened = refl; clients = refl; started = refl }) in
     rw c.look.ensures.rules
     (record {
       kept = c.look.ensures.kept;
@@ -176,44 +181,45 @@ invariant_of-self-in-Ok-Carry g c =
           let b = set.room in
           omega (arith, a, b);
       current = all_kept g.R.Key.Ord.cmp (g.R.Rules.machine c.self.inside.memos.rules) c.self.inside.inputs (memo_at g.R.Key.Ord.cmp c.self.inside.memos.places) (memo_at g.R.Key.Ord.cmp c.look.new.memos.places) c.self.inside.runs.items _ c.args.run c.look.new.self c.look.ensures.renewed set.found w.current (λ e. c.look.ensures.run_kept);
+      claimed = put_claimed c.self.inside.claims c.look.new.claims c.self.inside.runs.items _ c.args.run c.look.new.self set.found c.look.ensures.claimed c.look.ensures.others w.claimed;
       ledger = (moved.0, moved.2);
     })
 
-pub returns-in-Ok-Carry-clause-none_lost : goal.returns-in-Ok-Carry-clause-none_lost
-returns-in-Ok-Carry-clause-none_lost g c = rw (← c.self.view_is)
+pub returns-in-Carry-clause-none_lost : goal.returns-in-Carry-clause-none_lost
+returns-in-Carry-clause-none_lost g c = rw (← c.self.view_is)
     (renewed_none_lost (g.R.Rules.machine c.self.inside.memos.rules) c.self.inside.inputs.revision (memo_at g.R.Key.Ord.cmp c.self.inside.memos.places)
     (memo_at g.R.Key.Ord.cmp c.look.new.memos.places) c.look.ensures.renewed)
 
-pub returns-in-Ok-Carry-clause-moved : goal.returns-in-Ok-Carry-clause-moved
-returns-in-Ok-Carry-clause-moved g c =
+pub returns-in-Carry-clause-moved : goal.returns-in-Carry-clause-moved
+returns-in-Carry-clause-moved g c =
     let here = sym (rw c.number-id.ensures at (c.in-Some.ensures {u = tt}).value) in
-    let set = set_back c.self.inside.runs c.take.new.self c.put_back-in-Ok-Carry.new.self c.args.run c.look.new.self (rw c.number-id.ensures at c.take.ensures.found) c.take.ensures.above
-    (rw c.in-Some.is at c.take.ensures.more_room) (rw c.number-id.ensures at c.put_back-in-Ok-Carry.ensures.found) c.put_back-in-Ok-Carry.ensures.room c.put_back-in-Ok-Carry.ensures.above in
+    let set = set_back c.self.inside.runs c.take.new.self c.put_back-in-Carry.new.self c.args.run c.look.new.self (rw c.number-id.ensures at c.take.ensures.found) c.take.ensures.above
+    (rw c.in-Some.is at c.take.ensures.more_room) (rw c.number-id.ensures at c.put_back-in-Carry.ensures.found) c.put_back-in-Carry.ensures.room c.put_back-in-Carry.ensures.above in
     rw (← c.self.view_is)
-    (λ l s. carry_moved g.R.Key.Ord.cmp (g.R.Rules.machine c.self.inside.memos.rules) g.O.Outbox.puts c.self.inside.memos.rules (held (record { rules = c.self.inside.memos.rules; places = c.self.inside.memos.places; inputs = c.self.inside.inputs; lanes = c.self.inside.lanes; opened = c.self.inside.opened; clients = c.self.inside.clients; waiting = c.self.inside.waiting.items; runs = c.self.inside.runs; started = c.self.inside.started })) (record { inputs = c.self.inside.inputs; lanes = c.self.inside.lanes.items; opened = c.self.inside.opened; clients = c.self.inside.clients; runs = c.put_back-in-Ok-Carry.new.self.items; started = c.self.inside.started }) l c.args.run c.in-Some.taken c.look.new.self c.in-Ok-Carry.work (memo_at g.R.Key.Ord.cmp c.self.inside.memos.places) s here (λ o. false_true (sym c.if-is_overtaken.false ∙ c.is_overtaken.ensures.1 (rw c.now-now.ensures.now o))) (none_of (out_at c.in-Some.taken.top) (λ e. false_true (sym c.if-is_out.false ∙ c.is_out.ensures.1 e))) c.look.ensures.same (rw c.number-id.ensures at (rw c.new-in-Some.ensures at (rw c.in-Ok-Carry.field-0-is at (c.in-Ok-Carry.ensures {u = tt}).looked))) set.found (λ k. refl) (record { inputs = refl; opened = refl; clients = refl; started = refl }))
+    (λ l s. carry_moved g.R.Key.Ord.cmp (g.R.Rules.machine c.self.inside.memos.rules) g.O.Outbox.puts c.self.inside.memos.rules (held (record { rules = c.self.inside.memos.rules; places = c.self.inside.memos.places; inputs = c.self.inside.inputs; lanes = c.self.inside.lanes; opened = c.self.inside.opened; clients = c.self.inside.clients; waiting = c.self.inside.waiting.items; runs = c.self.inside.runs; started = c.self.inside.started; claims = c.self.inside.claims })) (record { inputs = c.self.inside.inputs; lanes = c.self.inside.lanes.items; opened = c.self.inside.opened; clients = c.self.inside.clients; runs = c.put_back-in-Carry.new.self.items; started = c.self.inside.started }) l c.args.run c.in-Some.taken c.look.new.self c.in-Carry.work (memo_at g.R.Key.Ord.cmp c.self.inside.memos.places) s here (λ o. false_true (sym c.if-is_overtaken.false ∙ c.is_overtaken.ensures.1 (rw c.now-now.ensures.now o))) (none_of (out_at c.in-Some.taken.top) (λ e. false_true (sym c.if-is_out.false ∙ c.is_out.ensures.1 e))) c.look.ensures.same (rw c.in-Carry.is at (c.in-Ok.ensures {u = tt}).looked) set.found (λ k. refl) (record { inputs = refl; opened = refl; clients = refl; started = refl }))
 
-pub returns-in-Ok-Carry-clause-handed : goal.returns-in-Ok-Carry-clause-handed
-returns-in-Ok-Carry-clause-handed g c =
-    let handed = rw c.in-Ok-Carry.field-0-is at (c.in-Ok-Carry.ensures {u = tt}).looked in
+pub returns-in-Carry-clause-handed : goal.returns-in-Carry-clause-handed
+returns-in-Carry-clause-handed g c =
+    let handed = rw c.in-Carry.is at (c.in-Ok.ensures {u = tt}).looked in
     rw (← c.self.view_is)
-    (record { rules_same = handed.rules_same; run_same = handed.run_same ∙ c.new-in-Some.ensures ∙ c.number-id.ensures; started = handed.started; files_same = handed.files })
+    (record { rules_same = handed.rules_same; run_same = handed.run_same; started = handed.started; files_same = handed.files })
 
-pub returns-in-Ok-Carry-clause-cause : goal.returns-in-Ok-Carry-clause-cause
-returns-in-Ok-Carry-clause-cause g c =
-    let handed = rw c.in-Ok-Carry.field-0-is at (c.in-Ok-Carry.ensures {u = tt}).looked in
+pub returns-in-Carry-clause-cause : goal.returns-in-Carry-clause-cause
+returns-in-Carry-clause-cause g c =
+    let handed = rw c.in-Carry.is at (c.in-Ok.ensures {u = tt}).looked in
     rw (← c.self.view_is)
-    (why_then _ _ c.in-Ok-Carry.work.done.front c.in-Ok-Carry.work.why handed.why
-    (λ why w. why_cause g.R.Key.Ord.cmp (g.R.Rules.machine c.self.inside.memos.rules) c.self.inside.inputs (HasIn (memo_at g.R.Key.Ord.cmp c.self.inside.memos.places)) c.in-Ok-Carry.work.done.key why
-    (c.look_is_right.ensures.fresh c.self.inside.inputs c.in-Ok-Carry.work.done.key)
-    (λ q. c.look_is_right.ensures.changed c.self.inside.inputs c.now-now.ensures.counted c.self.invariant.kept c.in-Ok-Carry.work.done.key q)
-    (c.look_is_right.ensures.ring c.self.inside.inputs c.in-Ok-Carry.work.done.key) w))
+    (why_then _ _ c.in-Carry.work.done.front c.in-Carry.work.why handed.why
+    (λ why w. why_cause g.R.Key.Ord.cmp (g.R.Rules.machine c.self.inside.memos.rules) c.self.inside.inputs (HasIn (memo_at g.R.Key.Ord.cmp c.self.inside.memos.places)) c.in-Carry.work.done.key why
+    (c.look_is_right.ensures.fresh c.self.inside.inputs c.in-Carry.work.done.key)
+    (λ q. c.look_is_right.ensures.changed c.self.inside.inputs c.now-now.ensures.counted c.self.invariant.kept c.in-Carry.work.done.key q)
+    (c.look_is_right.ensures.ring c.self.inside.inputs c.in-Carry.work.done.key) w))
 
-pub invariant_of-self-in-Ok-Stepped : goal.invariant_of-self-in-Ok-Stepped
-invariant_of-self-in-Ok-Stepped g c =
+pub invariant_of-self-in-Stepped : goal.invariant_of-self-in-Stepped
+invariant_of-self-in-Stepped g c =
     let w = c.self.invariant in
     let here = sym (rw c.number-id.ensures at (c.in-Some.ensures {u = tt}).value) in
-    let set = set_back c.self.inside.runs c.take.new.self c.put_back-in-Ok-Stepped.new.self c.args.run c.look.new.self (rw c.number-id.ensures at c.take.ensures.found) c.take.ensures.above
-    (rw c.in-Some.is at c.take.ensures.more_room) (rw c.number-id.ensures at c.put_back-in-Ok-Stepped.ensures.found) c.put_back-in-Ok-Stepped.ensures.room c.put_back-in-Ok-Stepped.ensures.above in
+    let set = set_back c.self.inside.runs c.take.new.self c.put_back-in-Stepped.new.self c.args.run c.look.new.self (rw c.number-id.ensures at c.take.ensures.found) c.take.ensures.above
+    (rw c.in-Some.is at c.take.ensures.more_room) (rw c.number-id.ensures at c.put_back-in-Stepped.ensures.found) c.put_back-in-Stepped.ensures.room c.put_back-in-Stepped.ensures.above in
     rw c.look.ensures.rules
     (record {
       kept = c.look.ensures.kept;
@@ -225,40 +231,88 @@ invariant_of-self-in-Ok-Stepped g c =
           let b = set.room in
           omega (arith, a, b);
       current = all_kept g.R.Key.Ord.cmp (g.R.Rules.machine c.self.inside.memos.rules) c.self.inside.inputs (memo_at g.R.Key.Ord.cmp c.self.inside.memos.places) (memo_at g.R.Key.Ord.cmp c.look.new.memos.places) c.self.inside.runs.items _ c.args.run c.look.new.self c.look.ensures.renewed set.found w.current (λ e. c.look.ensures.run_kept);
-      ledger = (w.ledger.0, back_moved g.R.Key.Ord.cmp (g.R.Rules.machine c.self.inside.memos.rules) g.O.Outbox.puts (held (record { rules = c.self.inside.memos.rules; places = c.self.inside.memos.places; inputs = c.self.inside.inputs; lanes = c.self.inside.lanes; opened = c.self.inside.opened; clients = c.self.inside.clients; waiting = c.self.inside.waiting.items; runs = c.self.inside.runs; started = c.self.inside.started })) (record { inputs = c.self.inside.inputs; lanes = c.self.inside.lanes.items; opened = c.self.inside.opened; clients = c.self.inside.clients; runs = c.put_back-in-Ok-Stepped.new.self.items; started = c.self.inside.started }) w.ledger.0 c.args.run c.in-Some.taken c.look.new.self w.ledger.1 here c.look.ensures.same ((rw c.in-Ok-Stepped.field-0-is at (c.in-Ok-Stepped.ensures {u = tt}).looked) ∙ sym (none_of (out_at c.in-Some.taken.top) (λ e. false_true (sym c.if-is_out.false ∙ c.is_out.ensures.1 e)))) set.found (λ k. refl) (record { inputs = refl; opened = refl; clients = refl; started = refl }));
+      claimed = put_claimed c.self.inside.claims c.look.new.claims c.self.inside.runs.items _ c.args.run c.look.new.self set.found c.look.ensures.claimed c.look.ensures.others w.claimed;
+      ledger = (w.ledger.0, back_moved g.R.Key.Ord.cmp (g.R.Rules.machine c.self.inside.memos.rules) g.O.Outbox.puts (held (record { rules = c.self.inside.memos.rules; places = c.self.inside.memos.places; inputs = c.self.inside.inputs; lanes = c.self.inside.lanes; opened = c.self.inside.opened; clients = c.self.inside.clients; waiting = c.self.inside.waiting.items; runs = c.self.inside.runs; started = c.self.inside.started; claims = c.self.inside.claims })) (record { inputs = c.self.inside.inputs; lanes = c.self.inside.lanes.items; opened = c.self.inside.opened; clients = c.self.inside.clients; runs = c.put_back-in-Stepped.new.self.items; started = c.self.inside.started }) w.ledger.0 c.args.run c.in-Some.taken c.look.new.self w.ledger.1 here c.look.ensures.same ((rw c.in-Stepped.is at (c.in-Ok.ensures {u = tt}).looked) ∙ sym (none_of (out_at c.in-Some.taken.top) (λ e. false_true (sym c.if-is_out.false ∙ c.is_out.ensures.1 e)))) set.found (λ k. refl) (record { inputs = refl; opened = refl; clients = refl; started = refl }));
     })
 
-pub returns-in-Ok-Stepped-clause-none_lost : goal.returns-in-Ok-Stepped-clause-none_lost
-returns-in-Ok-Stepped-clause-none_lost g c = rw (← c.self.view_is)
+pub returns-in-Stepped-clause-none_lost : goal.returns-in-Stepped-clause-none_lost
+returns-in-Stepped-clause-none_lost g c = rw (← c.self.view_is)
     (renewed_none_lost (g.R.Rules.machine c.self.inside.memos.rules) c.self.inside.inputs.revision (memo_at g.R.Key.Ord.cmp c.self.inside.memos.places)
     (memo_at g.R.Key.Ord.cmp c.look.new.memos.places) c.look.ensures.renewed)
 
-pub returns-in-Ok-Stepped-clause-moved : goal.returns-in-Ok-Stepped-clause-moved
-returns-in-Ok-Stepped-clause-moved g c =
+pub returns-in-Stepped-clause-moved : goal.returns-in-Stepped-clause-moved
+returns-in-Stepped-clause-moved g c =
     let here = sym (rw c.number-id.ensures at (c.in-Some.ensures {u = tt}).value) in
-    let set = set_back c.self.inside.runs c.take.new.self c.put_back-in-Ok-Stepped.new.self c.args.run c.look.new.self (rw c.number-id.ensures at c.take.ensures.found) c.take.ensures.above
-    (rw c.in-Some.is at c.take.ensures.more_room) (rw c.number-id.ensures at c.put_back-in-Ok-Stepped.ensures.found) c.put_back-in-Ok-Stepped.ensures.room c.put_back-in-Ok-Stepped.ensures.above in
+    let set = set_back c.self.inside.runs c.take.new.self c.put_back-in-Stepped.new.self c.args.run c.look.new.self (rw c.number-id.ensures at c.take.ensures.found) c.take.ensures.above
+    (rw c.in-Some.is at c.take.ensures.more_room) (rw c.number-id.ensures at c.put_back-in-Stepped.ensures.found) c.put_back-in-Stepped.ensures.room c.put_back-in-Stepped.ensures.above in
     rw (← c.self.view_is)
     (λ l s.
-    let b = goes_on g.R.Key.Ord.cmp (g.R.Rules.machine c.self.inside.memos.rules) g.O.Outbox.puts c.self.inside.memos.rules (held (record { rules = c.self.inside.memos.rules; places = c.self.inside.memos.places; inputs = c.self.inside.inputs; lanes = c.self.inside.lanes; opened = c.self.inside.opened; clients = c.self.inside.clients; waiting = c.self.inside.waiting.items; runs = c.self.inside.runs; started = c.self.inside.started })) l c.args.run c.in-Some.taken s here (λ o. false_true (sym c.if-is_overtaken.false ∙ c.is_overtaken.ensures.1 (rw c.now-now.ensures.now o))) (none_of (out_at c.in-Some.taken.top) (λ e. false_true (sym c.if-is_out.false ∙ c.is_out.ensures.1 e))) in
-    (l, (b.0, b.1, refl), back_moved g.R.Key.Ord.cmp (g.R.Rules.machine c.self.inside.memos.rules) g.O.Outbox.puts (held (record { rules = c.self.inside.memos.rules; places = c.self.inside.memos.places; inputs = c.self.inside.inputs; lanes = c.self.inside.lanes; opened = c.self.inside.opened; clients = c.self.inside.clients; waiting = c.self.inside.waiting.items; runs = c.self.inside.runs; started = c.self.inside.started })) (record { inputs = c.self.inside.inputs; lanes = c.self.inside.lanes.items; opened = c.self.inside.opened; clients = c.self.inside.clients; runs = c.put_back-in-Ok-Stepped.new.self.items; started = c.self.inside.started }) l c.args.run c.in-Some.taken c.look.new.self s here c.look.ensures.same ((rw c.in-Ok-Stepped.field-0-is at (c.in-Ok-Stepped.ensures {u = tt}).looked) ∙ sym (none_of (out_at c.in-Some.taken.top) (λ e. false_true (sym c.if-is_out.false ∙ c.is_out.ensures.1 e)))) set.found (λ k. refl) (record { inputs = refl; opened = refl; clients = refl; started = refl })))
+    let b = goes_on g.R.Key.Ord.cmp (g.R.Rules.machine c.self.inside.memos.rules) g.O.Outbox.puts c.self.inside.memos.rules (held (record { rules = c.self.inside.memos.rules; places = c.self.inside.memos.places; inputs = c.self.inside.inputs; lanes = c.self.inside.lanes; opened = c.self.inside.opened; clients = c.self.inside.clients; waiting = c.self.inside.waiting.items; runs = c.self.inside.runs; started = c.self.inside.started; claims = c.self.inside.claims })) l c.args.run c.in-Some.taken s here (λ o. false_true (sym c.if-is_overtaken.false ∙ c.is_overtaken.ensures.1 (rw c.now-now.ensures.now o))) (none_of (out_at c.in-Some.taken.top) (λ e. false_true (sym c.if-is_out.false ∙ c.is_out.ensures.1 e))) in
+    (l, (b.0, b.1, refl), back_moved g.R.Key.Ord.cmp (g.R.Rules.machine c.self.inside.memos.rules) g.O.Outbox.puts (held (record { rules = c.self.inside.memos.rules; places = c.self.inside.memos.places; inputs = c.self.inside.inputs; lanes = c.self.inside.lanes; opened = c.self.inside.opened; clients = c.self.inside.clients; waiting = c.self.inside.waiting.items; runs = c.self.inside.runs; started = c.self.inside.started; claims = c.self.inside.claims })) (record { inputs = c.self.inside.inputs; lanes = c.self.inside.lanes.items; opened = c.self.inside.opened; clients = c.self.inside.clients; runs = c.put_back-in-Stepped.new.self.items; started = c.self.inside.started }) l c.args.run c.in-Some.taken c.look.new.self s here c.look.ensures.same ((rw c.in-Stepped.is at (c.in-Ok.ensures {u = tt}).looked) ∙ sym (none_of (out_at c.in-Some.taken.top) (λ e. false_true (sym c.if-is_out.false ∙ c.is_out.ensures.1 e)))) set.found (λ k. refl) (record { inputs = refl; opened = refl; clients = refl; started = refl })))
+
+pub invariant_of-self-in-Blocked : goal.invariant_of-self-in-Blocked
+invariant_of-self-in-Blocked g c =
+    let w = c.self.invariant in
+    let here = sym (rw c.number-id.ensures at (c.in-Some.ensures {u = tt}).value) in
+    let set = set_back c.self.inside.runs c.take.new.self c.put_back-in-Blocked.new.self c.args.run c.look.new.self (rw c.number-id.ensures at c.take.ensures.found) c.take.ensures.above
+    (rw c.in-Some.is at c.take.ensures.more_room) (rw c.number-id.ensures at c.put_back-in-Blocked.ensures.found) c.put_back-in-Blocked.ensures.room c.put_back-in-Blocked.ensures.above in
+    rw c.look.ensures.rules
+    (record {
+      kept = c.look.ensures.kept;
+      lanes_above = w.lanes_above;
+      runs_above = set.above c.self.inside.started w.runs_above;
+      queue = w.queue;
+      room =
+          let a : length c.self.inside.waiting.items ≤ c.self.inside.runs.room = w.room in
+          let b = set.room in
+          omega (arith, a, b);
+      current = all_kept g.R.Key.Ord.cmp (g.R.Rules.machine c.self.inside.memos.rules) c.self.inside.inputs (memo_at g.R.Key.Ord.cmp c.self.inside.memos.places) (memo_at g.R.Key.Ord.cmp c.look.new.memos.places) c.self.inside.runs.items _ c.args.run c.look.new.self c.look.ensures.renewed set.found w.current (λ e. c.look.ensures.run_kept);
+      claimed = put_claimed c.self.inside.claims c.look.new.claims c.self.inside.runs.items _ c.args.run c.look.new.self set.found c.look.ensures.claimed c.look.ensures.others w.claimed;
+      ledger = (w.ledger.0, back_moved g.R.Key.Ord.cmp (g.R.Rules.machine c.self.inside.memos.rules) g.O.Outbox.puts (held (record { rules = c.self.inside.memos.rules; places = c.self.inside.memos.places; inputs = c.self.inside.inputs; lanes = c.self.inside.lanes; opened = c.self.inside.opened; clients = c.self.inside.clients; waiting = c.self.inside.waiting.items; runs = c.self.inside.runs; started = c.self.inside.started; claims = c.self.inside.claims })) (record { inputs = c.self.inside.inputs; lanes = c.self.inside.lanes.items; opened = c.self.inside.opened; clients = c.self.inside.clients; runs = c.put_back-in-Blocked.new.self.items; started = c.self.inside.started }) w.ledger.0 c.args.run c.in-Some.taken c.look.new.self w.ledger.1 here c.look.ensures.same ((rw c.in-Blocked.is at (c.in-Ok.ensures {u = tt}).looked).0 ∙ sym (none_of (out_at c.in-Some.taken.top) (λ e. false_true (sym c.if-is_out.false ∙ c.is_out.ensures.1 e)))) set.found (λ k. refl) (record { inputs = refl; opened = refl; clients = refl; started = refl }));
+    })
+
+pub returns-in-Blocked-clause-none_lost : goal.returns-in-Blocked-clause-none_lost
+returns-in-Blocked-clause-none_lost g c = rw (← c.self.view_is)
+    (renewed_none_lost (g.R.Rules.machine c.self.inside.memos.rules) c.self.inside.inputs.revision (memo_at g.R.Key.Ord.cmp c.self.inside.memos.places)
+    (memo_at g.R.Key.Ord.cmp c.look.new.memos.places) c.look.ensures.renewed)
+
+pub returns-in-Blocked-clause-moved : goal.returns-in-Blocked-clause-moved
+returns-in-Blocked-clause-moved g c =
+    let here = sym (rw c.number-id.ensures at (c.in-Some.ensures {u = tt}).value) in
+    let set = set_back c.self.inside.runs c.take.new.self c.put_back-in-Blocked.new.self c.args.run c.look.new.self (rw c.number-id.ensures at c.take.ensures.found) c.take.ensures.above
+    (rw c.in-Some.is at c.take.ensures.more_room) (rw c.number-id.ensures at c.put_back-in-Blocked.ensures.found) c.put_back-in-Blocked.ensures.room c.put_back-in-Blocked.ensures.above in
+    rw (← c.self.view_is)
+    (λ l s.
+    let told = rw c.in-Blocked.is at (c.in-Ok.ensures {u = tt}).looked in
+    let there = holder_there c.self.inside.claims c.self.inside.runs.items c.in-Blocked.other told.1.1.0 c.self.invariant.claimed
+    (subst (λ (ks : List g.row.R-Key.Denot). In told.1.1.0 ks) (c.look.ensures.others c.in-Blocked.other told.1.0) told.1.1.2) in
+    let b = look_held g.R.Key.Ord.cmp (g.R.Rules.machine c.self.inside.memos.rules) g.O.Outbox.puts c.self.inside.memos.rules (held (record { rules = c.self.inside.memos.rules; places = c.self.inside.memos.places; inputs = c.self.inside.inputs; lanes = c.self.inside.lanes; opened = c.self.inside.opened; clients = c.self.inside.clients; waiting = c.self.inside.waiting.items; runs = c.self.inside.runs; started = c.self.inside.started; claims = c.self.inside.claims })) l c.args.run c.in-Some.taken c.in-Blocked.other there.0 s here (λ o. false_true (sym c.if-is_overtaken.false ∙ c.is_overtaken.ensures.1 (rw c.now-now.ensures.now o))) (none_of (out_at c.in-Some.taken.top) (λ e. false_true (sym c.if-is_out.false ∙ c.is_out.ensures.1 e))) told.1.0 there.1 in
+    (l, (b.0, b.1, b.2, b.3, refl), back_moved g.R.Key.Ord.cmp (g.R.Rules.machine c.self.inside.memos.rules) g.O.Outbox.puts (held (record { rules = c.self.inside.memos.rules; places = c.self.inside.memos.places; inputs = c.self.inside.inputs; lanes = c.self.inside.lanes; opened = c.self.inside.opened; clients = c.self.inside.clients; waiting = c.self.inside.waiting.items; runs = c.self.inside.runs; started = c.self.inside.started; claims = c.self.inside.claims })) (record { inputs = c.self.inside.inputs; lanes = c.self.inside.lanes.items; opened = c.self.inside.opened; clients = c.self.inside.clients; runs = c.put_back-in-Blocked.new.self.items; started = c.self.inside.started }) l c.args.run c.in-Some.taken c.look.new.self s here c.look.ensures.same ((rw c.in-Blocked.is at (c.in-Ok.ensures {u = tt}).looked).0 ∙ sym (none_of (out_at c.in-Some.taken.top) (λ e. false_true (sym c.if-is_out.false ∙ c.is_out.ensures.1 e)))) set.found (λ k. refl) (record { inputs = refl; opened = refl; clients = refl; started = refl })))
+
+pub returns-in-Blocked-clause-holder : goal.returns-in-Blocked-clause-holder
+returns-in-Blocked-clause-holder g c =
+    let told = rw c.in-Blocked.is at (c.in-Ok.ensures {u = tt}).looked in
+    inr told.1
+
+pub returns-then-is_out-clause-holder : goal.returns-then-is_out-clause-holder
+returns-then-is_out-clause-holder g c = inl refl
 
 pub end_run-requires-clause-within : goal.end_run-requires-clause-within
 end_run-requires-clause-within g c =
     let here = sym (rw c.number-id.ensures at (c.in-Some.ensures {u = tt}).value) in
     λ lane h.
     subst (λ (n : ℕ). (lane.put ≤ n) × (n < lane.put + length lane.owed)) (sym c.look.ensures.same.number)
-    (run_within g.R.Key.Ord.cmp (g.R.Rules.machine c.self.inside.memos.rules) g.O.Outbox.puts (held (record { rules = c.self.inside.memos.rules; places = c.self.inside.memos.places; inputs = c.self.inside.inputs; lanes = c.self.inside.lanes; opened = c.self.inside.opened; clients = c.self.inside.clients; waiting = c.self.inside.waiting.items; runs = c.self.inside.runs; started = c.self.inside.started })) c.self.invariant.ledger.0 c.args.run c.in-Some.taken lane c.self.invariant.ledger.1 here
+    (run_within g.R.Key.Ord.cmp (g.R.Rules.machine c.self.inside.memos.rules) g.O.Outbox.puts (held (record { rules = c.self.inside.memos.rules; places = c.self.inside.memos.places; inputs = c.self.inside.inputs; lanes = c.self.inside.lanes; opened = c.self.inside.opened; clients = c.self.inside.clients; waiting = c.self.inside.waiting.items; runs = c.self.inside.runs; started = c.self.inside.started; claims = c.self.inside.claims })) c.self.invariant.ledger.0 c.args.run c.in-Some.taken lane c.self.invariant.ledger.1 here
     (ap (λ (n : ℕ). found c.self.inside.lanes.items n) (sym c.look.ensures.same.client) ∙ h))
 
-pub invariant_of-self-in-Ok-Answered : goal.invariant_of-self-in-Ok-Answered
-invariant_of-self-in-Ok-Answered g c =
+pub invariant_of-self-in-Answered : goal.invariant_of-self-in-Answered
+invariant_of-self-in-Answered g c =
     let w = c.self.invariant in
     let here = sym (rw c.number-id.ensures at (c.in-Some.ensures {u = tt}).value) in
     let runs = rw c.number-id.ensures at c.take.ensures.found in
-    let told = rw c.in-Ok-Answered.field-0-is at (c.in-Ok-Answered.ensures {u = tt}).looked in
-    let moved = answer_moved g.R.Key.Ord.cmp (g.R.Rules.machine c.self.inside.memos.rules) g.O.Outbox.puts c.self.inside.memos.rules (held (record { rules = c.self.inside.memos.rules; places = c.self.inside.memos.places; inputs = c.self.inside.inputs; lanes = c.self.inside.lanes; opened = c.self.inside.opened; clients = c.self.inside.clients; waiting = c.self.inside.waiting.items; runs = c.self.inside.runs; started = c.self.inside.started })) (record { inputs = c.self.inside.inputs; lanes = c.end_run.new.lanes.items; opened = c.self.inside.opened; clients = c.self.inside.clients; runs = c.take.new.self.items; started = c.self.inside.started }) w.ledger.0 c.args.run c.in-Some.taken c.in-Ok-Answered.answer w.ledger.1 here (λ o. false_true (sym c.if-is_overtaken.false ∙ c.is_overtaken.ensures.1 (rw c.now-now.ensures.now o))) (none_of (out_at c.in-Some.taken.top) (λ e. false_true (sym c.if-is_out.false ∙ c.is_out.ensures.1 e))) told.0 runs
-    (ended_as (held (record { rules = c.self.inside.memos.rules; places = c.self.inside.memos.places; inputs = c.self.inside.inputs; lanes = c.self.inside.lanes; opened = c.self.inside.opened; clients = c.self.inside.clients; waiting = c.self.inside.waiting.items; runs = c.self.inside.runs; started = c.self.inside.started })) (record { inputs = c.self.inside.inputs; lanes = c.end_run.new.lanes.items; opened = c.self.inside.opened; clients = c.self.inside.clients; runs = c.take.new.self.items; started = c.self.inside.started }) c.in-Some.taken c.look.new.self c.self.inside.inputs.revision (Answered c.in-Ok-Answered.answer) c.look.ensures.same
+    let told = rw c.in-Answered.is at (c.in-Ok.ensures {u = tt}).looked in
+    let moved = answer_moved g.R.Key.Ord.cmp (g.R.Rules.machine c.self.inside.memos.rules) g.O.Outbox.puts c.self.inside.memos.rules (held (record { rules = c.self.inside.memos.rules; places = c.self.inside.memos.places; inputs = c.self.inside.inputs; lanes = c.self.inside.lanes; opened = c.self.inside.opened; clients = c.self.inside.clients; waiting = c.self.inside.waiting.items; runs = c.self.inside.runs; started = c.self.inside.started; claims = c.self.inside.claims })) (record { inputs = c.self.inside.inputs; lanes = c.end_run.new.lanes.items; opened = c.self.inside.opened; clients = c.self.inside.clients; runs = c.take.new.self.items; started = c.self.inside.started }) w.ledger.0 c.args.run c.in-Some.taken c.in-Answered.answer w.ledger.1 here (λ o. false_true (sym c.if-is_overtaken.false ∙ c.is_overtaken.ensures.1 (rw c.now-now.ensures.now o))) (none_of (out_at c.in-Some.taken.top) (λ e. false_true (sym c.if-is_out.false ∙ c.is_out.ensures.1 e))) told.0 runs
+    (ended_as (held (record { rules = c.self.inside.memos.rules; places = c.self.inside.memos.places; inputs = c.self.inside.inputs; lanes = c.self.inside.lanes; opened = c.self.inside.opened; clients = c.self.inside.clients; waiting = c.self.inside.waiting.items; runs = c.self.inside.runs; started = c.self.inside.started; claims = c.self.inside.claims })) (record { inputs = c.self.inside.inputs; lanes = c.end_run.new.lanes.items; opened = c.self.inside.opened; clients = c.self.inside.clients; runs = c.take.new.self.items; started = c.self.inside.started }) c.in-Some.taken c.look.new.self c.self.inside.inputs.revision (Answered c.in-Answered.answer) c.look.ensures.same
     (λ lane h k. rw c.now-now.ensures.now at ((c.end_run.ensures.«open» lane h).found k)))
     (λ h k. (c.end_run.ensures.closed (ap (λ (n : ℕ). found c.self.inside.lanes.items n) c.look.ensures.same.client ∙ h)).found k) (record { inputs = refl; opened = refl; clients = refl; started = refl }) in
     rw c.look.ensures.rules
@@ -273,22 +327,23 @@ invariant_of-self-in-Ok-Answered g c =
           let b = c.take.ensures.room in
           omega (arith, a, b);
       current = others_kept g.R.Key.Ord.cmp (g.R.Rules.machine c.self.inside.memos.rules) c.self.inside.inputs (memo_at g.R.Key.Ord.cmp c.self.inside.memos.places) (memo_at g.R.Key.Ord.cmp c.look.new.memos.places) c.self.inside.runs.items c.take.new.self.items c.args.run c.look.ensures.renewed runs w.current;
+      claimed = end_claimed c.self.inside.claims c.release_all-in-Answered.new.self c.self.inside.runs.items c.take.new.self.items c.args.run c.look.new.claims runs c.look.ensures.others c.release_all-in-Answered.ensures.released w.claimed;
       ledger = (moved.0, moved.2);
     })
 
-pub returns-in-Ok-Answered-clause-none_lost : goal.returns-in-Ok-Answered-clause-none_lost
-returns-in-Ok-Answered-clause-none_lost g c = rw (← c.self.view_is)
+pub returns-in-Answered-clause-none_lost : goal.returns-in-Answered-clause-none_lost
+returns-in-Answered-clause-none_lost g c = rw (← c.self.view_is)
     (renewed_none_lost (g.R.Rules.machine c.self.inside.memos.rules) c.self.inside.inputs.revision (memo_at g.R.Key.Ord.cmp c.self.inside.memos.places)
     (memo_at g.R.Key.Ord.cmp c.look.new.memos.places) c.look.ensures.renewed)
 
-pub returns-in-Ok-Answered-clause-moved : goal.returns-in-Ok-Answered-clause-moved
-returns-in-Ok-Answered-clause-moved g c =
+pub returns-in-Answered-clause-moved : goal.returns-in-Answered-clause-moved
+returns-in-Answered-clause-moved g c =
     let here = sym (rw c.number-id.ensures at (c.in-Some.ensures {u = tt}).value) in
     let runs = rw c.number-id.ensures at c.take.ensures.found in
-    let told = rw c.in-Ok-Answered.field-0-is at (c.in-Ok-Answered.ensures {u = tt}).looked in
+    let told = rw c.in-Answered.is at (c.in-Ok.ensures {u = tt}).looked in
     rw (← c.self.view_is)
-    (λ l s. answer_moved g.R.Key.Ord.cmp (g.R.Rules.machine c.self.inside.memos.rules) g.O.Outbox.puts c.self.inside.memos.rules (held (record { rules = c.self.inside.memos.rules; places = c.self.inside.memos.places; inputs = c.self.inside.inputs; lanes = c.self.inside.lanes; opened = c.self.inside.opened; clients = c.self.inside.clients; waiting = c.self.inside.waiting.items; runs = c.self.inside.runs; started = c.self.inside.started })) (record { inputs = c.self.inside.inputs; lanes = c.end_run.new.lanes.items; opened = c.self.inside.opened; clients = c.self.inside.clients; runs = c.take.new.self.items; started = c.self.inside.started }) l c.args.run c.in-Some.taken c.in-Ok-Answered.answer s here (λ o. false_true (sym c.if-is_overtaken.false ∙ c.is_overtaken.ensures.1 (rw c.now-now.ensures.now o))) (none_of (out_at c.in-Some.taken.top) (λ e. false_true (sym c.if-is_out.false ∙ c.is_out.ensures.1 e))) told.0 runs
-    (ended_as (held (record { rules = c.self.inside.memos.rules; places = c.self.inside.memos.places; inputs = c.self.inside.inputs; lanes = c.self.inside.lanes; opened = c.self.inside.opened; clients = c.self.inside.clients; waiting = c.self.inside.waiting.items; runs = c.self.inside.runs; started = c.self.inside.started })) (record { inputs = c.self.inside.inputs; lanes = c.end_run.new.lanes.items; opened = c.self.inside.opened; clients = c.self.inside.clients; runs = c.take.new.self.items; started = c.self.inside.started }) c.in-Some.taken c.look.new.self c.self.inside.inputs.revision (Answered c.in-Ok-Answered.answer) c.look.ensures.same
+    (λ l s. answer_moved g.R.Key.Ord.cmp (g.R.Rules.machine c.self.inside.memos.rules) g.O.Outbox.puts c.self.inside.memos.rules (held (record { rules = c.self.inside.memos.rules; places = c.self.inside.memos.places; inputs = c.self.inside.inputs; lanes = c.self.inside.lanes; opened = c.self.inside.opened; clients = c.self.inside.clients; waiting = c.self.inside.waiting.items; runs = c.self.inside.runs; started = c.self.inside.started; claims = c.self.inside.claims })) (record { inputs = c.self.inside.inputs; lanes = c.end_run.new.lanes.items; opened = c.self.inside.opened; clients = c.self.inside.clients; runs = c.take.new.self.items; started = c.self.inside.started }) l c.args.run c.in-Some.taken c.in-Answered.answer s here (λ o. false_true (sym c.if-is_overtaken.false ∙ c.is_overtaken.ensures.1 (rw c.now-now.ensures.now o))) (none_of (out_at c.in-Some.taken.top) (λ e. false_true (sym c.if-is_out.false ∙ c.is_out.ensures.1 e))) told.0 runs
+    (ended_as (held (record { rules = c.self.inside.memos.rules; places = c.self.inside.memos.places; inputs = c.self.inside.inputs; lanes = c.self.inside.lanes; opened = c.self.inside.opened; clients = c.self.inside.clients; waiting = c.self.inside.waiting.items; runs = c.self.inside.runs; started = c.self.inside.started; claims = c.self.inside.claims })) (record { inputs = c.self.inside.inputs; lanes = c.end_run.new.lanes.items; opened = c.self.inside.opened; clients = c.self.inside.clients; runs = c.take.new.self.items; started = c.self.inside.started }) c.in-Some.taken c.look.new.self c.self.inside.inputs.revision (Answered c.in-Answered.answer) c.look.ensures.same
     (λ lane h k. rw c.now-now.ensures.now at ((c.end_run.ensures.«open» lane h).found k)))
     (λ h k. (c.end_run.ensures.closed (ap (λ (n : ℕ). found c.self.inside.lanes.items n) c.look.ensures.same.client ∙ h)).found k) (record { inputs = refl; opened = refl; clients = refl; started = refl }))
 
@@ -309,7 +364,8 @@ invariant_of-self-in-Err g c =
           let b = set.room in
           omega (arith, a, b);
       current = all_kept g.R.Key.Ord.cmp (g.R.Rules.machine c.self.inside.memos.rules) c.self.inside.inputs (memo_at g.R.Key.Ord.cmp c.self.inside.memos.places) (memo_at g.R.Key.Ord.cmp c.look.new.memos.places) c.self.inside.runs.items _ c.args.run c.look.new.self c.look.ensures.renewed set.found w.current (λ e. c.look.ensures.run_kept);
-      ledger = (w.ledger.0, back_moved g.R.Key.Ord.cmp (g.R.Rules.machine c.self.inside.memos.rules) g.O.Outbox.puts (held (record { rules = c.self.inside.memos.rules; places = c.self.inside.memos.places; inputs = c.self.inside.inputs; lanes = c.self.inside.lanes; opened = c.self.inside.opened; clients = c.self.inside.clients; waiting = c.self.inside.waiting.items; runs = c.self.inside.runs; started = c.self.inside.started })) (record { inputs = c.self.inside.inputs; lanes = c.self.inside.lanes.items; opened = c.self.inside.opened; clients = c.self.inside.clients; runs = c.put_back-in-Err.new.self.items; started = c.self.inside.started }) w.ledger.0 c.args.run c.in-Some.taken c.look.new.self w.ledger.1 here c.look.ensures.same ((c.in-Err.ensures {u = tt}).refused ∙ sym (none_of (out_at c.in-Some.taken.top) (λ e. false_true (sym c.if-is_out.false ∙ c.is_out.ensures.1 e)))) set.found (λ k. refl) (record { inputs = refl; opened = refl; clients = refl; started = refl }));
+      claimed = put_claimed c.self.inside.claims c.look.new.claims c.self.inside.runs.items _ c.args.run c.look.new.self set.found c.look.ensures.claimed c.look.ensures.others w.claimed;
+      ledger = (w.ledger.0, back_moved g.R.Key.Ord.cmp (g.R.Rules.machine c.self.inside.memos.rules) g.O.Outbox.puts (held (record { rules = c.self.inside.memos.rules; places = c.self.inside.memos.places; inputs = c.self.inside.inputs; lanes = c.self.inside.lanes; opened = c.self.inside.opened; clients = c.self.inside.clients; waiting = c.self.inside.waiting.items; runs = c.self.inside.runs; started = c.self.inside.started; claims = c.self.inside.claims })) (record { inputs = c.self.inside.inputs; lanes = c.self.inside.lanes.items; opened = c.self.inside.opened; clients = c.self.inside.clients; runs = c.put_back-in-Err.new.self.items; started = c.self.inside.started }) w.ledger.0 c.args.run c.in-Some.taken c.look.new.self w.ledger.1 here c.look.ensures.same ((c.in-Err.ensures {u = tt}).refused ∙ sym (none_of (out_at c.in-Some.taken.top) (λ e. false_true (sym c.if-is_out.false ∙ c.is_out.ensures.1 e)))) set.found (λ k. refl) (record { inputs = refl; opened = refl; clients = refl; started = refl }));
     })
 
 pub returns-in-Err-clause-none_lost : goal.returns-in-Err-clause-none_lost
@@ -324,5 +380,65 @@ returns-in-Err-clause-moved g c =
     (rw c.in-Some.is at c.take.ensures.more_room) (rw c.number-id.ensures at c.put_back-in-Err.ensures.found) c.put_back-in-Err.ensures.room c.put_back-in-Err.ensures.above in
     rw (← c.self.view_is)
     (λ l s.
-    let b = goes_on g.R.Key.Ord.cmp (g.R.Rules.machine c.self.inside.memos.rules) g.O.Outbox.puts c.self.inside.memos.rules (held (record { rules = c.self.inside.memos.rules; places = c.self.inside.memos.places; inputs = c.self.inside.inputs; lanes = c.self.inside.lanes; opened = c.self.inside.opened; clients = c.self.inside.clients; waiting = c.self.inside.waiting.items; runs = c.self.inside.runs; started = c.self.inside.started })) l c.args.run c.in-Some.taken s here (λ o. false_true (sym c.if-is_overtaken.false ∙ c.is_overtaken.ensures.1 (rw c.now-now.ensures.now o))) (none_of (out_at c.in-Some.taken.top) (λ e. false_true (sym c.if-is_out.false ∙ c.is_out.ensures.1 e))) in
-    (l, (b.0, b.1, refl), back_moved g.R.Key.Ord.cmp (g.R.Rules.machine c.self.inside.memos.rules) g.O.Outbox.puts (held (record { rules = c.self.inside.memos.rules; places = c.self.inside.memos.places; inputs = c.self.inside.inputs; lanes = c.self.inside.lanes; opened = c.self.inside.opened; clients = c.self.inside.clients; waiting = c.self.inside.waiting.items; runs = c.self.inside.runs; started = c.self.inside.started })) (record { inputs = c.self.inside.inputs; lanes = c.self.inside.lanes.items; opened = c.self.inside.opened; clients = c.self.inside.clients; runs = c.put_back-in-Err.new.self.items; started = c.self.inside.started }) l c.args.run c.in-Some.taken c.look.new.self s here c.look.ensures.same ((c.in-Err.ensures {u = tt}).refused ∙ sym (none_of (out_at c.in-Some.taken.top) (λ e. false_true (sym c.if-is_out.false ∙ c.is_out.ensures.1 e)))) set.found (λ k. refl) (record { inputs = refl; opened = refl; clients = refl; started = refl })))
+    let b = goes_on g.R.Key.Ord.cmp (g.R.Rules.machine c.self.inside.memos.rules) g.O.Outbox.puts c.self.inside.memos.rules (held (record { rules = c.self.inside.memos.rules; places = c.self.inside.memos.places; inputs = c.self.inside.inputs; lanes = c.self.inside.lanes; opened = c.self.inside.opened; clients = c.self.inside.clients; waiting = c.self.inside.waiting.items; runs = c.self.inside.runs; started = c.self.inside.started; claims = c.self.inside.claims })) l c.args.run c.in-Some.taken s here (λ o. false_true (sym c.if-is_overtaken.false ∙ c.is_overtaken.ensures.1 (rw c.now-now.ensures.now o))) (none_of (out_at c.in-Some.taken.top) (λ e. false_true (sym c.if-is_out.false ∙ c.is_out.ensures.1 e))) in
+    (l, (b.0, b.1, refl), back_moved g.R.Key.Ord.cmp (g.R.Rules.machine c.self.inside.memos.rules) g.O.Outbox.puts (held (record { rules = c.self.inside.memos.rules; places = c.self.inside.memos.places; inputs = c.self.inside.inputs; lanes = c.self.inside.lanes; opened = c.self.inside.opened; clients = c.self.inside.clients; waiting = c.self.inside.waiting.items; runs = c.self.inside.runs; started = c.self.inside.started; claims = c.self.inside.claims })) (record { inputs = c.self.inside.inputs; lanes = c.self.inside.lanes.items; opened = c.self.inside.opened; clients = c.self.inside.clients; runs = c.put_back-in-Err.new.self.items; started = c.self.inside.started }) l c.args.run c.in-Some.taken c.look.new.self s here c.look.ensures.same ((c.in-Err.ensures {u = tt}).refused ∙ sym (none_of (out_at c.in-Some.taken.top) (λ e. false_true (sym c.if-is_out.false ∙ c.is_out.ensures.1 e)))) set.found (λ k. refl) (record { inputs = refl; opened = refl; clients = refl; started = refl })))
+
+pub look-requires-clause-claimed : goal.look-requires-clause-claimed
+look-requires-clause-claimed g c =
+    let here = sym (rw c.number-id.ensures at (c.in-Some.ensures {u = tt}).value) in
+    c.self.invariant.claimed c.args.run ∙ ap (λ o. claimed_keys o) here
+
+pub returns-in-None-clause-loosens : goal.returns-in-None-clause-loosens
+returns-in-None-clause-loosens g c =
+    let nothing = sym (rw c.number-id.ensures at (c.in-None.ensures {u = tt}).value) in
+    let same = none_taken c.self.inside.runs c.take.new.self c.args.run nothing (rw c.number-id.ensures at c.take.ensures.found) c.take.ensures.above c.take.ensures.room in
+    rw (← c.self.view_is)
+    (same_loosens g.R.Key.Ord.cmp c.self.inside.claims c.self.inside.runs.items c.take.new.self.items same.found)
+
+pub returns-then-is_overtaken-clause-loosens : goal.returns-then-is_overtaken-clause-loosens
+returns-then-is_overtaken-clause-loosens g c = rw (← c.self.view_is)
+    (end_loosens g.R.Key.Ord.cmp c.self.inside.claims c.self.inside.runs.items c.take.new.self.items c.args.run (rw c.number-id.ensures at c.take.ensures.found))
+
+pub returns-then-is_out-clause-loosens : goal.returns-then-is_out-clause-loosens
+returns-then-is_out-clause-loosens g c =
+    let here = sym (rw c.number-id.ensures at (c.in-Some.ensures {u = tt}).value) in
+    let set = set_back c.self.inside.runs c.take.new.self c.put_back.new.self c.args.run c.in-Some.taken (rw c.number-id.ensures at c.take.ensures.found) c.take.ensures.above
+    (rw c.in-Some.is at c.take.ensures.more_room) (rw c.number-id.ensures at c.put_back.ensures.found) c.put_back.ensures.room c.put_back.ensures.above in
+    rw (← c.self.view_is)
+    (put_loosens g.R.Key.Ord.cmp c.self.inside.claims c.self.inside.runs.items c.put_back.new.self.items c.args.run c.in-Some.taken c.in-Some.taken here set.found (inl refl))
+
+pub returns-in-Carry-clause-loosens : goal.returns-in-Carry-clause-loosens
+returns-in-Carry-clause-loosens g c =
+    let here = sym (rw c.number-id.ensures at (c.in-Some.ensures {u = tt}).value) in
+    let set = set_back c.self.inside.runs c.take.new.self c.put_back-in-Carry.new.self c.args.run c.look.new.self (rw c.number-id.ensures at c.take.ensures.found) c.take.ensures.above
+    (rw c.in-Some.is at c.take.ensures.more_room) (rw c.number-id.ensures at c.put_back-in-Carry.ensures.found) c.put_back-in-Carry.ensures.room c.put_back-in-Carry.ensures.above in
+    rw (← c.self.view_is)
+    (put_loosens g.R.Key.Ord.cmp c.self.inside.claims c.self.inside.runs.items c.put_back-in-Carry.new.self.items c.args.run c.in-Some.taken c.look.new.self here set.found c.look.ensures.loosens)
+
+pub returns-in-Stepped-clause-loosens : goal.returns-in-Stepped-clause-loosens
+returns-in-Stepped-clause-loosens g c =
+    let here = sym (rw c.number-id.ensures at (c.in-Some.ensures {u = tt}).value) in
+    let set = set_back c.self.inside.runs c.take.new.self c.put_back-in-Stepped.new.self c.args.run c.look.new.self (rw c.number-id.ensures at c.take.ensures.found) c.take.ensures.above
+    (rw c.in-Some.is at c.take.ensures.more_room) (rw c.number-id.ensures at c.put_back-in-Stepped.ensures.found) c.put_back-in-Stepped.ensures.room c.put_back-in-Stepped.ensures.above in
+    rw (← c.self.view_is)
+    (put_loosens g.R.Key.Ord.cmp c.self.inside.claims c.self.inside.runs.items c.put_back-in-Stepped.new.self.items c.args.run c.in-Some.taken c.look.new.self here set.found c.look.ensures.loosens)
+
+pub returns-in-Blocked-clause-loosens : goal.returns-in-Blocked-clause-loosens
+returns-in-Blocked-clause-loosens g c =
+    let here = sym (rw c.number-id.ensures at (c.in-Some.ensures {u = tt}).value) in
+    let set = set_back c.self.inside.runs c.take.new.self c.put_back-in-Blocked.new.self c.args.run c.look.new.self (rw c.number-id.ensures at c.take.ensures.found) c.take.ensures.above
+    (rw c.in-Some.is at c.take.ensures.more_room) (rw c.number-id.ensures at c.put_back-in-Blocked.ensures.found) c.put_back-in-Blocked.ensures.room c.put_back-in-Blocked.ensures.above in
+    rw (← c.self.view_is)
+    (put_loosens g.R.Key.Ord.cmp c.self.inside.claims c.self.inside.runs.items c.put_back-in-Blocked.new.self.items c.args.run c.in-Some.taken c.look.new.self here set.found c.look.ensures.loosens)
+
+pub returns-in-Err-clause-loosens : goal.returns-in-Err-clause-loosens
+returns-in-Err-clause-loosens g c =
+    let here = sym (rw c.number-id.ensures at (c.in-Some.ensures {u = tt}).value) in
+    let set = set_back c.self.inside.runs c.take.new.self c.put_back-in-Err.new.self c.args.run c.look.new.self (rw c.number-id.ensures at c.take.ensures.found) c.take.ensures.above
+    (rw c.in-Some.is at c.take.ensures.more_room) (rw c.number-id.ensures at c.put_back-in-Err.ensures.found) c.put_back-in-Err.ensures.room c.put_back-in-Err.ensures.above in
+    rw (← c.self.view_is)
+    (put_loosens g.R.Key.Ord.cmp c.self.inside.claims c.self.inside.runs.items c.put_back-in-Err.new.self.items c.args.run c.in-Some.taken c.look.new.self here set.found c.look.ensures.loosens)
+
+pub returns-in-Answered-clause-loosens : goal.returns-in-Answered-clause-loosens
+returns-in-Answered-clause-loosens g c = rw (← c.self.view_is)
+    (end_loosens g.R.Key.Ord.cmp c.self.inside.claims c.self.inside.runs.items c.take.new.self.items c.args.run (rw c.number-id.ensures at c.take.ensures.found))

@@ -32,6 +32,7 @@ invariant_of-self g c =
       queue = queue_same _ _ _ (λ k. c.reserve.ensures.same.same k) w.queue;
       room = w.room;
       current = w.current;
+      claimed = w.claimed;
       ledger = (
         w.ledger.0,
         unmoved g.R.Key.Ord.cmp (g.R.Rules.machine c.self.inside.memos.rules) g.O.Outbox.puts _ _ w.ledger.0
@@ -62,6 +63,7 @@ invariant_of-self-2 g c =
       queue = queue_opened _ _ _ c.self.inside.clients c.args.outbox (found_above c.self.inside.clients _ w.lanes_above) lanes w.queue;
       room = w.room;
       current = w.current;
+      claimed = w.claimed;
       ledger = (moved.0, moved.2);
     }
 

@@ -31,6 +31,7 @@ invariant_of-self g c =
           (λ h. let x = c.release_in.ensures.closed h in (x.0, x.1.found)) w.queue;
       room = w.room;
       current = w.current;
+      claimed = w.claimed;
       ledger = (moved.0, moved.2);
     }
 

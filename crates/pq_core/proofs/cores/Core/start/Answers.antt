@@ -1,5 +1,8 @@
-use Rattle.std.proofs.Common.{◌≡◌, ◌≤◌, ◌+◌, ℕ, List, ◌∷◌, length, refl, ap, inl, arith}
+use Rattle.std.proofs.Common.{◌≡◌, ◌≤◌, ◌+◌, ℕ, List, ◌∷◌, length, refl, ◌∙◌, ap, inl, arith}
 use Rattle.pq_memo.specs.Table.{memo_at}
+use Rattle.pq_core.specs.aux.Runs.{claimed_keys}
+use Rattle.pq_core.proofs.Slots.{found_above}
+use Rattle.pq_core.proofs.Claiming.{put_claimed, others_same}
 use Rattle.pq_core.proofs.Changing.{above_next}
 use Rattle.pq_core.proofs.Queued.{queue_started}
 use Rattle.pq_core.proofs.CoreResting.{no_length}
@@ -34,6 +37,8 @@ invariant_of-self g c =
           omega arith;
       current = current_pushed g.R.Key.Ord.cmp (g.R.Rules.machine c.self.inside.memos.rules) c.self.inside.inputs (memo_at g.R.Key.Ord.cmp c.self.inside.memos.places) c.self.inside.runs.items c.push_reserved.new.self.items c.self.inside.started c.new-made.result c.push_reserved.ensures.found
           (rw c.new-made.ensures refl) w.current;
+      claimed = put_claimed c.self.inside.claims c.self.inside.claims c.self.inside.runs.items c.push_reserved.new.self.items c.self.inside.started c.new-made.result c.push_reserved.ensures.found
+          (rw c.new-made.ensures (w.claimed c.self.inside.started ∙ ap (λ o. claimed_keys o) (found_above c.self.inside.started _ w.runs_above))) (others_same c.self.inside.started c.self.inside.claims) w.claimed;
       ledger = (moved.0, moved.2);
     }
 

@@ -11,8 +11,8 @@ use Rattle.pq_core.proofs.Renewed.{renewed_same, renewed_finished, up_waits, fra
 use Rattle.pq_core.proofs.Framed.{lowered, below_as, frame_as, has_read}
 use Rattle.pq_core.proofs.frames.Frames.step.Goals as goal
 
-pub returns-in_err-wait-in-Ok-Needs-clause-renewed : goal.returns-in_err-wait-in-Ok-Needs-clause-renewed
-returns-in_err-wait-in-Ok-Needs-clause-renewed g c =
+pub returns-in_err-other-in-Ok-Needs-clause-renewed : goal.returns-in_err-other-in-Ok-Needs-clause-renewed
+returns-in_err-other-in-Ok-Needs-clause-renewed g c =
     let s = rw c.in-Ok-Needs.field-0-is at c.in-Ok-Needs.ensures.step in
     moved_to (λ (r : g.row.R.Denot) (t : g.row.R-Key.Denot → Option (Memo g.row.R-Key.Denot g.row.R-Value.Denot)).
     Renewed (g.R.Rules.machine r) c.args.inputs.now.revision t (memo_at g.R.Key.Ord.cmp c.wait.new.memos.places))
@@ -20,8 +20,17 @@ returns-in_err-wait-in-Ok-Needs-clause-renewed g c =
     (sym c.step.ensures.rules) (sym (one_table (memo_at g.R.Key.Ord.cmp c.args.memos.now.places) (memo_at g.R.Key.Ord.cmp c.step.new.self.places) s.0))
     c.wait.ensures.renewed
 
-pub returns-in_ok-wait-in-Ok-Needs-clause-renewed : goal.returns-in_ok-wait-in-Ok-Needs-clause-renewed
-returns-in_ok-wait-in-Ok-Needs-clause-renewed g c =
+pub returns-in-Some-clause-renewed : goal.returns-in-Some-clause-renewed
+returns-in-Some-clause-renewed g c =
+    let s = rw c.in-Ok-Needs.field-0-is at c.in-Ok-Needs.ensures.step in
+    moved_to (λ (r : g.row.R.Denot) (t : g.row.R-Key.Denot → Option (Memo g.row.R-Key.Denot g.row.R-Value.Denot)).
+    Renewed (g.R.Rules.machine r) c.args.inputs.now.revision t (memo_at g.R.Key.Ord.cmp c.wait.new.memos.places))
+    c.step.new.self.rules c.args.memos.now.rules (memo_at g.R.Key.Ord.cmp c.step.new.self.places) (memo_at g.R.Key.Ord.cmp c.args.memos.now.places)
+    (sym c.step.ensures.rules) (sym (one_table (memo_at g.R.Key.Ord.cmp c.args.memos.now.places) (memo_at g.R.Key.Ord.cmp c.step.new.self.places) s.0))
+    c.wait.ensures.renewed
+
+pub returns-in-Ok-Needs-clause-renewed : goal.returns-in-Ok-Needs-clause-renewed
+returns-in-Ok-Needs-clause-renewed g c =
     let s = rw c.in-Ok-Needs.field-0-is at c.in-Ok-Needs.ensures.step in
     moved_to (λ (r : g.row.R.Denot) (t : g.row.R-Key.Denot → Option (Memo g.row.R-Key.Denot g.row.R-Value.Denot)).
     Renewed (g.R.Rules.machine r) c.args.inputs.now.revision t (memo_at g.R.Key.Ord.cmp c.wait.new.memos.places))
@@ -85,11 +94,11 @@ returns-in-Ok-Finished-clause-frames_kept g c =
     let exact : Exact g.R.Key.Ord.cmp = record { total = g.met.R.Key.Ord.total; exact = laws.exact } in
     let s = rw c.in-Ok-Finished.field-0-is at c.in-Ok-Finished.ensures.step in
     lowered g.R.Key.Ord.cmp (g.R.Rules.machine c.args.memos.now.rules) c.args.inputs.now (memo_at g.R.Key.Ord.cmp c.step.new.self.places) c.args.frame.key c.args.self.now.stack
-    c.lower.new.self.stack c.lower.new.self.top
+    c.leave.new.self.stack c.leave.new.self.top
     (up_waits g.R.Key.Ord.cmp (g.R.Rules.machine c.args.memos.now.rules) c.args.inputs.now (memo_at g.R.Key.Ord.cmp c.args.memos.now.places) (memo_at g.R.Key.Ord.cmp c.step.new.self.places)
     (renewed_finished g.R.Key.Ord.cmp exact (g.R.Rules.machine c.args.memos.now.rules) c.args.inputs.now c.args.memos.now.places c.step.new.self.places c.args.frame.key c.requires.stale s)
     c.args.frame.key c.args.self.now.stack c.requires.below.waits)
-    c.requires.below.differ c.lower.ensures
+    c.requires.below.differ c.leave.ensures.lowered
 
 pub returns-in-Ok-Starts-clause-advanced : goal.returns-in-Ok-Starts-clause-advanced
 returns-in-Ok-Starts-clause-advanced g c =
@@ -109,8 +118,8 @@ returns-in-Ok-GoesOn-clause-advanced g c =
     (sym c.step.ensures.rules) (sym (one_table (memo_at g.R.Key.Ord.cmp c.args.memos.now.places) (memo_at g.R.Key.Ord.cmp c.step.new.self.places) s.0))
     c.go_on.ensures.handed
 
-pub returns-in-Err-clause-frames_kept : goal.returns-in-Err-clause-frames_kept
-returns-in-Err-clause-frames_kept g c =
+pub returns-clause-frames_kept : goal.returns-clause-frames_kept
+returns-clause-frames_kept g c =
     let back = c.in-Err.ensures.returned in
     frames_still g.R.Key.Ord.cmp (g.R.Rules.machine c.args.memos.now.rules) c.args.inputs.now (memo_at g.R.Key.Ord.cmp c.args.memos.now.places) (memo_at g.R.Key.Ord.cmp c.step.new.self.places)
     (renewed_same (g.R.Rules.machine c.args.memos.now.rules) c.args.inputs.now.revision (memo_at g.R.Key.Ord.cmp c.args.memos.now.places) (memo_at g.R.Key.Ord.cmp c.step.new.self.places) c.in-Err.ensures.refused)

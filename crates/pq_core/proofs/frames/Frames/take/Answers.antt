@@ -10,7 +10,7 @@ use Rattle.pq_core.proofs.frames.Frames.take.Goals as goal
 pub returns-then-is_up_to_date-clause-frames_kept : goal.returns-then-is_up_to_date-clause-frames_kept
 returns-then-is_up_to_date-clause-frames_kept g c =
     lowered g.R.Key.Ord.cmp (g.R.Rules.machine c.args.memos.now.rules) c.args.inputs.now (memo_at g.R.Key.Ord.cmp c.args.memos.now.places) c.args.pending.key c.args.self.now.stack
-    c.lower.new.self.stack c.lower.new.self.top c.requires.below.waits c.requires.below.differ c.lower.ensures
+    c.leave.new.self.stack c.leave.new.self.top c.requires.below.waits c.requires.below.differ c.leave.ensures.lowered
 
 pub take_turn-requires-clause-came : goal.take_turn-requires-clause-came
 take_turn-requires-clause-came g c =

@@ -9,10 +9,10 @@ use Rattle.pq_core.proofs.frames.Frames.take_turn.Goals as goal
 pub returns-in-Ok-clause-frames_kept : goal.returns-in-Ok-clause-frames_kept
 returns-in-Ok-clause-frames_kept g c =
     lowered g.R.Key.Ord.cmp (g.R.Rules.machine c.args.memos.now.rules) c.args.inputs.now (memo_at g.R.Key.Ord.cmp c.publish_value.new.memos.places) c.args.pending.key c.args.self.now.stack
-    c.lower.new.self.stack c.lower.new.self.top
+    c.leave.new.self.stack c.leave.new.self.top
     (up_waits g.R.Key.Ord.cmp (g.R.Rules.machine c.args.memos.now.rules) c.args.inputs.now (memo_at g.R.Key.Ord.cmp c.args.memos.now.places) (memo_at g.R.Key.Ord.cmp c.publish_value.new.memos.places) c.publish_value.ensures.renewed
     c.args.pending.key c.args.self.now.stack c.requires.below.waits)
-    c.requires.below.differ c.lower.ensures
+    c.requires.below.differ c.leave.ensures.lowered
 
 pub returns-in-Err-clause-frames_kept : goal.returns-in-Err-clause-frames_kept
 returns-in-Err-clause-frames_kept g c =

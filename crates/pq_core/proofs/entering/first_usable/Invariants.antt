@@ -3,7 +3,7 @@ use Rattle.pq_rules.specs.Relations.{Each}
 use Rattle.pq_memo.specs.declared.frame.Frame.{Frame}
 use Rattle.pq_memo.specs.Look.{IsUpToDate}
 use Rattle.pq_memo.specs.Table.{memo_at, HasIn}
-use Rattle.pq_core.proofs.frames.first_usable.Given as goal
+use Rattle.pq_core.proofs.entering.first_usable.Given as goal
 
 abbrev pub invariant-loop-i : goal.invariant-loop-i
 invariant-loop-i g l =

@@ -4,7 +4,7 @@ use Rattle.pq_memo.specs.declared.frame.Frame.{Frame}
 use Rattle.pq_memo.specs.Look.{IsUpToDate}
 use Rattle.pq_memo.specs.Table.{memo_at, HasIn}
 use Rattle.pq_core.proofs.Framed.{each_more}
-use Rattle.pq_core.proofs.frames.first_usable.Goals as goal
+use Rattle.pq_core.proofs.entering.first_usable.Goals as goal
 
 pub loop-i-preserved : goal.loop-i-preserved
 loop-i-preserved g c = rw add-one
