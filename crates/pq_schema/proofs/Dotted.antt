@@ -115,25 +115,24 @@ inside_none (x ∷ xs) [] at = cc
 inside_none [] (c ∷ cs) at = refl
 inside_none (x ∷ xs) (c ∷ cs) at = sym (and_false (nat_eq c x)) ∙ ap (λ (t : Bool). nat_eq c x && t) (inside_none xs cs at)
 
--- what is a name with a dot after it
-pub dotted_last : (before q : List ℕ) (l : ℕ) → (nat_eq l 46 && bytes_eq before q) ≡ bytes_eq (before ++ l ∷ []) (dotted q)
-dotted_last [] [] l = refl
-dotted_last [] (c ∷ cs) l = and_false (nat_eq l 46) ∙ sym (ap (λ (t : Bool). nat_eq l c && t) (none cs) ∙ and_false (nat_eq l c))
-  where
-    none : (cs : List ℕ) → bytes_eq [] (dotted cs) ≡ false
-    none [] = refl
-    none (c ∷ cs) = refl
-dotted_last (b ∷ bs) [] l = and_false (nat_eq l 46) ∙ sym (ap (λ (t : Bool). nat_eq b 46 && t) (none bs) ∙ and_false (nat_eq b 46))
-  where
-    none : (bs : List ℕ) → bytes_eq (bs ++ l ∷ []) [] ≡ false
-    none [] = refl
-    none (c ∷ cs) = refl
-dotted_last (b ∷ bs) (c ∷ cs) l =
-    and_swapped (nat_eq l 46) (nat_eq b c) (bytes_eq bs cs) ∙ ap (λ (t : Bool). nat_eq b c && t) (dotted_last bs cs l)
+-- what is a name with a dot after it: of the same length, and begins with it
+pub whole : (e d : List ℕ) → length e ≡ length d → starts_with nat_eq e d ≡ bytes_eq e d
+whole [] [] h = refl
+whole (x ∷ xs) [] h = absurd (omega arith)
+whole [] (d ∷ ds) h = absurd (omega arith)
+whole (x ∷ xs) (d ∷ ds) h =
+    ap (λ (t : Bool). t && starts_with nat_eq xs ds) (same_turned d x) ∙ ap (λ (t : Bool). nat_eq x d && t) (whole xs ds (omega arith))
 
-pub dotted_none : (q : List ℕ) → false ≡ bytes_eq [] (dotted q)
-dotted_none [] = refl
-dotted_none (c ∷ cs) = refl
+pub other_length : (e d : List ℕ) → (length e ≡ length d → ⊥) → false ≡ bytes_eq e d
+other_length [] [] h = absurd (h refl)
+other_length (x ∷ xs) [] h = refl
+other_length [] (d ∷ ds) h = refl
+other_length (x ∷ xs) (d ∷ ds) h =
+    sym (and_false (nat_eq x d)) ∙ ap (λ (t : Bool). nat_eq x d && t) (other_length xs ds (λ same. h (omega arith)))
+
+pub dotted_length : (q : List ℕ) → length (dotted q) ≡ length q + 1
+dotted_length [] = refl
+dotted_length (c ∷ cs) = let rest = dotted_length cs in omega arith
 
 -- ---- those that begin with a name are neighbours
 

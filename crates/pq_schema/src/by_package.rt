@@ -37,12 +37,19 @@ pub(crate) fn packages_of(alloc: Global, files: &[FileDefs]) -> Result<Vec<Entry
     Ok(packages)
 }
 
+/// Whether `text` begins with `start`. Both are compared many bytes at a time.
+fn begins(text: &str, start: &str) -> bool
+    ensures is { result ≡ starts_with nat_eq text.now start.now }
+{
+    text.starts_with(start)
+}
+
 /// Whether `entry` comes before `name` with a dot after it.
-fn is_before(entry: &[u8], name: &[u8]) -> bool
+fn is_before(entry: &str, name: &str) -> bool
     ensures is { result ≡ is_lt (slice_cmp nat_cmp entry.now (dotted name.now)) }
 {
-    if entry.starts_with(name) {
-        match entry.get(name.len()) {
+    if begins(entry, name) {
+        match entry.as_bytes().get(name.len()) {
             Some(byte) => *byte < b'.',
             None => true,
         }
@@ -52,22 +59,23 @@ fn is_before(entry: &[u8], name: &[u8]) -> bool
 }
 
 /// Whether `entry` begins with `name` and a dot.
-fn is_inside(entry: &[u8], name: &[u8]) -> bool
+fn is_inside(entry: &str, name: &str) -> bool
     ensures is { result ≡ starts_with nat_eq entry.now (dotted name.now) }
 {
-    match entry.get(name.len()) {
-        Some(byte) => *byte == b'.' && entry.starts_with(name),
+    match entry.as_bytes().get(name.len()) {
+        Some(byte) => *byte == b'.' && begins(entry, name),
         None => false,
     }
 }
 
 /// Whether `entry` is `name` with a dot after it.
-fn is_dotted(entry: &[u8], name: &[u8]) -> bool
+fn is_dotted(entry: &str, name: &str) -> bool
     ensures is { result ≡ bytes_eq entry.now (dotted name.now) }
 {
-    match entry.split_last() {
-        Some((last, before)) => *last == b'.' && before == name,
-        None => false,
+    if entry.len().saturating_sub(name.len()) == 1 {
+        is_inside(entry, name)
+    } else {
+        false
     }
 }
 
@@ -83,7 +91,7 @@ fn first_from(packages: &[Entry], name: &str) -> usize
     packages.partition_point(
         |entry: &Entry| -> bool
             ensures { result ≡ is_lt (slice_cmp nat_cmp entry.now.0 (dotted name.entry.now)) }
-        { is_before(entry.0.as_str().as_bytes(), name.as_bytes()) },
+        { is_before(entry.0.as_str(), name) },
     )
 }
 
@@ -93,7 +101,7 @@ pub(crate) fn has_package(packages: &[Entry], name: &str) -> bool
     ensures is { result ≡ list_any (λ e. starts_with nat_eq e.0 (dotted name.now)) packages.now }
 {
     match packages.get(first_from(packages, name)) {
-        Some(entry) => is_inside(entry.0.as_str().as_bytes(), name.as_bytes()),
+        Some(entry) => is_inside(entry.0.as_str(), name),
         None => false,
     }
 }
@@ -107,7 +115,7 @@ fn add_places(packages: &[Entry], root: &str, near: &mut Vec<usize>) -> Result<(
 {
     let first = first_from(packages, root);
     'entries: for entry in &packages[first..] {
-        if !is_dotted(entry.0.as_str().as_bytes(), root.as_bytes()) {
+        if !is_dotted(entry.0.as_str(), root) {
             return Ok(());
         }
         near.push(entry.1)?;
@@ -117,14 +125,14 @@ fn add_places(packages: &[Entry], root: &str, near: &mut Vec<usize>) -> Result<(
 
 /// Whether `entry` is a package that a search from `scope` outwards meets: `scope` itself, a prefix
 /// of it before a dot, or the empty package.
-fn is_around(entry: &[u8], scope: &[u8]) -> bool
+fn is_around(entry: &str, scope: &str) -> bool
     ensures all { (root : List ℕ) → entry.now ≡ dotted root
         → is_among root (chain (Some scope.now)) ≡ true → result ≡ true }
 {
     if entry.len() == 1 {
         return true;
     }
-    if scope.starts_with(entry) {
+    if begins(scope, entry) {
         return true;
     }
     is_dotted(entry, scope)
@@ -139,7 +147,7 @@ fn add_around(packages: &[Entry], scope: &str, near: &mut Vec<usize>) -> Result<
         → Contains packages.now (dotted root, k) → In k near.new.items) }
 {
     'entries: for at in 0..packages.len() {
-        if !is_around(packages[at].0.as_str().as_bytes(), scope.as_bytes()) {
+        if !is_around(packages[at].0.as_str(), scope) {
             continue;
         }
         near.push(packages[at].1)?;

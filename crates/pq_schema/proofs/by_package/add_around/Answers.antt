@@ -11,14 +11,14 @@ entries-preserved-then-not-is_around c =
     let packages = c.args.packages.now in
     let scope = c.args.scope.now in
     let n = c.entries.at in
-    let is : c.as_bytes.result.now ≡ (get_or packages n ([], 0)).0 =
-    c.as_bytes.ensures.value ∙ c.as_str.ensures.same
+    let is : c.as_str.result.now ≡ (get_or packages n ([], 0)).0 =
+    c.as_str.ensures.same
     ∙ ap (λ (x : List ℕ × ℕ). x.0) (get_or_default packages n c.index-packages-at.result ([], 0) c.entries-test.true) in
     record {
       kept = c.entries.invariant.kept;
       placed = placed_past packages scope c.entries.near.items n
           (λ root k among at. true≢false (sym (c.if-not-is_around.ensures.all root (is ∙ ap (λ (x : List ℕ × ℕ). x.0) at)
-          (subst (λ (s : List ℕ). is_among root (chain (Some s)) ≡ true) (sym c.as_bytes-in-entries.ensures.value) among))))
+          among)))
           c.entries.invariant.placed;
     }
 

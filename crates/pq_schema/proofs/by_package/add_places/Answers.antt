@@ -23,8 +23,7 @@ returns-then-not-is_dotted-clause-places c =
     c.entry-item.is ∙ ap (λ (es : List (List ℕ × ℕ)). get_or es i e) whole
     ∙ get_or_default (drop n packages) i e ([], 0) (subst (λ (es : List (List ℕ × ℕ)). i < length es) whole c.entries-test.true) ∙ get_or-drop n packages i ([], 0) in
     let other : bytes_eq e.0 (dotted root) ≡ false =
-    ap (λ (x : List ℕ). bytes_eq x (dotted root)) (sym (c.as_bytes.ensures.value ∙ c.as_str.ensures.same))
-    ∙ ap (λ (q : List ℕ). bytes_eq c.as_bytes.result.now (dotted q)) (sym c.as_bytes-in-entries.ensures.value)
+    ap (λ (x : List ℕ). bytes_eq x (dotted root)) (sym c.as_str.ensures.same)
     ∙ sym c.if-not-is_dotted.ensures.is in
     placed packages c.requires root n c.first_from-first.ensures.less c.first_from-first.ensures.others i c.entries.near.items c.entries.invariant.placed
     (λ within. ap (λ (x : List ℕ × ℕ). bytes_eq x.0 (dotted root)) (sym here) ∙ other)
