@@ -12,17 +12,17 @@ use Rattle.pq_checks.specs.aux.Gathering.{checked_of}
 use Rattle.pq_checks.specs.aux.Queries.{link_next, staged, placed, link_follows, link_placed, check_starts, check_advances}
 use Rattle.pq_checks.specs.declared.checked.CheckPart.{CheckPart}
 use Rattle.pq_checks.specs.declared.checked.CheckPart.TheVariants.{ReadFile, ReadImports, ReadLinks, ReadDefs, ReadScope, ReadReferences, ReadState, ReadNext}
+use Rattle.pq_checks.specs.declared.fault.Fault.{Fault}
 use Rattle.pq_checks.specs.declared.gathered.Known.{Known}
 use Rattle.pq_checks.specs.declared.gathered.LinkedFile.{LinkedFile}
-use Rattle.pq_checks.specs.declared.surroundings.Checked.{Checked}
 use Rattle.pq_checks.specs.declared.surroundings.Imported.{Imported}
 
 module _ {K A : Type 0} (w : CheckWords K A) where
-  abbrev pub advances : CheckPart → A → Turn K CheckPart Checked
+  abbrev pub advances : CheckPart → A → Turn K CheckPart (List Fault)
   advances q a = check_advances w q a
 
   -- the run of a turn that asks: its first question, and the run of the rest
-  asked : (key : K) (part : CheckPart) (es : List (K × A)) (v : Checked) → Runs advances (Ask key part) es (Done v)
+  asked : (key : K) (part : CheckPart) (es : List (K × A)) (v : List Fault) → Runs advances (Ask key part) es (Done v)
       → (a : A) × (rest : List (K × A)) × (es ≡ (key, a) ∷ rest) × Runs advances (advances part a) rest (Done v)
   unfolding Runs
   asked key part [] v r = cc
@@ -33,25 +33,25 @@ module _ {K A : Type 0} (w : CheckWords K A) where
       (e.1, es, ap (λ k. (k, e.1) ∷ es) key_is, subst (λ (q : CheckPart). Runs advances (advances q e.1) es (Done v)) part_is r.2)
 
   -- the run of a turn that is done asks nothing
-  ended : (x v : Checked) (es : List (K × A)) → Runs advances (Done x) es (Done v) → (es ≡ []) × (v ≡ x)
+  ended : (x v : List Fault) (es : List (K × A)) → Runs advances (Done x) es (Done v) → (es ≡ []) × (v ≡ x)
   unfolding Runs
   ended x v [] r = let is : v ≡ x = cc in (refl, is)
   ended x v (e ∷ es) r = let none = r.1 in cc
 
   -- `NextIs k is imported es v` is that the questions `es` are those for the links of the imports
   -- `is` up to the first cycle, and that `v` is the checks by the next file that this gives
-  abbrev NextIs : Known → List Import → List Imported → List (K × A) → Checked → Type 0
+  abbrev NextIs : Known → List Import → List Imported → List (K × A) → List Fault → Type 0
   NextIs k is imported es v = (next : Option (List ℕ)) × AsksNext w is es next × (v ≡ checked_of k imported next)
 
   -- an answer for the links of the import `i`: a ring ends the run
-  stopped : (k : Known) (i : Import) (is : List Import) (imported : List Imported) (es : List (K × A)) (v : Checked) (ring : Option (List (List ℕ)))
+  stopped : (k : Known) (i : Import) (is : List Import) (imported : List Imported) (es : List (K × A)) (v : List Fault) (ring : Option (List (List ℕ)))
       → (Runs advances (link_placed k is imported (link_follows w.linked k (Some i) (slice_get is 0) None imported)) es (Done v) → NextIs k is imported es v)
       → Runs advances (link_placed k is imported (link_follows w.linked k (Some i) (slice_get is 0) ring imported)) es (Done v)
       → (next : Option (List ℕ)) × if_ring ring ((es ≡ []) × (next ≡ Some i.file)) (AsksNext w is es next) × (v ≡ checked_of k imported next)
   stopped k i is imported es v (Some ring) on r = let end = ended (checked_of k imported (Some i.file)) v es r in (Some i.file, (end.0, refl), end.1)
   stopped k i is imported es v None on r = on r
 
-  next_given : (k : Known) (i : Import) (is : List Import) (imported : List Imported) (es : List (K × A)) (v : Checked)
+  next_given : (k : Known) (i : Import) (is : List Import) (imported : List Imported) (es : List (K × A)) (v : List Fault)
       → Runs advances (link_placed k is imported (link_follows w.linked k (Some i) (slice_get is 0) None imported)) es (Done v) → NextIs k is imported es v
   unfolding Runs
   next_given k i [] imported es v r = let end = ended (checked_of k imported None) v es r in (None, (end.0, refl), end.1)
@@ -64,7 +64,7 @@ module _ {K A : Type 0} (w : CheckWords K A) where
       (rest.0, (key, rest.1), rest.2)
 
   -- the questions for links, after those for states
-  links_given : (k : Known) (ring : Option (List (List ℕ))) (is left : List Import) → k.linked.imports ≡ is → (imported : List Imported) (es : List (K × A)) (v : Checked)
+  links_given : (k : Known) (ring : Option (List (List ℕ))) (is left : List Import) → k.linked.imports ≡ is → (imported : List Imported) (es : List (K × A)) (v : List Fault)
       → Runs advances (placed k left imported (link_next w.linked k ring (slice_get is 0) imported)) es (Done v)
       → (next : Option (List ℕ)) × AsksLinks w ring is es next × (v ≡ checked_of k imported next)
   unfolding Runs
@@ -79,7 +79,7 @@ module _ {K A : Type 0} (w : CheckWords K A) where
       (rest.0, (key, rest.1), rest.2)
 
   -- the questions for states, and those for links
-  states_given : (k : Known) (left : List Import) (imported : List Imported) (es : List (K × A)) (v : Checked)
+  states_given : (k : Known) (left : List Import) (imported : List Imported) (es : List (K × A)) (v : List Fault)
       → Runs advances (placed k left imported (staged w.linked w.parse k (slice_get left 0) imported)) es (Done v)
       → (links : List (K × A)) × (more : List Imported) × (next : Option (List ℕ)) × AsksStates w left es links more
       × AsksLinks w k.linked.ring k.linked.imports links next × (v ≡ checked_of k (imported ++ more) next)
@@ -96,7 +96,7 @@ module _ {K A : Type 0} (w : CheckWords K A) where
       let rest = states_given k is (imported ++ new ∷ []) es v (subst (λ (q : CheckPart). Runs advances (advances q e.1) es (Done v)) part r.2) in
       (rest.0, new ∷ rest.1, rest.2, (rest.1, key, refl, rest.3), rest.4, rest.5 ∙ ap (λ is. checked_of k is rest.2) (append_assoc imported (new ∷ []) rest.1))
 
-  pub checks_given : (f : List ℕ) (es : List (K × A)) (v : Checked) → Runs advances (check_starts w.parse f) es (Done v) → AreChecksBy w f es v
+  pub checks_given : (f : List ℕ) (es : List (K × A)) (v : List Fault) → Runs advances (check_starts w.parse f) es (Done v) → AreChecksBy w f es v
   checks_given f es v r =
       let a = asked (w.parse f) (ReadFile f) es v r in
       let p = w.parsed a.0 in

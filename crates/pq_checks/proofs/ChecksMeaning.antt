@@ -12,7 +12,6 @@ use Rattle.pq_rules.specs.Relations.{Each, In, Chain, Leads, IsRing, LeadsInto}
 use Rattle.pq_rules.specs.Value.{Trace, Means}
 use Rattle.pq_rules.specs.Embedding.{Runs}
 use Rattle.pq_rules.proofs.LowerReads.{lower_runs}
-use Rattle.pq_rules.proofs.OneRead.{once}
 use Rattle.pq_rules.proofs.Rings.{each_in}
 use Rattle.pq_links.specs.Files.{read_file, graph_of}
 use Rattle.pq_links.specs.ImportGraph.{Graph, file_of, imported, IsGood, IsBad, IsNext, IsRingOf}
@@ -26,17 +25,21 @@ use Rattle.pq_schema.specs.SchemaSum.{SchemaSum, SchemaMeans}
 use Rattle.pq_schema.proofs.BadFiles.{ring_bad}
 use Rattle.pq_checks.specs.Answers.{CheckWords, AsksStates, AsksNext, AsksLinks, if_ring, surroundings_by}
 use Rattle.pq_checks.specs.ChecksSum.{ChecksSum, ChecksMeans, words_of}
-use Rattle.pq_checks.specs.Compile.{AreSurroundings, IsRingAt, file_faults, IsChecked}
-use Rattle.pq_checks.specs.Diagnostics.{ordered, AreDiagnostics}
+use Rattle.pq_checks.specs.Compile.{AreSurroundings, IsRingAt, file_faults, AreFaults}
+use Rattle.pq_checks.specs.Diagnostics.{diagnosed, AreDiagnostics}
 use Rattle.pq_checks.specs.Surroundings.{state_of, other_files}
 use Rattle.pq_checks.specs.aux.DiagnosticsTurns.{diagnostics_level, diagnostics_starts, diagnostics_advances}
 use Rattle.pq_checks.specs.aux.Queries.{check_level, link_next, staged, placed, with_state, link_follows, link_placed, check_starts, check_advances}
 use Rattle.pq_checks.specs.declared.checked.CheckPart.{CheckPart}
 use Rattle.pq_checks.specs.declared.checked.CheckPart.TheVariants.{ReadFile, ReadImports, ReadLinks, ReadDefs, ReadScope, ReadReferences, ReadState, ReadNext}
 use Rattle.pq_checks.specs.declared.gathered.Known.{Known}
-use Rattle.pq_checks.specs.declared.surroundings.Checked.{Checked}
+use Rattle.pq_checks.specs.declared.diagnostic.Diagnosed.{Diagnosed}
+use Rattle.pq_checks.specs.declared.diagnostics.DiagnosticsPart.{DiagnosticsPart}
+use Rattle.pq_checks.specs.declared.diagnostics.DiagnosticsPart.TheVariants.{ReadChecks, ReadFile as ReadParsed}
+use Rattle.pq_checks.specs.declared.fault.Fault.{Fault}
 use Rattle.pq_checks.specs.declared.surroundings.Imported.{Imported}
 use Rattle.pq_checks.proofs.ByAnswers.{checks_given}
+use Rattle.pq_checks.proofs.DiagnosticsGiven.{diagnostics_given}
 
 -- ---- rings of imports
 
@@ -84,7 +87,7 @@ module _ {K P V : Type 0} (m : Instance K P V) (files : Sources) (s : SchemaSum 
   abbrev w : CheckWords K (Answer K V)
   w = words_of s c.referred_read c.ring_files
 
-  abbrev advances : CheckPart → Answer K V → Turn K CheckPart Checked
+  abbrev advances : CheckPart → Answer K V → Turn K CheckPart (List Fault)
   advances q a = check_advances w q a
 
   abbrev g : Graph
@@ -92,7 +95,7 @@ module _ {K P V : Type 0} (m : Instance K P V) (files : Sources) (s : SchemaSum 
 
   -- ---- the rule asks keys of lower levels alone
 
-  abbrev IsLow : Turn K CheckPart Checked → Type 0
+  abbrev IsLow : Turn K CheckPart (List Fault) → Type 0
   IsLow x = (k : K) (q : CheckPart) → x ≡ Ask k q → m.level k < check_level
 
   low : (k : K) (n : ℕ) → m.level k ≡ n → n < check_level → m.level k < check_level
@@ -101,7 +104,7 @@ module _ {K P V : Type 0} (m : Instance K P V) (files : Sources) (s : SchemaSum 
   ask_low : (j : K) (p : CheckPart) → m.level j < check_level → IsLow (Ask j p)
   ask_low j p l k q e = let key : j ≡ k = cc in subst (λ (x : K). m.level x < check_level) key l
 
-  done_low : (x : Checked) → IsLow (Done x)
+  done_low : (x : List Fault) → IsLow (Done x)
   done_low x k q e = cc
 
   parse_low : (f : List ℕ) → m.level (s.parse f) < check_level
@@ -139,7 +142,7 @@ module _ {K P V : Type 0} (m : Instance K P V) (files : Sources) (s : SchemaSum 
   advance_low (ReadNext k [] is) a = done_low _
   advance_low (ReadNext k (i ∷ left) is) a = link_low k i (slice_get left 0) (c.ring_files a) left is
 
-  runs_low : (x : Turn K CheckPart Checked) → IsLow x → (es : Trace K V) (k : K) (q : CheckPart) → Runs advances x es (Ask k q) → m.level k < check_level
+  runs_low : (x : Turn K CheckPart (List Fault)) → IsLow x → (es : Trace K V) (k : K) (q : CheckPart) → Runs advances x es (Ask k q) → m.level k < check_level
   unfolding Runs
   runs_low x l [] k q r = l k q r
   runs_low x l (e ∷ es) k q r = runs_low (advances r.0 e.1) (advance_low r.0 e.1) es k q r.2
@@ -204,7 +207,7 @@ module _ {K P V : Type 0} (m : Instance K P V) (files : Sources) (s : SchemaSum 
       let first : NextOf g (imported g f) next = subst (λ (hs : List (List ℕ)). NextOf g hs next) same (next_is is es next asks told) in
       subst (λ (o : Option (List (List ℕ))). IsRingAt g f o next) (sym some) (ring_at g f l.0 next ring first)
 
-  checks_are : (f : List ℕ) (a : Answer K V) → Means m (c.checks f) a → (x : Checked) × (a ≡ Value (c.checks_value x)) × IsChecked files f x
+  checks_are : (f : List ℕ) (a : Answer K V) → Means m (c.checks f) a → (fs : List Fault) × (a ≡ Value (c.checks_value fs)) × AreFaults files f fs
   checks_are f a h =
       let r = lower_runs m c.checks c.checks_part c.checks_value check_level (check_starts s.parse) advances c.checks_embeds (omega arith) lower f a h in
       let x = r.1 in
@@ -228,21 +231,44 @@ module _ {K P V : Type 0} (m : Instance K P V) (files : Sources) (s : SchemaSum 
         others_are = (scope.0, scope.2, ap (other_files f) scoped);
         references_are = subst (AreResolved files f) (sym referred) resolved.2;
       } in
-      let faults : x.faults ≡ file_faults around (file_at f) = ap (λ (y : Checked). y.faults) given.13 ∙ ap (file_faults around) parsed in
-      (x, r.3, ((around, are, faults), ap (λ (y : Checked). y.file) given.13 ∙ parsed))
+      (x, r.3, (around, are, given.13 ∙ ap (file_faults around) parsed))
 
   -- ---- the diagnostics
 
-  checks_low : (f : List ℕ) → m.level (c.checks f) < diagnostics_level
-  checks_low f = subst (λ (i : ℕ). i < diagnostics_level) (sym (c.checks_embeds.level_is f)) (omega arith)
+  abbrev turns : DiagnosticsPart → Answer K V → Turn K DiagnosticsPart Diagnosed
+  turns q a = diagnostics_advances s.parse (c.checked_read a) (s.parsed_read a) q
 
-  diagnostics_are : (f : List ℕ) (a : Answer K V) → Means m (c.diagnostics f) a → (d : Checked) × (a ≡ Value (c.diagnostics_value d)) × AreDiagnostics files f d
+  abbrev IsBelow : Turn K DiagnosticsPart Diagnosed → Type 0
+  IsBelow x = (k : K) (q : DiagnosticsPart) → x ≡ Ask k q → m.level k < diagnostics_level
+
+  turns_below : (p : DiagnosticsPart) (a : Answer K V) → IsBelow (turns p a)
+  turns_below (ReadChecks f) a k q e =
+      let key : s.parse f ≡ k = cc in
+      let one = s.parse_embeds.level_is f in
+      subst (λ (x : K). m.level x < diagnostics_level) key (omega arith)
+  turns_below (ReadParsed fs) a k q e = cc
+
+  starts_below : (f : List ℕ) → IsBelow (diagnostics_starts c.checks f)
+  starts_below f k q e =
+      let key : c.checks f ≡ k = cc in
+      let seven = c.checks_embeds.level_is f in
+      subst (λ (x : K). m.level x < diagnostics_level) key (omega arith)
+
+  below : (x : Turn K DiagnosticsPart Diagnosed) → IsBelow x → (es : Trace K V) (k : K) (q : DiagnosticsPart) → Runs turns x es (Ask k q) → m.level k < diagnostics_level
+  unfolding Runs
+  below x l [] k q r = l k q r
+  below x l (e ∷ es) k q r = below (turns r.0 e.1) (turns_below r.0 e.1) es k q r.2
+
+  diagnostics_are : (f : List ℕ) (a : Answer K V) → Means m (c.diagnostics f) a → (d : Diagnosed) × (a ≡ Value (c.diagnostics_value d)) × AreDiagnostics files f d
   diagnostics_are f a h =
-      let o = once m c.diagnostics c.diagnostics_part c.diagnostics_value diagnostics_level (diagnostics_starts c.checks) (λ q b. diagnostics_advances (c.checked_read b)) c.diagnostics_embeds
-      c.checks (λ x. tt) (λ x b. ordered (c.checked_read b)) (λ x. refl) (λ x b. refl) checks_low f a h in
-      let x = checks_are f o.0 o.1 in
-      let read : c.checked_read o.0 ≡ x.0 = ap c.checked_read x.1 ∙ c.checked_back x.0 in
-      (ordered (c.checked_read o.0), o.2, (x.0, x.2, ap ordered read))
+      let r = lower_runs m c.diagnostics c.diagnostics_part c.diagnostics_value diagnostics_level (diagnostics_starts c.checks) turns c.diagnostics_embeds (omega arith)
+      (λ x es k q. below (diagnostics_starts c.checks x) (starts_below x) es k q) f a h in
+      let given = diagnostics_given c.checks s.parse c.checked_read s.parsed_read f r.0 r.1 r.2 in
+      let told = subst (λ (xs : Trace K V). Each (λ e. Means m e.0 e.1) xs) given.2 r.4 in
+      let x = checks_are f given.0 told.0 in
+      let faults : c.checked_read given.0 ≡ x.0 = ap c.checked_read x.1 ∙ c.checked_back x.0 in
+      let file = parsed_is f given.1 told.1.0 in
+      (r.1, r.3, (x.0, x.2, given.3 ∙ ap (λ (fs : List Fault). diagnosed fs (s.parsed_read given.1)) faults ∙ ap (diagnosed x.0) file))
 
   pub checks_mean : ChecksMeans m files s c
   checks_mean = record { checks = checks_are; diagnostics = diagnostics_are }

@@ -28,20 +28,28 @@ appended xs ys x r s =
     (λ h. either r.0 s.0 (Contains-append_cases xs ys x h), joined (λ p. Contains-append_left xs ys x (r.1 p)) (λ q. Contains-append_right xs ys x (s.1 q)))
 
 -- an element comes first, or among the rest
-contains_head : {A : Type 0} (y : A) (ys : List A) → Contains (y ∷ ys) y
+pub contains_head : {A : Type 0} (y : A) (ys : List A) → Contains (y ∷ ys) y
 contains_head y ys = (zero, omega arith, refl)
 
-none_said : {A : Type 0} (x : A) → Contains [] x → ⊥
+pub none_said : {A : Type 0} (x : A) → Contains [] x → ⊥
 none_said x (k, lt, is) = omega arith
 
-head_or_tail : {A : Type 0} (y z : A) (ys : List A) → Contains (y ∷ ys) z → (y ≡ z) ⊎ Contains ys z
+pub head_or_tail : {A : Type 0} (y z : A) (ys : List A) → Contains (y ∷ ys) z → (y ≡ z) ⊎ Contains ys z
 head_or_tail y z ys (zero, lt, is) = inl is
 head_or_tail y z ys (suc k, lt, is) = inr (k, omega arith, is)
 
-tail : {A : Type 0} (y z : A) (ys : List A) → Contains ys z → Contains (y ∷ ys) z
+pub tail : {A : Type 0} (y z : A) (ys : List A) → Contains ys z → Contains (y ∷ ys) z
 tail y z ys (k, lt, is) = (suc k, omega arith, is)
 
-said_of : {A : Type 0} (f : A → List Fault) (xs : List A) (x : Fault) → Contains (flat_map f xs) x → IsSaidOf f xs x
+-- the only element of a list
+pub only_one : {A : Type 0} (y z : A) → Contains (y ∷ []) z → z ≡ y
+only_one y z h = by (head_or_tail y z [] h)
+  where
+    by : ((y ≡ z) ⊎ Contains [] z) → z ≡ y
+    by (inl is) = sym is
+    by (inr none) = absurd (none_said z none)
+
+pub said_of : {A B : Type 0} (f : A → List B) (xs : List A) (x : B) → Contains (flat_map f xs) x → IsSaidOf f xs x
 said_of f [] x h = absurd (none_said x h)
 said_of {A = A} f (y ∷ ys) x h = by (said_of f ys x) (Contains-append_cases (f y) (flat_map f ys) x h)
   where

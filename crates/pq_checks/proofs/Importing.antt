@@ -3,6 +3,7 @@ use Rattle.std.proofs.Common.{◌≡◌, ℕ, ◌+◌, ◌<◌, Bool, true, fals
 use Rattle.std.specs.Prelude.{bytes_eq, codes, Option, Some, None, unwrap_or}
 use Rattle.std.specs.Str.{is_utf8}
 use Rattle.pq_checks.specs.declared.code.Code.TheVariants as code
+use Rattle.pq_links.specs.declared.places.Part.TheVariants as part
 use Rattle.pq_checks.specs.Faults.{at, arrowed, ring_text, ring_faults, import_faults, is_listed, state_faults}
 use Rattle.pq_checks.specs.Members.{ImportName}
 use Rattle.pq_checks.specs.Surroundings.{state_in}
@@ -53,16 +54,16 @@ ring_said (f ∷ fs) = refl
 -- ---- one import
 
 ring_same : (ring : Option (List (List ℕ))) (next : Option (List ℕ)) (earlier : List ImportName) (i : ImportName)
-    → ring_faults ring next earlier i ≡ ring_line ring next (is_listed i.name.value earlier) i
+    → ring_faults ring next earlier i ≡ ring_line ring next (is_listed i.value earlier) i
 ring_same None next earlier i = refl
 ring_same (Some ring) None earlier i = refl
 ring_same (Some ring) (Some next) earlier i = refl
 
 -- the errors of an import, by its state and whether its name is repeated
 pub import_said : (imported : List Imported) (ring : Option (List (List ℕ))) (next : Option (List ℕ)) (earlier : List ImportName) (i : ImportName) (state : FileState) (repeated : Bool)
-    → state ≡ state_in imported i.name.value → repeated ≡ is_listed i.name.value earlier → import_line state ring next repeated i ≡ import_faults (by_imports imported ring next) earlier i
+    → state ≡ state_in imported i.value → repeated ≡ is_listed i.value earlier → import_line state ring next repeated i ≡ import_faults (by_imports imported ring next) earlier i
 import_said imported ring next earlier i state repeated is_state is_repeated =
     ap (λ s. import_line s ring next repeated i) is_state
-    ∙ ap (λ b. import_line (state_in imported i.name.value) ring next b i) is_repeated
-    ∙ ap (λ rs. cond (is_utf8 i.name.value) (state_faults (state_in imported i.name.value) i ++ listed_line (is_listed i.name.value earlier) i ++ rs) (at i.name.span code.ImportNotText (codes "import name is not UTF-8") ∷ []))
+    ∙ ap (λ b. import_line (state_in imported i.value) ring next b i) is_repeated
+    ∙ ap (λ rs. cond (is_utf8 i.value) (state_faults (state_in imported i.value) i ++ listed_line (is_listed i.value earlier) i ++ rs) (at i.item part.Name code.ImportNotText (codes "import name is not UTF-8") ∷ []))
     (sym (ring_same ring next earlier i))

@@ -8,9 +8,13 @@ pub mod Elsewhere
 pub mod Taken
 pub mod Ties
 pub mod Flags
+pub mod Placed
 pub mod PrintedOrder
-pub mod FaultsInOrder
+pub mod DiagnosticsInOrder
 pub mod EachLine
+pub mod EachPart
+pub mod EachStands
+pub mod EachDiagnostic
 pub mod Joined
 pub mod Spotted
 pub mod Sets

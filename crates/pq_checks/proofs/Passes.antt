@@ -7,6 +7,12 @@ use Rattle.std.proofs.lemmas.List.FromFn.{length-enumerate_from, get_or-enumerat
 use Rattle.pq_checks.specs.Earlier.{of_each_after}
 use Rattle.pq_checks.proofs.SaidAfter.{each_said_more}
 
+-- an element that the code looks up with a default value
+get_again : {A : Type 0} (xs : List A) (i : ℕ) (d : A) → i < length xs → get_or xs i d ≡ get_or xs i (get_or xs i d)
+get_again [] i d lt = absurd (omega arith)
+get_again (x ∷ xs) zero d lt = refl
+get_again (x ∷ xs) (suc i) d lt = get_again xs i d (omega arith)
+
 module _ {A B : Type 0} (f : A → List B) where
   -- one more element
   pub each_more : (done after whole : List B) (xs : List A) (i : ℕ) (d : A) → i < length xs → d ≡ get_or xs i d → after ≡ done ++ f d
@@ -17,6 +23,11 @@ module _ {A B : Type 0} (f : A → List B) where
       ∙ append_assoc done (f (get_or xs i d)) (flat_map f (drop (i + 1) xs))
       ∙ ap (λ ys. done ++ flat_map f ys) (sym cut)
       ∙ so_far
+
+  -- one more element that the code looks up with a default value
+  pub each_more_or : (done after whole : List B) (xs : List A) (i : ℕ) (d : A) → i < length xs → after ≡ done ++ f (get_or xs i d)
+      → done ++ flat_map f (drop i xs) ≡ whole → after ++ flat_map f (drop (i + 1) xs) ≡ whole
+  each_more_or done after whole xs i d lt said so_far = each_more done after whole xs i (get_or xs i d) lt (get_again xs i d lt) said so_far
 
   -- no element is left
   pub each_all : (done whole : List B) (xs : List A) (i : ℕ) → length xs ≤ i → done ++ flat_map f (drop i xs) ≡ whole → done ≡ whole
@@ -70,11 +81,6 @@ module _ {A B : Type 0} (f : List A → A → List B) where
       sym (append-nil done) ∙ ap (λ ys. done ++ of_each_after f (take i xs) ys) (sym (drop_all i xs past)) ∙ so_far
 
 -- ---- a list whose elements are numbered from 0
-
-get_again : {A : Type 0} (xs : List A) (i : ℕ) (d : A) → i < length xs → get_or xs i d ≡ get_or xs i (get_or xs i d)
-get_again [] i d lt = absurd (omega arith)
-get_again (x ∷ xs) zero d lt = refl
-get_again (x ∷ xs) (suc i) d lt = get_again xs i d (omega arith)
 
 -- the element at `i` with its number
 pub numbered_at : {A : Type 0} (xs : List A) (i : ℕ) (x : A) → i < length xs → x ≡ get_or xs i x → (i, x) ≡ get_or (enumerate_from 0 xs) i (i, x)

@@ -1,6 +1,6 @@
 -- The order that the type of codes derives is that of the codes as they are printed: the variants
 -- stand in the order of their texts.
-use Rattle.std.specs.Prelude.{◌≡◌, ℕ, Bool, true, false, cond, List, [], ◌∷◌, refl}
+use Rattle.std.specs.Prelude.{◌≡◌, ℕ, Bool, true, false, cond, List, [], ◌∷◌, codes, refl}
 use Rattle.std.proofs.Common.{sym, ◌∙◌, ap, ap₂, inl, inr, true≢false}
 use Rattle.std.specs.Cmp.{IsTotalOrder, nat_cmp_total}
 use Rattle.std.specs.Cmp.Derive.{points}

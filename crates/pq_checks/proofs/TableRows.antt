@@ -44,7 +44,7 @@ abbrev alone : Surroundings
 alone = record { imported = []; ring = None; next = None; definitions = []; others = []; references = [] }
 
 abbrev told : Fault → ℕ × Code
-told f = (f.start, f.code)
+told f = (f.item, f.code)
 
 -- message M { reserved 2 to 3, 9 to max; oneof o { int32 a = 1; } map<string, int32> b = 1;
 -- int32 d = 3; }: a field of a oneof is one of the message, and the last number of a range counts
@@ -58,7 +58,7 @@ message =
     ∷ node 1 (statements.Field None (name (codes "int32") 6) (name (codes "d") 6) (number 3 7) [])
     ∷ []
 
-pub of_message : map {B = ℕ × Code} told (faults alone message) ≡ (5, code.FieldNumberTwice) ∷ (7, code.FieldNumberReserved) ∷ []
+pub of_message : map {B = ℕ × Code} told (faults alone message) ≡ (4, code.FieldNumberTwice) ∷ (5, code.FieldNumberReserved) ∷ []
 unfolding enclosing places_after of_each_after
 of_message = refl
 
@@ -77,6 +77,6 @@ enumeration =
     ∷ []
 
 pub of_enumeration : map {B = ℕ × Code} told (faults alone enumeration)
-    ≡ (3, code.BadRange) ∷ (4, code.EmptyOneof) ∷ (1, code.FirstValueNotZero) ∷ (2, code.EnumNumberTwice) ∷ []
+    ≡ (5, code.BadRange) ∷ (7, code.EmptyOneof) ∷ (3, code.FirstValueNotZero) ∷ (4, code.EnumNumberTwice) ∷ []
 unfolding enclosing places_after of_each_after
 of_enumeration = refl

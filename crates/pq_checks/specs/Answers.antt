@@ -10,7 +10,7 @@ use Rattle.pq_schema.specs.ScopeContents.{Scope}
 use Rattle.pq_schema.specs.declared.resolved.ResolvedReference.{ResolvedReference}
 use Rattle.pq_checks.specs.Compile.{file_faults}
 use Rattle.pq_checks.specs.Surroundings.{Surroundings, other_files, state_of}
-use Rattle.pq_checks.specs.declared.surroundings.Checked.{Checked}
+use Rattle.pq_checks.specs.declared.fault.Fault.{Fault}
 use Rattle.pq_checks.specs.declared.surroundings.Imported.{Imported}
 
 -- `CheckWords K A` is what a sum of queries with the keys `K` and the answers `A` offers the query:
@@ -73,14 +73,11 @@ surroundings_by f imported ring next defs scope references = record {
 -- `AreChecksBy w f es v` is that the questions are for the parse, the imports, the links, the
 -- definitions, the scope and the resolved references of the file `f`, then for the parse of each
 -- import, and in a bad file for the links of each import up to the first cycle; and that `v` is the
--- errors of the file by these answers, with what it is read as
-abbrev pub AreChecksBy : {K A : Type 0} → CheckWords K A → List ℕ → List (K × A) → Checked → Type 0
+-- errors of the file by these answers
+abbrev pub AreChecksBy : {K A : Type 0} → CheckWords K A → List ℕ → List (K × A) → List Fault → Type 0
 AreChecksBy {K = K} {A = A} w f es v =
     (a b c d s r : A) × (states links : List (K × A)) × (imported : List Imported) × (next : Option (List ℕ))
     × (es ≡ (w.parse f, a) ∷ (w.imports f, b) ∷ (w.linked f, c) ∷ (w.defs f, d) ∷ (w.scope f, s) ∷ (w.resolved f, r) ∷ states)
     × AsksStates w (unwrap_or (w.imported b) []) states links imported
     × AsksLinks w (w.ring c) (unwrap_or (w.imported b) []) links next
-    × (v ≡ record {
-      faults = file_faults (surroundings_by f imported (w.ring c) next (w.defined d) (w.scoped s) (w.referred r)) (w.parsed a);
-      file = w.parsed a;
-    })
+    × (v ≡ file_faults (surroundings_by f imported (w.ring c) next (w.defined d) (w.scoped s) (w.referred r)) (w.parsed a))

@@ -11,12 +11,14 @@ use Rattle.pq_links.specs.declared.links.Links.{Links}
 use Rattle.pq_schema.specs.SchemaSum.{SchemaSum}
 use Rattle.pq_schema.specs.declared.resolved.ResolvedReference.{ResolvedReference}
 use Rattle.pq_checks.specs.Answers.{CheckWords}
-use Rattle.pq_checks.specs.Compile.{IsChecked}
+use Rattle.pq_checks.specs.Compile.{AreFaults}
 use Rattle.pq_checks.specs.Diagnostics.{AreDiagnostics}
 use Rattle.pq_checks.specs.aux.DiagnosticsTurns.{diagnostics_level, diagnostics_starts, diagnostics_advances}
 use Rattle.pq_checks.specs.aux.Queries.{check_level, check_starts, check_advances}
 use Rattle.pq_checks.specs.declared.checked.CheckPart.{CheckPart}
-use Rattle.pq_checks.specs.declared.surroundings.Checked.{Checked}
+use Rattle.pq_checks.specs.declared.diagnostic.Diagnosed.{Diagnosed}
+use Rattle.pq_checks.specs.declared.fault.Fault.{Fault}
+use Rattle.pq_checks.specs.declared.diagnostics.DiagnosticsPart.{DiagnosticsPart}
 
 -- `words_of s referred ring` is what the sum `s` offers the query, where `referred` and `ring` read
 -- the resolved references and the files of a cycle of an answer
@@ -43,24 +45,24 @@ pub record ChecksSum {K P V : Type 0} (m : Instance K P V) (files : Sources) (s 
   -- the keys, the parts and the values of the queries
   pub checks : List ℕ → K
   pub checks_part : CheckPart → P
-  pub checks_value : Checked → V
+  pub checks_value : List Fault → V
   pub diagnostics : List ℕ → K
-  pub diagnostics_part : Unit {0} → P
-  pub diagnostics_value : Checked → V
+  pub diagnostics_part : DiagnosticsPart → P
+  pub diagnostics_value : Diagnosed → V
   -- what is read of an answer: resolved references, the files of a cycle of links, and checks
   pub referred_read : Answer K V → List ResolvedReference
   pub ring_files : Answer K V → Option (List (List ℕ))
-  pub checked_read : Answer K V → Checked
+  pub checked_read : Answer K V → List Fault
   pub referred_back : (x : List ResolvedReference) → referred_read (Value (s.resolved_value x)) ≡ x
   pub ring_back : (ring : List (List ℕ)) → ring_files (Cycle (map s.linked ring)) ≡ Some ring
   pub no_ring : (l : Links) → ring_files (Value (s.linked_value l)) ≡ None
-  pub checked_back : (x : Checked) → checked_read (Value (checks_value x)) ≡ x
+  pub checked_back : (x : List Fault) → checked_read (Value (checks_value x)) ≡ x
   -- the queries
   pub checks_embeds : Embeds m checks checks_part checks_value check_level (check_starts s.parse) (λ q a. check_advances (words_of s referred_read ring_files) q a)
-  pub diagnostics_embeds : Embeds m diagnostics diagnostics_part diagnostics_value diagnostics_level (diagnostics_starts checks) (λ q a. diagnostics_advances (checked_read a))
+  pub diagnostics_embeds : Embeds m diagnostics diagnostics_part diagnostics_value diagnostics_level (diagnostics_starts checks) (λ q a. diagnostics_advances s.parse (checked_read a) (s.parsed_read a) q)
 
 -- `ChecksMeans m files s c` is that each answer of the checks and of the diagnostics of a file is
 -- what the sources say of the errors of that file
 pub record ChecksMeans {K P V : Type 0} (m : Instance K P V) (files : Sources) (s : SchemaSum m files) (c : ChecksSum m files s) : Type 0 where
-  pub checks : (f : List ℕ) (a : Answer K V) → Means m (c.checks f) a → (x : Checked) × (a ≡ Value (c.checks_value x)) × IsChecked files f x
-  pub diagnostics : (f : List ℕ) (a : Answer K V) → Means m (c.diagnostics f) a → (d : Checked) × (a ≡ Value (c.diagnostics_value d)) × AreDiagnostics files f d
+  pub checks : (f : List ℕ) (a : Answer K V) → Means m (c.checks f) a → (fs : List Fault) × (a ≡ Value (c.checks_value fs)) × AreFaults files f fs
+  pub diagnostics : (f : List ℕ) (a : Answer K V) → Means m (c.diagnostics f) a → (d : Diagnosed) × (a ≡ Value (c.diagnostics_value d)) × AreDiagnostics files f d

@@ -1,5 +1,5 @@
 -- What the sources say of the errors of a file. No query is named here.
-use Rattle.std.specs.Prelude.{ℕ, ◌≡◌, List, [], ◌∷◌, map, Option, Some, None}
+use Rattle.std.specs.Prelude.{ℕ, ◌≡◌, List, [], map, Option, Some, None}
 use Rattle.pq_inputs.specs.Sources.{Sources, file_in}
 use Rattle.pq_syntax.specs.declared.fault.Parsed.{Parsed}
 use Rattle.pq_syntax.specs.declared.fault.Parsed.TheVariants.{Tree, Fault as SyntaxFault}
@@ -9,12 +9,10 @@ use Rattle.pq_links.specs.declared.files.ParsedFile.{ParsedFile}
 use Rattle.pq_links.specs.declared.files.ParsedFile.TheVariants.{Absent, Present}
 use Rattle.pq_schema.specs.Compile.{IsScope, AreResolved, defs_at}
 use Rattle.pq_schema.specs.ScopeContents.{Scope}
-use Rattle.pq_checks.specs.Codes.{syntax_code, syntax_text}
-use Rattle.pq_checks.specs.Faults.{at, faults}
+use Rattle.pq_checks.specs.Faults.{faults}
 use Rattle.pq_checks.specs.Surroundings.{Surroundings, other_files, state_of}
 use Rattle.pq_checks.specs.declared.surroundings.Imported.{Imported}
 use Rattle.pq_checks.specs.declared.fault.Fault.{Fault}
-use Rattle.pq_checks.specs.declared.surroundings.Checked.{Checked}
 
 -- `imported_at files f` lists the files that the file `f` imports, each with its state
 abbrev pub imported_at : Sources → List ℕ → List Imported
@@ -38,13 +36,13 @@ pub record AreSurroundings (files : Sources) (f : List ℕ) (s : Surroundings) :
   pub references_are : AreResolved files f s.references
 
 -- `parsed_faults s p` lists the errors of a text with the tree or syntax error `p` and the
--- surroundings `s`: a syntax error is the only one
+-- surroundings `s`. The table has no line for a syntax error: only a tree has errors of it.
 abbrev pub parsed_faults : Surroundings → Parsed → List Fault
 parsed_faults s (Tree nodes) = faults s nodes
-parsed_faults s (SyntaxFault span code) = at span (syntax_code code) (syntax_text code) ∷ []
+parsed_faults s (SyntaxFault span code) = []
 
 -- `file_faults s file` lists the errors of a file that is read as `file`, with the surroundings
--- `s`; an absent file has none
+-- `s`. A file without a tree has none.
 abbrev pub file_faults : Surroundings → ParsedFile → List Fault
 file_faults s Absent = []
 file_faults s (Present p lines) = parsed_faults s p
@@ -53,7 +51,3 @@ file_faults s (Present p lines) = parsed_faults s p
 abbrev pub AreFaults : Sources → List ℕ → List Fault → Type 0
 AreFaults files f fs =
     (s : Surroundings) × AreSurroundings files f s × (fs ≡ file_faults s (read_file (file_in files f).text))
-
--- `IsChecked files f c` is that `c` is the errors of the file `f` and what it is read as
-abbrev pub IsChecked : Sources → List ℕ → Checked → Type 0
-IsChecked files f c = AreFaults files f c.faults × (c.file ≡ read_file (file_in files f).text)

@@ -1,22 +1,70 @@
--- The diagnostics of a file (Language Server Protocol 3.17, "Document Diagnostics"): its errors in
--- order.
-use Rattle.std.specs.Prelude.{ℕ, ◌≡◌, List, [], ◌∷◌}
-use Rattle.pq_inputs.specs.Sources.{Sources}
-use Rattle.pq_checks.specs.Compile.{IsChecked}
-use Rattle.pq_checks.specs.FaultOrder.{fault_cmp}
+-- The diagnostics of a file (Language Server Protocol 3.17, "Document Diagnostics"): its syntax
+-- error, or its errors by the table, each at the span of its place, in order.
+use Rattle.std.specs.Prelude.{ℕ, ◌≡◌, List, [], ◌∷◌, filter_map, Option, Some, Contains}
+use Rattle.std.specs.Option.{option_map}
+use Rattle.pq_inputs.specs.Sources.{Sources, file_in}
+use Rattle.pq_lex.specs.declared.token.Span.{Span}
+use Rattle.pq_syntax.specs.declared.fault.Code.{Code as SyntaxCode}
+use Rattle.pq_syntax.specs.declared.fault.Parsed.{Parsed}
+use Rattle.pq_syntax.specs.declared.fault.Parsed.TheVariants.{Tree, Fault as SyntaxFault}
+use Rattle.pq_syntax.specs.declared.tree.Node.{Node}
+use Rattle.pq_links.specs.Files.{read_file}
+use Rattle.pq_links.specs.Place.{place}
+use Rattle.pq_links.specs.declared.files.ParsedFile.{ParsedFile}
+use Rattle.pq_links.specs.declared.files.ParsedFile.TheVariants.{Absent, Present}
+use Rattle.pq_checks.specs.Codes.{syntax_code, syntax_text}
+use Rattle.pq_checks.specs.Compile.{AreFaults}
+use Rattle.pq_checks.specs.DiagnosticOrder.{diagnostic_cmp}
 use Rattle.pq_checks.specs.InOrder.{in_order}
-use Rattle.pq_checks.specs.declared.surroundings.Checked.{Checked}
+use Rattle.pq_checks.specs.declared.diagnostic.Diagnosed.{Diagnosed}
+use Rattle.pq_checks.specs.declared.diagnostic.Diagnostic.{Diagnostic}
+use Rattle.pq_checks.specs.declared.fault.Fault.{Fault}
 
--- `ordered c` is what the checks `c` of a file found, its errors by start, end, code and message,
--- each once
-abbrev pub ordered : Checked → Checked
-ordered c = record { faults = in_order fault_cmp c.faults; file = c.file }
+-- `at_span f s` is the error `f`, at the span `s`
+abbrev pub at_span : Fault → Span → Diagnostic
+at_span f s = record { start = s.start; end = s.end; code = f.code; text = f.text }
 
--- `AreDiagnostics files f d` is that `d` is the diagnostics of the file `f`
-abbrev pub AreDiagnostics : Sources → List ℕ → Checked → Type 0
-AreDiagnostics files f d = (c : Checked) × IsChecked files f c × (d ≡ ordered c)
+-- `diagnostic_at nodes f` is the error `f` at the span of its place in a file with the statements
+-- `nodes`, or `None` if the file has no such place (by the law `each_stands` it has)
+abbrev pub diagnostic_at : List Node → Fault → Option Diagnostic
+diagnostic_at nodes f = option_map (at_span f) (place nodes f.item f.part)
 
--- `AreDiagnosticsBy checks checked f es d` is that the one question is for the checks of the file
--- `f`, and that `d` is the diagnostics by its answer
-abbrev pub AreDiagnosticsBy : {K A : Type 0} → (List ℕ → K) → (A → Checked) → List ℕ → List (K × A) → Checked → Type 0
-AreDiagnosticsBy {A = A} checks checked f es d = (a : A) × (es ≡ (checks f, a) ∷ []) × (d ≡ ordered (checked a))
+-- `syntax_diagnostic span c` is the syntax error `c` at `span`
+abbrev pub syntax_diagnostic : Span → SyntaxCode → Diagnostic
+syntax_diagnostic span c = record { start = span.start; end = span.end; code = syntax_code c; text = syntax_text c }
+
+-- `parsed_diagnostics fs p` lists the diagnostics of a text with the tree or syntax error `p` and
+-- the errors `fs` by the table: a syntax error is the only one
+abbrev pub parsed_diagnostics : List Fault → Parsed → List Diagnostic
+parsed_diagnostics fs (Tree nodes) = in_order diagnostic_cmp (filter_map (diagnostic_at nodes) fs)
+parsed_diagnostics fs (SyntaxFault span c) = syntax_diagnostic span c ∷ []
+
+-- `diagnostics_of fs file` lists the diagnostics of a file that is read as `file`, with the errors
+-- `fs` by the table; an absent file has none
+abbrev pub diagnostics_of : List Fault → ParsedFile → List Diagnostic
+diagnostics_of fs Absent = []
+diagnostics_of fs (Present p lines) = parsed_diagnostics fs p
+
+-- `diagnosed fs file` is these diagnostics with what the file is read as: its lines give positions
+abbrev pub diagnosed : List Fault → ParsedFile → Diagnosed
+diagnosed fs file = record { diagnostics = diagnostics_of fs file; file = file }
+
+-- `AreDiagnostics files f d` is that `d` is the diagnostics of the file `f`, with what it is read as
+abbrev pub AreDiagnostics : Sources → List ℕ → Diagnosed → Type 0
+AreDiagnostics files f d = (fs : List Fault) × AreFaults files f fs × (d ≡ diagnosed fs (read_file (file_in files f).text))
+
+-- `AreDiagnosticsBy checks parse checked parsed f es d` is that the questions are for the errors of
+-- the file `f` and for what it is read as, and that `d` is the diagnostics by their answers
+abbrev pub AreDiagnosticsBy : {K A : Type 0} → (checks parse : List ℕ → K) → (A → List Fault) → (A → ParsedFile) → List ℕ → List (K × A) → Diagnosed → Type 0
+AreDiagnosticsBy {A = A} checks parse checked parsed f es d =
+    (a b : A) × (es ≡ (checks f, a) ∷ (parse f, b) ∷ []) × (d ≡ diagnosed (checked a) (parsed b))
+
+-- `Stands nodes f` is that a file with the statements `nodes` has the place of the error `f`
+abbrev pub Stands : List Node → Fault → Type 0
+Stands nodes f = (s : Span) × (place nodes f.item f.part ≡ Some s)
+
+-- `IsDiagnostic fs p d` is that `d` is the syntax error of a text that is parsed as `p`, or one of
+-- the errors `fs` at the span of its place in the tree `p`
+abbrev pub IsDiagnostic : List Fault → Parsed → Diagnostic → Type 0
+IsDiagnostic fs (Tree nodes) d = (f : Fault) × (s : Span) × Contains fs f × (place nodes f.item f.part ≡ Some s) × (d ≡ at_span f s)
+IsDiagnostic fs (SyntaxFault span c) d = d ≡ syntax_diagnostic span c

@@ -1,15 +1,15 @@
--- The errors of a file: a table with a clause for each kind, which says when it holds, where it is,
--- and its message (proto3 language specification; the codes are this project's own).
+-- The errors of a file: a table with a clause for each kind, which says when it holds, at which part
+-- of which item it is, and its message (proto3 language specification; the codes are this project's
+-- own). A syntax error is none of them: a file that has one has no tree.
 --
 -- `faults s nodes` lists the errors of a file with the tree `nodes` and the surroundings `s`. The
--- law `each_fault` reads it as the table, and `faults_in_order` says what its diagnostics are.
+-- law `each_fault` reads it as the table, and `each_stands` says that each is at a part of the tree.
 use Rattle.std.specs.Prelude.{ℕ, nat_eq, ◌&&◌, not, ℤ, pos, cond, Bool, true, false, List, [], ◌∷◌, ◌++◌, codes, flat_map, is_some, bytes_eq, Option, Some, None, slice_get}
 use Rattle.std.specs.Fmt.{signed_decimal}
 use Rattle.std.specs.List.{list_any}
 use Rattle.std.specs.Option.{option_eq}
 use Rattle.std.specs.Ordering.{int_eq}
 use Rattle.std.specs.Str.{is_utf8}
-use Rattle.pq_lex.specs.declared.token.Span.{Span}
 use Rattle.pq_syntax.specs.declared.parts.Constant.{Constant}
 use Rattle.pq_syntax.specs.declared.parts.ConstantKind.{ConstantKind}
 use Rattle.pq_syntax.specs.declared.parts.ConstantKind.TheVariants.{Identifier, Float, Aggregate}
@@ -18,17 +18,19 @@ use Rattle.pq_syntax.specs.declared.parts.NamePart.{NamePart}
 use Rattle.pq_syntax.specs.declared.tree.Node.{Node}
 use Rattle.pq_syntax.specs.declared.tree.Statement.{Statement}
 use Rattle.pq_syntax.specs.declared.tree.Statement.TheVariants.{Field, MapField, Method}
+use Rattle.pq_links.specs.declared.places.Part.{Part}
+use Rattle.pq_links.specs.declared.places.Part.TheVariants as part
+use Rattle.pq_links.specs.declared.places.TypePart.{TypePart}
+use Rattle.pq_links.specs.declared.places.TypePart.TheVariants as types
 use Rattle.pq_schema.specs.declared.definitions.Definition.{Definition}
 use Rattle.pq_schema.specs.declared.definitions.DefinitionKind.{DefinitionKind}
 use Rattle.pq_schema.specs.declared.definitions.DefinitionKind.TheVariants as kinds
-use Rattle.pq_links.specs.declared.places.TypePart.{TypePart}
-use Rattle.pq_links.specs.declared.places.TypePart.TheVariants as parts
 use Rattle.pq_schema.specs.declared.resolution.Resolution.{Resolution}
 use Rattle.pq_schema.specs.declared.resolution.Resolution.TheVariants as resolutions
 use Rattle.pq_schema.specs.declared.resolved.ResolvedReference.{ResolvedReference}
 use Rattle.pq_schema.specs.declared.scope.FileDefs.{FileDefs}
 use Rattle.pq_checks.specs.Earlier.{of_each_after}
-use Rattle.pq_checks.specs.Members.{Member, fields, values, Titled, packages, oneofs, enums, ranges, ReservedName, reserved_names, ImportName, imports, Opted, option_statements, Assigned, constants, extends}
+use Rattle.pq_checks.specs.Members.{Member, fields, values, packages, oneofs, enums, ranges, ReservedName, reserved_names, ImportName, imports, Opted, option_statements, Assigned, constants, extends}
 use Rattle.pq_checks.specs.Numbers.{Limits, field_limits, enum_limits, number_in, bounds_of, is_between}
 use Rattle.pq_checks.specs.Owners.{limits_by}
 use Rattle.pq_checks.specs.Surroundings.{Surroundings, state_in, first_with}
@@ -42,9 +44,10 @@ use Rattle.pq_checks.specs.declared.numbers.Bounds.{Bounds}
 
 -- ---- how a line is said
 
--- `at span c text` is the error of the code `c` with the message `text` at `span`
-abbrev pub at : Span → Code → List ℕ → Fault
-at span c text = record { start = span.start; end = span.end; code = c; text = text }
+-- `at item p c text` is the error of the code `c` with the message `text` at the part `p` of the item
+-- `item`
+abbrev pub at : ℕ → Part → Code → List ℕ → Fault
+at item p c text = record { item = item; part = p; code = c; text = text }
 
 -- `when holds f` lists `f` if `holds`
 abbrev pub when : Bool → Fault → List Fault
@@ -65,38 +68,39 @@ number_text (Some z) = signed_decimal z
 
 -- ---- P020 to P022: skipped constructs
 
--- `kind_faults kind span` is P020 and P022 of a constant of the kind `kind` at `span`
-abbrev pub kind_faults : ConstantKind → Span → List Fault
-kind_faults Aggregate span = at span code.AggregateConstant (codes "aggregate option value is not read") ∷ []
-kind_faults Float span = at span code.FloatConstant (codes "float literal is not read") ∷ []
-kind_faults _ span = []
+-- `kind_faults kind item nth` is P020 and P022 of a constant of the kind `kind`, that of the option
+-- `nth` of the item `item`
+abbrev pub kind_faults : ConstantKind → ℕ → ℕ → List Fault
+kind_faults Aggregate item nth = at item (part.Constant nth) code.AggregateConstant (codes "aggregate option value is not read") ∷ []
+kind_faults Float item nth = at item (part.Constant nth) code.FloatConstant (codes "float literal is not read") ∷ []
+kind_faults _ item nth = []
 
 -- `constant_faults a` is the errors of the constant `a` of an option
 abbrev pub constant_faults : Assigned → List Fault
-constant_faults a = kind_faults a.constant.kind a.constant.span
+constant_faults a = kind_faults a.kind a.item a.nth
 
--- `extend_faults span` is P021 of an extend block at `span`
-abbrev pub extend_faults : Span → List Fault
-extend_faults span = at span code.ExtendBlock (codes "extend block is not read") ∷ []
+-- `extend_faults item` is P021 of the extend block `item`
+abbrev pub extend_faults : ℕ → List Fault
+extend_faults item = at item part.Whole code.ExtendBlock (codes "extend block is not read") ∷ []
 
 -- ---- P101: the package
 
 -- `package_faults earlier p` is the error of the package `p` after the packages `earlier`
-abbrev pub package_faults : List Titled → Titled → List Fault
+abbrev pub package_faults : List ℕ → ℕ → List Fault
 package_faults [] p = []
-package_faults (q ∷ qs) p = at p.name.span code.PackageTwice (codes "package is given twice") ∷ []
+package_faults (q ∷ qs) p = at p part.Name code.PackageTwice (codes "package is given twice") ∷ []
 
 -- ---- P102 to P106: imports
 
 -- `state_faults state i` is P102 and P104 of the import `i` of a file in the state `state`
 abbrev pub state_faults : FileState → ImportName → List Fault
-state_faults Missing i = at i.name.span code.ImportNotFound (codes "import " ++ quoted i.name.value ++ codes " is not found") ∷ []
-state_faults Unreadable i = at i.name.span code.ImportWithError (codes "import " ++ quoted i.name.value ++ codes " has a syntax fault") ∷ []
+state_faults Missing i = at i.item part.Name code.ImportNotFound (codes "import " ++ quoted i.value ++ codes " is not found") ∷ []
+state_faults Unreadable i = at i.item part.Name code.ImportWithError (codes "import " ++ quoted i.value ++ codes " has a syntax fault") ∷ []
 state_faults Readable i = []
 
 -- `is_listed name earlier` is whether one of the imports `earlier` has the name `name`
 abbrev pub is_listed : List ℕ → List ImportName → Bool
-is_listed name earlier = list_any (λ (e : ImportName). bytes_eq name e.name.value) earlier
+is_listed name earlier = list_any (λ (e : ImportName). bytes_eq name e.value) earlier
 
 -- `arrowed files last` is the names `files` and then `last`, with arrows between
 abbrev pub arrowed : List (List ℕ) → List ℕ → List ℕ
@@ -109,29 +113,29 @@ abbrev pub ring_text : List (List ℕ) → List ℕ
 ring_text [] = codes "import cycle: "
 ring_text (f ∷ fs) = codes "import cycle: " ++ arrowed (f ∷ fs) f
 
--- `ring_faults ring next earlier i` is P105 of the import `i` after the imports `earlier`, in a
--- file with the ring `ring` and the first bad import `next`
+-- `ring_faults ring next earlier i` is P105 of the import `i` after the imports `earlier`, in a file
+-- with the ring `ring` and the first bad import `next`
 abbrev pub ring_faults : Option (List (List ℕ)) → Option (List ℕ) → List ImportName → ImportName → List Fault
 ring_faults (Some ring) (Some next) earlier i =
-    when (bytes_eq i.name.value next && not (is_listed i.name.value earlier)) (at i.name.span code.ImportCycle (ring_text ring))
+    when (bytes_eq i.value next && not (is_listed i.value earlier)) (at i.item part.Name code.ImportCycle (ring_text ring))
 ring_faults _ _ earlier i = []
 
 -- `import_faults s earlier i` is the errors of the import `i` after the imports `earlier`, in a
 -- file with the surroundings `s`. Of a name that is not UTF-8 only that is said.
 abbrev pub import_faults : Surroundings → List ImportName → ImportName → List Fault
 import_faults s earlier i =
-    cond (is_utf8 i.name.value)
-    (state_faults (state_in s.imported i.name.value) i
-    ++ when (is_listed i.name.value earlier) (at i.name.span code.ImportTwice (codes "import " ++ quoted i.name.value ++ codes " is listed twice"))
+    cond (is_utf8 i.value)
+    (state_faults (state_in s.imported i.value) i
+    ++ when (is_listed i.value earlier) (at i.item part.Name code.ImportTwice (codes "import " ++ quoted i.value ++ codes " is listed twice"))
     ++ ring_faults s.ring s.next earlier i)
-    (at i.name.span code.ImportNotText (codes "import name is not UTF-8") ∷ [])
+    (at i.item part.Name code.ImportNotText (codes "import name is not UTF-8") ∷ [])
 
 -- ---- P110 and P111: definitions
 
 -- `twice_faults earlier d` is P110 of the definition `d` after the definitions `earlier`
 abbrev pub twice_faults : List Definition → Definition → List Fault
 twice_faults earlier d =
-    when (list_any (λ (e : Definition). bytes_eq d.full_name e.full_name) earlier) (at d.span code.DefinedTwice (quoted d.full_name ++ codes " is already defined"))
+    when (list_any (λ (e : Definition). bytes_eq d.full_name e.full_name) earlier) (at d.item part.Name code.DefinedTwice (quoted d.full_name ++ codes " is already defined"))
 
 -- `deepest kind` is the depth of a statement at file level that defines something of the kind
 -- `kind`: a message, an enum or a service at no depth, a value in an enum at file level. Other
@@ -157,7 +161,7 @@ is_at_top nodes d = by (deepest d.kind) (slice_get nodes d.item)
 abbrev pub other_faults : Option (List ℕ) → Definition → List Fault
 other_faults None d = []
 other_faults (Some file) d =
-    at d.span code.DefinedElsewhere (quoted d.full_name ++ codes " is already defined in " ++ file) ∷ []
+    at d.item part.Name code.DefinedElsewhere (quoted d.full_name ++ codes " is already defined in " ++ file) ∷ []
 
 -- `elsewhere_faults others nodes d` is P111 of the definition `d` of a file with the statements
 -- `nodes` that also sees the files `others`
@@ -201,20 +205,20 @@ is_for_protobuf (Some z) = is_between (pos 19000) (pos 19999) z
 -- `earlier`, where `reserved` lists the reserved ranges
 abbrev pub field_number_faults : List Reserved → List Member → Member → List Fault
 field_number_faults reserved earlier f = let number = number_in field_limits f.number in
-    when (not (is_some number)) (at f.number.span code.FieldNumberOutOfRange (codes "field number must be from 1 to 536870911"))
-    ++ when (is_for_protobuf number) (at f.number.span code.FieldNumberOfProtobuf (codes "field numbers 19000 to 19999 are reserved"))
-    ++ when (has_number field_limits f.owner number earlier) (at f.number.span code.FieldNumberTwice (codes "field number " ++ number_text number ++ codes " is used twice"))
-    ++ when (is_reserved f.owner number reserved) (at f.number.span code.FieldNumberReserved (codes "field number " ++ number_text number ++ codes " is reserved"))
+    when (not (is_some number)) (at f.item part.Number code.FieldNumberOutOfRange (codes "field number must be from 1 to 536870911"))
+    ++ when (is_for_protobuf number) (at f.item part.Number code.FieldNumberOfProtobuf (codes "field numbers 19000 to 19999 are reserved"))
+    ++ when (has_number field_limits f.owner number earlier) (at f.item part.Number code.FieldNumberTwice (codes "field number " ++ number_text number ++ codes " is used twice"))
+    ++ when (is_reserved f.owner number reserved) (at f.item part.Number code.FieldNumberReserved (codes "field number " ++ number_text number ++ codes " is reserved"))
 
 -- `field_name_faults names f` is P124 of the field `f`, where `names` lists the reserved names
 abbrev pub field_name_faults : List ReservedName → Member → List Fault
 field_name_faults names f =
-    when (is_reserved_name f.owner f.name.text names) (at f.name.span code.FieldNameReserved (codes "field name " ++ quoted f.name.text ++ codes " is reserved"))
+    when (is_reserved_name f.owner f.name.text names) (at f.item part.Name code.FieldNameReserved (codes "field name " ++ quoted f.name.text ++ codes " is reserved"))
 
 -- `range_faults r` is P125 of the reserved range `r`
 abbrev pub range_faults : Reserved → List Fault
 range_faults r =
-    when (not (is_some (bounds_of (limits_by r.in_enum) r.range))) (at r.range.span code.BadRange (codes "reserved range is empty or out of range"))
+    when (not (is_some (bounds_of (limits_by r.in_enum) r.range))) (at r.item (part.Range r.nth) code.BadRange (codes "reserved range is empty or out of range"))
 
 -- ---- P126 to P135: oneofs and enums
 
@@ -223,12 +227,12 @@ abbrev pub is_empty : ℕ → List Member → Bool
 is_empty body members = not (list_any (λ (m : Member). same_item (Some body) m.holder) members)
 
 -- `oneof_faults fields o` is P126 of the oneof `o`
-abbrev pub oneof_faults : List Member → Titled → List Fault
-oneof_faults fields o = when (is_empty o.item fields) (at o.name.span code.EmptyOneof (codes "oneof has no field"))
+abbrev pub oneof_faults : List Member → ℕ → List Fault
+oneof_faults fields o = when (is_empty o fields) (at o part.Name code.EmptyOneof (codes "oneof has no field"))
 
 -- `enum_faults values e` is P130 of the enum `e`
-abbrev pub enum_faults : List Member → Titled → List Fault
-enum_faults values e = when (is_empty e.item values) (at e.name.span code.EmptyEnum (codes "enum has no value"))
+abbrev pub enum_faults : List Member → ℕ → List Fault
+enum_faults values e = when (is_empty e values) (at e part.Name code.EmptyEnum (codes "enum has no value"))
 
 -- `is_named name parts` is whether an option's name with the parts `parts` is the one name `name`
 abbrev pub is_named : List ℕ → List NamePart → Bool
@@ -272,39 +276,39 @@ is_zero (Some z) = int_eq z (pos 0)
 -- values `earlier`, where `reserved` lists the reserved ranges and `options` the options
 abbrev pub value_number_faults : List Reserved → List Opted → List Member → Member → List Fault
 value_number_faults reserved options earlier v = let number = number_in enum_limits v.number in
-    when (is_first v earlier && not (is_zero number)) (at v.number.span code.FirstValueNotZero (codes "the first enum value must be 0"))
-    ++ when (not (is_some number)) (at v.number.span code.EnumNumberOutOfRange (codes "enum number must be from -2147483648 to 2147483647"))
-    ++ when (has_number enum_limits v.owner number earlier && not (allows_alias options v.owner)) (at v.number.span code.EnumNumberTwice (codes "enum number " ++ number_text number ++ codes " is used twice without allow_alias"))
-    ++ when (is_reserved v.owner number reserved) (at v.number.span code.EnumNumberReserved (codes "enum number " ++ number_text number ++ codes " is reserved"))
+    when (is_first v earlier && not (is_zero number)) (at v.item part.Number code.FirstValueNotZero (codes "the first enum value must be 0"))
+    ++ when (not (is_some number)) (at v.item part.Number code.EnumNumberOutOfRange (codes "enum number must be from -2147483648 to 2147483647"))
+    ++ when (has_number enum_limits v.owner number earlier && not (allows_alias options v.owner)) (at v.item part.Number code.EnumNumberTwice (codes "enum number " ++ number_text number ++ codes " is used twice without allow_alias"))
+    ++ when (is_reserved v.owner number reserved) (at v.item part.Number code.EnumNumberReserved (codes "enum number " ++ number_text number ++ codes " is reserved"))
 
 -- `value_name_faults names v` is P135 of the enum value `v`, where `names` lists the reserved names
 abbrev pub value_name_faults : List ReservedName → Member → List Fault
 value_name_faults names v =
-    when (is_reserved_name v.owner v.name.text names) (at v.name.span code.EnumValueNameReserved (codes "enum value name " ++ quoted v.name.text ++ codes " is reserved"))
+    when (is_reserved_name v.owner v.name.text names) (at v.item part.Name code.EnumValueNameReserved (codes "enum value name " ++ quoted v.name.text ++ codes " is reserved"))
 
 -- ---- P150 to P153: type references
 
--- `is_method part` is whether a type reference of the part `part` is one of a method
+-- `is_method p` is whether a type reference of the part `p` is one of a method
 abbrev pub is_method : TypePart → Bool
-is_method parts.«Type» = false
-is_method parts.Input = true
-is_method parts.Output = true
+is_method types.«Type» = false
+is_method types.Input = true
+is_method types.Output = true
 
--- `resolution_faults part name r` is the errors of the type reference `name`, the part `part` of
--- its statement, which resolves to `r`
-abbrev pub resolution_faults : TypePart → Name → Resolution → List Fault
-resolution_faults part t resolutions.NotFound = at t.span code.TypeNotFound (codes "type " ++ quoted t.text ++ codes " is not found") ∷ []
-resolution_faults part t (resolutions.NotVisible file) = at t.span code.TypeNotImported (codes "type " ++ quoted t.text ++ codes " is in " ++ file ++ codes ", which is not imported") ∷ []
-resolution_faults part t resolutions.NotAType = at t.span code.NotAType (quoted t.text ++ codes " is not a type") ∷ []
-resolution_faults part t (resolutions.«Type» file full_name is_enum item) =
-    when (is_method part && is_enum) (at t.span code.NotAMessage (quoted t.text ++ codes " is not a message"))
+-- `resolution_faults item p name r` is the errors of the type reference with the name `name`, the
+-- type `p` of the item `item`, which resolves to `r`
+abbrev pub resolution_faults : ℕ → TypePart → List ℕ → Resolution → List Fault
+resolution_faults item p name resolutions.NotFound = at item (part.«Type» p) code.TypeNotFound (codes "type " ++ quoted name ++ codes " is not found") ∷ []
+resolution_faults item p name (resolutions.NotVisible file) = at item (part.«Type» p) code.TypeNotImported (codes "type " ++ quoted name ++ codes " is in " ++ file ++ codes ", which is not imported") ∷ []
+resolution_faults item p name resolutions.NotAType = at item (part.«Type» p) code.NotAType (quoted name ++ codes " is not a type") ∷ []
+resolution_faults item p name (resolutions.«Type» file full_name is_enum of) =
+    when (is_method p && is_enum) (at item (part.«Type» p) code.NotAMessage (quoted name ++ codes " is not a message"))
 
--- `named_type part s` is the name of the type that the part `part` of the statement `s` is
+-- `named_type p s` is the name of the type that the part `p` of the statement `s` is
 abbrev pub named_type : TypePart → Statement → Option Name
-named_type parts.«Type» (Field label kind name number options) = Some kind
-named_type parts.«Type» (MapField key value name number options) = Some value
-named_type parts.Input (Method name input output) = Some input.type_name
-named_type parts.Output (Method name input output) = Some output.type_name
+named_type types.«Type» (Field label kind name number options) = Some kind
+named_type types.«Type» (MapField key value name number options) = Some value
+named_type types.Input (Method name input output) = Some input.type_name
+named_type types.Output (Method name input output) = Some output.type_name
 named_type _ _ = None
 
 -- `reference_faults nodes r` is the errors of the type reference `r` of the statements `nodes`
@@ -313,7 +317,7 @@ reference_faults nodes r = of_node (slice_get nodes r.item)
   where
     of_name : Option Name → List Fault
     of_name None = []
-    of_name (Some name) = resolution_faults r.part name r.resolution
+    of_name (Some name) = resolution_faults r.item r.part name.text r.resolution
 
     of_node : Option Node → List Fault
     of_node None = []

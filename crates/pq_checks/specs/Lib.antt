@@ -6,7 +6,7 @@ pub mod Owners
 pub mod Members
 pub mod Surroundings
 pub mod Faults
-pub mod FaultOrder
+pub mod DiagnosticOrder
 pub mod EachFault
 pub mod Compile
 pub mod Answers

@@ -1,9 +1,9 @@
 -- What the checks look at in a tree: its fields, enum values, reserved ranges and the like, each
--- list in text order. `item` is the number of the statement, `nth` counts its parts from 0.
+-- list in text order. `item` is the number of the statement, `nth` counts its parts from 0. Packages,
+-- oneofs, enums and extend blocks are listed by the numbers of their statements.
 use Rattle.std.specs.Prelude.{ℕ, List, [], ◌∷◌, map, flat_map, Option}
 use Rattle.std.specs.List.{enumerate_from}
-use Rattle.pq_lex.specs.declared.token.Span.{Span}
-use Rattle.pq_syntax.specs.declared.parts.Constant.{Constant}
+use Rattle.pq_syntax.specs.declared.parts.ConstantKind.{ConstantKind}
 use Rattle.pq_syntax.specs.declared.parts.Name.{Name}
 use Rattle.pq_syntax.specs.declared.parts.Number.{Number}
 use Rattle.pq_syntax.specs.declared.parts.Range.{Range}
@@ -57,36 +57,31 @@ values nodes = each_at value_at nodes
 
 -- ---- packages, oneofs and enums
 
--- A `Titled` is a package, a oneof or an enum, with its name
-pub record Titled : Type 0 where
-  pub item : ℕ
-  pub name : Name
-
 -- `package_at s t` lists the package that the statement `t` at `s` is, if any
-abbrev pub package_at : Site → Statement → List Titled
-package_at s (Package name) = record { item = s.item; name = name } ∷ []
+abbrev pub package_at : Site → Statement → List ℕ
+package_at s (Package name) = s.item ∷ []
 package_at s _ = []
 
 -- `packages nodes` lists the package statements of `nodes`
-abbrev pub packages : List Node → List Titled
+abbrev pub packages : List Node → List ℕ
 packages nodes = each_at package_at nodes
 
 -- `oneof_at s t` lists the oneof that the statement `t` at `s` is, if any
-abbrev pub oneof_at : Site → Statement → List Titled
-oneof_at s (Oneof name) = record { item = s.item; name = name } ∷ []
+abbrev pub oneof_at : Site → Statement → List ℕ
+oneof_at s (Oneof name) = s.item ∷ []
 oneof_at s _ = []
 
 -- `oneofs nodes` lists the oneofs of the statements `nodes`
-abbrev pub oneofs : List Node → List Titled
+abbrev pub oneofs : List Node → List ℕ
 oneofs nodes = each_at oneof_at nodes
 
 -- `enum_at s t` lists the enum that the statement `t` at `s` is, if any
-abbrev pub enum_at : Site → Statement → List Titled
-enum_at s (Enum name) = record { item = s.item; name = name } ∷ []
+abbrev pub enum_at : Site → Statement → List ℕ
+enum_at s (Enum name) = s.item ∷ []
 enum_at s _ = []
 
 -- `enums nodes` lists the enums of the statements `nodes`
-abbrev pub enums : List Node → List Titled
+abbrev pub enums : List Node → List ℕ
 enums nodes = each_at enum_at nodes
 
 -- ---- what is reserved
@@ -127,11 +122,11 @@ reserved_names nodes = each_at name_at nodes
 -- An `ImportName` is an import with the name of its file
 pub record ImportName : Type 0 where
   pub item : ℕ
-  pub name : Strings
+  pub value : List ℕ
 
 -- `import_at s t` lists the import that the statement `t` at `s` is, if any
 abbrev pub import_at : Site → Statement → List ImportName
-import_at s (Import kind file) = record { item = s.item; name = file } ∷ []
+import_at s (Import kind file) = record { item = s.item; value = file.value } ∷ []
 import_at s _ = []
 
 -- `imports nodes` lists the import statements of `nodes`
@@ -152,16 +147,16 @@ option_at s _ = []
 abbrev pub option_statements : List Node → List Opted
 option_statements nodes = each_at option_at nodes
 
--- An `Assigned` is the constant of an option: of the option `nth` of its statement
+-- An `Assigned` is the kind of the constant of an option: of the option `nth` of its statement
 pub record Assigned : Type 0 where
   pub item : ℕ
   pub nth : ℕ
-  pub constant : Constant
+  pub kind : ConstantKind
 
 -- `assigned item o` is the constant of the option `o.1`, the option `o.0` of the statement of the
 -- number `item`
 abbrev pub assigned : ℕ → ℕ × Setting → Assigned
-assigned item o = record { item = item; nth = o.0; constant = o.1.constant }
+assigned item o = record { item = item; nth = o.0; kind = o.1.constant.kind }
 
 -- `all_assigned item options` lists the constants of all options `options` of that statement
 abbrev pub all_assigned : ℕ → List Setting → List Assigned
@@ -180,11 +175,11 @@ constant_at s _ = []
 abbrev pub constants : List Node → List Assigned
 constants nodes = each_at constant_at nodes
 
--- `extend_at s t` lists the span of the extend block that the statement `t` at `s` is, if any
-abbrev pub extend_at : Site → Statement → List Span
-extend_at s (Extend kind) = s.node.span ∷ []
+-- `extend_at s t` lists the extend block that the statement `t` at `s` is, if any
+abbrev pub extend_at : Site → Statement → List ℕ
+extend_at s (Extend kind) = s.item ∷ []
 extend_at s _ = []
 
--- `extends nodes` lists the spans of the extend blocks of `nodes`
-abbrev pub extends : List Node → List Span
+-- `extends nodes` lists the extend blocks of `nodes`
+abbrev pub extends : List Node → List ℕ
 extends nodes = each_at extend_at nodes

@@ -1,7 +1,6 @@
 -- What contains a statement, as the checks see it.
 use Rattle.std.specs.Prelude.{ℕ, Bool, true, false, cond, List, [], ◌∷◌, Option, Some, None}
 use Rattle.pq_syntax.specs.Places.{Item, Place}
-use Rattle.pq_syntax.specs.declared.tree.Node.{Node}
 use Rattle.pq_syntax.specs.declared.tree.Statement.{Statement}
 use Rattle.pq_syntax.specs.declared.tree.Statement.TheVariants.{Oneof, Enum}
 use Rattle.pq_checks.specs.Numbers.{Limits, field_limits, enum_limits}
@@ -42,12 +41,11 @@ is_in_enum (i ∷ outer) = is_enum i.node.statement
 abbrev pub around_of : List Item → Around
 around_of within = record { holder = holder_of within; owner = owner_of within; in_enum = is_in_enum within }
 
--- A `Site` is a statement with its number and what contains it
+-- A `Site` is the number of a statement and what contains it
 pub record Site : Type 0 where
   pub item : ℕ
   pub around : Around
-  pub node : Node
 
--- `site_of p` is the statement at the place `p` with its number and what contains it
+-- `site_of p` is the number of the statement at the place `p` and what contains it
 abbrev pub site_of : Place → Site
-site_of p = record { item = p.item.number; around = around_of p.within; node = p.item.node }
+site_of p = record { item = p.item.number; around = around_of p.within }

@@ -12,7 +12,6 @@ pub use Rattle.pq_schema.specs.Others.{other_files, first_with}
 use Rattle.pq_checks.specs.declared.surroundings.FileState.{FileState}
 use Rattle.pq_checks.specs.declared.surroundings.FileState.TheVariants.{Missing, Unreadable, Readable}
 use Rattle.pq_checks.specs.declared.surroundings.Imported.{Imported}
-use Rattle.pq_checks.specs.declared.surroundings.Checked.{Checked}
 
 -- `parsed_state p` is the state of a file whose text has the tree or error `p`
 abbrev pub parsed_state : Parsed → FileState
@@ -44,7 +43,3 @@ pub record Surroundings : Type 0 where
 abbrev pub state_in : List Imported → List ℕ → FileState
 state_in [] file = Readable
 state_in (i ∷ is) file = cond (bytes_eq i.file file) i.state (state_in is file)
-
--- `no_checked` is the checks of an absent file: it has no errors
-abbrev pub no_checked : Checked
-no_checked = record { faults = []; file = Absent }

@@ -5,6 +5,7 @@ ghost use Rattle.std.specs.Prelude.{◌≡◌, IfOk, [], unwrap_or};
 ghost use Rattle.pq_schema.specs.Missing.{no_defs};
 ghost use Rattle.pq_checks.specs.Surroundings.{state_of};
 
+use crate::fault::Fault;
 use crate::keys::CheckKeys;
 use crate::surroundings::{FileState, state_of};
 use pq_links::{Import, ParsedFile};
@@ -93,5 +94,18 @@ pub(crate) fn state_in<S: CheckKeys>(answer: &S::Answer) -> FileState
     match S::read_parsed(answer) {
         Some(file) => state_of(file),
         None => FileState::Missing,
+    }
+}
+
+/// The errors of a file that the answer holds.
+pub(crate) fn faults_in<S: CheckKeys>(
+    alloc: Global,
+    answer: &S::Answer,
+) -> Result<Shared<Items<Fault>>, Memory>
+    ensures faults { IfOk result (λ fs. fs ≡ S.checked answer.now) }
+{
+    match S::read_checked(answer) {
+        Some(faults) => faults.copy(),
+        None => Shared::new(alloc, Items::new(Vec::new(alloc))),
     }
 }

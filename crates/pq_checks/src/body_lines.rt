@@ -3,14 +3,16 @@ ghost use Rattle.std.specs.Prelude.{◌≡◌, ◌++◌, flat_map, map, IfOk};
 ghost use Rattle.std.specs.Option.{option_cmp};
 ghost use Rattle.std.specs.Ordering.{nat_cmp};
 ghost use Rattle.pq_checks.specs.aux.Lines.{body_line};
-ghost use Rattle.pq_checks.specs.aux.Seen.{member_seen, titled_seen};
+ghost use Rattle.pq_checks.specs.aux.Seen.{member_seen};
 ghost use Rattle.pq_checks.specs.aux.Sets.{Has, is_holder};
 
 use crate::Memory;
 use crate::code::Code;
 use crate::fault::Fault;
-use crate::members::{Member, Titled};
+use crate::members::Member;
+use crate::said::At;
 use crate::tell::tell_if;
+use pq_links::Part;
 use std::alloc::Global;
 use std::collections::BTreeSet;
 
@@ -30,22 +32,25 @@ fn holders(alloc: Global, members: &[Member<'_>]) -> Result<BTreeSet<Option<usiz
 pub(crate) fn push_body_faults(
     alloc: Global,
     faults: &mut Vec<Fault>,
-    bodies: &[Titled<'_>],
+    bodies: &[usize],
     members: &[Member<'_>],
     code: Code,
     text: &str,
 ) -> Result<(), Memory>
     ensures { IfOk result (λ _. faults.new.items ≡ faults.old.items
-        ++ flat_map (body_line code text.now (map member_seen members.now)) (map titled_seen bodies.now)) }
+        ++ flat_map (body_line code text.now (map member_seen members.now)) bodies.now) }
 {
     if bodies.is_empty() {
         return Ok(());
     }
     let holders = holders(alloc, members)?;
     'each: for body in bodies {
-        let holder = Some(body.item);
-        let has_member = holders.contains(&holder);
-        tell_if(alloc, faults, !has_member, body.name.span, code, text)?;
+        let has_member = holders.contains(&Some(*body));
+        let place = At {
+            item: *body,
+            part: Part::Name,
+        };
+        tell_if(alloc, faults, !has_member, place, code, text)?;
     }
     Ok(())
 }

@@ -16,9 +16,10 @@ ghost use Rattle.pq_checks.specs.aux.Falls.{check_falls};
 ghost use Rattle.pq_checks.specs.declared.checked.CheckPart.TheVariants.{ReadFile, ReadImports as ReadImportsPart, ReadLinks, ReadDefs, ReadScope, ReadReferences, ReadState, ReadNext};
 
 use crate::answered::{defs_in, file_in, imports_in, references_in, scope_in, state_in};
+use crate::fault::Fault;
 use crate::gathered::{Known, LinkedFile, States, Waiting, check};
 use crate::keys::CheckKeys;
-use crate::surroundings::{Checked, FileState, Imported};
+use crate::surroundings::{FileState, Imported};
 use pq_links::{Import, ParsedFile};
 use pq_rules::{Memory, Query, Shared, Text, Turn};
 use pq_schema::{Defs, ResolvedReference, Scope};
@@ -56,7 +57,7 @@ enum Stage {
     ForLinks(Waiting),
 }
 
-/// The checks of a file: its errors, with what it is read as (the law `checks_by_answers`).
+/// The checks of a file: its errors by the table (the law `checks_by_answers`).
 #[derive(Drop)]
 pub struct ChecksQuery<S> {
     sum: PhantomData<S>,
@@ -74,7 +75,7 @@ fn after_file<S: CheckKeys>(
     alloc: Global,
     file: Text,
     answer: &S::Answer,
-) -> Result<Turn<S::Key, CheckPart, Shared<Checked>>, CheckPart>
+) -> Result<Turn<S::Key, CheckPart, Shared<Items<Fault>>>, CheckPart>
     ensures turn { IfOk result (λ t. t ≡ Ask (S.imports file) (ReadImportsPart file (S.parsed answer.now))) }
     ensures back { IfErr result (λ p. p ≡ ReadFile file) }
 {
@@ -90,7 +91,7 @@ fn after_imports<S: CheckKeys>(
     file: Text,
     parsed: Shared<ParsedFile>,
     answer: &S::Answer,
-) -> Result<Turn<S::Key, CheckPart, Shared<Checked>>, CheckPart>
+) -> Result<Turn<S::Key, CheckPart, Shared<Items<Fault>>>, CheckPart>
     ensures turn { IfOk result (λ t. t ≡ Ask (S.linked file) (ReadLinks file parsed (unwrap_or (S.imported answer.now) []))) }
     ensures back { IfErr result (λ p. p ≡ ReadImportsPart file parsed) }
 {
@@ -107,7 +108,7 @@ fn after_links<S: CheckKeys>(
     parsed: Shared<ParsedFile>,
     imports: Shared<Items<Import>>,
     answer: &S::Answer,
-) -> Result<Turn<S::Key, CheckPart, Shared<Checked>>, CheckPart>
+) -> Result<Turn<S::Key, CheckPart, Shared<Items<Fault>>>, CheckPart>
     ensures turn { IfOk result (λ t. t ≡ Ask (S.defs file) (ReadDefs (record { file = file; parsed = parsed; imports = imports; ring = S.ring answer.now }))) }
     ensures back { IfErr result (λ p. p ≡ ReadLinks file parsed imports) }
 {
@@ -130,7 +131,7 @@ fn after_defs<S: CheckKeys>(
     alloc: Global,
     linked: LinkedFile,
     answer: &S::Answer,
-) -> Result<Turn<S::Key, CheckPart, Shared<Checked>>, CheckPart>
+) -> Result<Turn<S::Key, CheckPart, Shared<Items<Fault>>>, CheckPart>
     ensures turn { IfOk result (λ t. t ≡ Ask (S.scope linked.file) (ReadScope linked (S.defined answer.now))) }
     ensures back { IfErr result (λ p. p ≡ ReadDefs linked) }
 {
@@ -146,7 +147,7 @@ fn after_scope<S: CheckKeys>(
     linked: LinkedFile,
     defs: Shared<Defs>,
     answer: &S::Answer,
-) -> Result<Turn<S::Key, CheckPart, Shared<Checked>>, CheckPart>
+) -> Result<Turn<S::Key, CheckPart, Shared<Items<Fault>>>, CheckPart>
     ensures turn { IfOk result (λ t. t ≡ Ask (S.resolved linked.file) (ReadReferences linked defs (S.scoped answer.now))) }
     ensures back { IfErr result (λ p. p ≡ ReadScope linked defs) }
 {
@@ -161,7 +162,7 @@ fn link_next<S: CheckKeys>(
     alloc: Global,
     known: &Known,
     imported: &[Imported],
-) -> Result<Turn<S::Key, Stage, Shared<Checked>>, Memory>
+) -> Result<Turn<S::Key, Stage, Shared<Items<Fault>>>, Memory>
     ensures turn { IfOk result (λ t. t ≡ link_next S.linked known.now known.now.linked.ring (slice_get known.now.linked.imports 0) imported.now) }
 {
     if known.linked.ring.is_none() {
@@ -183,7 +184,7 @@ fn staged<S: CheckKeys>(
     known: &Known,
     next: Option<&Import>,
     imported: &[Imported],
-) -> Result<Turn<S::Key, Stage, Shared<Checked>>, Memory>
+) -> Result<Turn<S::Key, Stage, Shared<Items<Fault>>>, Memory>
     ensures turn { IfOk result (λ t. t ≡ staged S.linked S.parse known.now (option_copied next.entry) imported.now) }
 {
     match next {
@@ -194,11 +195,11 @@ fn staged<S: CheckKeys>(
 
 /// Puts its part into a turn.
 fn placed<K: Drop>(
-    turn: Turn<K, Stage, Shared<Checked>>,
+    turn: Turn<K, Stage, Shared<Items<Fault>>>,
     known: Known,
     waiting: Waiting,
     imported: States,
-) -> Turn<K, CheckPart, Shared<Checked>>
+) -> Turn<K, CheckPart, Shared<Items<Fault>>>
     ensures turn { result ≡ placed known waiting imported turn }
 {
     match turn {
@@ -214,7 +215,7 @@ fn placed<K: Drop>(
 fn first_stage<S: CheckKeys>(
     alloc: Global,
     known: &Known,
-) -> Result<(Turn<S::Key, Stage, Shared<Checked>>, Waiting), Memory>
+) -> Result<(Turn<S::Key, Stage, Shared<Items<Fault>>>, Waiting), Memory>
     ensures turn { IfOk result (λ r. (r.0 ≡ staged S.linked S.parse known.now (slice_get known.now.linked.imports 0) [])
         × (r.1 ≡ known.now.linked.imports)) }
 {
@@ -230,7 +231,7 @@ fn after_references<S: CheckKeys>(
     defs: Shared<Defs>,
     scope: Shared<Scope>,
     answer: &S::Answer,
-) -> Result<Turn<S::Key, CheckPart, Shared<Checked>>, CheckPart>
+) -> Result<Turn<S::Key, CheckPart, Shared<Items<Fault>>>, CheckPart>
     ensures turn { IfOk result (λ t. t ≡ references_turn S.linked S.parse linked defs scope (S.referred answer.now)) }
     ensures back { IfErr result (λ p. p ≡ ReadReferences linked defs scope) }
 {
@@ -258,7 +259,7 @@ fn follow_state<S: CheckKeys>(
     waiting: &Waiting,
     imported: &mut States,
     answer: &S::Answer,
-) -> Result<Turn<S::Key, Stage, Shared<Checked>>, Memory>
+) -> Result<Turn<S::Key, Stage, Shared<Items<Fault>>>, Memory>
     ensures turn { IfOk result (λ t. t ≡ state_follows S.linked S.parse known.now (slice_get waiting.now 0) (slice_get waiting.now 1) (S.parsed answer.now) imported.old) }
     ensures read { OnOk result (imported.new ≡ with_state (slice_get waiting.now 0) (S.parsed answer.now) imported.old) }
     ensures same { OnErr result (imported.new ≡ imported.old) }
@@ -286,7 +287,7 @@ fn after_state<S: CheckKeys>(
     waiting: Waiting,
     imported: States,
     answer: &S::Answer,
-) -> Result<Turn<S::Key, CheckPart, Shared<Checked>>, CheckPart>
+) -> Result<Turn<S::Key, CheckPart, Shared<Items<Fault>>>, CheckPart>
     ensures turn { IfOk result (λ t. t ≡ placed known (drop 1 waiting) (with_state (slice_get waiting 0) (S.parsed answer.now) imported)
         (state_follows S.linked S.parse known (slice_get waiting 0) (slice_get waiting 1) (S.parsed answer.now) imported)) }
     ensures back { IfErr result (λ p. p ≡ ReadState known waiting imported) }
@@ -309,7 +310,7 @@ fn follow_link<S: CheckKeys>(
     waiting: &Waiting,
     imported: &[Imported],
     answer: &S::Answer,
-) -> Result<Turn<S::Key, (), Shared<Checked>>, Memory>
+) -> Result<Turn<S::Key, (), Shared<Items<Fault>>>, Memory>
     ensures turn { IfOk result (λ t. t ≡ link_follows S.linked known.now (slice_get waiting.now 0) (slice_get waiting.now 1) (S.ring answer.now) imported.now) }
 {
     let import = match waiting.first() {
@@ -327,11 +328,11 @@ fn follow_link<S: CheckKeys>(
 
 /// Puts its part into a turn after the links of an imported file.
 fn link_placed<K: Drop>(
-    turn: Turn<K, (), Shared<Checked>>,
+    turn: Turn<K, (), Shared<Items<Fault>>>,
     known: Known,
     waiting: Waiting,
     imported: States,
-) -> Turn<K, CheckPart, Shared<Checked>>
+) -> Turn<K, CheckPart, Shared<Items<Fault>>>
     ensures turn { result ≡ link_placed known waiting imported turn }
 {
     match turn {
@@ -347,7 +348,7 @@ fn after_link<S: CheckKeys>(
     waiting: Waiting,
     imported: States,
     answer: &S::Answer,
-) -> Result<Turn<S::Key, CheckPart, Shared<Checked>>, CheckPart>
+) -> Result<Turn<S::Key, CheckPart, Shared<Items<Fault>>>, CheckPart>
     ensures turn { IfOk result (λ t. t ≡ link_placed known (drop 1 waiting) imported
         (link_follows S.linked known (slice_get waiting 0) (slice_get waiting 1) (S.ring answer.now) imported)) }
     ensures back { IfErr result (λ p. p ≡ ReadNext known waiting imported) }
@@ -365,7 +366,7 @@ fn after_link<S: CheckKeys>(
 impl<S: CheckKeys> Query for ChecksQuery<S> {
     type Key = Text;
 
-    type Value = Shared<Checked>;
+    type Value = Shared<Items<Fault>>;
 
     type Part = CheckPart;
 
@@ -389,7 +390,7 @@ impl<S: CheckKeys> Query for ChecksQuery<S> {
         &self,
         _alloc: Global,
         key: &Text,
-    ) -> Result<Turn<S::Key, CheckPart, Shared<Checked>>, Memory> {
+    ) -> Result<Turn<S::Key, CheckPart, Shared<Items<Fault>>>, Memory> {
         Ok(Turn::Ask(S::parse_key(key)?, CheckPart::ReadFile(key.copy()?)))
     }
 
@@ -398,7 +399,7 @@ impl<S: CheckKeys> Query for ChecksQuery<S> {
         alloc: Global,
         part: CheckPart,
         answer: &S::Answer,
-    ) -> Result<Turn<S::Key, CheckPart, Shared<Checked>>, CheckPart> {
+    ) -> Result<Turn<S::Key, CheckPart, Shared<Items<Fault>>>, CheckPart> {
         match part {
             CheckPart::ReadFile(file) => after_file::<S>(alloc, file, answer),
             CheckPart::ReadImports(file, parsed) => {

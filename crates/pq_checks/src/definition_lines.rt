@@ -7,6 +7,7 @@
 //! look-up.
 ghost use Rattle.std.specs.Prelude.{◌≡◌, ◌++◌, flat_map, IfOk, [], Some};
 ghost use Rattle.std.specs.List.{list_any};
+ghost use Rattle.pq_links.specs.declared.places.Part.TheVariants.{Name};
 ghost use Rattle.pq_checks.specs.Earlier.{of_each_after};
 ghost use Rattle.pq_checks.specs.Faults.{twice_faults, deepest, is_at_top, other_faults, elsewhere_faults};
 ghost use Rattle.pq_schema.specs.Others.{other_files};
@@ -16,11 +17,22 @@ ghost use Rattle.pq_checks.specs.aux.Views.{is_other, twice_line};
 use crate::Memory;
 use crate::code::Code;
 use crate::fault::Fault;
-use crate::said::{around_name, push};
+use crate::said::{At, around_name, push};
+use pq_links::Part;
 use pq_names::Text;
 use pq_schema::{Definition, DefinitionKind, Defs, OtherFiles, Scope};
 use pq_syntax::Node;
 use std::alloc::Global;
+
+/// The place of the name of the definition `definition`.
+fn name_of(definition: &Definition) -> At
+    ensures { result ≡ record { item = definition.now.item; part = Name } }
+{
+    At {
+        item: definition.item,
+        part: Part::Name,
+    }
+}
 
 /// Adds the error of the definition `definition` if its full name is `repeated`.
 fn push_twice(
@@ -33,7 +45,7 @@ fn push_twice(
 {
     if repeated {
         let text = around_name(alloc, &definition.full_name, " is already defined", "")?;
-        return push(faults, definition.span, Code::DefinedTwice, text);
+        return push(faults, name_of(definition), Code::DefinedTwice, text);
     }
     Ok(())
 }
@@ -112,7 +124,7 @@ fn push_other(
         " is already defined in ",
         other.as_str(),
     )?;
-    push(faults, definition.span, Code::DefinedElsewhere, text)
+    push(faults, name_of(definition), Code::DefinedElsewhere, text)
 }
 
 /// Adds the error of the definition `definition` if it is at file level and one of the other files

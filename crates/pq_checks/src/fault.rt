@@ -1,15 +1,16 @@
-//! One error of a file.
+//! One error of a file, by its place.
 
 use crate::code::Code;
+use pq_links::Part;
 use pq_names::Text;
 
-/// An error of a file. Errors are ordered by their fields, in this order.
-#[derive(Drop, PartialEq, Eq, PartialOrd, Ord)]
+/// An error of a file. Its place stays the same while text around it moves.
+#[derive(Drop, PartialEq, Eq)]
 pub struct Fault {
-    /// The byte offset of its first character.
-    pub start: usize,
-    /// The byte offset after its last character.
-    pub end: usize,
+    /// The number of the item: the statements of a file count from 0, in text order.
+    pub item: usize,
+    /// The part of the item.
+    pub part: Part,
     /// The code.
     pub code: Code,
     /// The message.

@@ -12,7 +12,9 @@ use crate::fault::Fault;
 use crate::members::{Member, Reserved};
 use crate::numbers::field_number;
 use crate::range_lines::reserved_keys;
+use crate::said::At;
 use crate::tell::{both, tell_if, tell_number};
+use pq_links::Part;
 use std::alloc::Global;
 use std::collections::BTreeSet;
 
@@ -45,23 +47,26 @@ fn push_lines(
     ensures { IfOk result (λ _. faults.new.items ≡ faults.old.items
         ++ field_lines number (repeated && is_some number) (covered && is_some number) (member_seen field.now)) }
 {
-    let span = field.number.span;
+    let place = At {
+        item: field.item,
+        part: Part::Number,
+    };
     let is_number = number.is_some();
     let twice = both(repeated, is_number);
     let reserved = both(covered, is_number);
     let text = "field number must be from 1 to 536870911";
     let code = Code::FieldNumberOutOfRange;
-    tell_if(alloc, faults, !is_number, span, code, text)?;
+    tell_if(alloc, faults, !is_number, place, code, text)?;
     let text = "field numbers 19000 to 19999 are reserved";
     let code = Code::FieldNumberOfProtobuf;
-    tell_if(alloc, faults, is_for_protobuf(number), span, code, text)?;
+    tell_if(alloc, faults, is_for_protobuf(number), place, code, text)?;
     let before = "field number ";
     let code = Code::FieldNumberTwice;
     tell_number(
         alloc,
         faults,
         twice,
-        span,
+        place,
         code,
         before,
         number,
@@ -72,7 +77,7 @@ fn push_lines(
         alloc,
         faults,
         reserved,
-        span,
+        place,
         code,
         before,
         number,

@@ -9,15 +9,13 @@ ghost use Rattle.pq_checks.specs.aux.Spots.{AreSpots};
 ghost use Rattle.pq_syntax.specs.declared.tree.Node.{Node as NodeContents};
 
 use crate::Memory;
-use crate::code::{syntax_code, syntax_text};
 use crate::definition_lines::{push_elsewhere_faults, push_twice_faults};
 use crate::fault::Fault;
 use crate::import_lines::push_import_faults;
 use crate::member_lines::push_member_faults;
 use crate::reference_lines::push_reference_faults;
-use crate::said::tell;
 use crate::spots::{Spot, spots};
-use crate::surroundings::{Checked, Imported};
+use crate::surroundings::Imported;
 use crate::unread_lines::{push_package_faults, push_unread_faults};
 use pq_links::{Import, ParsedFile};
 use pq_rules::{Shared, Text};
@@ -280,17 +278,7 @@ fn text_faults(
 {
     match parsed {
         Parsed::Tree(nodes) => tree_faults(alloc, known, imported, next, nodes.as_slice()),
-        Parsed::Fault { span, code } => {
-            let mut faults = Vec::new(alloc);
-            tell(
-                alloc,
-                &mut faults,
-                *span,
-                syntax_code(*code),
-                syntax_text(*code),
-            )?;
-            Ok(faults)
-        }
+        Parsed::Fault { .. } => Ok(Vec::new(alloc)),
     }
 }
 
@@ -311,24 +299,17 @@ fn faults_of(
     }
 }
 
-/// The checks of the file of `known`, which imports the files `imported`, and the first bad import
-/// of which is `next`.
+/// The errors of the file of `known`, to be shared; it imports the files `imported`, and its first
+/// bad import is `next`.
 pub(crate) fn check(
     alloc: Global,
     known: &Known,
     imported: &[Imported],
     next: Option<&Text>,
-) -> Result<Shared<Checked>, Memory>
+) -> Result<Shared<Items<Fault>>, Memory>
     ensures checked { IfOk result
         (λ v. v ≡ checked_of known.now imported.now (option_copied next.entry)) }
 {
     let faults = faults_of(alloc, known, imported, next)?;
-    let file = known.linked.parsed.copy()?;
-    Shared::new(
-        alloc,
-        Checked {
-            faults: Items::new(faults),
-            file,
-        },
-    )
+    Shared::new(alloc, Items::new(faults))
 }

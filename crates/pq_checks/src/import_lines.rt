@@ -7,6 +7,7 @@
 ghost use Rattle.std.specs.Prelude.{◌≡◌, ◌++◌, [], List, cond, IfOk, map, Some, None, string_bytes};
 ghost use Rattle.std.specs.Option.{option_copied};
 ghost use Rattle.std.specs.Str.{is_utf8};
+ghost use Rattle.pq_links.specs.declared.places.Part.TheVariants.{Name};
 ghost use Rattle.pq_checks.specs.Earlier.{of_each_after};
 ghost use Rattle.pq_checks.specs.Faults.{ring_text, state_faults, import_faults};
 ghost use Rattle.pq_checks.specs.Members.{imports};
@@ -21,10 +22,11 @@ use crate::Memory;
 use crate::code::Code;
 use crate::fault::Fault;
 use crate::members::{ImportName, imports};
-use crate::said::{push, say_name, tell};
+use crate::said::{At, push, say_name, tell};
 use crate::spots::Spot;
 use crate::surroundings::{FileState, Imported};
 use crate::tell::tell_name;
+use pq_links::Part;
 use pq_names::Text;
 use std::alloc::Global;
 use std::collections::{BTreeMap, BTreeSet};
@@ -89,6 +91,16 @@ fn ring_text(alloc: Global, ring: &[Text]) -> Result<Text, Memory>
     Text::from_string(alloc, text)
 }
 
+/// The place of the name of the import `import`.
+fn name_of(import: ImportName<'_>) -> At
+    ensures { result ≡ record { item = import.entry.item; part = Name } }
+{
+    At {
+        item: import.item,
+        part: Part::Name,
+    }
+}
+
 /// Adds the errors of the import `import` of a file in the state `state`, whose name is `name`.
 fn push_state(
     alloc: Global,
@@ -107,7 +119,7 @@ fn push_state(
             say_name(
                 alloc,
                 faults,
-                import.name.span,
+                name_of(import),
                 code,
                 "import ",
                 name,
@@ -119,7 +131,7 @@ fn push_state(
             say_name(
                 alloc,
                 faults,
-                import.name.span,
+                name_of(import),
                 code,
                 "import ",
                 name,
@@ -147,7 +159,7 @@ fn push_listed(
         alloc,
         faults,
         repeated,
-        import.name.span,
+        name_of(import),
         code,
         "import ",
         name,
@@ -178,7 +190,7 @@ fn push_ring(
     };
     if name == next.as_str() && !repeated {
         let text = ring_text(alloc, ring)?;
-        return push(faults, import.name.span, Code::ImportCycle, text);
+        return push(faults, name_of(import), Code::ImportCycle, text);
     }
     Ok(())
 }
@@ -219,13 +231,14 @@ fn push_import(
 {
     match as_text(import.name.value.as_slice()) {
         Some(name) => push_named(alloc, faults, state, ring, next, repeated, import, name),
-        None => tell(
-            alloc,
-            faults,
-            import.name.span,
-            Code::ImportNotText,
-            "import name is not UTF-8",
-        ),
+        None => {
+            let place = At {
+                item: import.item,
+                part: Part::Name,
+            };
+            let text = "import name is not UTF-8";
+            tell(alloc, faults, place, Code::ImportNotText, text)
+        }
     }
 }
 

@@ -2,10 +2,9 @@
 ghost use Rattle.std.specs.Prelude.{◌≡◌, ℕ, [], List, Option, IfOk, is_some, option_copied, unwrap_or};
 ghost use Rattle.pq_links.specs.declared.files.ParsedFile.TheVariants.{Absent};
 ghost use Rattle.pq_schema.specs.declared.resolved.ResolvedReference.{ResolvedReference};
-ghost use Rattle.pq_checks.specs.Surroundings.{no_checked};
-ghost use Rattle.pq_checks.specs.declared.surroundings.Checked.{Checked as CheckedContents};
+ghost use Rattle.pq_checks.specs.declared.fault.Fault.{Fault as FaultContents};
 
-use crate::surroundings::Checked;
+use crate::fault::Fault;
 use pq_links::ParsedFile;
 use pq_rules::{Memory, Shared, Text};
 use pq_schema::{ResolvedReference, SchemaKeys};
@@ -27,8 +26,8 @@ pub trait CheckKeys: SchemaKeys {
     /// The files of the cycle that an answer is, `None` if it is a value.
     ghost ring: { Self.Answer → Option (List (List ℕ)) };
 
-    /// The checks of a file that an answer holds.
-    ghost checked: { Self.Answer → CheckedContents };
+    /// The errors of a file that an answer holds.
+    ghost checked: { Self.Answer → List FaultContents };
 
     /// Makes the key of the resolved references of `file`.
     fn resolved_key(file: &Text) -> Result<Self::Key, Memory>
@@ -57,7 +56,7 @@ pub trait CheckKeys: SchemaKeys {
     fn is_cycle(answer: &Self::Answer) -> bool
         ensures cycle { result ≡ is_some (ring answer.now) };
 
-    /// Reads the checks of a file, `None` only where it has no errors and is `Absent`.
-    fn read_checked<'a>(answer: &'a Self::Answer) -> Option<&'a Shared<Checked>>
-        ensures checked { unwrap_or (option_copied result) no_checked ≡ checked answer.now };
+    /// Reads the errors of a file, `None` only where it has none.
+    fn read_checked<'a>(answer: &'a Self::Answer) -> Option<&'a Shared<Items<Fault>>>
+        ensures checked { unwrap_or (option_copied result) [] ≡ checked answer.now };
 }

@@ -4,7 +4,9 @@
 //! answers by which the query's own rule runs from its start to a value. It says what the questions
 //! were, in order, and that the value is the definition, applied to what these answers say.
 ghost use Rattle.std.specs.Prelude.{◌≡◌, ◌↔◌, ℕ, List, [], Contains};
-ghost use Rattle.pq_checks.specs.Diagnostics.{AreDiagnosticsBy};
+ghost use Rattle.pq_checks.specs.Compile.{AreFaults};
+ghost use Rattle.pq_checks.specs.DiagnosticOrder.{diagnostic_cmp};
+ghost use Rattle.pq_checks.specs.Diagnostics.{AreDiagnosticsBy, IsDiagnostic, Stands, parsed_diagnostics};
 ghost use Rattle.pq_checks.specs.aux.DiagnosticsTurns.{diagnostics_starts, diagnostics_advances};
 ghost use Rattle.std.specs.declared.cmp.Ordering.TheVariants.{Equal};
 ghost use Rattle.pq_rules.specs.declared.turn.Turn.TheVariants.{Done};
@@ -12,14 +14,19 @@ ghost use Rattle.pq_rules.specs.Embedding.{Runs};
 ghost use Rattle.pq_checks.specs.Answers.{AreChecksBy};
 ghost use Rattle.pq_checks.specs.aux.Queries.{check_starts, check_advances};
 ghost use Rattle.pq_checks.specs.declared.checked.CheckPart.{CheckPart};
-ghost use Rattle.pq_checks.specs.declared.surroundings.Checked.{Checked};
+ghost use Rattle.pq_checks.specs.declared.diagnostic.Diagnosed.{Diagnosed};
+ghost use Rattle.pq_checks.specs.declared.diagnostic.Diagnostic.{Diagnostic};
+ghost use Rattle.pq_checks.specs.declared.diagnostics.DiagnosticsPart.{DiagnosticsPart};
 ghost use Rattle.pq_checks.specs.Earlier.{of_each_after, IsSaidOfOne};
 ghost use Rattle.pq_checks.specs.EachFault.{IsFault};
-ghost use Rattle.pq_checks.specs.FaultOrder.{fault_cmp};
 ghost use Rattle.pq_checks.specs.Faults.{faults};
 ghost use Rattle.pq_checks.specs.InOrder.{in_order, IsInOrder};
 ghost use Rattle.pq_checks.specs.Surroundings.{Surroundings};
 ghost use Rattle.pq_checks.specs.declared.fault.Fault.{Fault};
+ghost use Rattle.pq_inputs.specs.Sources.{Sources};
+ghost use Rattle.pq_links.specs.Files.{read_in};
+ghost use Rattle.pq_schema.specs.Missing.{nodes_of};
+ghost use Rattle.pq_syntax.specs.declared.fault.Parsed.{Parsed};
 ghost use Rattle.pq_syntax.specs.declared.tree.Node.{Node};
 
 use crate::keys::CheckKeys;
@@ -37,12 +44,12 @@ pub fn said_of_one<A, B>()
     ensures { (f : List A → A → List B) (xs : List A) (x : B) → Contains (of_each_after f [] xs) x ↔ IsSaidOfOne f xs x }
 {}
 
-/// Errors that are put in order rise by start, end, code and message, and are the same errors; no
-/// other list is so.
-pub fn faults_in_order()
-    ensures ordered { (fs : List Fault) → IsInOrder fault_cmp (in_order fault_cmp fs) }
-    ensures members { (fs : List Fault) (f : Fault) → Contains (in_order fault_cmp fs) f ↔ Contains fs f }
-    ensures only { (fs gs : List Fault) → IsInOrder fault_cmp gs → ((f : Fault) → Contains gs f ↔ Contains fs f) → gs ≡ in_order fault_cmp fs }
+/// Diagnostics that are put in order rise by start, end, code as printed and message, and are the
+/// same diagnostics; no other list is so.
+pub fn diagnostics_in_order()
+    ensures ordered { (ds : List Diagnostic) → IsInOrder diagnostic_cmp (in_order diagnostic_cmp ds) }
+    ensures members { (ds : List Diagnostic) (d : Diagnostic) → Contains (in_order diagnostic_cmp ds) d ↔ Contains ds d }
+    ensures only { (ds es : List Diagnostic) → IsInOrder diagnostic_cmp es → ((d : Diagnostic) → Contains es d ↔ Contains ds d) → es ≡ in_order diagnostic_cmp ds }
 {}
 
 /// The errors of a file are those that a line of the table says of one part of the file.
@@ -50,14 +57,25 @@ pub fn each_fault()
     ensures each { (s : Surroundings) (nodes : List Node) (f : Fault) → Contains (faults s nodes) f ↔ IsFault s nodes f }
 {}
 
-/// The diagnostics of a file ask for its checks, and are the errors by these in order.
+/// The tree of a file has the place of each error of the file by the table.
+pub fn each_stands()
+    ensures stands { (files : Sources) (f : List ℕ) (fs : List Fault) (x : Fault) → AreFaults files f fs → Contains fs x → Stands (nodes_of (read_in files f)) x }
+{}
+
+/// A diagnostic of a text is its syntax error, or an error by the table at the span of its place.
+pub fn each_diagnostic()
+    ensures each { (fs : List Fault) (p : Parsed) (d : Diagnostic) → Contains (parsed_diagnostics fs p) d ↔ IsDiagnostic fs p d }
+{}
+
+/// The diagnostics of a file ask for its errors by the table, then for what it is read as, and are
+/// the diagnostics by these.
 pub fn diagnostics_by_answers<S: CheckKeys>()
-    ensures gives { (f : List ℕ) (es : List (S.Key × S.Answer)) (d : Checked) → Runs (λ (q : Unit {0}) (a : S.Answer). diagnostics_advances (S.checked a)) (diagnostics_starts S.checks f) es (Done d) → AreDiagnosticsBy S.checks S.checked f es d }
+    ensures gives { (f : List ℕ) (es : List (S.Key × S.Answer)) (d : Diagnosed) → Runs (λ (q : DiagnosticsPart) (a : S.Answer). diagnostics_advances S.parse (S.checked a) (S.parsed a) q) (diagnostics_starts S.checks f) es (Done d) → AreDiagnosticsBy S.checks S.parse S.checked S.parsed f es d }
 {}
 
 /// The checks of a file ask what it is read as, its imports, its links, its definitions, its scope
 /// and its resolved references, then what each imported file is read as, and in a bad file the
 /// links of each import up to the first cycle. They end in the errors of the file by these answers.
 pub fn checks_by_answers<S: CheckKeys>()
-    ensures gives { (f : List ℕ) (es : List (S.Key × S.Answer)) (v : Checked) → Runs (λ (q : CheckPart) (a : S.Answer). check_advances (record { parse = S.parse; imports = S.imports; linked = S.linked; defs = S.defs; scope = S.scope; resolved = S.resolved; parsed = S.parsed; imported = S.imported; ring = S.ring; defined = S.defined; scoped = S.scoped; referred = S.referred }) q a) (check_starts S.parse f) es (Done v) → AreChecksBy (record { parse = S.parse; imports = S.imports; linked = S.linked; defs = S.defs; scope = S.scope; resolved = S.resolved; parsed = S.parsed; imported = S.imported; ring = S.ring; defined = S.defined; scoped = S.scoped; referred = S.referred }) f es v }
+    ensures gives { (f : List ℕ) (es : List (S.Key × S.Answer)) (v : List Fault) → Runs (λ (q : CheckPart) (a : S.Answer). check_advances (record { parse = S.parse; imports = S.imports; linked = S.linked; defs = S.defs; scope = S.scope; resolved = S.resolved; parsed = S.parsed; imported = S.imported; ring = S.ring; defined = S.defined; scoped = S.scoped; referred = S.referred }) q a) (check_starts S.parse f) es (Done v) → AreChecksBy (record { parse = S.parse; imports = S.imports; linked = S.linked; defs = S.defs; scope = S.scope; resolved = S.resolved; parsed = S.parsed; imported = S.imported; ring = S.ring; defined = S.defined; scoped = S.scoped; referred = S.referred }) f es v }
 {}

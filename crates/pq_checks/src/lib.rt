@@ -1,5 +1,5 @@
-//! The errors of a proto3 file, as queries over sources: the codes, spans and messages
-//! of what is invalid in it and of what is skipped.
+//! The errors of a proto3 file, as queries over sources: the codes, places and messages of what is
+//! invalid in it and of what is skipped, and its diagnostics, which have spans.
 //!
 //! The table of all errors is in `specs/Faults`; `each_fault` reads it line by line, and
 //! `specs/Compile` says what the sources say of a file. A check looks up names and numbers in
@@ -8,7 +8,7 @@
 //! answers through `CheckKeys`. The law `checks_in_rules` says that in every rule set that embeds
 //! them their answers are what the sources say.
 //!
-//! Modules: `code`, `fault`; `spots` (each statement with what contains it), `members` (what the
+//! Modules: `code`, `fault`, `diagnostic`; `spots` (each statement with what contains it), `members` (what the
 //! checks look at), `numbers`; `cover`, `order` (the look-ups); `said`, `tell`
 //! (how an error is added); the errors of a tree: `unread_lines`, and `member_lines` over
 //! `field_lines`, `range_lines`, `body_lines`, `value_lines`, `aliases`, `name_lines`; the errors
@@ -25,6 +25,7 @@ mod checked;
 mod code;
 mod cover;
 mod definition_lines;
+mod diagnostic;
 mod diagnostics;
 mod fault;
 mod field_lines;
@@ -49,13 +50,15 @@ mod value_lines;
 
 pub use checked::{CheckPart, ChecksQuery};
 pub use code::{Code, Severity};
-pub use diagnostics::DiagnosticsQuery;
+pub use diagnostic::{Diagnosed, Diagnostic};
+pub use diagnostics::{DiagnosticsPart, DiagnosticsQuery};
 pub use fault::Fault;
 pub use gathered::{Known, LinkedFile, States, Waiting};
 pub use keys::CheckKeys;
 pub use laws::{
-    checks_by_answers, diagnostics_by_answers, each_fault, faults_in_order, one_order, said_of_one,
+    checks_by_answers, diagnostics_by_answers, diagnostics_in_order, each_diagnostic, each_fault,
+    each_stands, one_order, said_of_one,
 };
 pub use rule_laws::checks_in_rules;
 pub use std::alloc::AllocError as Memory;
-pub use surroundings::{Checked, FileState, Imported};
+pub use surroundings::{FileState, Imported};

@@ -1,9 +1,9 @@
-//! What the checks look at in a tree: fields, enum values, packages, oneofs, enums, imports,
-//! options, and what is reserved.
+//! What the checks look at in a tree: fields, enum values, packages, oneofs, enums, imports, options,
+//! and what is reserved.
 ghost use Rattle.std.specs.Prelude.{◌≡◌, ◌++◌, flat_map, IfOk, map};
 ghost use Rattle.std.specs.List.{enumerate_from};
 ghost use Rattle.pq_checks.specs.Members.{enum_at, field_at, import_at, member_at, name_at, oneof_at, option_at, package_at, range_at, reserved_name, reserved_range, value_at};
-ghost use Rattle.pq_checks.specs.aux.Seen.{import_seen, member_seen, name_seen, opted_seen, titled_seen};
+ghost use Rattle.pq_checks.specs.aux.Seen.{import_seen, member_seen, name_seen, opted_seen};
 ghost use Rattle.pq_checks.specs.aux.Spots.{in_spot, seen};
 
 use crate::Memory;
@@ -22,14 +22,6 @@ pub(crate) struct Member<'a> {
     pub(crate) holder: Option<usize>,
     pub(crate) name: &'a Name,
     pub(crate) number: Number,
-}
-
-/// A package, a oneof or an enum.
-#[derive(Clone, Copy)]
-pub(crate) struct Titled<'a> {
-    /// The number of its statement.
-    pub(crate) item: usize,
-    pub(crate) name: &'a Name,
 }
 
 /// A reserved range.
@@ -132,19 +124,18 @@ pub(crate) fn values<'a>(alloc: Global, spots: &[Spot<'a>]) -> Result<Vec<Member
 }
 
 /// Adds the package at `spot`, if any.
-fn push_package<'a>(packages: &mut Vec<Titled<'a>>, spot: Spot<'a>) -> Result<(), Memory>
-    ensures { IfOk result (λ _. map titled_seen packages.new.items ≡ map titled_seen packages.old.items ++ in_spot package_at spot.entry) }
+fn push_package(packages: &mut Vec<usize>, spot: Spot<'_>) -> Result<(), Memory>
+    ensures { IfOk result (λ _. packages.new.items ≡ packages.old.items ++ in_spot package_at spot.entry) }
 {
-    if let Statement::Package { name } = &spot.node.statement {
-        let item = spot.item;
-        packages.push(Titled { item, name })?;
+    if let Statement::Package { .. } = &spot.node.statement {
+        packages.push(spot.item)?;
     }
     Ok(())
 }
 
 /// The packages at `spots`, in text order.
-pub(crate) fn packages<'a>(alloc: Global, spots: &[Spot<'a>]) -> Result<Vec<Titled<'a>>, Memory>
-    ensures packages { IfOk result (λ ts. map titled_seen ts.items ≡ flat_map (in_spot package_at) spots.now) }
+pub(crate) fn packages(alloc: Global, spots: &[Spot<'_>]) -> Result<Vec<usize>, Memory>
+    ensures packages { IfOk result (λ ns. ns.items ≡ flat_map (in_spot package_at) spots.now) }
 {
     let mut packages = Vec::new(alloc);
     'spots: for i in 0..spots.len() {
@@ -155,19 +146,18 @@ pub(crate) fn packages<'a>(alloc: Global, spots: &[Spot<'a>]) -> Result<Vec<Titl
 }
 
 /// Adds the oneof at `spot`, if any.
-fn push_oneof<'a>(oneofs: &mut Vec<Titled<'a>>, spot: Spot<'a>) -> Result<(), Memory>
-    ensures { IfOk result (λ _. map titled_seen oneofs.new.items ≡ map titled_seen oneofs.old.items ++ in_spot oneof_at spot.entry) }
+fn push_oneof(oneofs: &mut Vec<usize>, spot: Spot<'_>) -> Result<(), Memory>
+    ensures { IfOk result (λ _. oneofs.new.items ≡ oneofs.old.items ++ in_spot oneof_at spot.entry) }
 {
-    if let Statement::Oneof { name } = &spot.node.statement {
-        let item = spot.item;
-        oneofs.push(Titled { item, name })?;
+    if let Statement::Oneof { .. } = &spot.node.statement {
+        oneofs.push(spot.item)?;
     }
     Ok(())
 }
 
 /// The oneofs at `spots`, in text order.
-pub(crate) fn oneofs<'a>(alloc: Global, spots: &[Spot<'a>]) -> Result<Vec<Titled<'a>>, Memory>
-    ensures oneofs { IfOk result (λ ts. map titled_seen ts.items ≡ flat_map (in_spot oneof_at) spots.now) }
+pub(crate) fn oneofs(alloc: Global, spots: &[Spot<'_>]) -> Result<Vec<usize>, Memory>
+    ensures oneofs { IfOk result (λ ns. ns.items ≡ flat_map (in_spot oneof_at) spots.now) }
 {
     let mut oneofs = Vec::new(alloc);
     'spots: for i in 0..spots.len() {
@@ -178,19 +168,18 @@ pub(crate) fn oneofs<'a>(alloc: Global, spots: &[Spot<'a>]) -> Result<Vec<Titled
 }
 
 /// Adds the enum at `spot`, if any.
-fn push_enum<'a>(enums: &mut Vec<Titled<'a>>, spot: Spot<'a>) -> Result<(), Memory>
-    ensures { IfOk result (λ _. map titled_seen enums.new.items ≡ map titled_seen enums.old.items ++ in_spot enum_at spot.entry) }
+fn push_enum(enums: &mut Vec<usize>, spot: Spot<'_>) -> Result<(), Memory>
+    ensures { IfOk result (λ _. enums.new.items ≡ enums.old.items ++ in_spot enum_at spot.entry) }
 {
-    if let Statement::Enum { name } = &spot.node.statement {
-        let item = spot.item;
-        enums.push(Titled { item, name })?;
+    if let Statement::Enum { .. } = &spot.node.statement {
+        enums.push(spot.item)?;
     }
     Ok(())
 }
 
 /// The enums at `spots`, in text order.
-pub(crate) fn enums<'a>(alloc: Global, spots: &[Spot<'a>]) -> Result<Vec<Titled<'a>>, Memory>
-    ensures enums { IfOk result (λ ts. map titled_seen ts.items ≡ flat_map (in_spot enum_at) spots.now) }
+pub(crate) fn enums(alloc: Global, spots: &[Spot<'_>]) -> Result<Vec<usize>, Memory>
+    ensures enums { IfOk result (λ ns. ns.items ≡ flat_map (in_spot enum_at) spots.now) }
 {
     let mut enums = Vec::new(alloc);
     'spots: for i in 0..spots.len() {

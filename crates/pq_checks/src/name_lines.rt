@@ -8,7 +8,9 @@ use crate::Memory;
 use crate::code::Code;
 use crate::fault::Fault;
 use crate::members::{Member, ReservedName};
+use crate::said::At;
 use crate::tell::tell_name;
+use pq_links::Part;
 use std::alloc::Global;
 use std::collections::BTreeSet;
 
@@ -45,12 +47,15 @@ pub(crate) fn push_name_faults<'a>(
         let name = member.name.text.as_str();
         let key = (member.owner, name.as_bytes());
         let holds = reserved.contains(&key);
-        let span = member.name.span;
+        let place = At {
+            item: member.item,
+            part: Part::Name,
+        };
         tell_name(
             alloc,
             faults,
             holds,
-            span,
+            place,
             code,
             before,
             name,

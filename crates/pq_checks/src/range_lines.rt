@@ -10,7 +10,9 @@ use crate::cover::stairs;
 use crate::fault::Fault;
 use crate::members::Reserved;
 use crate::numbers::bounds_of;
+use crate::said::At;
 use crate::tell::tell_if;
+use pq_links::Part;
 use std::alloc::Global;
 
 /// A number of a message or an enum: the number of its statement, and the number.
@@ -26,7 +28,10 @@ fn push_range(alloc: Global, faults: &mut Vec<Fault>, reserved: Reserved) -> Res
         alloc,
         faults,
         is_bad,
-        reserved.range.span,
+        At {
+            item: reserved.item,
+            part: Part::Range(reserved.nth),
+        },
         Code::BadRange,
         text,
     )

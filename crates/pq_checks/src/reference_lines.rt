@@ -6,9 +6,9 @@ ghost use Rattle.pq_checks.specs.Faults.{is_method, named_type, resolution_fault
 use crate::Memory;
 use crate::code::Code;
 use crate::fault::Fault;
-use crate::said::{around_file, push, say_name};
+use crate::said::{At, around_file, push, say_name};
 use crate::tell::{both, tell_name};
-use pq_links::TypePart;
+use pq_links::{Part, TypePart};
 use pq_schema::{Resolution, ResolvedReference};
 use pq_syntax::{Name, Node, Statement};
 use std::alloc::Global;
@@ -36,31 +36,27 @@ fn named_type(part: TypePart, statement: &Statement) -> Option<&Name>
     }
 }
 
-/// Adds the errors of the type reference `name`, the part `part` of its statement, which resolves
-/// to `resolution`.
+/// Adds the errors of the type reference with the name `text`, the type `part` of the item `item`,
+/// which resolves to `resolution`.
 fn push_resolution(
     alloc: Global,
     faults: &mut Vec<Fault>,
+    item: usize,
     part: TypePart,
-    name: &Name,
+    text: &str,
     resolution: &Resolution,
 ) -> Result<(), Memory>
     ensures said { IfOk result (λ _. faults.new.items
-        ≡ faults.old.items ++ resolution_faults part name.now resolution.now) }
+        ≡ faults.old.items ++ resolution_faults item part text.now resolution.now) }
 {
-    let text = name.text.as_str();
+    let place = At {
+        item,
+        part: Part::Type(part),
+    };
     match resolution {
         Resolution::NotFound => {
             let code = Code::TypeNotFound;
-            say_name(
-                alloc,
-                faults,
-                name.span,
-                code,
-                "type ",
-                text,
-                " is not found",
-            )
+            say_name(alloc, faults, place, code, "type ", text, " is not found")
         }
         Resolution::NotVisible(file) => {
             let file = file.as_str();
@@ -72,11 +68,11 @@ fn push_resolution(
                 file,
                 ", which is not imported",
             )?;
-            push(faults, name.span, Code::TypeNotImported, text)
+            push(faults, place, Code::TypeNotImported, text)
         }
         Resolution::NotAType => {
             let code = Code::NotAType;
-            say_name(alloc, faults, name.span, code, "", text, " is not a type")
+            say_name(alloc, faults, place, code, "", text, " is not a type")
         }
         Resolution::Type { is_enum, .. } => {
             let wrong = both(is_method(part), *is_enum);
@@ -85,7 +81,7 @@ fn push_resolution(
                 alloc,
                 faults,
                 wrong,
-                name.span,
+                place,
                 code,
                 "",
                 text,
@@ -117,8 +113,9 @@ fn push_reference(
             Some(name) => push_resolution(
                 alloc,
                 faults,
+                reference.item,
                 reference.part,
-                name,
+                name.text.as_str(),
                 &reference.resolution,
             ),
             None => Ok(()),

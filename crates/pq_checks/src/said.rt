@@ -5,41 +5,45 @@ ghost use Rattle.pq_checks.specs.Faults.{at, quoted};
 use crate::Memory;
 use crate::code::Code;
 use crate::fault::Fault;
-use pq_lex::Span;
+use pq_links::Part;
 use pq_names::Text;
 use pq_schema::FullName;
 use std::alloc::Global;
 
-/// Adds the error of the code `code` at `span` with the message `text`.
-pub(crate) fn push(
-    faults: &mut Vec<Fault>,
-    span: Span,
-    code: Code,
-    text: Text,
-) -> Result<(), Memory>
-    ensures said { IfOk result (λ _. faults.new.items ≡ faults.old.items ++ at span code text ∷ []) }
+/// A place: a part of an item.
+#[derive(Clone, Copy)]
+pub(crate) struct At {
+    /// The number of the item.
+    pub(crate) item: usize,
+    /// Its part.
+    pub(crate) part: Part,
+}
+
+/// Adds the error of the code `code` at `place` with the message `text`.
+pub(crate) fn push(faults: &mut Vec<Fault>, place: At, code: Code, text: Text) -> Result<(), Memory>
+    ensures said { IfOk result (λ _. faults.new.items ≡ faults.old.items ++ at place.item place.part code text ∷ []) }
 {
     faults.push(Fault {
-        start: span.start,
-        end: span.end,
+        item: place.item,
+        part: place.part,
         code,
         text,
     })?;
     Ok(())
 }
 
-/// Adds the error of the code `code` at `span` with the message `text`.
+/// Adds the error of the code `code` at `place` with the message `text`.
 pub(crate) fn tell(
     alloc: Global,
     faults: &mut Vec<Fault>,
-    span: Span,
+    place: At,
     code: Code,
     text: &str,
 ) -> Result<(), Memory>
-    ensures said { IfOk result (λ _. faults.new.items ≡ faults.old.items ++ at span code text.now ∷ []) }
+    ensures said { IfOk result (λ _. faults.new.items ≡ faults.old.items ++ at place.item place.part code text.now ∷ []) }
 {
     let text = Text::new(alloc, text)?;
-    push(faults, span, code, text)
+    push(faults, place, code, text)
 }
 
 /// The text `before`, then `name` between quotation marks, then `after`.
@@ -64,21 +68,21 @@ fn around(alloc: Global, before: &str, name: &str, after: &str) -> Result<Text, 
     Text::from_string(alloc, text)
 }
 
-/// Adds the error of the code `code` at `span`, whose message is `before`, then `name` between
+/// Adds the error of the code `code` at `place`, whose message is `before`, then `name` between
 /// quotation marks, then `after`.
 pub(crate) fn say_name(
     alloc: Global,
     faults: &mut Vec<Fault>,
-    span: Span,
+    place: At,
     code: Code,
     before: &str,
     name: &str,
     after: &str,
 ) -> Result<(), Memory>
-    ensures said { IfOk result (λ _. faults.new.items ≡ faults.old.items ++ at span code (before.now ++ quoted name.now ++ after.now) ∷ []) }
+    ensures said { IfOk result (λ _. faults.new.items ≡ faults.old.items ++ at place.item place.part code (before.now ++ quoted name.now ++ after.now) ∷ []) }
 {
     let text = around(alloc, before, name, after)?;
-    push(faults, span, code, text)
+    push(faults, place, code, text)
 }
 
 /// The text `before`, then `name` between quotation marks, then `after`, `file` and `last`.

@@ -1,12 +1,10 @@
-//! What the checks of a file know of the files that it imports, and what they end in.
+//! What the checks of a file know of the files that it imports, each with its state.
 ghost use Rattle.std.specs.Prelude.{◌≡◌};
 ghost use Rattle.pq_checks.specs.Surroundings.{parsed_state, state_of};
 
-use crate::fault::Fault;
 use pq_links::ParsedFile;
 use pq_names::Text;
-use pq_rules::Shared;
-use pq_syntax::{Items, Parsed};
+use pq_syntax::Parsed;
 
 /// What there is of an imported file.
 #[derive(Clone, Copy, Debug, PartialEq, Eq)]
@@ -26,15 +24,6 @@ pub struct Imported {
     pub file: Text,
     /// What there is of it.
     pub state: FileState,
-}
-
-/// The errors of a file, with what it is read as: its lines give the errors' positions.
-#[derive(Drop, PartialEq, Eq)]
-pub struct Checked {
-    /// The errors.
-    pub faults: Items<Fault>,
-    /// What the file is read as.
-    pub file: Shared<ParsedFile>,
 }
 
 /// The state of a file whose text has the tree or error `parsed`.

@@ -6,8 +6,7 @@ ghost use Rattle.pq_checks.specs.Faults.{at, number_text, quoted, when};
 use crate::Memory;
 use crate::code::Code;
 use crate::fault::Fault;
-use crate::said::{push, say_name, tell};
-use pq_lex::Span;
+use crate::said::{At, push, say_name, tell};
 use pq_names::Text;
 use std::alloc::Global;
 
@@ -18,19 +17,19 @@ pub(crate) fn both(one: bool, other: bool) -> bool
     one && other
 }
 
-/// Adds the error of the code `code` with the message `text` at `span`, if `holds`.
+/// Adds the error of the code `code` with the message `text` at `place`, if `holds`.
 pub(crate) fn tell_if(
     alloc: Global,
     faults: &mut Vec<Fault>,
     holds: bool,
-    span: Span,
+    place: At,
     code: Code,
     text: &str,
 ) -> Result<(), Memory>
-    ensures { IfOk result (λ _. faults.new.items ≡ faults.old.items ++ when holds (at span code text.now)) }
+    ensures { IfOk result (λ _. faults.new.items ≡ faults.old.items ++ when holds (at place.item place.part code text.now)) }
 {
     if holds {
-        return tell(alloc, faults, span, code, text);
+        return tell(alloc, faults, place, code, text);
     }
     Ok(())
 }
@@ -46,41 +45,41 @@ fn of_number(alloc: Global, before: &str, number: Option<i64>, after: &str) -> R
     Text::from_string(alloc, text)
 }
 
-/// Adds the error of the code `code` at `span`, if `holds`. Its message has `number` in it.
+/// Adds the error of the code `code` at `place`, if `holds`. Its message has `number` in it.
 pub(crate) fn tell_number(
     alloc: Global,
     faults: &mut Vec<Fault>,
     holds: bool,
-    span: Span,
+    place: At,
     code: Code,
     before: &str,
     number: Option<i64>,
     after: &str,
 ) -> Result<(), Memory>
-    ensures { IfOk result (λ _. faults.new.items ≡ faults.old.items ++ when holds (at span code (before.now ++ number_text number ++ after.now))) }
+    ensures { IfOk result (λ _. faults.new.items ≡ faults.old.items ++ when holds (at place.item place.part code (before.now ++ number_text number ++ after.now))) }
 {
     if holds {
         let text = of_number(alloc, before, number, after)?;
-        return push(faults, span, code, text);
+        return push(faults, place, code, text);
     }
     Ok(())
 }
 
-/// Adds the error of the code `code` at `span`, if `holds`. Its message has `name` in it.
+/// Adds the error of the code `code` at `place`, if `holds`. Its message has `name` in it.
 pub(crate) fn tell_name(
     alloc: Global,
     faults: &mut Vec<Fault>,
     holds: bool,
-    span: Span,
+    place: At,
     code: Code,
     before: &str,
     name: &str,
     after: &str,
 ) -> Result<(), Memory>
-    ensures { IfOk result (λ _. faults.new.items ≡ faults.old.items ++ when holds (at span code (before.now ++ quoted name.now ++ after.now))) }
+    ensures { IfOk result (λ _. faults.new.items ≡ faults.old.items ++ when holds (at place.item place.part code (before.now ++ quoted name.now ++ after.now))) }
 {
     if holds {
-        return say_name(alloc, faults, span, code, before, name, after);
+        return say_name(alloc, faults, place, code, before, name, after);
     }
     Ok(())
 }

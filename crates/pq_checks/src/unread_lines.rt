@@ -1,53 +1,63 @@
 //! Errors P020 to P022 and P101: skipped constructs, and a second package.
-ghost use Rattle.std.specs.Prelude.{◌≡◌, ◌++◌, [], List, flat_map, map, IfOk};
+ghost use Rattle.std.specs.Prelude.{◌≡◌, ◌++◌, [], List, flat_map, IfOk};
 ghost use Rattle.std.specs.List.{enumerate_from};
 ghost use Rattle.pq_checks.specs.Earlier.{of_each_after};
 ghost use Rattle.pq_checks.specs.Faults.{constant_faults, kind_faults, package_faults, unread_faults};
 ghost use Rattle.pq_checks.specs.Members.{constant_at, packages};
 ghost use Rattle.pq_checks.specs.aux.Lines.{package_line};
-ghost use Rattle.pq_checks.specs.aux.Seen.{constants_in, extends_in, setting_faults, titled_seen};
+ghost use Rattle.pq_checks.specs.aux.Seen.{constants_in, extends_in, setting_faults};
 ghost use Rattle.pq_checks.specs.aux.Spots.{AreSpots, in_spot};
 ghost use Rattle.pq_syntax.specs.declared.tree.Node.{Node};
 
 use crate::Memory;
 use crate::code::Code;
 use crate::fault::Fault;
-use crate::members::{Titled, packages};
-use crate::said::tell;
+use crate::members::packages;
+use crate::said::{At, tell};
 use crate::spots::Spot;
-use pq_lex::Span;
+use pq_links::Part;
 use pq_syntax::{ConstantKind, Setting, Statement};
 use std::alloc::Global;
 
-/// Adds the errors of a constant of the kind `kind` at `span`.
+/// Adds the errors of a constant of the kind `kind`, that of the option `nth` of the item `item`.
 fn push_kind(
     alloc: Global,
     faults: &mut Vec<Fault>,
     kind: ConstantKind,
-    span: Span,
+    item: usize,
+    nth: usize,
 ) -> Result<(), Memory>
-    ensures { IfOk result (λ _. faults.new.items ≡ faults.old.items ++ kind_faults kind span) }
+    ensures { IfOk result (λ _. faults.new.items ≡ faults.old.items ++ kind_faults kind item nth) }
 {
+    let place = At {
+        item,
+        part: Part::Constant(nth),
+    };
     match kind {
         ConstantKind::Aggregate => {
             let text = "aggregate option value is not read";
-            tell(alloc, faults, span, Code::AggregateConstant, text)
+            tell(alloc, faults, place, Code::AggregateConstant, text)
         }
         ConstantKind::Float => {
             let text = "float literal is not read";
-            tell(alloc, faults, span, Code::FloatConstant, text)
+            tell(alloc, faults, place, Code::FloatConstant, text)
         }
         ConstantKind::Identifier | ConstantKind::Integer | ConstantKind::Text => Ok(()),
     }
 }
 
-/// Adds the errors of the constants of the options `settings`.
-fn push_settings(alloc: Global, faults: &mut Vec<Fault>, settings: &[Setting]) -> Result<(), Memory>
-    ensures { IfOk result (λ _. faults.new.items ≡ faults.old.items ++ flat_map setting_faults (enumerate_from 0 settings.now)) }
+/// Adds the errors of the constants of the options `settings` of the item `item`.
+fn push_settings(
+    alloc: Global,
+    faults: &mut Vec<Fault>,
+    item: usize,
+    settings: &[Setting],
+) -> Result<(), Memory>
+    ensures { IfOk result (λ _. faults.new.items ≡ faults.old.items ++ flat_map (setting_faults item) (enumerate_from 0 settings.now)) }
 {
     'settings: for nth in 0..settings.len() {
         let setting = &settings[nth];
-        push_kind(alloc, faults, setting.constant.kind, setting.constant.span)?;
+        push_kind(alloc, faults, setting.constant.kind, item, nth)?;
     }
     Ok(())
 }
@@ -59,11 +69,26 @@ fn push_constants(alloc: Global, faults: &mut Vec<Fault>, spot: Spot<'_>) -> Res
 {
     match &spot.node.statement {
         Statement::Option(setting) => {
-            push_kind(alloc, faults, setting.constant.kind, setting.constant.span)
+            push_kind(alloc, faults, setting.constant.kind, spot.item, 0)
         }
-        Statement::Field { options, .. } => push_settings(alloc, faults, options.as_slice()),
-        Statement::MapField { options, .. } => push_settings(alloc, faults, options.as_slice()),
-        Statement::Value { options, .. } => push_settings(alloc, faults, options.as_slice()),
+        Statement::Field { options, .. } => push_settings(
+            alloc,
+            faults,
+            spot.item,
+            options.as_slice(),
+        ),
+        Statement::MapField { options, .. } => push_settings(
+            alloc,
+            faults,
+            spot.item,
+            options.as_slice(),
+        ),
+        Statement::Value { options, .. } => push_settings(
+            alloc,
+            faults,
+            spot.item,
+            options.as_slice(),
+        ),
         _ => Ok(()),
     }
 }
@@ -90,7 +115,11 @@ fn push_extend(alloc: Global, faults: &mut Vec<Fault>, spot: Spot<'_>) -> Result
     match &spot.node.statement {
         Statement::Extend { .. } => {
             let text = "extend block is not read";
-            tell(alloc, faults, spot.node.span, Code::ExtendBlock, text)
+            let place = At {
+                item: spot.item,
+                part: Part::Whole,
+            };
+            tell(alloc, faults, place, Code::ExtendBlock, text)
         }
         _ => Ok(()),
     }
@@ -120,12 +149,16 @@ pub(crate) fn push_unread_faults(
 }
 
 /// Adds the errors of the packages `later`, of which none is the first.
-fn push_later(alloc: Global, faults: &mut Vec<Fault>, later: &[Titled<'_>]) -> Result<(), Memory>
-    ensures { IfOk result (λ _. faults.new.items ≡ faults.old.items ++ flat_map package_line (map titled_seen later.now)) }
+fn push_later(alloc: Global, faults: &mut Vec<Fault>, later: &[usize]) -> Result<(), Memory>
+    ensures { IfOk result (λ _. faults.new.items ≡ faults.old.items ++ flat_map package_line later.now) }
 {
     'later: for package in later {
         let text = "package is given twice";
-        tell(alloc, faults, package.name.span, Code::PackageTwice, text)?;
+        let place = At {
+            item: *package,
+            part: Part::Name,
+        };
+        tell(alloc, faults, place, Code::PackageTwice, text)?;
     }
     Ok(())
 }

@@ -13,7 +13,9 @@ use crate::fault::Fault;
 use crate::members::{Member, Opted, Reserved};
 use crate::numbers::enum_number;
 use crate::range_lines::reserved_keys;
+use crate::said::At;
 use crate::tell::{both, tell_if, tell_number};
+use pq_links::Part;
 use std::alloc::Global;
 use std::collections::BTreeSet;
 
@@ -51,7 +53,10 @@ fn push_lines(
     ensures { IfOk result (λ _. faults.new.items ≡ faults.old.items
         ++ value_lines number known.first ((known.repeated && is_some number) && not known.allowed) (known.covered && is_some number) (member_seen value.now)) }
 {
-    let span = value.number.span;
+    let place = At {
+        item: value.item,
+        part: Part::Number,
+    };
     let is_number = number.is_some();
     let is_zero = is_zero(number);
     let wrong_first = both(known.first, !is_zero);
@@ -59,20 +64,20 @@ fn push_lines(
     let reserved = both(known.covered, is_number);
     let text = "the first enum value must be 0";
     let code = Code::FirstValueNotZero;
-    tell_if(alloc, faults, wrong_first, span, code, text)?;
+    tell_if(alloc, faults, wrong_first, place, code, text)?;
     let text = "enum number must be from -2147483648 to 2147483647";
     let code = Code::EnumNumberOutOfRange;
-    tell_if(alloc, faults, !is_number, span, code, text)?;
+    tell_if(alloc, faults, !is_number, place, code, text)?;
     let before = "enum number ";
     let after = " is used twice without allow_alias";
     let code = Code::EnumNumberTwice;
-    tell_number(alloc, faults, twice, span, code, before, number, after)?;
+    tell_number(alloc, faults, twice, place, code, before, number, after)?;
     let code = Code::EnumNumberReserved;
     tell_number(
         alloc,
         faults,
         reserved,
-        span,
+        place,
         code,
         before,
         number,

@@ -30,20 +30,22 @@ use Rattle.pq_schema.specs.declared.resolved.ResolvedReference.{ResolvedReferenc
 use Rattle.pq_schema.specs.declared.scope.FileDefs.{FileDefs}
 use Rattle.pq_schema.proofs.BadFiles.{ring_bad}
 use Rattle.pq_checks.specs.ChecksSum.{ChecksMeans}
-use Rattle.pq_checks.specs.Compile.{AreSurroundings, IsRingAt, IsChecked, file_faults}
-use Rattle.pq_checks.specs.Diagnostics.{AreDiagnostics, ordered}
+use Rattle.pq_checks.specs.Compile.{AreSurroundings, IsRingAt, AreFaults, file_faults}
+use Rattle.pq_checks.specs.Diagnostics.{AreDiagnostics, diagnosed}
 use Rattle.pq_checks.specs.Surroundings.{Surroundings, other_files}
-use Rattle.pq_checks.specs.aux.DiagnosticsTurns.{diagnostics_level, diagnostics_starts, diagnostics_advances}
+use Rattle.pq_checks.specs.aux.DiagnosticsTurns.{diagnostics_level, diagnostics_starts, diagnostics_advances, diagnostics_left, diagnostics_falls}
 use Rattle.pq_checks.specs.aux.Falls.{check_falls}
 use Rattle.pq_checks.specs.aux.Queries.{check_level, check_left, check_starts, check_advances}
 use Rattle.pq_checks.specs.declared.fault.Fault.{Fault}
-use Rattle.pq_checks.specs.declared.surroundings.Checked.{Checked}
+use Rattle.pq_checks.specs.declared.diagnostic.Diagnosed.{Diagnosed}
+use Rattle.pq_checks.specs.declared.diagnostics.DiagnosticsPart.{DiagnosticsPart}
+use Rattle.pq_checks.specs.declared.diagnostics.DiagnosticsPart.TheVariants as diagnostics
 use Rattle.pq_checks.specs.declared.surroundings.Imported.{Imported}
-use Rattle.pq_proto.specs.Compile.{Compiles, IsDefinition, IsDescriptor, definition_by, descriptor_by, is_sent, offset_at, read_in, symbols_of}
+use Rattle.pq_proto.specs.Compile.{Compiles, IsDefinition, IsDescriptor, definition_by, descriptor_by, has_tree, is_failed, offset_at, read_in, symbols_of}
 use Rattle.pq_proto.specs.Definition.{definition_at}
 use Rattle.pq_proto.specs.aux.CheckKinds.{AsksIn, CheckPartIn, check_starts_in, check_advances_in}
-use Rattle.pq_proto.specs.aux.Outputs.{output_level, diagnostics_read, parsed_read, resolved_read, descriptor_starts, descriptor_advances, descriptor_left, descriptor_falls, symbols_starts, symbols_advances, references_turn, target_turn, definition_advances, definition_left, definition_falls}
-use Rattle.pq_proto.specs.aux.RuleSet.{check_words, checks_read, imports_read, ring_read, scope_read}
+use Rattle.pq_proto.specs.aux.Outputs.{output_level, faults_read, parsed_read, resolved_read, file_turn, tree_turn, descriptor_starts, descriptor_advances, descriptor_left, descriptor_falls, symbols_starts, symbols_advances, references_turn, target_turn, definition_advances, definition_left, definition_falls}
+use Rattle.pq_proto.specs.aux.RuleSet.{check_words, imports_read, ring_read, scope_read}
 use Rattle.pq_proto.specs.declared.key.Place.{Place}
 use Rattle.pq_proto.specs.declared.key.ProtoKey.{ProtoKey}
 use Rattle.pq_proto.specs.declared.key.ProtoKey.TheVariants as keys
@@ -93,9 +95,6 @@ around imported ring next definitions others references = record {
   others = others;
   references = references;
 }
-
-abbrev checked_of : List Fault → ParsedFile → Checked
-checked_of faults file = record { faults = faults; file = file }
 
 -- ---- names of any kind
 
@@ -162,20 +161,18 @@ module _ (order : ProtoKey → ProtoKey → Ordering) (files : Sources)
         ∙ ap (λ x. around s'.imported s'.ring s'.next s'.definitions x s.references) others
         ∙ ap (λ x. around s'.imported s'.ring s'.next s'.definitions s'.others x) (resolved_one f s.references s'.references p.references_are q.references_are)
 
-    checked_one : (f : List ℕ) (c d : Checked) → IsChecked files f c → IsChecked files f d → c ≡ d
-    checked_one f c d p q =
-        let faults : c.faults ≡ d.faults =
-        p.0.2 ∙ ap (λ (s : Surroundings). file_faults s (read_in files f)) (surroundings_one f p.0.0 q.0.0 p.0.1 q.0.1) ∙ sym q.0.2 in
-        ap (λ x. checked_of x c.file) faults ∙ ap (λ x. checked_of d.faults x) (p.1 ∙ sym q.1)
+    faults_one : (f : List ℕ) (fs gs : List Fault) → AreFaults files f fs → AreFaults files f gs → fs ≡ gs
+    faults_one f fs gs p q =
+        p.2 ∙ ap (λ (s : Surroundings). file_faults s (read_in files f)) (surroundings_one f p.0 q.0 p.1 q.1) ∙ sym q.2
 
-    diagnostics_one : (f : List ℕ) (c d : Checked) → AreDiagnostics files f c → AreDiagnostics files f d → c ≡ d
-    diagnostics_one f c d p q = p.2 ∙ ap ordered (checked_one f p.0 q.0 p.1 q.1) ∙ sym q.2
+    diagnostics_one : (f : List ℕ) (c d : Diagnosed) → AreDiagnostics files f c → AreDiagnostics files f d → c ≡ d
+    diagnostics_one f c d p q = p.2 ∙ ap (λ (fs : List Fault). diagnosed fs (read_in files f)) (faults_one f p.0 q.0 p.1 q.1) ∙ sym q.2
 
     descriptor_one : (f v w : List ℕ) → IsDescriptor files f v → IsDescriptor files f w → v ≡ w
     descriptor_one f v w p q =
         p.4
-        ∙ ap (λ d. descriptor_by f d p.1) (diagnostics_one f p.0 q.0 p.2 q.2)
-        ∙ ap (λ rs. descriptor_by f q.0 rs) (resolved_one f p.1 q.1 p.3 q.3)
+        ∙ ap (λ fs. descriptor_by f fs (read_in files f) p.1) (faults_one f p.0 q.0 p.2 q.2)
+        ∙ ap (λ rs. descriptor_by f q.0 (read_in files f) rs) (resolved_one f p.1 q.1 p.3 q.3)
         ∙ sym q.4
 
     definition_one : (f : List ℕ) (place : Place) (v w : Option Location) → IsDefinition files f place v → IsDefinition files f place w → v ≡ w
@@ -190,7 +187,7 @@ module _ (order : ProtoKey → ProtoKey → Ordering) (files : Sources)
     compiles_one (keys.Defs f) a b p q = p ∙ sym q
     compiles_one (keys.Scope f) a b p q = one (keys.Scope f) a b ((t.scope f a).1 p) ((t.scope f b).1 q)
     compiles_one (keys.Resolved f) a b p q = one (keys.Resolved f) a b ((t.resolved f a).1 p) ((t.resolved f b).1 q)
-    compiles_one (keys.Checks f) a b p q = p.1 ∙ ap (λ x. Value (values.Checks x)) (checked_one f p.0 q.0 p.2 q.2) ∙ sym q.1
+    compiles_one (keys.Checks f) a b p q = p.1 ∙ ap (λ x. Value (values.Checks x)) (faults_one f p.0 q.0 p.2 q.2) ∙ sym q.1
     compiles_one (keys.Diagnostics f) a b p q = p.1 ∙ ap (λ x. Value (values.Diagnostics x)) (diagnostics_one f p.0 q.0 p.2 q.2) ∙ sym q.1
     compiles_one (keys.Descriptor f) a b p q = p.1 ∙ ap (λ x. Value (values.Descriptor x)) (descriptor_one f p.0 q.0 p.2 q.2) ∙ sym q.1
     compiles_one (keys.Symbols f) a b p q = p ∙ sym q
@@ -243,13 +240,17 @@ module _ (order : ProtoKey → ProtoKey → Ordering) (files : Sources)
         (λ x. check_starts_in (HasAnswer i check_level) check_words Any asks x tt)
         (λ q a p. check_advances_in (HasAnswer i check_level) check_words Any asks q a (any_imports (imports_read a)) p) f
 
+    diagnostics_asks : (q : DiagnosticsPart) (a : A)
+        → Asks i diagnostics_level (λ (x : DiagnosticsPart). Unit {0}) (diagnostics_advances (λ x. keys.Parse x) (faults_read a) (parsed_read a) q)
+    diagnostics_asks (diagnostics.ReadChecks f) a = ((omega arith, parse_answer f), tt)
+    diagnostics_asks (diagnostics.ReadFile faults) a = tt
+
     diagnostics_answer : (f : List ℕ) → Answered (keys.Diagnostics f)
     diagnostics_answer f =
-        let c = checks_answer f in (
-          _,
-          makes_once i (λ x. keys.Diagnostics x) (λ (q : Unit {0}). Diagnosing) (λ v. values.Diagnostics v) diagnostics_level (diagnostics_starts (λ x. keys.Checks x)) (λ q a. diagnostics_advances (checks_read a))
-              (checks order files order_is one_way).diagnostics_embeds (λ x. keys.Checks x) (λ x. tt) (λ x a. ordered (checks_read a)) (λ x. refl) (λ x a. refl) (λ x. omega arith) f c.0 c.1,
-        )
+        has_answer i (λ x. keys.Diagnostics x) (λ q. Diagnosing q) (λ v. values.Diagnostics v) diagnostics_level (diagnostics_starts (λ x. keys.Checks x))
+        (λ q a. diagnostics_advances (λ x. keys.Parse x) (faults_read a) (parsed_read a) q) (checks order files order_is one_way).diagnostics_embeds (omega arith) diagnostics_left
+        (λ q a k r e. diagnostics_falls (λ x. keys.Parse x) (faults_read a) (parsed_read a) q k r e) (λ q. Unit {0})
+        (λ x. ((omega arith, checks_answer x), tt)) (λ q a p. diagnostics_asks q a) f
 
     symbols_answer : (f : List ℕ) → Answered (keys.Symbols f)
     symbols_answer f =
@@ -259,20 +260,24 @@ module _ (order : ProtoKey → ProtoKey → Ordering) (files : Sources)
               (symbols_embed order files order_is one_way t u) (λ x. keys.Parse x) (λ x. tt) (λ x a. symbols_of (parsed_read a)) (λ x. refl) (λ x a. refl) (λ x. omega arith) f p.0 p.1,
         )
 
-    next_asks : (f : List ℕ) (d : Checked) (sent : Bool)
-        → Asks i output_level (λ (q : DescriptorPart). Unit {0}) (cond sent (Ask (keys.Resolved f) (descriptors.ReadResolved f d.file)) (Done (codes "null")))
-    next_asks f d true = ((omega arith, resolved_answer f), tt)
-    next_asks f d false = tt
+    file_asks : (f : List ℕ) (failed : Bool) → Asks i output_level (λ (q : DescriptorPart). Unit {0}) (file_turn f failed)
+    file_asks f true = tt
+    file_asks f false = ((omega arith, parse_answer f), tt)
+
+    tree_asks : (f : List ℕ) (file : ParsedFile) (tree : Bool) → Asks i output_level (λ (q : DescriptorPart). Unit {0}) (tree_turn f file tree)
+    tree_asks f file true = ((omega arith, resolved_answer f), tt)
+    tree_asks f file false = tt
 
     descriptor_asks : (q : DescriptorPart) (a : A) → Asks i output_level (λ (x : DescriptorPart). Unit {0}) (descriptor_advances q a)
-    descriptor_asks (descriptors.ReadDiagnostics f) a = next_asks f (diagnostics_read a) (is_sent (diagnostics_read a))
+    descriptor_asks (descriptors.ReadChecks f) a = file_asks f (is_failed (faults_read a))
+    descriptor_asks (descriptors.ReadFile f) a = tree_asks f (parsed_read a) (has_tree (parsed_read a))
     descriptor_asks (descriptors.ReadResolved f file) a = tt
 
     descriptor_answer : (f : List ℕ) → Answered (keys.Descriptor f)
     descriptor_answer f =
         has_answer i (λ x. keys.Descriptor x) (λ q. Describing q) (λ v. values.Descriptor v) output_level descriptor_starts descriptor_advances
         (descriptor_embeds order files order_is one_way t u) (omega arith) descriptor_left descriptor_falls (λ q. Unit {0})
-        (λ x. ((omega arith, diagnostics_answer x), tt)) (λ q a p. descriptor_asks q a) f
+        (λ x. ((omega arith, checks_answer x), tt)) (λ q a p. descriptor_asks q a) f
 
     references_asks : (f : List ℕ) (file : ParsedFile) (o : Option ℕ) → Asks i output_level (λ (q : DefinitionPart). Unit {0}) (references_turn f file o)
     references_asks f file (Some offset) = ((omega arith, resolved_answer f), tt)

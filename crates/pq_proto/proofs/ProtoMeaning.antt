@@ -3,8 +3,8 @@
 --
 -- What pq_schema and pq_checks say of every rule set that embeds their queries gives the answers of
 -- their keys. The three queries above ask these keys alone: their runs have at most three reads.
-use Rattle.std.proofs.Common.{◌≡◌, ℕ, ◌<◌, Bool, true, false, cond, List, [], ◌∷◌, map, Option, Some, None, refl, sym, ap, subst, ◌∙◌, arith}
-use Rattle.std.specs.Prelude.{codes, option_and_then}
+use Rattle.std.proofs.Common.{◌≡◌, ℕ, ◌<◌, Bool, true, false, ◌&&◌, cond, List, [], ◌∷◌, map, Option, Some, None, refl, sym, ap, ap₂, subst, ◌∙◌, arith}
+use Rattle.std.specs.Prelude.{codes, not, option_and_then}
 use Rattle.std.specs.Cmp.Lexicographic.{slice_cmp}
 use Rattle.std.specs.Ordering.{nat_cmp}
 use Rattle.std.specs.declared.cmp.Ordering.{Ordering}
@@ -26,13 +26,13 @@ use Rattle.pq_schema.specs.Missing.{nodes_of}
 use Rattle.pq_schema.specs.SchemaSum.{SchemaSum, SchemaMeans}
 use Rattle.pq_schema.specs.declared.resolved.ResolvedReference.{ResolvedReference}
 use Rattle.pq_checks.specs.ChecksSum.{ChecksSum, ChecksMeans}
-use Rattle.pq_checks.specs.Diagnostics.{AreDiagnostics}
-use Rattle.pq_checks.specs.declared.surroundings.Checked.{Checked}
-use Rattle.pq_proto.specs.Compile.{Compiles, IsDefinition, IsDescriptor, is_sent, location_of, offset_at, read_in, symbols_of}
+use Rattle.pq_checks.specs.Compile.{AreFaults}
+use Rattle.pq_checks.specs.declared.fault.Fault.{Fault}
+use Rattle.pq_proto.specs.Compile.{Compiles, IsDefinition, IsDescriptor, has_tree, is_failed, location_of, offset_at, read_in, symbols_of}
 use Rattle.pq_proto.specs.Definition.{definition_at}
 use Rattle.pq_proto.specs.Descriptor.{descriptor}
-use Rattle.pq_proto.specs.aux.Outputs.{output_level, parsed_read, resolved_read, diagnostics_read, descriptor_starts, descriptor_next, descriptor_advances, symbols_starts, symbols_advances, definition_starts, references_turn, target_turn, definition_advances}
-use Rattle.pq_proto.specs.aux.RuleSet.{text_read, imports_read, links_read, defs_read, scope_read, checks_read, ring_read, own_name, proto_level, proto_rules}
+use Rattle.pq_proto.specs.aux.Outputs.{output_level, faults_read, parsed_read, resolved_read, file_turn, tree_turn, descriptor_starts, descriptor_advances, symbols_starts, symbols_advances, definition_starts, references_turn, target_turn, definition_advances}
+use Rattle.pq_proto.specs.aux.RuleSet.{text_read, imports_read, links_read, defs_read, scope_read, ring_read, own_name, proto_level, proto_rules}
 use Rattle.pq_proto.specs.declared.key.Place.{Place}
 use Rattle.pq_proto.specs.declared.key.ProtoKey.{ProtoKey}
 use Rattle.pq_proto.specs.declared.key.ProtoKey.TheVariants as keys
@@ -117,11 +117,11 @@ module _ (order : ProtoKey → ProtoKey → Ordering) (files : Sources)
     checks_part = λ q. Checking q;
     checks_value = λ x. values.Checks x;
     diagnostics = λ f. keys.Diagnostics f;
-    diagnostics_part = λ q. Diagnosing;
+    diagnostics_part = λ q. Diagnosing q;
     diagnostics_value = λ x. values.Diagnostics x;
     referred_read = resolved_read;
     ring_files = ring_read;
-    checked_read = checks_read;
+    checked_read = faults_read;
     referred_back = λ x. refl;
     ring_back = λ ring. ap (λ xs. Some xs) (names_back ring);
     no_ring = λ l. refl;
@@ -183,34 +183,58 @@ module _ (order : ProtoKey → ProtoKey → Ordering) (files : Sources)
 
     -- ---- descriptors
 
-    abbrev described : List ℕ → Checked → List ResolvedReference → List ℕ
-    described f d rs = compact_text (descriptor rs f (nodes_of d.file))
+    abbrev described : List ℕ → ParsedFile → List ResolvedReference → List ℕ
+    described f file rs = compact_text (descriptor rs f (nodes_of file))
 
-    next_low : (f : List ℕ) (d : Checked) (sent : Bool) → IsLow (cond sent (Ask (keys.Resolved f) (descriptors.ReadResolved f d.file)) (Done (codes "null")))
-    next_low f d true = ask_low (keys.Resolved f) (descriptors.ReadResolved f d.file) (omega arith)
-    next_low f d false = done_low (codes "null")
+    -- what is sent, by whether there is a tree and whether an error is severe
+    abbrev sent : Bool → Bool → List ℕ → List ℕ
+    sent tree failed text = cond (tree && not failed) text (codes "null")
+
+    none_sent : (tree : Bool) (text : List ℕ) → sent tree true text ≡ codes "null"
+    none_sent true text = refl
+    none_sent false text = refl
+
+    file_low : (f : List ℕ) (failed : Bool) → IsLow (file_turn f failed)
+    file_low f true = done_low (codes "null")
+    file_low f false = ask_low (keys.Parse f) (descriptors.ReadFile f) (omega arith)
+
+    tree_low : (f : List ℕ) (file : ParsedFile) (tree : Bool) → IsLow (tree_turn f file tree)
+    tree_low f file true = ask_low (keys.Resolved f) (descriptors.ReadResolved f file) (omega arith)
+    tree_low f file false = done_low (codes "null")
 
     descriptor_low : (q : DescriptorPart) (a : A) → IsLow (descriptor_advances q a)
-    descriptor_low (descriptors.ReadDiagnostics f) a = next_low f (diagnostics_read a) (is_sent (diagnostics_read a))
+    descriptor_low (descriptors.ReadChecks f) a = file_low f (is_failed (faults_read a))
+    descriptor_low (descriptors.ReadFile f) a = tree_low f (parsed_read a) (has_tree (parsed_read a))
     descriptor_low (descriptors.ReadResolved f file) a = done_low _
 
-    sent_is : (f : List ℕ) (d : Checked) (sent : Bool) → is_sent d ≡ sent → AreDiagnostics files f d → (es : Trace ProtoKey ProtoValue) (w : List ℕ)
-        → Runs descriptor_advances (cond sent (Ask (keys.Resolved f) (descriptors.ReadResolved f d.file)) (Done (codes "null"))) es (Done w)
+    tree_is : (f : List ℕ) (fs : List Fault) (tree : Bool) → has_tree (read_in files f) ≡ tree → is_failed fs ≡ false → AreFaults files f fs
+        → (es : Trace ProtoKey ProtoValue) (w : List ℕ) → Runs descriptor_advances (tree_turn f (read_in files f) tree) es (Done w)
         → Each (λ e. Means m e.0 e.1) es → IsDescriptor files f w
-    sent_is f d true is i es w r reads =
-        let o = read_one descriptor_advances (keys.Resolved f) (descriptors.ReadResolved f d.file) es w r reads in
+    tree_is f fs true is sound i es w r reads =
+        let file = read_in files f in
+        let o = read_one descriptor_advances (keys.Resolved f) (descriptors.ReadResolved f file) es w r reads in
         let rs = (t.resolved f o.0).0 o.2 in
-        let end = ended descriptor_advances (described f d (resolved_read o.0)) o.1 w o.3 in
-        let by : w ≡ described f d rs.0 = end ∙ ap (λ (a : A). described f d (resolved_read a)) rs.1 in
-        (d, rs.0, i, rs.2, by ∙ sym (ap (λ b. cond b (described f d rs.0) (codes "null")) is))
-    sent_is f d false is i es w r reads =
+        let end = ended descriptor_advances (described f file (resolved_read o.0)) o.1 w o.3 in
+        let by : w ≡ described f file rs.0 = end ∙ ap (λ (a : A). described f file (resolved_read a)) rs.1 in
+        (fs, rs.0, i, rs.2, by ∙ sym (ap₂ (λ (b c : Bool). sent b c (described f file rs.0)) is sound))
+    tree_is f fs false is sound i es w r reads =
         let rs = resolved_exist files f in
         let end = ended descriptor_advances (codes "null") es w r in
-        (d, rs.0, i, rs.1, end ∙ sym (ap (λ b. cond b (described f d rs.0) (codes "null")) is))
+        (fs, rs.0, i, rs.1, end ∙ sym (ap₂ (λ (b c : Bool). sent b c (described f (read_in files f) rs.0)) is sound))
 
-    by_diagnostics : (f : List ℕ) (d : Checked) → AreDiagnostics files f d → (es : Trace ProtoKey ProtoValue) (w : List ℕ)
-        → Runs descriptor_advances (descriptor_next f d) es (Done w) → Each (λ e. Means m e.0 e.1) es → IsDescriptor files f w
-    by_diagnostics f d i es w r reads = sent_is f d (is_sent d) refl i es w r reads
+    checked_is : (f : List ℕ) (fs : List Fault) (failed : Bool) → is_failed fs ≡ failed → AreFaults files f fs
+        → (es : Trace ProtoKey ProtoValue) (w : List ℕ) → Runs descriptor_advances (file_turn f failed) es (Done w)
+        → Each (λ e. Means m e.0 e.1) es → IsDescriptor files f w
+    checked_is f fs true is i es w r reads =
+        let rs = resolved_exist files f in
+        let text = described f (read_in files f) rs.0 in
+        let tree = has_tree (read_in files f) in
+        let end = ended descriptor_advances (codes "null") es w r in
+        (fs, rs.0, i, rs.1, end ∙ sym (ap (λ (c : Bool). sent tree c text) is ∙ none_sent tree text))
+    checked_is f fs false is i es w r reads =
+        let o = read_one descriptor_advances (keys.Parse f) (descriptors.ReadFile f) es w r reads in
+        let on = subst (λ (p : ParsedFile). Runs descriptor_advances (tree_turn f p (has_tree p)) o.1 (Done w)) (parsed_is f o.0 o.2) o.3 in
+        tree_is f fs (has_tree (read_in files f)) refl is i o.1 w on o.4
 
     pub descriptor_embeds : Embeds m (λ f. keys.Descriptor f) (λ q. Describing q) (λ v. values.Descriptor v) output_level descriptor_starts descriptor_advances
     descriptor_embeds = record { level_is = λ x. refl; start_is = λ x. refl; advance_is = λ q a. refl }
@@ -218,12 +242,12 @@ module _ (order : ProtoKey → ProtoKey → Ordering) (files : Sources)
     descriptor_is : (f : List ℕ) (a : A) → Means m (keys.Descriptor f) a → (w : List ℕ) × (a ≡ Value (values.Descriptor w)) × IsDescriptor files f w
     descriptor_is f a h =
         let r = lower_runs m (λ x. keys.Descriptor x) (λ q. Describing q) (λ v. values.Descriptor v) output_level descriptor_starts descriptor_advances descriptor_embeds (omega arith)
-        (λ x es k q. runs_low descriptor_advances descriptor_low (descriptor_starts x) (ask_low (keys.Diagnostics x) (descriptors.ReadDiagnostics x) (omega arith)) es k q) f a h in
-        let o = read_one descriptor_advances (keys.Diagnostics f) (descriptors.ReadDiagnostics f) r.0 r.1 r.2 r.4 in
-        let d = u.diagnostics f o.0 o.2 in
-        let on : Runs descriptor_advances (descriptor_next f d.0) o.1 (Done r.1) =
-        subst (λ (b : A). Runs descriptor_advances (descriptor_next f (diagnostics_read b)) o.1 (Done r.1)) {y = Value (values.Diagnostics d.0)} d.1 o.3 in
-        (r.1, r.3, by_diagnostics f d.0 d.2 o.1 r.1 on o.4)
+        (λ x es k q. runs_low descriptor_advances descriptor_low (descriptor_starts x) (ask_low (keys.Checks x) (descriptors.ReadChecks x) (omega arith)) es k q) f a h in
+        let o = read_one descriptor_advances (keys.Checks f) (descriptors.ReadChecks f) r.0 r.1 r.2 r.4 in
+        let d = u.checks f o.0 o.2 in
+        let on : Runs descriptor_advances (file_turn f (is_failed d.0)) o.1 (Done r.1) =
+        subst (λ (b : A). Runs descriptor_advances (file_turn f (is_failed (faults_read b))) o.1 (Done r.1)) {y = Value (values.Checks d.0)} d.1 o.3 in
+        (r.1, r.3, checked_is f d.0 (is_failed d.0) refl d.2 o.1 r.1 on o.4)
 
     -- ---- definitions
 

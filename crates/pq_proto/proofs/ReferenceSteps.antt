@@ -7,33 +7,35 @@ use Rattle.pq_syntax.specs.declared.tree.Node.{Node}
 use Rattle.pq_links.specs.declared.places.TypePart.{TypePart}
 use Rattle.pq_schema.specs.declared.resolved.ResolvedReference.{ResolvedReference}
 use Rattle.pq_proto.specs.Types.{is_part, no_type, referred, type_to}
-use Rattle.pq_proto.specs.Definition.{definition_at, holds, span_of, type_item}
+use Rattle.pq_links.specs.Place.{place}
+use Rattle.pq_links.specs.declared.places.Part.TheVariants as part
+use Rattle.pq_proto.specs.Definition.{definition_at, holds, type_item}
 
 -- ---- the definition at an offset
 
 definition_first : (nodes : List Node) (offset : ℕ) (r : ResolvedReference) (rs : List ResolvedReference)
-    → definition_at nodes offset (r ∷ rs) ≡ cond (holds (span_of nodes r) offset) (type_item r.resolution) (definition_at nodes offset rs)
+    → definition_at nodes offset (r ∷ rs) ≡ cond (holds (place nodes r.item (part.«Type» r.part)) offset) (type_item r.resolution) (definition_at nodes offset rs)
 unfolding definition_at
 definition_first nodes offset r rs = refl
 
 definition_step : (nodes : List Node) (offset : ℕ) (rs : List ResolvedReference) (i : ℕ) (r : ResolvedReference) → i < length rs → r ≡ get_or rs i r
-    → definition_at nodes offset (drop i rs) ≡ cond (holds (span_of nodes r) offset) (type_item r.resolution) (definition_at nodes offset (drop (i + 1) rs))
+    → definition_at nodes offset (drop i rs) ≡ cond (holds (place nodes r.item (part.«Type» r.part)) offset) (type_item r.resolution) (definition_at nodes offset (drop (i + 1) rs))
 definition_step nodes offset rs i r within is =
     at_drop_more (definition_at nodes offset) rs i r within
     ∙ ap (λ (x : ResolvedReference). definition_at nodes offset (x ∷ drop (i + 1) rs)) (sym is)
     ∙ definition_first nodes offset r (drop (i + 1) rs)
 
 pub definition_here : (nodes : List Node) (offset : ℕ) (rs : List ResolvedReference) (i : ℕ) (r : ResolvedReference) → i < length rs → r ≡ get_or rs i r
-    → holds (span_of nodes r) offset ≡ true → type_item r.resolution ≡ definition_at nodes offset (drop i rs)
+    → holds (place nodes r.item (part.«Type» r.part)) offset ≡ true → type_item r.resolution ≡ definition_at nodes offset (drop i rs)
 definition_here nodes offset rs i r within is holds_it =
     sym (definition_step nodes offset rs i r within is
-    ∙ cond-true (holds (span_of nodes r) offset) (type_item r.resolution) (definition_at nodes offset (drop (i + 1) rs)) holds_it)
+    ∙ cond-true (holds (place nodes r.item (part.«Type» r.part)) offset) (type_item r.resolution) (definition_at nodes offset (drop (i + 1) rs)) holds_it)
 
 pub definition_later : (nodes : List Node) (offset : ℕ) (rs : List ResolvedReference) (i : ℕ) (r : ResolvedReference) → i < length rs → r ≡ get_or rs i r
-    → holds (span_of nodes r) offset ≡ false → definition_at nodes offset (drop (i + 1) rs) ≡ definition_at nodes offset (drop i rs)
+    → holds (place nodes r.item (part.«Type» r.part)) offset ≡ false → definition_at nodes offset (drop (i + 1) rs) ≡ definition_at nodes offset (drop i rs)
 definition_later nodes offset rs i r within is passes =
     sym (definition_step nodes offset rs i r within is
-    ∙ cond-false (holds (span_of nodes r) offset) (type_item r.resolution) (definition_at nodes offset (drop (i + 1) rs)) passes)
+    ∙ cond-false (holds (place nodes r.item (part.«Type» r.part)) offset) (type_item r.resolution) (definition_at nodes offset (drop (i + 1) rs)) passes)
 
 definition_empty : (nodes : List Node) (offset : ℕ) → definition_at nodes offset [] ≡ None
 unfolding definition_at

@@ -14,6 +14,7 @@ use Rattle.pq_syntax.specs.declared.tree.Node.{Node}
 use Rattle.pq_syntax.specs.declared.tree.Statement.{Statement}
 use Rattle.pq_syntax.specs.declared.tree.Statement.TheVariants as statements
 use Rattle.pq_schema.specs.Definitions.{package_of, camel}
+use Rattle.pq_links.specs.Place.{type_span}
 use Rattle.pq_links.specs.declared.places.TypePart.TheVariants as parts
 use Rattle.pq_schema.specs.declared.resolution.Resolution.TheVariants as resolutions
 use Rattle.pq_schema.specs.declared.resolved.ResolvedReference.{ResolvedReference}
@@ -153,5 +154,5 @@ message_n = Some (record { file = codes "a.proto"; item = 0 })
 
 -- both ends of a reference belong to it
 pub at_a_reference : map the_definition (24 ∷ 25 ∷ 26 ∷ 27 ∷ []) ≡ None ∷ message_n ∷ message_n ∷ None ∷ []
-unfolding definition_at
+unfolding definition_at type_span
 at_a_reference = refl

@@ -1,6 +1,6 @@
 -- What the files of the sources compile to. The definitions speak of sources, trees and the import
 -- graph; no query is named here.
-use Rattle.std.specs.Prelude.{ℕ, ◌≡◌, Bool, true, false, not, ◌&&◌, cond, List, codes, Option, Some, None, option_and_then, slice_get}
+use Rattle.std.specs.Prelude.{ℕ, ◌≡◌, Bool, true, false, not, ◌&&◌, cond, List, codes, Option, None, option_and_then}
 use Rattle.std.specs.List.{list_any}
 use Rattle.std.specs.Option.{option_map}
 use Rattle.serde_json.specs.Written.{compact_text}
@@ -10,11 +10,12 @@ use Rattle.pq_rules.specs.declared.turn.Answer.TheVariants.{Value}
 use Rattle.pq_lex.specs.aux.LineMarks.{place_in, offset_in}
 use Rattle.pq_lex.specs.declared.position.Position.{Position}
 use Rattle.pq_lex.specs.declared.token.Span.{Span}
-use Rattle.pq_syntax.specs.declared.tree.Node.{Node}
-use Rattle.pq_syntax.specs.declared.tree.Statement.{Statement}
-use Rattle.pq_syntax.specs.declared.tree.Statement.TheVariants.{Message, Enum}
+use Rattle.pq_syntax.specs.declared.fault.Parsed.{Parsed}
+use Rattle.pq_syntax.specs.declared.fault.Parsed.TheVariants as parsed
 use Rattle.pq_links.specs.Files.{graph_of, read_file}
 use Rattle.pq_links.specs.LinkedKeys.{LinkedIs}
+use Rattle.pq_links.specs.Place.{place}
+use Rattle.pq_links.specs.declared.places.Part.TheVariants as part
 use Rattle.pq_links.specs.declared.files.ParsedFile.{ParsedFile}
 use Rattle.pq_links.specs.declared.files.ParsedFile.TheVariants.{Absent, Present}
 use Rattle.pq_schema.specs.Missing.{nodes_of}
@@ -22,12 +23,12 @@ use Rattle.pq_schema.specs.Compile.{defs_at, IsScope, AreResolved}
 use Rattle.pq_schema.specs.ScopeContents.{Scope}
 use Rattle.pq_schema.specs.declared.resolved.ResolvedReference.{ResolvedReference}
 use Rattle.pq_checks.specs.Codes.{severity}
-use Rattle.pq_checks.specs.Compile.{IsChecked}
+use Rattle.pq_checks.specs.Compile.{AreFaults}
 use Rattle.pq_checks.specs.Diagnostics.{AreDiagnostics}
 use Rattle.pq_checks.specs.declared.code.Severity.{Severity}
 use Rattle.pq_checks.specs.declared.code.Severity.TheVariants.{Error, Information}
 use Rattle.pq_checks.specs.declared.fault.Fault.{Fault}
-use Rattle.pq_checks.specs.declared.surroundings.Checked.{Checked}
+use Rattle.pq_checks.specs.declared.diagnostic.Diagnosed.{Diagnosed}
 use Rattle.pq_proto.specs.Definition.{definition_at}
 use Rattle.pq_proto.specs.Descriptor.{descriptor}
 use Rattle.pq_proto.specs.Symbols.{symbols}
@@ -39,7 +40,11 @@ use Rattle.pq_proto.specs.declared.value.Location.{Location}
 use Rattle.pq_proto.specs.declared.value.ProtoValue.{ProtoValue}
 use Rattle.pq_proto.specs.declared.value.ProtoValue.TheVariants as values
 
--- ---- positions
+-- ---- files and positions
+
+-- `read_in files f` is what the file `f` of the sources is read as
+abbrev pub read_in : Sources → List ℕ → ParsedFile
+read_in files f = read_file (file_in files f).text
 
 -- `position_in file offset` is the position of `offset` in a file that is read as `file`; an absent
 -- file has the first position alone
@@ -64,26 +69,36 @@ abbrev pub is_severe : Severity → Bool
 is_severe Error = true
 is_severe Information = false
 
--- `is_present file` is whether a file that is read as `file` has a text
-abbrev pub is_present : ParsedFile → Bool
-is_present Absent = false
-is_present (Present p lines) = true
+-- `is_failed fs` is whether one of the errors `fs` is of the severity of errors
+abbrev pub is_failed : List Fault → Bool
+is_failed fs = list_any (λ (f : Fault). is_severe (severity f.code)) fs
 
--- `is_sent d` is whether a file with the diagnostics `d` has a descriptor: it has a text, and no
--- diagnostic of the severity of errors
-abbrev pub is_sent : Checked → Bool
-is_sent d = is_present d.file && not (list_any (λ (f : Fault). is_severe (severity f.code)) d.faults)
+-- `is_tree p` is whether a text that is parsed as `p` has a tree
+abbrev pub is_tree : Parsed → Bool
+is_tree (parsed.Tree nodes) = true
+is_tree (parsed.Fault span code) = false
 
--- `descriptor_by f d references` is the descriptor of the file `f` as a text, `null` where it has
--- none. `d` is its diagnostics, and `references` its resolved references.
-abbrev pub descriptor_by : List ℕ → Checked → List ResolvedReference → List ℕ
-descriptor_by f d references = cond (is_sent d) (compact_text (descriptor references f (nodes_of d.file))) (codes "null")
+-- `has_tree file` is whether a file that is read as `file` has a tree
+abbrev pub has_tree : ParsedFile → Bool
+has_tree Absent = false
+has_tree (Present p lines) = is_tree p
+
+-- `is_sent fs file` is whether a file that is read as `file`, with the errors `fs` by the table, has
+-- a descriptor: it has a tree, and none of these is of the severity of errors
+abbrev pub is_sent : List Fault → ParsedFile → Bool
+is_sent fs file = has_tree file && not (is_failed fs)
+
+-- `descriptor_by f fs file references` is the descriptor of the file `f` as a text, `null` where it
+-- has none. `fs` is its errors by the table, `file` what it is read as, and `references` its resolved
+-- references.
+abbrev pub descriptor_by : List ℕ → List Fault → ParsedFile → List ResolvedReference → List ℕ
+descriptor_by f fs file references = cond (is_sent fs file) (compact_text (descriptor references f (nodes_of file))) (codes "null")
 
 -- `IsDescriptor files f t` is that `t` is the descriptor of the file `f` as a text
 abbrev pub IsDescriptor : Sources → List ℕ → List ℕ → Type 0
 IsDescriptor files f t =
-    (d : Checked) × (references : List ResolvedReference)
-    × AreDiagnostics files f d × AreResolved files f references × (t ≡ descriptor_by f d references)
+    (fs : List Fault) × (references : List ResolvedReference)
+    × AreFaults files f fs × AreResolved files f references × (t ≡ descriptor_by f fs (read_in files f) references)
 
 -- ---- symbols
 
@@ -93,18 +108,12 @@ symbols_of file = compact_text (symbols (position_in file) (nodes_of file))
 
 -- ---- definitions
 
--- `type_name statement` is the span of the name of the type that `statement` defines
-abbrev pub type_name : Statement → Option Span
-type_name (Message name) = Some name.span
-type_name (Enum name) = Some name.span
-type_name _ = None
-
 -- `location_of t file` is the location of the name of the type item `t`, whose file is read as
 -- `file`
 abbrev pub location_of : TypeItem → ParsedFile → Option Location
 location_of t file =
     option_map (λ (s : Span). record { file = t.file; start = place_at file s.start; end = place_at file s.end })
-    (option_and_then (λ (n : Node). type_name n.statement) (slice_get (nodes_of file) t.item))
+    (place (nodes_of file) t.item part.Name)
 
 -- `type_at file place references` is the type that is referred to at `place` in a file that is read
 -- as `file` and has the resolved references `references`
@@ -115,10 +124,6 @@ type_at file place references = option_and_then (λ (o : ℕ). definition_at (no
 -- with the resolved references `references`, where `read` gives what a file is read as
 abbrev pub definition_by : (List ℕ → ParsedFile) → List ℕ → Place → List ResolvedReference → Option Location
 definition_by read f place references = option_and_then (λ (t : TypeItem). location_of t (read t.file)) (type_at (read f) place references)
-
--- `read_in files f` is what the file `f` of the sources is read as
-abbrev pub read_in : Sources → List ℕ → ParsedFile
-read_in files f = read_file (file_in files f).text
 
 -- `IsDefinition files f place d` is that `d` is the definition of what is at `place` in the file `f`
 abbrev pub IsDefinition : Sources → List ℕ → Place → Option Location → Type 0
@@ -137,8 +142,8 @@ Compiles files (keys.Linked f) a = LinkedIs (graph_of files) (λ n. keys.Linked 
 Compiles files (keys.Defs f) a = a ≡ Value (values.Defs (defs_at files f))
 Compiles files (keys.Scope f) a = (s : Scope) × (a ≡ Value (values.Scope s)) × IsScope files f s
 Compiles files (keys.Resolved f) a = (rs : List ResolvedReference) × (a ≡ Value (values.Resolved rs)) × AreResolved files f rs
-Compiles files (keys.Checks f) a = (c : Checked) × (a ≡ Value (values.Checks c)) × IsChecked files f c
-Compiles files (keys.Diagnostics f) a = (d : Checked) × (a ≡ Value (values.Diagnostics d)) × AreDiagnostics files f d
+Compiles files (keys.Checks f) a = (fs : List Fault) × (a ≡ Value (values.Checks fs)) × AreFaults files f fs
+Compiles files (keys.Diagnostics f) a = (d : Diagnosed) × (a ≡ Value (values.Diagnostics d)) × AreDiagnostics files f d
 Compiles files (keys.Descriptor f) a = (t : List ℕ) × (a ≡ Value (values.Descriptor t)) × IsDescriptor files f t
 Compiles files (keys.Symbols f) a = a ≡ Value (values.Symbols (symbols_of (read_in files f)))
 Compiles files (keys.Definition f place) a = (d : Option Location) × (a ≡ Value (values.Definition d)) × IsDefinition files f place d

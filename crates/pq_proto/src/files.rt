@@ -1,12 +1,13 @@
 //! What a file that is read as its tree or first error has: its statements, and the positions of its
 //! offsets.
 ghost use Rattle.std.specs.Prelude.{◌≡◌};
+ghost use Rattle.pq_links.specs.Place.{place};
 ghost use Rattle.pq_schema.specs.Missing.{nodes_of};
 ghost use Rattle.pq_proto.specs.Compile.{offset_at, place_at, position_in};
 
 use crate::key::Place;
-use pq_lex::Position;
-use pq_links::ParsedFile;
+use pq_lex::{Position, Span};
+use pq_links::{ParsedFile, Part, place};
 use pq_syntax::{Node, Parsed};
 
 /// The statements of a file that is read as `file`: an absent file has none, and neither has one
@@ -20,6 +21,20 @@ pub(crate) fn statements(file: &ParsedFile) -> &[Node]
             ..
         } => nodes.as_slice(),
         _ => &[],
+    }
+}
+
+/// The span of the part `part` of the item of the number `item` in a file that is read as `file`, if
+/// it has that place.
+pub(crate) fn span_in(file: &ParsedFile, item: usize, part: Part) -> Option<Span>
+    ensures span { result ≡ place (nodes_of file.now) item part }
+{
+    match file {
+        ParsedFile::Present {
+            parsed: Parsed::Tree(nodes),
+            ..
+        } => place(nodes, item, part),
+        _ => None,
     }
 }
 

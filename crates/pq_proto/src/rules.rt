@@ -17,7 +17,7 @@ use crate::queries::{
     DefinitionPart, DefinitionQuery, DescriptorPart, DescriptorQuery, SymbolsQuery,
 };
 use crate::value::{Location, ProtoValue};
-use pq_checks::{CheckPart, ChecksQuery, DiagnosticsQuery};
+use pq_checks::{CheckPart, ChecksQuery, DiagnosticsPart, DiagnosticsQuery};
 use pq_links::{ImportsQuery, LinkedQuery, Linking, ParseQuery};
 use pq_rules::{Answer, Query, Rules, Sum, Text, Turn, advance_of, start_of};
 use pq_schema::{DefsQuery, ResolvedPart, ResolvedQuery, ScopePart, ScopeQuery};
@@ -40,8 +40,8 @@ pub enum ProtoPart {
     Resolving(ResolvedPart),
     /// A part of the query of checks.
     Checking(CheckPart),
-    /// The part of the query of diagnostics.
-    Diagnosing,
+    /// A part of the query of diagnostics.
+    Diagnosing(DiagnosticsPart),
     /// A part of the query of descriptors.
     Describing(DescriptorPart),
     /// The part of the query of symbols.
@@ -187,8 +187,8 @@ impl Rules for ProtoRules {
             ProtoPart::Checking(part) => {
                 advance_of::<Self, _>(alloc, &ChecksQuery::<Self>::new(), part, answer)
             }
-            ProtoPart::Diagnosing => {
-                advance_of::<Self, _>(alloc, &DiagnosticsQuery::<Self>::new(), (), answer)
+            ProtoPart::Diagnosing(part) => {
+                advance_of::<Self, _>(alloc, &DiagnosticsQuery::<Self>::new(), part, answer)
             }
             ProtoPart::Describing(part) => advance_of::<Self, _>(
                 alloc,
@@ -212,6 +212,7 @@ impl Rules for ProtoRules {
             ProtoPart::Scoping(part) => ScopeQuery::<ProtoRules>::new().left(part),
             ProtoPart::Resolving(part) => ResolvedQuery::<ProtoRules>::new().left(part),
             ProtoPart::Checking(part) => ChecksQuery::<ProtoRules>::new().left(part),
+            ProtoPart::Diagnosing(part) => DiagnosticsQuery::<ProtoRules>::new().left(part),
             ProtoPart::Describing(part) => DescriptorQuery.left(part),
             ProtoPart::Locating(part) => DefinitionQuery.left(part),
             _ => (0, 0),

@@ -1,7 +1,7 @@
 //! The values of the keys of proto3 files.
 
 use crate::key::Place;
-use pq_checks::Checked;
+use pq_checks::{Diagnosed, Fault};
 use pq_links::{Import, Links, ParsedFile};
 use pq_names::Text;
 use pq_rules::Shared;
@@ -36,10 +36,10 @@ pub enum ProtoValue {
     Scope(Shared<Scope>),
     /// The resolved references of a file.
     Resolved(Shared<Items<ResolvedReference>>),
-    /// The errors of a file.
-    Checks(Shared<Checked>),
-    /// The errors of a file in order.
-    Diagnostics(Shared<Checked>),
+    /// The errors of a file by the table.
+    Checks(Shared<Items<Fault>>),
+    /// The diagnostics of a file, with what it is read as.
+    Diagnostics(Shared<Diagnosed>),
     /// The descriptor of a file as a text, `null` if it has none.
     Descriptor(Text),
     /// The list of the symbols of a file as a text.

@@ -8,8 +8,8 @@ use Rattle.pq_frame.specs.Labels.{LabelModel, label_data}
 use Rattle.pq_lex.specs.declared.position.Position.{Position}
 use Rattle.pq_links.specs.declared.files.ParsedFile.{ParsedFile}
 use Rattle.pq_checks.specs.Codes.{code_text, severity, severity_number}
-use Rattle.pq_checks.specs.declared.fault.Fault.{Fault}
-use Rattle.pq_checks.specs.declared.surroundings.Checked.{Checked}
+use Rattle.pq_checks.specs.declared.diagnostic.Diagnostic.{Diagnostic}
+use Rattle.pq_checks.specs.declared.diagnostic.Diagnosed.{Diagnosed}
 use Rattle.pq_proto.specs.Compile.{position_in}
 use Rattle.pq_proto.specs.Lists.{list_data}
 use Rattle.pq_proto.specs.Ranges.{range_data}
@@ -106,7 +106,7 @@ null_text label = compact_text (reply_data (label_data label) null)
 
 -- `diagnostic_data file f` is the error `f` of a file that is read as `file` (LSP 3.17,
 -- "Diagnostic").
-abbrev pub diagnostic_data : ParsedFile → Fault → Data
+abbrev pub diagnostic_data : ParsedFile → Diagnostic → Data
 diagnostic_data file f =
     object (member (codes "code") (string (code_text f.code)) (member (codes "message") (string f.text)
     (member (codes "range") (range_data (position_in file f.start) (position_in file f.end))
@@ -114,13 +114,13 @@ diagnostic_data file f =
 
 -- `report_data d revision` is the report of the diagnostics `d` at a revision of the sources, its
 -- `resultId` (LSP 3.17, "RelatedFullDocumentDiagnosticReport").
-abbrev pub report_data : Checked → ℕ → Data
+abbrev pub report_data : Diagnosed → ℕ → Data
 report_data d revision =
-    object (member (codes "items") (list_data (map (diagnostic_data d.file) d.faults)) (member (codes "kind") (string (codes "full")) (member (codes "resultId") (string (decimal revision)) no_members)))
+    object (member (codes "items") (list_data (map (diagnostic_data d.file) d.diagnostics)) (member (codes "kind") (string (codes "full")) (member (codes "resultId") (string (decimal revision)) no_members)))
 
 -- `diagnostics_text label d revision` is the text of the response that reports the diagnostics `d`
 -- at `revision`.
-unfoldable pub diagnostics_text : LabelModel → Checked → ℕ → List ℕ
+unfoldable pub diagnostics_text : LabelModel → Diagnosed → ℕ → List ℕ
 diagnostics_text label d revision = compact_text (reply_data (label_data label) (report_data d revision))
 
 -- ---- definitions

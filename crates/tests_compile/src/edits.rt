@@ -9,7 +9,7 @@
 use crate::checks::{check_row_count, check_text, check_that, text_of};
 use crate::keys::{add_key, key_in};
 use crate::sets::{SYNTAX_LINE, whole_text};
-use pq_checks::Fault;
+use pq_checks::Diagnostic;
 use pq_inputs::{Durability, Inputs};
 use pq_memo::{Carried, Demanded, Engine, Why};
 use pq_proto::{ProtoKey, ProtoRules, ProtoValue, compile};
@@ -87,18 +87,18 @@ fn add_start(page: &mut Page, start: &Carried<ProtoKey>) {
     page.add(";");
 }
 
-/// Writes the codes of `faults`, each with a blank after it.
-fn add_codes(page: &mut Page, faults: &[Fault]) {
-    for fault in faults {
-        page.add(fault.code.as_str());
+/// Writes the codes of `diagnostics`, each with a blank after it.
+fn add_codes(page: &mut Page, diagnostics: &[Diagnostic]) {
+    for diagnostic in diagnostics {
+        page.add(diagnostic.code.as_str());
         page.add(" ");
     }
 }
 
 /// Writes the codes of an answer, none of one that is not of diagnostics.
 fn add_answer(page: &mut Page, answer: &Answer<ProtoKey, ProtoValue>) {
-    if let Answer::Value(ProtoValue::Diagnostics(checked)) = answer {
-        add_codes(page, checked.get().faults.as_slice());
+    if let Answer::Value(ProtoValue::Diagnostics(diagnosed)) = answer {
+        add_codes(page, diagnosed.get().diagnostics.as_slice());
     }
 }
 

@@ -109,11 +109,10 @@ fn add_value(page: &mut Page, value: &ProtoValue) {
         ProtoValue::Defs(defs) => add_count(page, defs.get().definitions().len(), " definitions"),
         ProtoValue::Scope(scope) => add_count(page, scope.get().reach().len(), " reached"),
         ProtoValue::Resolved(all) => add_count(page, all.get().as_slice().len(), " references"),
-        ProtoValue::Checks(checked) => {
-            add_count(page, checked.get().faults.as_slice().len(), " errors");
-        }
-        ProtoValue::Diagnostics(checked) => {
-            add_count(page, checked.get().faults.as_slice().len(), " diagnostics");
+        ProtoValue::Checks(faults) => add_count(page, faults.get().as_slice().len(), " errors"),
+        ProtoValue::Diagnostics(diagnosed) => {
+            let diagnostics = diagnosed.get().diagnostics.as_slice();
+            add_count(page, diagnostics.len(), " diagnostics");
         }
         ProtoValue::Descriptor(text) => page.add(text.as_str()),
         ProtoValue::Symbols(text) => page.add(text.as_str()),

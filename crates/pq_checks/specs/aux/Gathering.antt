@@ -3,8 +3,8 @@
 use Rattle.std.specs.Prelude.{ℕ, List, Option}
 use Rattle.pq_checks.specs.Compile.{file_faults}
 use Rattle.pq_checks.specs.Surroundings.{Surroundings, other_files}
+use Rattle.pq_checks.specs.declared.fault.Fault.{Fault}
 use Rattle.pq_checks.specs.declared.gathered.Known.{Known}
-use Rattle.pq_checks.specs.declared.surroundings.Checked.{Checked}
 use Rattle.pq_checks.specs.declared.surroundings.Imported.{Imported}
 
 -- `surroundings_of k imported next` is the surroundings of the file of `k`, which imports the files
@@ -19,9 +19,6 @@ surroundings_of k imported next = record {
   references = k.references;
 }
 
--- `checked_of k imported next` is the checks of that file
-abbrev pub checked_of : Known → List Imported → Option (List ℕ) → Checked
-checked_of k imported next = record {
-  faults = file_faults (surroundings_of k imported next) k.linked.parsed;
-  file = k.linked.parsed;
-}
+-- `checked_of k imported next` lists the errors of that file
+abbrev pub checked_of : Known → List Imported → Option (List ℕ) → List Fault
+checked_of k imported next = file_faults (surroundings_of k imported next) k.linked.parsed

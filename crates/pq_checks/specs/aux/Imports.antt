@@ -4,6 +4,7 @@ use Rattle.std.specs.Prelude.{◌≡◌, ℕ, Bool, not, ◌&&◌, cond, List, [
 use Rattle.std.specs.Borrow.{Bor}
 use Rattle.std.specs.BTreeMap.{BTreeMap, get}
 use Rattle.std.specs.Str.{is_utf8}
+use Rattle.pq_links.specs.declared.places.Part.TheVariants as part
 use Rattle.pq_checks.specs.Faults.{at, when, quoted, state_faults, ring_text}
 use Rattle.pq_checks.specs.Members.{ImportName}
 use Rattle.pq_checks.specs.Surroundings.{Surroundings}
@@ -41,14 +42,14 @@ first_name (f ∷ fs) = f
 
 -- `listed_line repeated i` is the error of the import `i` if its name is `repeated`
 abbrev pub listed_line : Bool → ImportName → List Fault
-listed_line repeated i = when repeated (at i.name.span code.ImportTwice (codes "import " ++ quoted i.name.value ++ codes " is listed twice"))
+listed_line repeated i = when repeated (at i.item part.Name code.ImportTwice (codes "import " ++ quoted i.value ++ codes " is listed twice"))
 
 -- `ring_line ring next repeated i` is the error of the import `i` in a file with the ring `ring`
 -- and the first bad import `next`, unless its name is `repeated`
 abbrev pub ring_line : Option (List (List ℕ)) → Option (List ℕ) → Bool → ImportName → List Fault
 ring_line None next repeated i = []
 ring_line (Some ring) None repeated i = []
-ring_line (Some ring) (Some next) repeated i = when (bytes_eq i.name.value next && not repeated) (at i.name.span code.ImportCycle (ring_text ring))
+ring_line (Some ring) (Some next) repeated i = when (bytes_eq i.value next && not repeated) (at i.item part.Name code.ImportCycle (ring_text ring))
 
 -- `text_line state ring next repeated i` is the errors of the import `i`, whose name is UTF-8
 abbrev pub text_line : FileState → Option (List (List ℕ)) → Option (List ℕ) → Bool → ImportName → List Fault
@@ -58,4 +59,4 @@ text_line state ring next repeated i = state_faults state i ++ listed_line repea
 -- `state`
 abbrev pub import_line : FileState → Option (List (List ℕ)) → Option (List ℕ) → Bool → ImportName → List Fault
 import_line state ring next repeated i =
-    cond (is_utf8 i.name.value) (text_line state ring next repeated i) (at i.name.span code.ImportNotText (codes "import name is not UTF-8") ∷ [])
+    cond (is_utf8 i.value) (text_line state ring next repeated i) (at i.item part.Name code.ImportNotText (codes "import name is not UTF-8") ∷ [])

@@ -15,9 +15,9 @@ use Rattle.pq_checks.specs.declared.checked.CheckPart.{CheckPart}
 use Rattle.pq_checks.specs.declared.checked.CheckPart.TheVariants.{ReadFile, ReadImports, ReadLinks, ReadDefs, ReadScope, ReadReferences, ReadState, ReadNext}
 use Rattle.pq_checks.specs.declared.checked.Stage.{Stage}
 use Rattle.pq_checks.specs.declared.checked.Stage.TheVariants.{ForStates, ForLinks}
+use Rattle.pq_checks.specs.declared.fault.Fault.{Fault}
 use Rattle.pq_checks.specs.declared.gathered.Known.{Known}
 use Rattle.pq_checks.specs.declared.gathered.LinkedFile.{LinkedFile}
-use Rattle.pq_checks.specs.declared.surroundings.Checked.{Checked}
 use Rattle.pq_checks.specs.declared.surroundings.Imported.{Imported}
 
 -- `check_level` is the level of the query's keys
@@ -26,25 +26,25 @@ check_level = 7
 
 -- `check_starts parse f` is the first turn of the checks of the file `f`: it asks what that is read
 -- as
-abbrev pub check_starts : {K : Type 0} → (List ℕ → K) → List ℕ → Turn K CheckPart Checked
+abbrev pub check_starts : {K : Type 0} → (List ℕ → K) → List ℕ → Turn K CheckPart (List Fault)
 check_starts parse f = Ask (parse f) (ReadFile f)
 
 -- `link_next linked k ring first imported` is the turn after the states `imported` of the imported
 -- files: a bad file, which has a `ring`, asks the links of its `first` import; any other is done
-abbrev pub link_next : {K : Type 0} → (List ℕ → K) → Known → Option (List (List ℕ)) → Option Import → List Imported → Turn K Stage Checked
+abbrev pub link_next : {K : Type 0} → (List ℕ → K) → Known → Option (List (List ℕ)) → Option Import → List Imported → Turn K Stage (List Fault)
 link_next linked k (Some ring) (Some i) imported = Ask (linked i.file) (ForLinks k.linked.imports)
 link_next linked k (Some ring) None imported = Done (checked_of k imported None)
 link_next linked k None first imported = Done (checked_of k imported None)
 
 -- `staged linked parse k next imported` is the turn that asks what the file of the import `next` is
 -- read as, or that after the states `imported` if there is none
-abbrev pub staged : {K : Type 0} → (List ℕ → K) → (List ℕ → K) → Known → Option Import → List Imported → Turn K Stage Checked
+abbrev pub staged : {K : Type 0} → (List ℕ → K) → (List ℕ → K) → Known → Option Import → List Imported → Turn K Stage (List Fault)
 staged linked parse k (Some i) imported = Ask (parse i.file) ForStates
 staged linked parse k None imported = link_next linked k k.linked.ring (slice_get k.linked.imports 0) imported
 
 -- `placed k left imported t` is the turn `t` with its part: `left` are the imports of which the
 -- states are to be read, and `imported` the states so far
-abbrev pub placed : {K : Type 0} → Known → List Import → List Imported → Turn K Stage Checked → Turn K CheckPart Checked
+abbrev pub placed : {K : Type 0} → Known → List Import → List Imported → Turn K Stage (List Fault) → Turn K CheckPart (List Fault)
 placed k left imported (Ask q ForStates) = Ask q (ReadState k left imported)
 placed k left imported (Ask q (ForLinks waiting)) = Ask q (ReadNext k waiting imported)
 placed k left imported (Done v) = Done v
@@ -57,32 +57,32 @@ with_state (Some i) file imported = imported ++ record { file = i.file; state = 
 
 -- `state_follows linked parse k first second file imported` is the turn after the file of the
 -- import `first` was read as `file`: the state of that of `second` is next
-abbrev pub state_follows : {K : Type 0} → (List ℕ → K) → (List ℕ → K) → Known → Option Import → Option Import → ParsedFile → List Imported → Turn K Stage Checked
+abbrev pub state_follows : {K : Type 0} → (List ℕ → K) → (List ℕ → K) → Known → Option Import → Option Import → ParsedFile → List Imported → Turn K Stage (List Fault)
 state_follows linked parse k None second file imported = Done (checked_of k imported None)
 state_follows linked parse k (Some i) second file imported = staged linked parse k second (with_state (Some i) file imported)
 
 -- `link_follows linked k first second ring imported` is the turn, without its part, after the links
 -- of the import `first`: a `ring` names the next file; else the links of `second` are asked
-abbrev pub link_follows : {K : Type 0} → (List ℕ → K) → Known → Option Import → Option Import → Option (List (List ℕ)) → List Imported → Turn K (Unit {0}) Checked
+abbrev pub link_follows : {K : Type 0} → (List ℕ → K) → Known → Option Import → Option Import → Option (List (List ℕ)) → List Imported → Turn K (Unit {0}) (List Fault)
 link_follows linked k None second ring imported = Done (checked_of k imported None)
 link_follows linked k (Some i) second (Some ring) imported = Done (checked_of k imported (Some i.file))
 link_follows linked k (Some i) (Some j) None imported = Ask (linked j.file) tt
 link_follows linked k (Some i) None None imported = Done (checked_of k imported None)
 
 -- `link_placed k left imported t` is the turn `t` with its part
-abbrev pub link_placed : {K : Type 0} → Known → List Import → List Imported → Turn K (Unit {0}) Checked → Turn K CheckPart Checked
+abbrev pub link_placed : {K : Type 0} → Known → List Import → List Imported → Turn K (Unit {0}) (List Fault) → Turn K CheckPart (List Fault)
 link_placed k left imported (Ask q u) = Ask q (ReadNext k left imported)
 link_placed k left imported (Done v) = Done v
 
 -- `references_turn linked parse l d s references` is the turn after the `references` of the file
 -- `l` with the definitions `d` and the scope `s`
-abbrev pub references_turn : {K : Type 0} → (List ℕ → K) → (List ℕ → K) → LinkedFile → Defs → Scope → List ResolvedReference → Turn K CheckPart Checked
+abbrev pub references_turn : {K : Type 0} → (List ℕ → K) → (List ℕ → K) → LinkedFile → Defs → Scope → List ResolvedReference → Turn K CheckPart (List Fault)
 references_turn linked parse l d s references =
     let k : Known = record { linked = l; defs = d; scope = s; references = references } in
     placed k l.imports [] (staged linked parse k (slice_get l.imports 0) [])
 
 -- `check_advances w part a` is the turn after the answer `a` at `part`
-abbrev pub check_advances : {K A : Type 0} → CheckWords K A → CheckPart → A → Turn K CheckPart Checked
+abbrev pub check_advances : {K A : Type 0} → CheckWords K A → CheckPart → A → Turn K CheckPart (List Fault)
 check_advances w (ReadFile f) a = Ask (w.imports f) (ReadImports f (w.parsed a))
 check_advances w (ReadImports f p) a = Ask (w.linked f) (ReadLinks f p (unwrap_or (w.imported a) []))
 check_advances w (ReadLinks f p is) a = Ask (w.defs f) (ReadDefs (record { file = f; parsed = p; imports = is; ring = w.ring a }))

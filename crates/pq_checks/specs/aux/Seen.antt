@@ -13,16 +13,11 @@ use Rattle.pq_checks.specs.declared.members.ImportName.{ImportName}
 use Rattle.pq_checks.specs.declared.members.Member.{Member}
 use Rattle.pq_checks.specs.declared.members.Opted.{Opted}
 use Rattle.pq_checks.specs.declared.members.ReservedName.{ReservedName}
-use Rattle.pq_checks.specs.declared.members.Titled.{Titled}
 use Rattle.pq_checks.specs.declared.spots.Spot.{Spot}
 
 -- `member_seen m` is what contracts see of the member `m`
 abbrev pub member_seen : Member → members.Member
 member_seen m = record { item = m.item; owner = m.owner; holder = m.holder; name = m.name.now; number = m.number }
-
--- `titled_seen t` is what contracts see of the package, oneof or enum `t`
-abbrev pub titled_seen : Titled → members.Titled
-titled_seen t = record { item = t.item; name = t.name.now }
 
 -- `name_seen n` is what contracts see of the reserved name `n`
 abbrev pub name_seen : ReservedName → members.ReservedName
@@ -30,15 +25,16 @@ name_seen n = record { owner = n.owner; value = n.value.now.value }
 
 -- `import_seen i` is what contracts see of the import `i`
 abbrev pub import_seen : ImportName → members.ImportName
-import_seen i = record { item = i.item; name = i.name.now }
+import_seen i = record { item = i.item; value = i.name.now.value }
 
 -- `opted_seen o` is what contracts see of the option statement `o`
 abbrev pub opted_seen : Opted → members.Opted
 opted_seen o = record { holder = o.holder; setting = o.setting.now }
 
--- `setting_faults o` is the errors of the constant of the option `o.1`
-abbrev pub setting_faults : ℕ × Setting → List Fault
-setting_faults o = kind_faults o.1.constant.kind o.1.constant.span
+-- `setting_faults item o` is the errors of the constant of the option `o.1`, the option `o.0` of the
+-- item `item`
+abbrev pub setting_faults : ℕ → ℕ × Setting → List Fault
+setting_faults item o = kind_faults o.1.constant.kind item o.0
 
 -- `constants_in s` is the errors of the constants of the options of the statement of the spot `s`
 abbrev pub constants_in : Spot → List Fault

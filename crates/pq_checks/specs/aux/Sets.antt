@@ -36,4 +36,4 @@ is_name q n = same_item q.0 n.owner && bytes_eq q.1.now n.value
 
 -- `is_import q i` is whether the import `i` has the name that `q` lends
 abbrev pub is_import : Bor (List ℕ) → ImportName → Bool
-is_import q i = bytes_eq q.now i.name.value
+is_import q i = bytes_eq q.now i.value

@@ -7,6 +7,7 @@ use Rattle.std.specs.Ordering.{nat_cmp}
 use Rattle.std.specs.declared.cmp.Ordering.{Ordering}
 use Rattle.pq_schema.specs.declared.definitions.Definition.{Definition}
 use Rattle.pq_schema.specs.declared.scope.FileDefs.{FileDefs}
+use Rattle.pq_links.specs.declared.places.Part.TheVariants as part
 use Rattle.pq_checks.specs.Faults.{at, when, quoted}
 use Rattle.pq_checks.specs.declared.code.Code.TheVariants as code
 use Rattle.pq_checks.specs.declared.fault.Fault.{Fault}
@@ -14,7 +15,7 @@ use Rattle.pq_checks.specs.declared.fault.Fault.{Fault}
 -- `twice_line repeated d` is the error of the definition `d` if its full name is `repeated`. The
 -- message ends in the name of no file.
 abbrev pub twice_line : Bool → Definition → List Fault
-twice_line repeated d = when repeated (at d.span code.DefinedTwice (quoted d.full_name ++ codes " is already defined" ++ []))
+twice_line repeated d = when repeated (at d.item part.Name code.DefinedTwice (quoted d.full_name ++ codes " is already defined" ++ []))
 
 -- `is_other file v` is whether the visible file `v` is another than `file`
 abbrev pub is_other : List ℕ → FileDefs → Bool

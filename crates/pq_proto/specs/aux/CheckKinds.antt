@@ -11,7 +11,7 @@ use Rattle.pq_checks.specs.declared.checked.CheckPart.{CheckPart}
 use Rattle.pq_checks.specs.declared.checked.CheckPart.TheVariants.{ReadFile, ReadImports, ReadLinks, ReadDefs, ReadScope, ReadReferences, ReadState, ReadNext}
 use Rattle.pq_checks.specs.declared.gathered.Known.{Known}
 use Rattle.pq_checks.specs.declared.gathered.LinkedFile.{LinkedFile}
-use Rattle.pq_checks.specs.declared.surroundings.Checked.{Checked}
+use Rattle.pq_checks.specs.declared.fault.Fault.{Fault}
 use Rattle.pq_checks.specs.declared.surroundings.Imported.{Imported}
 
 -- `LinkedFileIn N l` is that the names of the file `l` and of its imports are of the kind `N`
@@ -58,8 +58,8 @@ pub record AsksIn {K A : Type 0} (KeyIn : K → Type 0) (w : CheckWords K A) (N 
   pub resolved : (f : List ℕ) → N f → KeyIn (w.resolved f)
 
 module _ {K A : Type 0} (KeyIn : K → Type 0) (w : CheckWords K A) (N : List ℕ → Type 0) (asks : AsksIn KeyIn w N) where
-  -- a checked file names no file that is asked
-  abbrev CheckedIn : Checked → Type 0
+  -- the errors of a file name no file that is asked
+  abbrev CheckedIn : List Fault → Type 0
   CheckedIn c = Unit {0}
 
   link_next_in : (k : Known) (ring : Option (List (List ℕ))) (first : Option Import) (left : List Import) (imported : List Imported)

@@ -4,9 +4,11 @@ use Rattle.std.proofs.Common.{◌≡◌, IsTrue}
 use Rattle.std.specs.Cmp.{unsigned_Decides, booleans_Decides}
 use Rattle.std.specs.Cmp.Lexicographic.{pointwise_decides, bytes_decides}
 use Rattle.pq_syntax.proofs.Equality.{Told, no_field, one_field, fields, of_struct, no_variant, variants, of_enum, of_bare, option}
-use Rattle.pq_links.proofs.Equality.{parsed_file, file_imports, file_links, type_part}
+use Rattle.pq_links.proofs.Equality.{parsed_file, file_imports, file_links}
 use Rattle.pq_schema.specs.aux.SameContents.{contents}
 use Rattle.pq_schema.specs.aux.SameScopes.{lists}
+use Rattle.pq_links.specs.contracts.places.TypePart as type_part_type
+use Rattle.pq_links.specs.contracts.places.TypePartPartialEq.TheImpl as type_part_eq
 use Rattle.pq_schema.specs.contracts.resolution.Resolution as resolution_type
 use Rattle.pq_schema.specs.contracts.resolution.ResolutionPartialEq.TheImpl as resolution_eq
 use Rattle.pq_schema.specs.contracts.resolved.ResolvedReference as reference_type
@@ -15,8 +17,12 @@ use Rattle.pq_checks.specs.contracts.code.Code as code_type
 use Rattle.pq_checks.specs.contracts.code.CodePartialEq.TheImpl as code_eq
 use Rattle.pq_checks.specs.contracts.fault.Fault as fault_type
 use Rattle.pq_checks.specs.contracts.fault.FaultPartialEq.TheImpl as fault_eq
-use Rattle.pq_checks.specs.contracts.surroundings.Checked as checked_type
-use Rattle.pq_checks.specs.contracts.surroundings.CheckedPartialEq.TheImpl as checked_eq
+use Rattle.pq_checks.specs.contracts.diagnostic.Diagnosed as diagnosed_type
+use Rattle.pq_checks.specs.contracts.diagnostic.DiagnosedPartialEq.TheImpl as diagnosed_eq
+use Rattle.pq_checks.specs.contracts.diagnostic.Diagnostic as diagnostic_type
+use Rattle.pq_checks.specs.contracts.diagnostic.DiagnosticPartialEq.TheImpl as diagnostic_eq
+use Rattle.pq_links.specs.contracts.places.Part as part_type
+use Rattle.pq_links.specs.contracts.places.PartPartialEq.TheImpl as part_eq
 use Rattle.pq_proto.specs.contracts.key.Place as place_type
 use Rattle.pq_proto.specs.contracts.key.PlacePartialEq.TheImpl as place_eq
 use Rattle.pq_proto.specs.contracts.value.Location as location_type
@@ -24,6 +30,9 @@ use Rattle.pq_proto.specs.contracts.value.LocationPartialEq.TheImpl as location_
 use Rattle.pq_proto.specs.contracts.value.ProtoValue as value_type
 use Rattle.pq_proto.specs.contracts.value.ProtoValuePartialEq.TheImpl as value_eq
 use Rattle.pq_proto.specs.declared.value.ProtoValue.{ProtoValue}
+
+type_part : Told type_part_eq.ghosts.eq
+type_part = of_bare type_part_type.the_type tt
 
 one_resolution : Told resolution_eq.ghosts.eq
 one_resolution =
@@ -41,15 +50,30 @@ resolved_reference =
 one_code : Told code_eq.ghosts.eq
 one_code = of_bare code_type.the_type tt
 
+one_part : Told part_eq.ghosts.eq
+one_part =
+    of_enum part_type.enum
+    (variants no_field
+    (variants no_field
+    (variants no_field
+    (variants (one_field type_part)
+    (variants (one_field unsigned_Decides)
+    (variants (one_field unsigned_Decides) no_variant))))))
+
 one_fault : Told fault_eq.ghosts.eq
 one_fault =
     of_struct fault_type.struct fault_type.the_propositions
+    (fields unsigned_Decides (fields one_part (fields one_code (one_field bytes_decides))))
+
+one_diagnostic : Told diagnostic_eq.ghosts.eq
+one_diagnostic =
+    of_struct diagnostic_type.struct diagnostic_type.the_propositions
     (fields unsigned_Decides (fields unsigned_Decides (fields one_code (one_field bytes_decides))))
 
-checked : Told checked_eq.ghosts.eq
-checked =
-    of_struct checked_type.struct checked_type.the_propositions
-    (fields (pointwise_decides one_fault) (one_field parsed_file))
+diagnosed : Told diagnosed_eq.ghosts.eq
+diagnosed =
+    of_struct diagnosed_type.struct diagnosed_type.the_propositions
+    (fields (pointwise_decides one_diagnostic) (one_field parsed_file))
 
 place : Told place_eq.ghosts.eq
 place = of_struct place_type.struct place_type.the_propositions (fields unsigned_Decides (one_field unsigned_Decides))
@@ -69,8 +93,8 @@ values =
     (variants (one_field contents)
     (variants (one_field lists)
     (variants (one_field (pointwise_decides resolved_reference))
-    (variants (one_field checked)
-    (variants (one_field checked)
+    (variants (one_field (pointwise_decides one_fault))
+    (variants (one_field diagnosed)
     (variants (one_field bytes_decides)
     (variants (one_field bytes_decides)
     (variants (one_field (option location)) no_variant))))))))))))

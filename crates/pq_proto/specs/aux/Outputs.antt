@@ -2,7 +2,7 @@
 -- is read of an answer, and that each further question lowers what is left. A law of a trait's impl
 -- may cite specs/ alone. The laws of the rule set tie the turns to `specs/Compile`.
 use Rattle.std.proofs.Common.{◌≡◌, ℕ, Bool, true, false, List, [], sym, subst, inl, arith}
-use Rattle.std.specs.Prelude.{cond, codes, Option, Some, None}
+use Rattle.std.specs.Prelude.{codes, Option, Some, None}
 use Rattle.serde_json.specs.Written.{compact_text}
 use Rattle.pq_rules.specs.declared.turn.Turn.{Turn}
 use Rattle.pq_rules.specs.declared.turn.Turn.TheVariants.{Ask, Done}
@@ -13,9 +13,8 @@ use Rattle.pq_links.specs.declared.files.ParsedFile.{ParsedFile}
 use Rattle.pq_links.specs.declared.files.ParsedFile.TheVariants.{Absent}
 use Rattle.pq_schema.specs.Missing.{nodes_of}
 use Rattle.pq_schema.specs.declared.resolved.ResolvedReference.{ResolvedReference}
-use Rattle.pq_checks.specs.Surroundings.{no_checked}
-use Rattle.pq_checks.specs.declared.surroundings.Checked.{Checked}
-use Rattle.pq_proto.specs.Compile.{is_sent, symbols_of, offset_at, location_of}
+use Rattle.pq_checks.specs.declared.fault.Fault.{Fault}
+use Rattle.pq_proto.specs.Compile.{has_tree, is_failed, symbols_of, offset_at, location_of}
 use Rattle.pq_proto.specs.Definition.{definition_at}
 use Rattle.pq_proto.specs.Descriptor.{descriptor}
 use Rattle.pq_proto.specs.declared.key.Place.{Place}
@@ -46,31 +45,40 @@ abbrev pub resolved_read : Answer ProtoKey ProtoValue → List ResolvedReference
 resolved_read (Value (values.Resolved references)) = references
 resolved_read _ = []
 
--- `diagnostics_read a` is the diagnostics that the answer `a` holds
-abbrev pub diagnostics_read : Answer ProtoKey ProtoValue → Checked
-diagnostics_read (Value (values.Diagnostics d)) = d
-diagnostics_read _ = no_checked
+-- `faults_read a` is the errors of a file that the answer `a` holds
+abbrev pub faults_read : Answer ProtoKey ProtoValue → List Fault
+faults_read (Value (values.Checks faults)) = faults
+faults_read _ = []
 
 -- ---- descriptors
 
--- `descriptor_starts f` is the first turn of the descriptor of the file `f`: it asks for the
--- diagnostics
+-- `descriptor_starts f` is the first turn of the descriptor of the file `f`: it asks for the errors
+-- by the table
 abbrev pub descriptor_starts : List ℕ → Turn ProtoKey DescriptorPart (List ℕ)
-descriptor_starts f = Ask (keys.Diagnostics f) (descriptors.ReadDiagnostics f)
+descriptor_starts f = Ask (keys.Checks f) (descriptors.ReadChecks f)
 
--- `descriptor_next f d` is the turn after the diagnostics `d` of the file `f`: it asks for the
--- resolved references of a file that has a descriptor
-abbrev pub descriptor_next : List ℕ → Checked → Turn ProtoKey DescriptorPart (List ℕ)
-descriptor_next f d = cond (is_sent d) (Ask (keys.Resolved f) (descriptors.ReadResolved f d.file)) (Done (codes "null"))
+-- `file_turn f failed` is the turn after the errors of the file `f`: if none is of the severity of
+-- errors, it asks what the file is read as
+abbrev pub file_turn : List ℕ → Bool → Turn ProtoKey DescriptorPart (List ℕ)
+file_turn f true = Done (codes "null")
+file_turn f false = Ask (keys.Parse f) (descriptors.ReadFile f)
+
+-- `tree_turn f file tree` is the turn after the file `f` was read as `file`, which is a `tree` or not:
+-- it asks for the resolved references of a tree
+abbrev pub tree_turn : List ℕ → ParsedFile → Bool → Turn ProtoKey DescriptorPart (List ℕ)
+tree_turn f file true = Ask (keys.Resolved f) (descriptors.ReadResolved f file)
+tree_turn f file false = Done (codes "null")
 
 -- `descriptor_advances part a` is the turn after the answer `a` at `part`
 abbrev pub descriptor_advances : DescriptorPart → Answer ProtoKey ProtoValue → Turn ProtoKey DescriptorPart (List ℕ)
-descriptor_advances (descriptors.ReadDiagnostics f) a = descriptor_next f (diagnostics_read a)
+descriptor_advances (descriptors.ReadChecks f) a = file_turn f (is_failed (faults_read a))
+descriptor_advances (descriptors.ReadFile f) a = tree_turn f (parsed_read a) (has_tree (parsed_read a))
 descriptor_advances (descriptors.ReadResolved f file) a = Done (compact_text (descriptor (resolved_read a) f (nodes_of file)))
 
 -- `descriptor_left part` is what is left to ask at `part`
 abbrev pub descriptor_left : DescriptorPart → ℕ × ℕ
-descriptor_left (descriptors.ReadDiagnostics f) = (1, 0)
+descriptor_left (descriptors.ReadChecks f) = (2, 0)
+descriptor_left (descriptors.ReadFile f) = (1, 0)
 descriptor_left (descriptors.ReadResolved f file) = (0, 0)
 
 -- ---- symbols
@@ -116,16 +124,22 @@ definition_left (definitions.ReadTarget t) = (0, 0)
 
 -- ---- each further question lowers what is left
 
-next_falls : (f : List ℕ) (d : Checked) (sent : Bool) (q : ProtoKey) (r : DescriptorPart)
-    → cond sent (Ask (keys.Resolved f) (descriptors.ReadResolved f d.file)) (Done (codes "null")) ≡ Ask q r → IsLower (descriptor_left r) (1, 0)
-next_falls f d true q r e =
-    let part : r ≡ descriptors.ReadResolved f d.file = cc in
+file_falls : (f : List ℕ) (failed : Bool) (q : ProtoKey) (r : DescriptorPart) → file_turn f failed ≡ Ask q r → IsLower (descriptor_left r) (2, 0)
+file_falls f true q r e = cc
+file_falls f false q r e =
+    let part : r ≡ descriptors.ReadFile f = cc in
+    subst (λ (x : DescriptorPart). IsLower (descriptor_left x) (2, 0)) (sym part) (inl (omega arith))
+
+tree_falls : (f : List ℕ) (file : ParsedFile) (tree : Bool) (q : ProtoKey) (r : DescriptorPart) → tree_turn f file tree ≡ Ask q r → IsLower (descriptor_left r) (1, 0)
+tree_falls f file true q r e =
+    let part : r ≡ descriptors.ReadResolved f file = cc in
     subst (λ (x : DescriptorPart). IsLower (descriptor_left x) (1, 0)) (sym part) (inl (omega arith))
-next_falls f d false q r e = cc
+tree_falls f file false q r e = cc
 
 pub descriptor_falls : (p : DescriptorPart) (a : Answer ProtoKey ProtoValue) (q : ProtoKey) (r : DescriptorPart)
     → descriptor_advances p a ≡ Ask q r → IsLower (descriptor_left r) (descriptor_left p)
-descriptor_falls (descriptors.ReadDiagnostics f) a q r e = next_falls f (diagnostics_read a) (is_sent (diagnostics_read a)) q r e
+descriptor_falls (descriptors.ReadChecks f) a q r e = file_falls f (is_failed (faults_read a)) q r e
+descriptor_falls (descriptors.ReadFile f) a q r e = tree_falls f (parsed_read a) (has_tree (parsed_read a)) q r e
 descriptor_falls (descriptors.ReadResolved f file) a q r e = cc
 
 pub symbols_falls : (a : Answer ProtoKey ProtoValue) (q : ProtoKey) (r : Unit {0}) → symbols_advances a ≡ Ask q r → IsLower (0, 0) (0, 0)

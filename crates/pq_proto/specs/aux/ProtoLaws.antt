@@ -38,11 +38,16 @@ use Rattle.pq_schema.specs.declared.resolution.Resolution.TheVariants as resolut
 use Rattle.pq_syntax.specs.declared.tree.Node.{Node}
 use Rattle.pq_checks.specs.aux.Falls.{check_falls}
 use Rattle.pq_checks.specs.aux.Queries.{check_starts, check_advances, check_left}
-use Rattle.pq_checks.specs.declared.surroundings.Checked.{Checked}
-use Rattle.pq_proto.specs.Compile.{is_sent, offset_at}
-use Rattle.pq_proto.specs.Definition.{definition_at, type_item, holds, span_of}
+use Rattle.pq_checks.specs.aux.DiagnosticsTurns.{diagnostics_advances, diagnostics_left, diagnostics_falls}
+use Rattle.pq_checks.specs.declared.diagnostics.DiagnosticsPart.{DiagnosticsPart}
+use Rattle.pq_checks.specs.declared.diagnostics.DiagnosticsPart.TheVariants as diagnostics
+use Rattle.pq_checks.specs.declared.fault.Fault.{Fault}
+use Rattle.pq_links.specs.Place.{place}
+use Rattle.pq_links.specs.declared.places.Part.TheVariants as part
+use Rattle.pq_proto.specs.Compile.{has_tree, is_failed, offset_at}
+use Rattle.pq_proto.specs.Definition.{definition_at, type_item, holds}
 use Rattle.pq_proto.specs.aux.CheckKinds.{AsksIn, CheckPartIn, check_starts_in, check_advances_in}
-use Rattle.pq_proto.specs.aux.Outputs.{parsed_read, resolved_read, diagnostics_read, descriptor_advances, descriptor_left, descriptor_falls, references_turn, target_turn, definition_advances, definition_left, definition_falls}
+use Rattle.pq_proto.specs.aux.Outputs.{faults_read, parsed_read, resolved_read, file_turn, tree_turn, descriptor_advances, descriptor_left, descriptor_falls, references_turn, target_turn, definition_advances, definition_left, definition_falls}
 use Rattle.pq_proto.specs.aux.RuleSet.{text_read, imports_read, links_read, defs_read, scope_read, check_words, proto_level, proto_file, proto_start, proto_advance, proto_left, proto_rules, descriptor_turn, definition_turn, own_name, keys_of, proto_reach}
 use Rattle.pq_proto.specs.declared.key.ProtoKey.{ProtoKey}
 use Rattle.pq_proto.specs.declared.key.ProtoKey.TheVariants as keys
@@ -83,6 +88,9 @@ proto_falls (Resolving p) a q r e =
 proto_falls (Checking p) a q r e =
     part_falls (λ x. Checking x) (λ v. values.Checks v) check_left (check_advances check_words p a) (check_left p)
     (λ x. refl) (check_falls check_words a p) q r e
+proto_falls (Diagnosing p) a q r e =
+    part_falls (λ x. Diagnosing x) (λ v. values.Diagnostics v) diagnostics_left (diagnostics_advances (λ n. keys.Parse n) (faults_read a) (parsed_read a) p) (diagnostics_left p)
+    (λ x. refl) (diagnostics_falls (λ n. keys.Parse n) (faults_read a) (parsed_read a) p) q r e
 proto_falls (Describing p) a q r e =
     part_falls (λ x. Describing x) (λ v. values.Descriptor v) descriptor_left (descriptor_advances p a) (descriptor_left p)
     (λ x. refl) (descriptor_falls p a) q r e
@@ -92,7 +100,6 @@ proto_falls (Locating p) a q r e =
 proto_falls Parsing a q r e = cc
 proto_falls Importing a q r e = cc
 proto_falls Defining a q r e = cc
-proto_falls Diagnosing a q r e = cc
 proto_falls Listing a q r e = cc
 
 -- ---- the keys of names
@@ -134,8 +141,13 @@ Named ns n = In n ns
 abbrev KeyIn : List (List ℕ) → ℕ → ProtoKey → ProtoKey → Type 0
 KeyIn ns l root k = In (own_name k) ns × (proto_level k ≤ l) × ((k ≡ root) ⊎ (proto_level k ≤ 8))
 
+abbrev DiagnosticsPartIn : List (List ℕ) → DiagnosticsPart → Type 0
+DiagnosticsPartIn ns (diagnostics.ReadChecks f) = In f ns
+DiagnosticsPartIn ns (diagnostics.ReadFile faults) = Unit {0}
+
 abbrev DescriptorPartIn : List (List ℕ) → DescriptorPart → Type 0
-DescriptorPartIn ns (descriptors.ReadDiagnostics f) = In f ns
+DescriptorPartIn ns (descriptors.ReadChecks f) = In f ns
+DescriptorPartIn ns (descriptors.ReadFile f) = In f ns
 DescriptorPartIn ns (descriptors.ReadResolved f file) = Unit {0}
 
 abbrev DefinitionPartIn : List (List ℕ) → DefinitionPart → Type 0
@@ -148,6 +160,7 @@ PartIn ns l (LinkingFiles q) = (3 ≤ l) × LinkingIn (Named ns) q
 PartIn ns l (Scoping q) = (5 ≤ l) × ScopePartIn (Named ns) q
 PartIn ns l (Resolving q) = (6 ≤ l) × ResolvedPartIn (Named ns) q
 PartIn ns l (Checking q) = (7 ≤ l) × CheckPartIn (Named ns) q
+PartIn ns l (Diagnosing q) = (8 ≤ l) × DiagnosticsPartIn ns q
 PartIn ns l (Describing q) = (9 ≤ l) × DescriptorPartIn ns q
 PartIn ns l (Locating q) = (9 ≤ l) × DefinitionPartIn ns q
 PartIn ns l _ = Unit {0}
@@ -230,7 +243,7 @@ target_in : (ns : List (List ℕ)) (nodes : List Node) (offset : ℕ) (rs : List
 unfolding TargetIn definition_at
 target_in ns nodes offset [] i = tt
 target_in ns nodes offset (r ∷ rs) i =
-    either_in ns (holds (span_of nodes r) offset) (type_item r.resolution) (definition_at nodes offset rs)
+    either_in ns (holds (place nodes r.item (part.«Type» r.part)) offset) (type_item r.resolution) (definition_at nodes offset rs)
     (item_in ns r.resolution i.0) (target_in ns nodes offset rs i.1)
 
 module _ (order : ProtoKey → ProtoKey → Ordering) (files : Sources) where
@@ -289,18 +302,21 @@ module _ (order : ProtoKey → ProtoKey → Ordering) (files : Sources) where
         (resolved_starts_in N KIn (λ n. keys.Scope n) (λ x j. asks (keys.Scope x) j (omega arith) (omega arith)) f i.0)
     starts_in (keys.Checks f) i =
         let h : 7 ≤ l = i.1 in
-        embedded_in KIn (CheckPartIn N) (λ (c : Checked). Unit {0}) PIn (ValueIn ns) (λ q. Checking q) (λ v. values.Checks v)
+        embedded_in KIn (CheckPartIn N) (λ (fs : List Fault). Unit {0}) PIn (ValueIn ns) (λ q. Checking q) (λ v. values.Checks v)
         (λ q j. (h, j)) (λ v j. j) (check_starts (λ n. keys.Parse n) f)
         (check_starts_in KIn check_words N (checks_ask h) f i.0)
-    starts_in (keys.Diagnostics f) i = let h : 8 ≤ l = i.1 in (asks (keys.Checks f) i.0 (omega arith) (omega arith), tt)
-    starts_in (keys.Descriptor f) i = let h : 9 ≤ l = i.1 in (asks (keys.Diagnostics f) i.0 (omega arith) (omega arith), (h, i.0))
+    starts_in (keys.Diagnostics f) i = let h : 8 ≤ l = i.1 in (asks (keys.Checks f) i.0 (omega arith) (omega arith), (h, i.0))
+    starts_in (keys.Descriptor f) i = let h : 9 ≤ l = i.1 in (asks (keys.Checks f) i.0 (omega arith) (omega arith), (h, i.0))
     starts_in (keys.Symbols f) i = let h : 9 ≤ l = i.1 in (asks (keys.Parse f) i.0 (omega arith) (omega arith), tt)
     starts_in (keys.Definition f place) i = let h : 9 ≤ l = i.1 in (asks (keys.Parse f) i.0 (omega arith) (omega arith), (h, i.0))
 
-    describes : (f : List ℕ) (d : Checked) (sent : Bool) → 9 ≤ l → In f ns
-        → TurnIn KIn PIn (ValueIn ns) (descriptor_turn (cond sent (Ask (keys.Resolved f) (descriptors.ReadResolved f d.file)) (Done (codes "null"))))
-    describes f d true h i = (asks (keys.Resolved f) i (omega arith) (omega arith), (h, tt))
-    describes f d false h i = tt
+    describes : (f : List ℕ) (failed : Bool) → 9 ≤ l → In f ns → TurnIn KIn PIn (ValueIn ns) (descriptor_turn (file_turn f failed))
+    describes f true h i = tt
+    describes f false h i = (asks (keys.Parse f) i (omega arith) (omega arith), (h, i))
+
+    trees : (f : List ℕ) (file : ParsedFile) (tree : Bool) → 9 ≤ l → In f ns → TurnIn KIn PIn (ValueIn ns) (descriptor_turn (tree_turn f file tree))
+    trees f file true h i = (asks (keys.Resolved f) i (omega arith) (omega arith), (h, tt))
+    trees f file false h i = tt
 
     locates : (f : List ℕ) (file : ParsedFile) (offset : Option ℕ) → 9 ≤ l → In f ns → TurnIn KIn PIn (ValueIn ns) (definition_turn (references_turn f file offset))
     locates f file (Some offset) h i = (asks (keys.Resolved f) i (omega arith) (omega arith), (h, tt))
@@ -336,11 +352,13 @@ module _ (order : ProtoKey → ProtoKey → Ordering) (files : Sources) where
         (scope_read a) (nodes_of (parsed_read a)) p (scope_in ns a j) i.1)
     advances_in (Checking p) a i j =
         let h : 7 ≤ l = i.0 in
-        embedded_in KIn (CheckPartIn N) (λ (c : Checked). Unit {0}) PIn (ValueIn ns) (λ q. Checking q) (λ v. values.Checks v)
+        embedded_in KIn (CheckPartIn N) (λ (fs : List Fault). Unit {0}) PIn (ValueIn ns) (λ q. Checking q) (λ v. values.Checks v)
         (λ q x. (h, x)) (λ v x. x) (check_advances check_words p a)
         (check_advances_in KIn check_words N (checks_ask h) p a (imports_in ns a j) i.1)
-    advances_in Diagnosing a i j = tt
-    advances_in (Describing (descriptors.ReadDiagnostics f)) a i j = describes f (diagnostics_read a) (is_sent (diagnostics_read a)) i.0 i.1
+    advances_in (Diagnosing (diagnostics.ReadChecks f)) a i j = let h : 8 ≤ l = i.0 in (asks (keys.Parse f) i.1 (omega arith) (omega arith), (h, tt))
+    advances_in (Diagnosing (diagnostics.ReadFile faults)) a i j = tt
+    advances_in (Describing (descriptors.ReadChecks f)) a i j = describes f (is_failed (faults_read a)) i.0 i.1
+    advances_in (Describing (descriptors.ReadFile f)) a i j = trees f (parsed_read a) (has_tree (parsed_read a)) i.0 i.1
     advances_in (Describing (descriptors.ReadResolved f file)) a i j = tt
     advances_in Listing a i j = tt
     advances_in (Locating (definitions.ReadFile f place)) a i j = locates f (parsed_read a) (offset_at (parsed_read a) place) i.0 i.1

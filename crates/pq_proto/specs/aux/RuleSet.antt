@@ -23,12 +23,13 @@ use Rattle.pq_schema.specs.declared.resolved.ResolvedReference.{ResolvedReferenc
 use Rattle.pq_schema.specs.declared.resolved.ResolvedPart.{ResolvedPart}
 use Rattle.pq_schema.specs.declared.scopes.ScopePart.{ScopePart}
 use Rattle.pq_checks.specs.Answers.{CheckWords}
-use Rattle.pq_checks.specs.Surroundings.{no_checked}
-use Rattle.pq_checks.specs.aux.DiagnosticsTurns.{diagnostics_level, diagnostics_starts, diagnostics_advances}
+use Rattle.pq_checks.specs.aux.DiagnosticsTurns.{diagnostics_level, diagnostics_starts, diagnostics_advances, diagnostics_left}
 use Rattle.pq_checks.specs.aux.Queries.{check_level, check_starts, check_advances, check_left}
 use Rattle.pq_checks.specs.declared.checked.CheckPart.{CheckPart}
-use Rattle.pq_checks.specs.declared.surroundings.Checked.{Checked}
-use Rattle.pq_proto.specs.aux.Outputs.{output_level, parsed_read, resolved_read, descriptor_starts, descriptor_advances, descriptor_left, symbols_starts, symbols_advances, definition_starts, definition_advances, definition_left}
+use Rattle.pq_checks.specs.declared.diagnostic.Diagnosed.{Diagnosed}
+use Rattle.pq_checks.specs.declared.diagnostics.DiagnosticsPart.{DiagnosticsPart}
+use Rattle.pq_checks.specs.declared.fault.Fault.{Fault}
+use Rattle.pq_proto.specs.aux.Outputs.{output_level, faults_read, parsed_read, resolved_read, descriptor_starts, descriptor_advances, descriptor_left, symbols_starts, symbols_advances, definition_starts, definition_advances, definition_left}
 use Rattle.pq_proto.specs.declared.key.ProtoKey.{ProtoKey}
 use Rattle.pq_proto.specs.declared.key.ProtoKey.TheVariants as keys
 use Rattle.pq_proto.specs.declared.queries.definition.DefinitionPart.{DefinitionPart}
@@ -56,8 +57,8 @@ own_name (keys.Definition f place) = f
 
 -- ---- what is read of an answer, beside `parsed_read` and `resolved_read`
 
--- `text_read`, `imports_read`, `links_read`, `defs_read`, `scope_read` and `checks_read` are what
--- the answer holds; one of another kind reads as that of an absent file
+-- `text_read`, `imports_read`, `links_read`, `defs_read` and `scope_read` are what the
+-- answer holds; one of another kind reads as that of an absent file
 abbrev pub text_read : Answer ProtoKey ProtoValue → Option (List ℕ)
 text_read (Value (values.Source text)) = text
 text_read _ = None
@@ -77,10 +78,6 @@ defs_read _ = no_defs
 abbrev pub scope_read : Answer ProtoKey ProtoValue → Scope
 scope_read (Value (values.Scope scope)) = scope
 scope_read _ = no_scope
-
-abbrev pub checks_read : Answer ProtoKey ProtoValue → Checked
-checks_read (Value (values.Checks checked)) = checked
-checks_read _ = no_checked
 
 -- `ring_read a` is the files of the cycle that the answer `a` is, `None` of a value
 abbrev pub ring_read : Answer ProtoKey ProtoValue → Option (List (List ℕ))
@@ -146,11 +143,11 @@ scope_turn = embedded (λ q. Scoping q) (λ v. values.Scope v)
 abbrev pub resolved_turn : Turn ProtoKey ResolvedPart (List ResolvedReference) → Turn ProtoKey ProtoPart ProtoValue
 resolved_turn = embedded (λ q. Resolving q) (λ v. values.Resolved v)
 
-abbrev pub checks_turn : Turn ProtoKey CheckPart Checked → Turn ProtoKey ProtoPart ProtoValue
+abbrev pub checks_turn : Turn ProtoKey CheckPart (List Fault) → Turn ProtoKey ProtoPart ProtoValue
 checks_turn = embedded (λ q. Checking q) (λ v. values.Checks v)
 
-abbrev pub diagnostics_turn : Turn ProtoKey (Unit {0}) Checked → Turn ProtoKey ProtoPart ProtoValue
-diagnostics_turn = embedded (λ q. Diagnosing) (λ v. values.Diagnostics v)
+abbrev pub diagnostics_turn : Turn ProtoKey DiagnosticsPart Diagnosed → Turn ProtoKey ProtoPart ProtoValue
+diagnostics_turn = embedded (λ q. Diagnosing q) (λ v. values.Diagnostics v)
 
 abbrev pub descriptor_turn : Turn ProtoKey DescriptorPart (List ℕ) → Turn ProtoKey ProtoPart ProtoValue
 descriptor_turn = embedded (λ q. Describing q) (λ v. values.Descriptor v)
@@ -186,7 +183,7 @@ proto_advance Defining a = defs_turn (defs_advances (nodes_of (parsed_read a)))
 proto_advance (Scoping q) a = scope_turn (scope_advances (λ n. keys.Defs n) (links_read a) (defs_read a) q)
 proto_advance (Resolving q) a = resolved_turn (resolved_advances (λ n. keys.Parse n) (scope_read a) (nodes_of (parsed_read a)) q)
 proto_advance (Checking q) a = checks_turn (check_advances check_words q a)
-proto_advance Diagnosing a = diagnostics_turn (diagnostics_advances (checks_read a))
+proto_advance (Diagnosing q) a = diagnostics_turn (diagnostics_advances (λ n. keys.Parse n) (faults_read a) (parsed_read a) q)
 proto_advance (Describing q) a = descriptor_turn (descriptor_advances q a)
 proto_advance Listing a = symbols_turn (symbols_advances a)
 proto_advance (Locating q) a = definition_turn (definition_advances q a)
@@ -197,6 +194,7 @@ proto_left (LinkingFiles q) = linked_left q
 proto_left (Scoping q) = scope_left q
 proto_left (Resolving q) = resolved_left q
 proto_left (Checking q) = check_left q
+proto_left (Diagnosing q) = diagnostics_left q
 proto_left (Describing q) = descriptor_left q
 proto_left (Locating q) = definition_left q
 proto_left _ = (0, 0)

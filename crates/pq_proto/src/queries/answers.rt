@@ -2,12 +2,11 @@
 //! file.
 ghost use Rattle.std.specs.Prelude.{◌≡◌, [], option_copied, unwrap_or};
 ghost use Rattle.pq_links.specs.declared.files.ParsedFile.TheVariants.{Absent};
-ghost use Rattle.pq_checks.specs.Surroundings.{no_checked};
-ghost use Rattle.pq_proto.specs.aux.Outputs.{diagnostics_read, parsed_read, resolved_read};
+ghost use Rattle.pq_proto.specs.aux.Outputs.{faults_read, parsed_read, resolved_read};
 
 use crate::key::ProtoKey;
 use crate::value::ProtoValue;
-use pq_checks::Checked;
+use pq_checks::Fault;
 use pq_links::ParsedFile;
 use pq_rules::{Answer, Shared};
 use pq_schema::ResolvedReference;
@@ -37,15 +36,25 @@ pub(crate) fn resolved_in<'a>(
     }
 }
 
-/// The diagnostics that `answer` holds.
-pub(crate) fn diagnostics_in<'a>(
+/// The errors of a file that `answer` holds.
+pub(crate) fn checked_in<'a>(
     answer: &'a Answer<ProtoKey, ProtoValue>,
-) -> Option<&'a Shared<Checked>>
-    ensures diagnostics { unwrap_or (option_copied result) no_checked ≡ diagnostics_read answer.now }
+) -> Option<&'a Shared<Items<Fault>>>
+    ensures faults { unwrap_or (option_copied result) [] ≡ faults_read answer.now }
 {
     match answer {
-        Answer::Value(ProtoValue::Diagnostics(diagnostics)) => Some(diagnostics),
+        Answer::Value(ProtoValue::Checks(faults)) => Some(faults),
         _ => None,
+    }
+}
+
+/// The errors of a file that `answer` holds, as a slice.
+pub(crate) fn faults_in<'a>(answer: &'a Answer<ProtoKey, ProtoValue>) -> &'a [Fault]
+    ensures faults { result.now ≡ faults_read answer.now }
+{
+    match checked_in(answer) {
+        Some(faults) => faults.get().as_slice(),
+        None => &[],
     }
 }
 

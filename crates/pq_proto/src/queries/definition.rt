@@ -1,22 +1,19 @@
 //! The query of the definition of what is at a place of a file.
-ghost use Rattle.std.specs.Prelude.{◌≡◌, IfOk, option_and_then, slice_get};
+ghost use Rattle.std.specs.Prelude.{◌≡◌, IfOk};
 ghost use Rattle.pq_schema.specs.Missing.{nodes_of};
-ghost use Rattle.pq_syntax.specs.declared.tree.Node.{Node as NodeContents};
-ghost use Rattle.pq_proto.specs.Compile.{location_of, offset_at, type_name};
+ghost use Rattle.pq_proto.specs.Compile.{location_of, offset_at};
 ghost use Rattle.pq_proto.specs.Definition.{definition_at};
 ghost use Rattle.pq_proto.specs.aux.Outputs.{definition_advances, definition_falls, definition_left, definition_starts, output_level, parsed_read, references_turn, resolved_read, target_turn};
 
 use crate::Memory;
 use crate::definition::{TypeItem, definition_at};
-use crate::files::{offset_at, place_at, statements};
+use crate::files::{offset_at, place_at, span_in};
 use crate::key::{Place, ProtoKey};
 use crate::queries::answers::{parsed_in, references_in};
 use crate::value::{Location, ProtoValue};
-use pq_lex::Span;
-use pq_links::ParsedFile;
+use pq_links::{ParsedFile, Part};
 use pq_names::Text;
 use pq_rules::{Answer, Query, Shared, Turn};
-use pq_syntax::{Node, Statement};
 use std::alloc::Global;
 
 /// What the rule of a definition does with the next answer.
@@ -38,32 +35,11 @@ pub enum DefinitionPart {
 #[derive(Drop)]
 pub struct DefinitionQuery;
 
-/// The span of the name of the type that `statement` defines.
-fn type_name(statement: &Statement) -> Option<Span>
-    ensures name { result ≡ type_name statement.now }
-{
-    match statement {
-        Statement::Message { name } => Some(name.span),
-        Statement::Enum { name } => Some(name.span),
-        _ => None,
-    }
-}
-
-/// The span of the name of the type that the item of the number `item` of `nodes` defines.
-fn name_at(nodes: &[Node], item: usize) -> Option<Span>
-    ensures name { result ≡ option_and_then (λ (n : NodeContents). type_name n.statement) (slice_get nodes.now item) }
-{
-    match nodes.get(item) {
-        Some(node) => type_name(&node.statement),
-        None => None,
-    }
-}
-
 /// The location of the name of the type `target`, whose file is read as `file`.
 fn location_of(target: TypeItem, file: &ParsedFile) -> Option<Location>
     ensures location { result ≡ location_of target file.now }
 {
-    match name_at(statements(file), target.item) {
+    match span_in(file, target.item, Part::Name) {
         Some(span) => Some(Location {
             file: target.file,
             start: place_at(file, span.start),
@@ -102,7 +78,7 @@ fn after_references(
 ) -> Result<Turn<ProtoKey, DefinitionPart, Option<Location>>, Memory>
     ensures turn { IfOk result (λ t. t ≡ target_turn (definition_at (nodes_of file.now) offset (resolved_read answer.now))) }
 {
-    match definition_at(statements(file), references_in(answer), offset)? {
+    match definition_at(file, references_in(answer), offset)? {
         Some(target) => Ok(Turn::Ask(
             ProtoKey::Parse(target.file.copy()?),
             DefinitionPart::ReadTarget(target),

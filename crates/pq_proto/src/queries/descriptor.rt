@@ -1,38 +1,36 @@
 //! The query of a file's descriptor.
 ghost use Rattle.std.specs.Prelude.{◌≡◌, IfOk};
-ghost use Rattle.std.specs.List.{list_any};
-ghost use Rattle.pq_rules.specs.declared.turn.Turn.TheVariants.{Ask};
 ghost use Rattle.pq_checks.specs.Codes.{severity};
-ghost use Rattle.pq_checks.specs.declared.fault.Fault.{Fault as FaultContents};
-ghost use Rattle.pq_proto.specs.Compile.{is_sent, is_severe};
-ghost use Rattle.pq_proto.specs.aux.Outputs.{descriptor_advances, descriptor_falls, descriptor_left, descriptor_next, descriptor_starts, diagnostics_read, output_level};
-ghost use Rattle.pq_proto.specs.declared.key.ProtoKey.TheVariants.{Resolved};
-ghost use Rattle.pq_proto.specs.declared.queries.descriptor.DescriptorPart.TheVariants.{ReadResolved};
+ghost use Rattle.pq_proto.specs.Compile.{has_tree, is_failed, is_severe};
+ghost use Rattle.pq_proto.specs.aux.Outputs.{descriptor_advances, descriptor_falls, descriptor_left, descriptor_starts, faults_read, file_turn, output_level, parsed_read, tree_turn};
 
 use crate::Memory;
 use crate::descriptor::descriptor_text;
 use crate::files::statements;
 use crate::key::ProtoKey;
-use crate::queries::answers::{diagnostics_in, references_in};
+use crate::queries::answers::{faults_in, parsed_in, references_in};
 use crate::value::ProtoValue;
-use pq_checks::{Checked, Code, Fault, Severity};
+use pq_checks::{Code, Fault, Severity};
 use pq_links::ParsedFile;
 use pq_names::Text;
 use pq_rules::{Answer, Query, Shared, Turn};
+use pq_syntax::Parsed;
 use std::alloc::Global;
 
 /// What the rule of a file's descriptor does with the next answer.
 #[derive(Drop)]
 pub enum DescriptorPart {
-    /// The answer is the diagnostics of the file.
-    ReadDiagnostics(Text),
+    /// The answer is the errors of the file by the table. The field is its name.
+    ReadChecks(Text),
+    /// The answer is what the file is read as. The field is its name.
+    ReadFile(Text),
     /// The answer is the resolved references of the file. The fields are its name and what it is
     /// read as.
     ReadResolved(Text, Shared<ParsedFile>),
 }
 
-/// The descriptor of a file as a text. It is `null` for an absent file, and for one with a
-/// diagnostic of the severity of errors.
+/// The descriptor of a file as a text. It is `null` for a file without a tree, and for one with an
+/// error of the severity of errors.
 #[derive(Drop)]
 pub struct DescriptorQuery;
 
@@ -46,48 +44,69 @@ fn is_severe(code: Code) -> bool
     }
 }
 
-/// Whether one of `faults` is an error.
-fn has_error(faults: &[Fault]) -> bool
-    ensures some { result ≡ list_any (λ (f : FaultContents). is_severe (severity f.code)) faults.now }
+/// Whether one of `faults` is of the severity of errors.
+fn is_failed(faults: &[Fault]) -> bool
+    ensures failed { result ≡ is_failed faults.now }
 {
     faults.iter().any(|fault| is_severe(fault.code))
 }
 
-/// Whether a file with the diagnostics `checked` has a descriptor.
-fn is_sent(checked: &Checked) -> bool
-    ensures sent { result ≡ is_sent checked.now }
+/// Whether a file that is read as `file` has a tree.
+fn has_tree(file: &ParsedFile) -> bool
+    ensures tree { result ≡ has_tree file.now }
 {
-    matches!(checked.file.get(), ParsedFile::Present { .. })
-        && !has_error(checked.faults.as_slice())
+    match file {
+        ParsedFile::Present { parsed, .. } => matches!(parsed, Parsed::Tree(_)),
+        ParsedFile::Absent => false,
+    }
 }
 
-/// The turn after the diagnostics `checked` of the file `file`, which has a descriptor.
-fn ask_references(
-    file: &Text,
-    checked: &Checked,
-) -> Result<Turn<ProtoKey, DescriptorPart, Text>, Memory>
-    ensures turn { IfOk result (λ t. t ≡ Ask (Resolved file.now) (ReadResolved file.now checked.now.file)) }
-{
-    Ok(Turn::Ask(
-        ProtoKey::Resolved(file.copy()?),
-        DescriptorPart::ReadResolved(file.copy()?, checked.file.copy()?),
-    ))
-}
-
-/// The turn after the diagnostics of the file `file`.
-fn after_diagnostics(
+/// The turn after the errors of the file `file`.
+fn after_checks(
     alloc: Global,
     file: &Text,
     answer: &Answer<ProtoKey, ProtoValue>,
 ) -> Result<Turn<ProtoKey, DescriptorPart, Text>, Memory>
-    ensures turn { IfOk result (λ t. t ≡ descriptor_next file.now (diagnostics_read answer.now)) }
+    ensures turn { IfOk result (λ t. t ≡ file_turn file.now (is_failed (faults_read answer.now))) }
 {
-    if let Some(diagnostics) = diagnostics_in(answer) {
-        if is_sent(diagnostics.get()) {
-            return ask_references(file, diagnostics.get());
-        }
+    if is_failed(faults_in(answer)) {
+        return Ok(Turn::Done(Text::new(alloc, "null")?));
     }
-    Ok(Turn::Done(Text::new(alloc, "null")?))
+    Ok(Turn::Ask(
+        ProtoKey::Parse(file.copy()?),
+        DescriptorPart::ReadFile(file.copy()?),
+    ))
+}
+
+/// The turn after the file `file` was read as `parsed`.
+fn after_parsed(
+    alloc: Global,
+    file: &Text,
+    parsed: &Shared<ParsedFile>,
+) -> Result<Turn<ProtoKey, DescriptorPart, Text>, Memory>
+    ensures turn { IfOk result (λ t. t ≡ tree_turn file.now parsed.now (has_tree parsed.now)) }
+{
+    if !has_tree(parsed.get()) {
+        return Ok(Turn::Done(Text::new(alloc, "null")?));
+    }
+    Ok(Turn::Ask(
+        ProtoKey::Resolved(file.copy()?),
+        DescriptorPart::ReadResolved(file.copy()?, parsed.copy()?),
+    ))
+}
+
+/// The turn after what the file `file` is read as.
+fn after_file(
+    alloc: Global,
+    file: &Text,
+    answer: &Answer<ProtoKey, ProtoValue>,
+) -> Result<Turn<ProtoKey, DescriptorPart, Text>, Memory>
+    ensures turn { IfOk result (λ t. t ≡ tree_turn file.now (parsed_read answer.now) (has_tree (parsed_read answer.now))) }
+{
+    match parsed_in(answer) {
+        Some(parsed) => after_parsed(alloc, file, parsed),
+        None => Ok(Turn::Done(Text::new(alloc, "null")?)),
+    }
 }
 
 impl Query for DescriptorQuery {
@@ -119,8 +138,8 @@ impl Query for DescriptorQuery {
         key: &Text,
     ) -> Result<Turn<ProtoKey, DescriptorPart, Text>, Memory> {
         Ok(Turn::Ask(
-            ProtoKey::Diagnostics(key.copy()?),
-            DescriptorPart::ReadDiagnostics(key.copy()?),
+            ProtoKey::Checks(key.copy()?),
+            DescriptorPart::ReadChecks(key.copy()?),
         ))
     }
 
@@ -131,12 +150,14 @@ impl Query for DescriptorQuery {
         answer: &Answer<ProtoKey, ProtoValue>,
     ) -> Result<Turn<ProtoKey, DescriptorPart, Text>, DescriptorPart> {
         match part {
-            DescriptorPart::ReadDiagnostics(file) => {
-                match after_diagnostics(alloc, &file, answer) {
-                    Ok(turn) => Ok(turn),
-                    Err(_) => Err(DescriptorPart::ReadDiagnostics(file)),
-                }
-            }
+            DescriptorPart::ReadChecks(file) => match after_checks(alloc, &file, answer) {
+                Ok(turn) => Ok(turn),
+                Err(_) => Err(DescriptorPart::ReadChecks(file)),
+            },
+            DescriptorPart::ReadFile(file) => match after_file(alloc, &file, answer) {
+                Ok(turn) => Ok(turn),
+                Err(_) => Err(DescriptorPart::ReadFile(file)),
+            },
             DescriptorPart::ReadResolved(file, parsed) => {
                 match descriptor_text(
                     alloc,
@@ -153,7 +174,8 @@ impl Query for DescriptorQuery {
 
     fn left(&self, part: &DescriptorPart) -> (u32, u64) {
         match part {
-            DescriptorPart::ReadDiagnostics(_) => (1, 0),
+            DescriptorPart::ReadChecks(_) => (2, 0),
+            DescriptorPart::ReadFile(_) => (1, 0),
             DescriptorPart::ReadResolved(_, _) => (0, 0),
         }
     }

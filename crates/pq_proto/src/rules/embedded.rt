@@ -8,7 +8,9 @@ use crate::queries::{
 };
 use crate::rules::{ProtoPart, ProtoRules};
 use crate::value::{Location, ProtoValue};
-use pq_checks::{CheckKeys, CheckPart, Checked, ChecksQuery, DiagnosticsQuery};
+use pq_checks::{
+    CheckKeys, CheckPart, ChecksQuery, Diagnosed, DiagnosticsPart, DiagnosticsQuery, Fault,
+};
 use pq_links::{
     Import, ImportsQuery, LinkKeys, LinkedQuery, Linking, Links, ParseQuery, ParsedFile,
 };
@@ -120,22 +122,22 @@ impl<S: CheckKeys<Key = ProtoKey, Answer = Answer<ProtoKey, ProtoValue>>> Embedd
         ProtoPart::Checking(part)
     }
 
-    fn value(value: Shared<Checked>) -> ProtoValue {
+    fn value(value: Shared<Items<Fault>>) -> ProtoValue {
         ProtoValue::Checks(value)
     }
 }
 
 impl<S: CheckKeys<Key = ProtoKey, Answer = Answer<ProtoKey, ProtoValue>>> EmbeddedIn<ProtoRules>
     for DiagnosticsQuery<S> {
-    ghost as_part = { λ q. Diagnosing };
+    ghost as_part = { λ q. Diagnosing q };
 
     ghost as_value = { λ v. values.Diagnostics v };
 
-    fn part(_part: ()) -> ProtoPart {
-        ProtoPart::Diagnosing
+    fn part(part: DiagnosticsPart) -> ProtoPart {
+        ProtoPart::Diagnosing(part)
     }
 
-    fn value(value: Shared<Checked>) -> ProtoValue {
+    fn value(value: Shared<Diagnosed>) -> ProtoValue {
         ProtoValue::Diagnostics(value)
     }
 }

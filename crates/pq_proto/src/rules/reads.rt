@@ -5,10 +5,10 @@ ghost use Rattle.pq_proto.specs.aux.RuleSet.{own_name};
 
 use crate::Memory;
 use crate::key::ProtoKey;
-use crate::queries::{parsed_in, resolved_in};
+use crate::queries::{checked_in, parsed_in, resolved_in};
 use crate::rules::ProtoRules;
 use crate::value::ProtoValue;
-use pq_checks::{CheckKeys, Checked};
+use pq_checks::{CheckKeys, Fault};
 use pq_links::{Import, LinkKeys, Links, ParsedFile};
 use pq_names::Text;
 use pq_rules::{Answer, Shared};
@@ -156,8 +156,8 @@ impl SchemaKeys for ProtoRules {
 
 impl CheckKeys for ProtoRules {
     ghost use Rattle.pq_proto.specs.declared.key.ProtoKey.TheVariants as keys;
-    ghost use Rattle.pq_proto.specs.aux.Outputs.{resolved_read};
-    ghost use Rattle.pq_proto.specs.aux.RuleSet.{checks_read, ring_read};
+    ghost use Rattle.pq_proto.specs.aux.Outputs.{faults_read, resolved_read};
+    ghost use Rattle.pq_proto.specs.aux.RuleSet.{ring_read};
 
     ghost resolved = { λ f. keys.Resolved f };
 
@@ -167,7 +167,7 @@ impl CheckKeys for ProtoRules {
 
     ghost ring = { ring_read };
 
-    ghost checked = { checks_read };
+    ghost checked = { faults_read };
 
     fn resolved_key(file: &Text) -> Result<ProtoKey, Memory> {
         Ok(ProtoKey::Resolved(file.copy()?))
@@ -204,10 +204,9 @@ impl CheckKeys for ProtoRules {
         matches!(answer, Answer::Cycle(_))
     }
 
-    fn read_checked<'a>(answer: &'a Answer<ProtoKey, ProtoValue>) -> Option<&'a Shared<Checked>> {
-        match answer {
-            Answer::Value(ProtoValue::Checks(checked)) => Some(checked),
-            _ => None,
-        }
+    fn read_checked<'a>(
+        answer: &'a Answer<ProtoKey, ProtoValue>,
+    ) -> Option<&'a Shared<Items<Fault>>> {
+        checked_in(answer)
     }
 }

@@ -10,25 +10,25 @@ use crate::protocol::replies::{cancelled_text, null_text, refusal_text};
 use crate::protocol::reports::print_report;
 use crate::protocol::results::{descriptor_text, print_start, result_text};
 use crate::protocol::root::Root;
-use pq_checks::Checked;
+use pq_checks::Diagnosed;
 use pq_core::{Label, Outcome, Reply, Want};
 use pq_proto::{Location, Printer, ProtoKey, ProtoValue};
 use pq_rules::Answer;
 use std::alloc::{AllocError, Global};
 
-/// The response that reports the diagnostics `checked` of a file at a revision of the sources.
+/// The response that reports the diagnostics `diagnosed` of a file at a revision of the sources.
 fn diagnostics_text(
     alloc: Global,
     label: &Label,
-    checked: &Checked,
+    diagnosed: &Diagnosed,
     revision: u64,
 ) -> Result<String, AllocError>
     ensures { IfOk result (λ s. string_bytes s
-        ≡ text_of_diagnostics (label_model label.now) checked.now revision) }
+        ≡ text_of_diagnostics (label_model label.now) diagnosed.now revision) }
 {
     let mut out = Printer::new(alloc);
     print_start(&mut out, label)?;
-    print_report(alloc, &mut out, checked, revision)?;
+    print_report(alloc, &mut out, diagnosed, revision)?;
     out.end_object()?;
     Ok(out.into_string())
 }
@@ -63,8 +63,8 @@ fn value_text(
         ≡ text_of_value root.now (label_model label.now) revision value.now) }
 {
     match value {
-        ProtoValue::Diagnostics(checked) => {
-            diagnostics_text(alloc, label, checked.get(), revision)
+        ProtoValue::Diagnostics(diagnosed) => {
+            diagnostics_text(alloc, label, diagnosed.get(), revision)
         }
         ProtoValue::Symbols(symbols) => result_text(alloc, label, symbols.as_str()),
         ProtoValue::Definition(Some(location)) => location_text(alloc, root, label, location),

@@ -1,10 +1,10 @@
 use Rattle.std.proofs.Common.{◌≡◌, ◌++◌, map, drop}
 use Rattle.std.specs.Prelude.{flat_map}
 use Rattle.pq_checks.specs.aux.Lines.{body_line}
-use Rattle.pq_checks.specs.aux.Seen.{member_seen, titled_seen}
+use Rattle.pq_checks.specs.aux.Seen.{member_seen}
 use Rattle.pq_checks.proofs.body_lines.push_body_faults.Given as goal
 
 abbrev pub invariant-each : goal.invariant-each
 invariant-each l =
-    l.faults.items ++ flat_map (body_line l.code l.text (map member_seen l.members)) (map titled_seen (drop l.body-index l.bodies))
-    ≡ l.fn.faults.items ++ flat_map (body_line l.code l.text (map member_seen l.members)) (map titled_seen l.bodies)
+    l.faults.items ++ flat_map (body_line l.code l.text (map member_seen l.members)) (drop l.body-index l.bodies)
+    ≡ l.fn.faults.items ++ flat_map (body_line l.code l.text (map member_seen l.members)) l.bodies

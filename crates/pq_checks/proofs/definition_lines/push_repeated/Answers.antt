@@ -1,6 +1,7 @@
 use Rattle.std.proofs.Common.{◌≡◌, ◌++◌, Bool, false, codes, get_or, take, sym, ap, ◌∙◌, append-nil}
 use Rattle.pq_schema.specs.Repeated.{is_repeated}
 use Rattle.pq_schema.specs.declared.definitions.Definition.{Definition}
+use Rattle.pq_links.specs.declared.places.Part.TheVariants as part
 use Rattle.pq_checks.specs.Faults.{at, when, quoted, twice_faults}
 use Rattle.pq_checks.specs.aux.Views.{twice_line}
 use Rattle.pq_checks.specs.declared.code.Code.TheVariants as code
@@ -18,7 +19,7 @@ each-preserved c =
     after_more twice_faults _ _ _ ds i d within c.index-definitions-i.is
     (c.in_ok-push_twice.ensures.said
     ∙ ap (λ (b : Bool). c.each.faults.items ++ twice_line b d) repeated
-    ∙ ap (λ t. c.each.faults.items ++ when (is_repeated d (take i ds)) (at d.span code.DefinedTwice t)) (append-nil (quoted d.full_name ++ codes " is already defined")))
+    ∙ ap (λ t. c.each.faults.items ++ when (is_repeated d (take i ds)) (at d.item part.Name code.DefinedTwice t)) (append-nil (quoted d.full_name ++ codes " is already defined")))
     c.each.invariant
 
 pub returns : goal.returns

@@ -33,7 +33,7 @@ imports-preserved c =
           (c.in_ok-push_import.ensures.said
           ∙ ap (λ fs. c.imports.faults.items ++ fs) (import_said imported (option_copied c.args.ring) (option_copied c.args.next) (take i all) d _ _ state repeated))
           (c.imports.invariant.said imported states);
-      listed = has_more lent_cmp is_import c.imports.seen c.insert.new.self all i d k lt at (λ q. text_back k.now q.now d.name.value key)
+      listed = has_more lent_cmp is_import c.imports.seen c.insert.new.self all i d k lt at (λ q. text_back k.now q.now d.value key)
           c.in_ok-is_new.ensures.updates.0 c.imports.invariant.listed;
     }
 

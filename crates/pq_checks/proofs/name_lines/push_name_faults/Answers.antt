@@ -1,4 +1,5 @@
 use Rattle.std.proofs.Common.{◌≡◌, ℕ, Bool, List, ◌++◌, map, codes, ap, ◌∙◌}
+use Rattle.pq_links.specs.declared.places.Part.TheVariants as part
 use Rattle.pq_checks.specs.Faults.{at, when, quoted, is_reserved_name}
 use Rattle.pq_checks.specs.aux.Lines.{name_line}
 use Rattle.pq_checks.specs.aux.Seen.{member_seen, name_seen}
@@ -17,8 +18,8 @@ each-preserved c =
     ∙ ap (λ (n : List ℕ). is_reserved_name x.owner n names) (c.as_bytes.ensures.value ∙ name) in
     seen_more (name_line c.args.code before names) member_seen _ _ _ _ _ _ c.each-test.true c.member-item.is
     (c.in_ok-tell_name.ensures
-    ∙ ap (λ (b : Bool). c.each.faults.items ++ when b (at x.name.now.span c.args.code (before ++ quoted c.as_str-name.result.now ++ codes " is reserved"))) holds
-    ∙ ap (λ (n : List ℕ). c.each.faults.items ++ when (is_reserved_name x.owner x.name.now.text names) (at x.name.now.span c.args.code (before ++ quoted n ++ codes " is reserved"))) name)
+    ∙ ap (λ (b : Bool). c.each.faults.items ++ when b (at x.item part.Name c.args.code (before ++ quoted c.as_str-name.result.now ++ codes " is reserved"))) holds
+    ∙ ap (λ (n : List ℕ). c.each.faults.items ++ when (is_reserved_name x.owner x.name.now.text names) (at x.item part.Name c.args.code (before ++ quoted n ++ codes " is reserved"))) name)
     c.each.invariant
 
 pub returns : goal.returns

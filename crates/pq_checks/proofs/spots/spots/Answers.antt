@@ -3,7 +3,7 @@ use Rattle.std.proofs.lemmas.List.{map-append}
 use Rattle.pq_syntax.specs.Places.{places}
 use Rattle.pq_syntax.specs.Stacks.{closed, innermost}
 use Rattle.pq_syntax.proofs.Walk.{walked_none, walked_more, walked_all, inner_at, item_at}
-use Rattle.pq_checks.specs.aux.Spots.{outside, seen}
+use Rattle.pq_checks.specs.aux.Spots.{outside, with_node}
 use Rattle.pq_checks.specs.declared.spots.Around.{Around}
 use Rattle.pq_checks.proofs.Spotting.{keep, emit, given_seen}
 use Rattle.pq_checks.proofs.spots.spots.Goals as goal
@@ -22,13 +22,13 @@ items-preserved c =
     let opens : c.open.new.self ≡ (node.depth, keep (item_at c.items.item node) around) ∷ closed node.depth c.items.stack =
     c.in_ok-open.ensures.opened ∙ ap (λ (a : Around). (node.depth, a) ∷ c.close_to.new.self) c.opened-inside.ensures
     ∙ ap (λ (es : List (ℕ × Around)). (node.depth, keep (item_at c.items.item node) around) ∷ es) shut in
-    let more : map seen c.push.new.self.items ≡ map seen c.items.spots.items ++ emit around (item_at c.items.item node) =
-    ap (map seen) c.in_ok-push.ensures.items ∙ map-append seen c.items.spots.items _ in
-    walked_more keep outside emit c.args.nodes.now c.items.stack c.open.new.self c.items.item (map seen c.items.spots.items) (map seen c.push.new.self.items) node around
+    let more : map with_node c.push.new.self.items ≡ map with_node c.items.spots.items ++ emit around (item_at c.items.item node) =
+    ap (map with_node) c.in_ok-push.ensures.items ∙ map-append with_node c.items.spots.items _ in
+    walked_more keep outside emit c.args.nodes.now c.items.stack c.open.new.self c.items.item (map with_node c.items.spots.items) (map with_node c.push.new.self.items) node around
     c.items-test.true c.index-nodes-item.is inner opens more c.items.invariant
 
 pub returns : goal.returns
 returns c = record {
-  spots = walked_all keep outside emit c.args.nodes.now c.items.stack c.items.item (map seen c.items.spots.items) c.items-test.false c.items.invariant
+  spots = walked_all keep outside emit c.args.nodes.now c.items.stack c.items.item (map with_node c.items.spots.items) c.items-test.false c.items.invariant
       ∙ given_seen (places c.args.nodes.now);
 }

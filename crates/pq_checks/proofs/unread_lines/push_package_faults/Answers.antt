@@ -1,14 +1,11 @@
-use Rattle.std.proofs.Common.{◌≡◌, List, [], ◌∷◌, ◌++◌, map, sym, ap, ◌∙◌, append-nil}
+use Rattle.std.proofs.Common.{◌≡◌, ℕ, List, [], ◌∷◌, ◌++◌, sym, ap, ◌∙◌, append-nil}
 use Rattle.std.proofs.lemmas.List.{nil_from_length}
 use Rattle.std.proofs.lemmas.Option.{MatchOption-at_none}
 use Rattle.std.proofs.lemmas.Result.{IfOk-weaker}
 use Rattle.pq_checks.specs.Earlier.{of_each_after}
 use Rattle.pq_checks.specs.Faults.{package_faults}
-use Rattle.pq_checks.specs.Members as members
 use Rattle.pq_checks.specs.Members.{package_at, packages}
-use Rattle.pq_checks.specs.aux.Seen.{titled_seen}
 use Rattle.pq_checks.specs.declared.fault.Fault.{Fault}
-use Rattle.pq_checks.specs.declared.members.Titled.{Titled}
 use Rattle.pq_checks.proofs.SaidOfParts.{of_packages, of_no_packages}
 use Rattle.pq_checks.proofs.Spotted.{spotted}
 use Rattle.pq_checks.proofs.unread_lines.push_package_faults.Goals as goal
@@ -21,9 +18,9 @@ returns-in-Some c =
     let split : c.deref.result.now ≡ first ∷ later = c.in-Some.ensures.cases.0 in
     record {
       said = IfOk-weaker c.push_later.result _ _ (λ _ h nodes are.
-          let all : packages nodes ≡ titled_seen first ∷ map titled_seen later =
-          sym (spotted c.args.spots.now nodes are package_at) ∙ sym c.in_ok-packages.ensures.packages ∙ ap (λ (ts : List Titled). map titled_seen ts) (sym c.deref.ensures.value ∙ split) in
-          h ∙ ap (λ (ys : List Fault). old ++ ys) (sym (of_packages (titled_seen first) (map titled_seen later)) ∙ ap (λ (ps : List members.Titled). of_each_after package_faults [] ps) (sym all))) c.push_later.ensures;
+          let all : packages nodes ≡ first ∷ later =
+          sym (spotted c.args.spots.now nodes are package_at) ∙ sym c.in_ok-packages.ensures.packages ∙ sym c.deref.ensures.value ∙ split in
+          h ∙ ap (λ (ys : List Fault). old ++ ys) (sym (of_packages first later) ∙ ap (λ (ps : List ℕ). of_each_after package_faults [] ps) (sym all))) c.push_later.ensures;
     }
 
 pub returns : goal.returns
@@ -33,6 +30,6 @@ returns c =
     record {
       said = λ nodes are.
           let all : packages nodes ≡ [] =
-          sym (spotted c.args.spots.now nodes are package_at) ∙ sym c.in_ok-packages.ensures.packages ∙ ap (λ (ts : List Titled). map titled_seen ts) (sym c.deref.ensures.value ∙ none) in
-          sym (append-nil old) ∙ ap (λ (ys : List Fault). old ++ ys) (sym (ap (λ (ps : List members.Titled). of_each_after package_faults [] ps) all ∙ of_no_packages));
+          sym (spotted c.args.spots.now nodes are package_at) ∙ sym c.in_ok-packages.ensures.packages ∙ sym c.deref.ensures.value ∙ none in
+          sym (append-nil old) ∙ ap (λ (ys : List Fault). old ++ ys) (sym (ap (λ (ps : List ℕ). of_each_after package_faults [] ps) all ∙ of_no_packages));
     }

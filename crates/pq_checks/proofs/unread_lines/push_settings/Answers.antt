@@ -7,8 +7,8 @@ settings-preserved c =
     let settings = c.args.settings.now in
     let i = c.settings.nth in
     let x = c.index-settings-nth.result in
-    each_more setting_faults _ _ _ _ i (i, x) (numbered_within settings i c.settings-test.true)
+    each_more (setting_faults c.args.item) _ _ _ _ i (i, x) (numbered_within settings i c.settings-test.true)
     (numbered_at settings i x c.settings-test.true c.index-settings-nth.is) c.in_ok-push_kind.ensures c.settings.invariant
 
 pub returns : goal.returns
-returns c = each_all setting_faults _ _ _ _ (numbered_past c.args.settings.now c.settings.nth c.settings-test.false) c.settings.invariant
+returns c = each_all (setting_faults c.args.item) _ _ _ _ (numbered_past c.args.settings.now c.settings.nth c.settings-test.false) c.settings.invariant

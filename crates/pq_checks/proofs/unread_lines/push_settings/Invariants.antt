@@ -6,5 +6,5 @@ use Rattle.pq_checks.proofs.unread_lines.push_settings.Given as goal
 
 abbrev pub invariant-settings : goal.invariant-settings
 invariant-settings l =
-    l.faults.items ++ flat_map setting_faults (drop l.nth (enumerate_from 0 l.settings))
-    ≡ l.fn.faults.items ++ flat_map setting_faults (enumerate_from 0 l.settings)
+    l.faults.items ++ flat_map (setting_faults l.item) (drop l.nth (enumerate_from 0 l.settings))
+    ≡ l.fn.faults.items ++ flat_map (setting_faults l.item) (enumerate_from 0 l.settings)

@@ -4,7 +4,7 @@ use Rattle.json.specs.Token.{Token, begin_object, end_object, key, number, strin
 use Rattle.pq_lex.specs.declared.position.Position.{Position}
 use Rattle.pq_links.specs.declared.files.ParsedFile.{ParsedFile}
 use Rattle.pq_checks.specs.Codes.{code_text, severity, severity_number}
-use Rattle.pq_checks.specs.declared.fault.Fault.{Fault}
+use Rattle.pq_checks.specs.declared.diagnostic.Diagnostic.{Diagnostic}
 use Rattle.pq_proto.specs.Compile.{position_in}
 use Rattle.pq_proto.specs.Ranges.{range_data}
 use Rattle.pq_proto.specs.aux.Printed.{tokens_of}
@@ -15,7 +15,7 @@ pub returns : goal.returns
 returns c =
     let o0 : List Token = c.args.out.now in
     let file : ParsedFile = c.args.file.now in
-    let f : Fault = c.args.fault.now in
+    let f : Diagnostic = c.args.diagnostic.now in
     let o1 : List Token = c.begin_object.new.self in
     let o2 : List Token = c.text_member.new.self in
     let o3 : List Token = c.text_member-2.new.self in

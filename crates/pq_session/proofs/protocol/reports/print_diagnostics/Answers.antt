@@ -1,6 +1,6 @@
 use Rattle.std.proofs.Common.{List, ◌++◌, sym, ap, ◌∙◌}
 use Rattle.json.specs.Token.{Token}
-use Rattle.pq_checks.specs.declared.fault.Fault.{Fault}
+use Rattle.pq_checks.specs.declared.diagnostic.Diagnostic.{Diagnostic}
 use Rattle.pq_proto.specs.aux.Printed.{tokens_of}
 use Rattle.pq_session.specs.Reply.{diagnostic_data}
 use Rattle.pq_proto.proofs.ListSteps.{printed_all, values_map}
@@ -8,5 +8,5 @@ use Rattle.pq_session.proofs.protocol.reports.print_diagnostics.Goals as goal
 
 pub returns : goal.returns
 returns c =
-    printed_all (λ (x : Fault). tokens_of (diagnostic_data c.args.file.now x)) c.args.out.now c.faults.out c.args.faults.now c.faults.fault-index c.faults-test.false c.faults.invariant
-    ∙ ap (λ (ts : List Token). c.args.out.now ++ ts) (sym (values_map (diagnostic_data c.args.file.now) c.args.faults.now))
+    printed_all (λ (x : Diagnostic). tokens_of (diagnostic_data c.args.file.now x)) c.args.out.now c.diagnostics.out c.args.diagnostics.now c.diagnostics.diagnostic-index c.diagnostics-test.false c.diagnostics.invariant
+    ∙ ap (λ (ts : List Token). c.args.out.now ++ ts) (sym (values_map (diagnostic_data c.args.file.now) c.args.diagnostics.now))

@@ -3,8 +3,8 @@ use Rattle.std.specs.Prelude.{codes, decimal, map}
 use Rattle.json.specs.Token.{Token, begin_object, end_object, begin_array, end_array, key, string}
 use Rattle.serde_json.specs.Data.{Data}
 use Rattle.pq_links.specs.declared.files.ParsedFile.{ParsedFile}
-use Rattle.pq_checks.specs.declared.fault.Fault.{Fault}
-use Rattle.pq_checks.specs.declared.surroundings.Checked.{Checked}
+use Rattle.pq_checks.specs.declared.diagnostic.Diagnostic.{Diagnostic}
+use Rattle.pq_checks.specs.declared.diagnostic.Diagnosed.{Diagnosed}
 use Rattle.pq_proto.specs.aux.Printed.{values_of}
 use Rattle.pq_proto.proofs.ListSteps.{link, list_then}
 use Rattle.pq_session.specs.Reply.{diagnostic_data}
@@ -13,8 +13,8 @@ use Rattle.pq_session.proofs.protocol.reports.print_report.Goals as goal
 pub returns : goal.returns
 returns c =
     let o0 : List Token = c.args.out.now in
-    let d : Checked = c.args.checked.now in
-    let ds : List Data = map (diagnostic_data d.file) d.faults in
+    let d : Diagnosed = c.args.diagnosed.now in
+    let ds : List Data = map (diagnostic_data d.file) d.diagnostics in
     let o1 : List Token = c.begin_object.new.self in
     let o2 : List Token = c.key.new.self in
     let o3 : List Token = c.begin_array.new.self in
@@ -42,7 +42,7 @@ returns c =
     let s1 : o1 ≡ o0 ++ x1 = c.in_ok-begin_object.ensures in
     let s2 : o2 ≡ o1 ++ x2 = c.in_ok-key.ensures in
     let s3 : o3 ≡ o2 ++ x3 = c.in_ok-begin_array.ensures in
-    let s4 : o4 ≡ o3 ++ x4 = c.in_ok-print_diagnostics.ensures ∙ ap₂ (λ (file : ParsedFile) (fs : List Fault). o3 ++ values_of (map (diagnostic_data file) fs)) c.get.ensures.value c.as_slice.ensures in
+    let s4 : o4 ≡ o3 ++ x4 = c.in_ok-print_diagnostics.ensures ∙ ap₂ (λ (file : ParsedFile) (fs : List Diagnostic). o3 ++ values_of (map (diagnostic_data file) fs)) c.get.ensures.value c.as_slice.ensures in
     let s5 : o5 ≡ o4 ++ x5 = c.in_ok-end_array.ensures in
     let s6 : o6 ≡ o5 ++ x6 = c.in_ok-text_member.ensures in
     let s7 : o7 ≡ o6 ++ x7 = c.in_ok-text_member-2.ensures ∙ ap (λ (t : List ℕ). o6 ++ (key (codes "resultId") ∷ string t ∷ [])) (c.as_str.ensures.value ∙ c.in_ok-number.ensures.ok) in

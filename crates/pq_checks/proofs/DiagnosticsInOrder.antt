@@ -1,4 +1,4 @@
--- Errors that tie are one: they have the same offsets, code and message. The order that the type
+-- Diagnostics that tie are one: they have the same offsets, code and message. The order that the type
 -- derives is that of the definition.
 use Rattle.std.specs.Prelude.{◌≡◌, ℕ, List, [], ◌∷◌, refl}
 use Rattle.std.proofs.Common.{sym, ◌∙◌, ap, inl, inr}
@@ -18,9 +18,9 @@ use denote.Struct.Field.{Field}
 use Rattle.pq_checks.specs.Codes.{code_text}
 use Rattle.pq_checks.specs.contracts.code as code
 use Rattle.pq_checks.specs.contracts.code.CodeOrd.TheImpl as code_order
-use Rattle.pq_checks.specs.contracts.fault.FaultOrd.TheImpl as derived
-use Rattle.pq_checks.specs.FaultOrder.{fault_cmp}
-use Rattle.pq_checks.specs.declared.fault.Fault.{Fault}
+use Rattle.pq_checks.specs.contracts.diagnostic.DiagnosticOrd.TheImpl as derived
+use Rattle.pq_checks.specs.DiagnosticOrder.{diagnostic_cmp}
+use Rattle.pq_checks.specs.declared.diagnostic.Diagnostic.{Diagnostic}
 use Rattle.pq_checks.specs.declared.code.Code.{Code}
 use Rattle.pq_checks.proofs.PrintedOrder.{codes_order, text_cmp, texts_total}
 
@@ -47,12 +47,12 @@ then_right Less q e = cc
 then_right Equal q e = e
 then_right Greater q e = cc
 
-made : ℕ → ℕ → Code → List ℕ → Fault
+made : ℕ → ℕ → Code → List ℕ → Diagnostic
 made s e c t = record { start = s; end = e; code = c; text = t }
 
-pub fault_exact : (a b : Fault) → fault_cmp a b ≡ Equal → a ≡ b
+pub diagnostics_exact : (a b : Diagnostic) → diagnostic_cmp a b ≡ Equal → a ≡ b
 unfolding made
-fault_exact a b all =
+diagnostics_exact a b all =
     let p = nat_cmp a.start b.start in let q = nat_cmp a.end b.end in let r = text_cmp (code_text a.code) (code_text b.code) in let t = slice_cmp nat_cmp a.text b.text in
     let rest : ordering_then q (ordering_then r t) ≡ Equal = then_right p (ordering_then q (ordering_then r t)) all in
     let last : ordering_then r t ≡ Equal = then_right q (ordering_then r t) rest in
@@ -62,18 +62,18 @@ fault_exact a b all =
     let texts = exact_bytes a.text b.text (then_right r t last) in
     ap (λ s. made s a.end a.code a.text) starts ∙ ap (λ n. made b.start n a.code a.text) ends ∙ ap (λ c. made b.start b.end c a.text) codes_same ∙ ap (λ x. made b.start b.end b.code x) texts
 
-pub fault_total : IsTotalOrder fault_cmp
-fault_total =
-    then_total (on_total (λ (f : Fault). f.start) nat_cmp_total) (then_total (on_total (λ (f : Fault). f.end) nat_cmp_total)
-    (then_total (on_total (λ (f : Fault). code_text f.code) texts_total) (on_total (λ (f : Fault). f.text) (lists_total nat_cmp_total))))
+pub diagnostics_total : IsTotalOrder diagnostic_cmp
+diagnostics_total =
+    then_total (on_total (λ (f : Diagnostic). f.start) nat_cmp_total) (then_total (on_total (λ (f : Diagnostic). f.end) nat_cmp_total)
+    (then_total (on_total (λ (f : Diagnostic). code_text f.code) texts_total) (on_total (λ (f : Diagnostic). f.text) (lists_total nat_cmp_total))))
 
 -- the order that the type derives
-derived_order : (f g : Fault) → derived.ghosts.cmp f g ≡ fault_cmp f g
+derived_order : (f g : Diagnostic) → derived.ghosts.cmp f g ≡ diagnostic_cmp f g
 derived_order f g =
     ap (λ (o : Ordering). ordering_then (nat_cmp f.start g.start) (ordering_then (nat_cmp f.end g.end) (ordering_then o (slice_cmp nat_cmp f.text g.text)))) (codes_order f.code g.code)
 
-pub derived_is : derived.ghosts.cmp ≡ fault_cmp
+pub derived_is : derived.ghosts.cmp ≡ diagnostic_cmp
 derived_is = fun_ext (λ f. fun_ext (derived_order f))
 
-pub derived_exact : (a b : Fault) → derived.ghosts.cmp a b ≡ Equal → a ≡ b
-derived_exact a b e = fault_exact a b (sym (derived_order a b) ∙ e)
+pub derived_exact : (a b : Diagnostic) → derived.ghosts.cmp a b ≡ Equal → a ≡ b
+derived_exact a b e = diagnostics_exact a b (sym (derived_order a b) ∙ e)
