@@ -23,7 +23,7 @@ import sys
 
 import reach
 
-RE_EXPORTED = {"Memory", "Text", "Shared", "Items"}
+RE_EXPORTED = {"Memory", "RunId", "Text", "Shared", "Items"}
 HANDLES = {"pq_mail", "pq_hall", "pq_server"}
 HANDLE = re.compile(r"\b(?:std::thread|std::net|Mutex|RwLock|Condvar|mpsc|TcpListener|TcpStream)\b")
 TESTS = re.compile(r"^(?:test_support|stored_sessions|tests_\w+)$")
