@@ -64,7 +64,7 @@ def copy(folder, crates):
     uses, more = uses_of(os.path.join(TOP, "crates.txt")), uses_of(os.path.join(MODULES, "uses.txt"))
     with open(os.path.join(folder, "crates.txt"), "w", encoding="utf-8") as it:
         for name, used in uses.items():
-            it.write("%s: %s\n" % (name, " ".join(used + more.get(name, []))))
+            it.write("%s: %s\n" % (name, " ".join(used + more.get(name.split()[0], []))))
     for crate in crates:
         put_in(crate, folder)
 
