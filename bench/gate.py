@@ -143,9 +143,9 @@ def table(minutes, crates):
     print("|%s" % ("---|" * (len(PHASES) + 4)))
     sums = {name: [minutes.get((name, phase), 0.0) for phase in PHASES] for name in crates}
     for name in sorted(crates, key=lambda it: -sum(sums[it])):
-        print("| `%s` | %.1f | %s | %.0f |" % (name, gate_model.planned(crates, name), cells(sums[name] + [sum(sums[name])]), crates[name].budget))
+        print("| `%s` | %.1f | %s | %g |" % (name, gate_model.planned(crates, name), cells(sums[name] + [sum(sums[name])]), crates[name].budget))
     whole = [sum(it[at] for it in sums.values()) for at in range(len(PHASES))]
-    print("| all | | %s | %.0f |" % (cells(whole + [sum(whole)]), sum(it.budget for it in crates.values())))
+    print("| all | | %s | %g |" % (cells(whole + [sum(whole)]), sum(it.budget for it in crates.values())))
     return {name: sum(it) for name, it in sums.items()}
 
 
@@ -155,7 +155,7 @@ def warn(sums, crates):
     for name, it in crates.items():
         if sums[name] > it.budget + 0.05:
             found += 1
-            print("warning: %s takes %.1f processor minutes, and its budget is %.0f" % (name, sums[name], it.budget))
+            print("warning: %s takes %.1f processor minutes, and its budget is %g" % (name, sums[name], it.budget))
         if gate_model.planned(crates, name) > gate_model.MOST:
             found += 1
             print("warning: the gate plans %.1f GB for %s, more than %.1f" % (gate_model.planned(crates, name), name, gate_model.MOST))
@@ -196,7 +196,7 @@ def rows(watch, sums, crates):
     for name, it in crates.items():
         proof, tests, edits = [sums.get((name, phase), 0.0) for phase in PHASES]
         edit = max(0.0, (edits - proof - 60 * gate_model.LAST) / it.edits) if it.edits > 1 else 60 * it.edit
-        print("%s\t%.0f\t%.0f\t%.0f\t%.1f\t%.0f" % (name, proof, tests, edit, watch.memory.get(name, 0.0), it.budget))
+        print("%s\t%.0f\t%.0f\t%.0f\t%.1f\t%g" % (name, proof, tests, edit, watch.memory.get(name, 0.0), it.budget))
 
 
 def measured(top, every):

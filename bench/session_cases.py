@@ -131,6 +131,27 @@ def first_error_form(text):
     return ["> " + opened(text), "> diagnostic", "< " + report([item(code, place, message, 1)], 1), "= 1"]
 
 
+def uri_form(text):
+    """`URI => NAME => PRINTED`: the file NAME is opened by its URI, and the definition in it has the URI PRINTED. `URI => none`."""
+    uri, want = text.split(" => ", 1)
+    document = '"textDocument":{"uri":"%s"}' % uri
+    opens = '{"textDocument":{"uri":"%s","text":"%s"}}'
+    if want == "none":
+        asks = '{"id":1,"jsonrpc":"2.0","method":"textDocument/diagnostic","params":{%s}}' % document
+        refused = '{"error":{"code":-32602,"message":"invalid params"},"id":1,"jsonrpc":"2.0"}'
+        return ["> " + notified("textDocument/didOpen", opens % (uri, "hi")), "> " + asks, "< " + refused, "= 1"]
+    name, printed = want.split(" => ", 1)
+    importer = 'syntax = \\"proto3\\"; import \\"%s\\";' % name
+    place = '"position":{"character":26,"line":0}'
+    return ["> " + notified("textDocument/didOpen", opens % (uri, "syntax='proto3';message M{M m=1;}")),
+            "> " + notified("textDocument/didOpen", opens % ("file:///importer", importer)),
+            '> {"id":1,"jsonrpc":"2.0","method":"textDocument/diagnostic","params":{"textDocument":{"uri":"file:///importer"}}}',
+            "< " + report([], 2),
+            '> {"id":2,"jsonrpc":"2.0","method":"textDocument/definition","params":{%s,%s}}' % (place, document),
+            '< {"id":2,"jsonrpc":"2.0","result":{"range":{"end":{"character":25,"line":0},"start":{"character":24,"line":0}},'
+            '"uri":"%s"}}' % printed, "= 1"]
+
+
 def input_form(text):
     """`INPUT => OUTCOME`: an input of bytes without a reply; `|` is CR LF."""
     sent, outcome = text.split("=> ", 1)
@@ -138,7 +159,7 @@ def input_form(text):
 
 
 FORMS = {"message": message_form, "edit": edit_form, "notification": notification_form, "findings": findings_form,
-         "text_findings": text_findings_form, "first_error": first_error_form, "input": input_form}
+         "text_findings": text_findings_form, "first_error": first_error_form, "input": input_form, "uri": uri_form}
 
 # ---- reading rows
 

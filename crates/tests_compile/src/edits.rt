@@ -13,7 +13,8 @@ use pq_checks::Diagnostic;
 use pq_inputs::{Durability, Inputs};
 use pq_memo::{Carried, Demanded, Engine, Why};
 use pq_proto::{ProtoKey, ProtoRules, ProtoValue, compile};
-use pq_rules::{Answer, same_answer};
+use pq_rules::{Answer, Memory, same_answer};
+use std::alloc::Global;
 use std::process::Abort;
 use test_support::Page;
 
@@ -27,22 +28,52 @@ fn durability_of(word: &str) -> Option<Durability> {
     }
 }
 
+/// The calls of an engine.
+///
+/// The proof of a function that holds an engine is dear, since the engine's type has an invariant of
+/// many parts. So only the short methods here hold one.
+trait Demands {
+    /// Sets a file, and returns whether it could be set.
+    fn edited(&mut self, name: &str, text: Option<String>, durability: Durability) -> bool;
+
+    /// Demands `key`, and writes what is answered as `CODES | CARRIED`. Returns whether the answer
+    /// is what `key` compiles to.
+    fn demanded(&mut self, page: &mut Page, key: &ProtoKey) -> bool;
+
+    /// Demands `key`, and returns whether no rule was started for it.
+    fn is_kept(&mut self, alloc: Global, key: &ProtoKey) -> bool;
+}
+
+impl Demands for Engine<ProtoRules> {
+    fn edited(&mut self, name: &str, text: Option<String>, durability: Durability) -> bool {
+        self.set(name, text, durability).is_ok()
+    }
+
+    fn demanded(&mut self, page: &mut Page, key: &ProtoKey) -> bool {
+        let want = compile(page.alloc, self.inputs(), key);
+        add_compared(page, self.demand(page.alloc, key), want)
+    }
+
+    fn is_kept(&mut self, alloc: Global, key: &ProtoKey) -> bool {
+        is_empty(self.demand(alloc, key))
+    }
+}
+
 /// Sets a file.
-fn set(
+fn set<E: Demands>(
     rt: &impl Abort,
-    engine: &mut Engine<ProtoRules>,
+    engine: &mut E,
     name: &str,
     text: Option<String>,
     durability: Durability,
 ) {
-    let is_set = engine.set(name, text, durability).is_ok();
-    check_that(rt, is_set, name);
+    check_that(rt, engine.edited(name, text, durability), name);
 }
 
 /// Sets a file to `before` and then `text`, in which `|` means a line feed.
-fn set_text(
+fn set_text<E: Demands>(
     rt: &(impl Abort + AllocGlobal),
-    engine: &mut Engine<ProtoRules>,
+    engine: &mut E,
     name: &str,
     before: &str,
     text: &str,
@@ -53,9 +84,9 @@ fn set_text(
 }
 
 /// Makes the edit `file` of the durability `durability`.
-fn edit(
+fn edit<E: Demands>(
     rt: &(impl Abort + AllocGlobal),
-    engine: &mut Engine<ProtoRules>,
+    engine: &mut E,
     durability: Durability,
     file: &str,
 ) {
@@ -111,41 +142,38 @@ fn add_demanded(page: &mut Page, demanded: &Demanded<ProtoKey, ProtoValue>) {
     }
 }
 
-/// Checks that `found` is what `key` compiles to.
-fn check_answer(
-    rt: &(impl Abort + AllocGlobal),
-    inputs: &Inputs,
-    key: &ProtoKey,
-    found: &Answer<ProtoKey, ProtoValue>,
-    script: &str,
-) {
-    let want = compile(rt.alloc(), inputs, key).expect(rt, "memory");
-    check_that(rt, same_answer(&ProtoRules, found, &want), script);
+/// Whether a demand answers `want`.
+fn is_answer(
+    found: &Demanded<ProtoKey, ProtoValue>,
+    want: Result<Answer<ProtoKey, ProtoValue>, Memory>,
+) -> bool {
+    match want {
+        Ok(want) => same_answer(&ProtoRules, found.answer.get(), &want),
+        Err(_) => false,
+    }
 }
 
-/// Checks that no rule is started for `key` when nothing changed.
-fn check_again(
-    rt: &(impl Abort + AllocGlobal),
-    engine: &mut Engine<ProtoRules>,
-    key: &ProtoKey,
-    script: &str,
-) {
-    let demanded = engine.demand(rt.alloc(), key).expect(rt, "memory");
-    check_that(rt, demanded.carried.is_empty(), script);
+/// Writes what a demand answers. Returns whether the answer is `want`.
+fn add_compared(
+    page: &mut Page,
+    found: Result<Demanded<ProtoKey, ProtoValue>, Memory>,
+    want: Result<Answer<ProtoKey, ProtoValue>, Memory>,
+) -> bool {
+    match found {
+        Ok(found) => {
+            add_demanded(page, &found);
+            is_answer(&found, want)
+        }
+        Err(_) => false,
+    }
 }
 
-/// Demands `key`, checks the answer, and returns it as text.
-fn check_demand(
-    rt: &(impl Abort + AllocGlobal),
-    engine: &mut Engine<ProtoRules>,
-    key: &ProtoKey,
-    script: &str,
-) -> Page {
-    let demanded = engine.demand(rt.alloc(), key).expect(rt, "memory");
-    check_answer(rt, engine.inputs(), key, demanded.answer.get(), script);
-    let mut found = Page::new(rt.alloc());
-    add_demanded(&mut found, &demanded);
-    found
+/// Whether a demand started no rule.
+fn is_empty(found: Result<Demanded<ProtoKey, ProtoValue>, Memory>) -> bool {
+    match found {
+        Ok(found) => found.carried.is_empty(),
+        Err(_) => false,
+    }
 }
 
 /// Checks that `found`, which is `CODES | CARRIED`, is `want`, or that its codes are.
@@ -158,33 +186,40 @@ fn check_shown(rt: &impl Abort, found: &str, want: &str, line: &str) {
     }
 }
 
-/// Checks what the demand of `line` answers, and what it carries where the line says so.
-fn check_line(
+/// Checks what the demand of `line` answers, and what it carries where the line says so. A second
+/// demand starts no rule.
+fn check_line<E: Demands>(
     rt: &(impl Abort + AllocGlobal),
-    engine: &mut Engine<ProtoRules>,
+    engine: &mut E,
     line: &str,
     script: &str,
 ) {
     let (asked, want) = line.split_once(" => ").unwrap_or((line, ""));
     let key = key_in(rt, asked);
-    let found = check_demand(rt, engine, &key, script);
+    let mut found = Page::new(rt.alloc());
+    check_that(rt, engine.demanded(&mut found, &key), script);
     if line.contains(" => ") {
         check_shown(rt, text_of(rt, &found), want, line);
     }
-    check_again(rt, engine, &key, script);
+    check_that(rt, engine.is_kept(rt.alloc(), &key), script);
+}
+
+/// Carries out the events of `script`, each demand checked.
+fn check_lines<E: Demands>(rt: &(impl Abort + AllocGlobal), engine: &mut E, script: &str) {
+    for line in script.lines() {
+        let (word, rest) = line.split_once(" ").unwrap_or((line, ""));
+        match durability_of(word) {
+            Some(durability) => edit(rt, engine, durability, rest),
+            None => check_line(rt, engine, line, script),
+        }
+    }
 }
 
 /// Runs a script, each of its demands checked.
 fn check_script(rt: &(impl Abort + AllocGlobal), script: &str) {
     let inputs = Inputs::new(rt.alloc()).expect(rt, "memory");
     let mut engine = Engine::new(rt.alloc(), ProtoRules, inputs);
-    for line in script.lines() {
-        let (word, rest) = line.split_once(" ").unwrap_or((line, ""));
-        match durability_of(word) {
-            Some(durability) => edit(rt, &mut engine, durability, rest),
-            None => check_line(rt, &mut engine, line, script),
-        }
-    }
+    check_lines(rt, &mut engine, script);
 }
 
 /// Runs the script `rows` of `count` lines.

@@ -1,11 +1,13 @@
-//! Tests of the compilation, of its memos between edits, and of the calls of a session.
+//! Tests of links, definitions and references, of the compilation with its memos between edits, and
+//! of the calls of a session.
 //!
 //! They cover what no contract says: printed text, and that calls succeed with ample memory. The
 //! crates that they test have no tests: a crate with tests is proved twice.
 //!
-//! Modules: `checks` (what tests assert), `sets` (small sets of files), `keys` (the answer of each
-//! key), `edits` (demands between edits), `session` (devices that fail, items and replies, call by
-//! call). Random sets and random edits are in `bench/random/`.
+//! Modules: `checks` (what tests assert), `schema` (links, definitions and references of small sets
+//! of files), `sets` (small sets of files), `keys` (the answer of each key), `edits` (demands
+//! between edits), `session` (devices that fail and replies, call by call). Random sets and random
+//! edits are in `bench/random/`.
 #![tactic(auto)]
 
 #[cfg(test)]
@@ -14,6 +16,8 @@ mod checks;
 mod edits;
 #[cfg(test)]
 mod keys;
+#[cfg(test)]
+mod schema;
 #[cfg(test)]
 mod session;
 #[cfg(test)]

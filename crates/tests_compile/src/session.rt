@@ -1,10 +1,7 @@
-//! pq_session, call by call: devices that fail, items, the texts of replies, the files that URIs
-//! name, and the longest text.
+//! pq_session, call by call: devices that fail, the texts of replies, and the longest text.
 mod devices;
-mod items;
 mod longest;
 mod replies;
-mod uris;
 
 use crate::checks::check_page;
 use pq_frame::FrameFault;

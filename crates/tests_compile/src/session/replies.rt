@@ -1,12 +1,12 @@
-//! The texts of replies, by how their requests ended.
+//! The texts of replies whose requests were cancelled or starved, or asked for a fixed text.
+//!
+//! Those of answered requests are in the stored sessions.
 use crate::checks::{check_text, check_that};
 use pq_core::{ClientId, Label, Number, Reply, Request, Want};
 use pq_inputs::{Inputs, Revision};
 use pq_names::Text;
-use pq_proto::{Place, ProtoKey, ProtoValue, compile};
-use pq_rules::Shared;
-use pq_session::{Memory, Root, reply_text};
-use std::alloc::Global;
+use pq_proto::{ProtoKey, ProtoValue};
+use pq_session::{Root, reply_text};
 use std::process::Abort;
 use test_support::is_set;
 
@@ -32,15 +32,16 @@ fn set(rt: &(impl Abort + AllocGlobal), inputs: &mut Inputs) -> Revision {
     inputs.now()
 }
 
-/// The text of a reply to a client whose root is `/p`.
-fn shown_reply(alloc: Global, reply: &Reply<ProtoKey, ProtoValue>) -> Result<String, Memory> {
-    let root = Root::of(alloc, Some("file:///p"))?;
-    reply_text(alloc, &root, reply)
+/// A copy of the root `/p`.
+fn root_of(rt: &(impl Abort + AllocGlobal)) -> Root {
+    let root = Root::of(rt.alloc(), Some("file:///p")).expect(rt, "memory");
+    root.copy().expect(rt, "memory")
 }
 
-/// Checks the text of a reply.
+/// Checks the text of a reply to a client whose root is `/p`.
 fn check_reply(rt: &(impl Abort + AllocGlobal), reply: &Reply<ProtoKey, ProtoValue>, want: &str) {
-    let found = shown_reply(rt.alloc(), reply).expect(rt, "memory");
+    let root = root_of(rt);
+    let found = reply_text(rt.alloc(), &root, reply).expect(rt, "memory");
     check_text(rt, found.as_str(), want, want);
 }
 
@@ -105,74 +106,4 @@ fn a_fixed_text(rt: HostRuntime) {
     let request = Request { label, want };
     let reply = Reply::plain(client(), number(), request, inputs.now());
     check_reply(&rt, &reply, "{}");
-}
-
-/// The reply to a request with the answer of `key` at the sources.
-fn answered(
-    alloc: Global,
-    inputs: &Inputs,
-    label: Label,
-    key: ProtoKey,
-) -> Result<Reply<ProtoKey, ProtoValue>, Memory> {
-    let answer = Shared::new(alloc, compile(alloc, inputs, &key)?)?;
-    let want = Want::Demand(key);
-    let request = Request { label, want };
-    Ok(Reply::answered(client(), number(), request, inputs.now(), answer))
-}
-
-/// Checks the text of the reply to a request with the answer of `key` at the sources.
-fn check_answer(
-    rt: &(impl Abort + AllocGlobal),
-    inputs: &Inputs,
-    label: Label,
-    key: ProtoKey,
-    want: &str,
-) {
-    let reply = answered(rt.alloc(), inputs, label, key).expect(rt, "memory");
-    check_reply(rt, &reply, want);
-}
-
-#[test]
-fn answers(rt: HostRuntime) {
-    let mut inputs = no_files(&rt);
-    set(&rt, &mut inputs);
-    check_answer(
-        &rt,
-        &inputs,
-        Label::Negative(-7),
-        ProtoKey::Diagnostics(text(&rt, "a.proto")),
-        r#"{"id":-7,"jsonrpc":"2.0","result":{"items":[],"kind":"full","resultId":"1"}}"#,
-    );
-    check_answer(
-        &rt,
-        &inputs,
-        Label::Text(text(&rt, "x\n")),
-        ProtoKey::Descriptor(text(&rt, "b.proto")),
-        r#"{"id":"x\n","jsonrpc":"2.0","result":{"file":null,"revision":"1"}}"#,
-    );
-    check_answer(
-        &rt,
-        &inputs,
-        Label::Unsigned(0),
-        ProtoKey::Symbols(text(&rt, "b.proto")),
-        r#"{"id":0,"jsonrpc":"2.0","result":[]}"#,
-    );
-}
-
-// The URI of a definition is below the root of the client.
-#[test]
-fn definitions_below_the_root(rt: HostRuntime) {
-    let mut inputs = no_files(&rt);
-    set(&rt, &mut inputs);
-    let place = Place {
-        line: 0,
-        character: 26,
-    };
-    check_answer(
-        &rt,
-        &inputs,
-        Label::Unsigned(7),
-        ProtoKey::Definition(text(&rt, "a.proto"), place),
-        r#"{"id":7,"jsonrpc":"2.0","result":{"range":{"end":{"character":25,"line":0},"start":{"character":24,"line":0}},"uri":"file:///p/a.proto"}}"#,
-    );
 }

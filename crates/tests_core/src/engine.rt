@@ -5,7 +5,7 @@
 //! demand, with `KEY REVISION WHY;` for each rule that it carries.
 mod random;
 
-use crate::checks::{check_number, check_page, check_pages, check_row_count, check_that};
+use crate::checks::{check_number, check_page, check_pages, check_row_count, check_that, text_of};
 use crate::rules::key_of;
 use pq_inputs::{Durability, Inputs};
 use pq_memo::{Carried, Demanded, Engine, Why};
@@ -14,24 +14,54 @@ use std::cell::Cell;
 use std::process::Abort;
 use test_support::{Counted, Page, add_answer, add_key, add_sum, durability_of};
 
+/// The calls of an engine.
+///
+/// The proof of a function that holds an engine is dear, since the engine's type has an invariant of
+/// many parts. So only the short methods here hold one.
+trait Demands {
+    /// Sets a file, and returns whether it could be set.
+    fn edited(&mut self, name: &str, text: Option<String>, durability: Durability) -> bool;
+
+    /// Demands `key`, and writes its answer and the rules that were started. Returns their count.
+    fn demanded(&mut self, answer: &mut Page, carried: &mut Page, key: &SumsKey) -> usize;
+
+    /// Writes the answer of `key` from scratch.
+    fn from_scratch(&self, page: &mut Page, key: &SumsKey);
+}
+
+impl<'a> Demands for Engine<Counted<'a>> {
+    fn edited(&mut self, name: &str, text: Option<String>, durability: Durability) -> bool {
+        self.set(name, text, durability).is_ok()
+    }
+
+    fn demanded(&mut self, answer: &mut Page, carried: &mut Page, key: &SumsKey) -> usize {
+        match self.demand(answer.alloc, key) {
+            Ok(demanded) => add_demanded(answer, carried, &demanded),
+            Err(_) => {
+                answer.cut();
+                0
+            }
+        }
+    }
+
+    fn from_scratch(&self, page: &mut Page, key: &SumsKey) {
+        add_sum(page, self.inputs(), key);
+    }
+}
+
 /// Sets a file.
-fn set<R: Rules<Key = SumsKey, Value = SumsValue>>(
+fn set<E: Demands>(
     rt: &impl Abort,
-    engine: &mut Engine<R>,
+    engine: &mut E,
     name: &str,
     text: Option<String>,
     durability: Durability,
 ) {
-    let is_set = engine.set(name, text, durability).is_ok();
-    check_that(rt, is_set, name);
+    check_that(rt, engine.edited(name, text, durability), name);
 }
 
 /// Makes the edit of `line`.
-fn edit<R: Rules<Key = SumsKey, Value = SumsValue>>(
-    rt: &(impl Abort + AllocGlobal),
-    engine: &mut Engine<R>,
-    line: &str,
-) {
+fn edit<E: Demands>(rt: &(impl Abort + AllocGlobal), engine: &mut E, line: &str) {
     let (durability, file) = line.split_once(" ").unwrap_or((line, ""));
     let durability = durability_of(durability);
     match file.split_once("=") {
@@ -64,76 +94,107 @@ fn add_carried(page: &mut Page, carried: &[Carried<SumsKey>]) {
     }
 }
 
-/// Demands `key`, and checks that as many rules are carried as started.
-fn demand<R: Rules<Key = SumsKey, Value = SumsValue>>(
-    rt: &(impl Abort + AllocGlobal),
-    engine: &mut Engine<R>,
-    starts: &Cell<u32>,
-    key: &SumsKey,
-    script: &str,
-) -> Demanded<SumsKey, SumsValue> {
-    starts.set(0);
-    let demanded = engine.demand(rt.alloc(), key).expect(rt, "memory");
-    check_number(rt, demanded.carried.len(), starts.get() as usize, script);
-    demanded
+/// Writes an answer and the rules that were started for it. Returns their count.
+fn add_demanded(
+    answer: &mut Page,
+    carried: &mut Page,
+    demanded: &Demanded<SumsKey, SumsValue>,
+) -> usize {
+    add_answer(answer, demanded.answer.get());
+    add_carried(carried, demanded.carried.as_slice());
+    demanded.carried.len()
 }
 
-/// Checks that `found` is the answer of `key` from scratch.
-fn check_answer(
+/// Demands `key`, and checks that as many rules are carried as started. Returns their count.
+fn demand<E: Demands>(
+    rt: &impl Abort,
+    engine: &mut E,
+    starts: &Cell<u32>,
+    answer: &mut Page,
+    carried: &mut Page,
+    key: &SumsKey,
+    script: &str,
+) -> usize {
+    starts.set(0);
+    let count = engine.demanded(answer, carried, key);
+    check_number(rt, count, starts.get() as usize, script);
+    count
+}
+
+/// Checks that the answer of `key` from scratch is `found`.
+fn check_answer<E: Demands>(
     rt: &(impl Abort + AllocGlobal),
-    inputs: &Inputs,
+    engine: &E,
     key: &SumsKey,
     found: &Page,
     script: &str,
 ) {
     let mut want = Page::new(rt.alloc());
-    add_sum(&mut want, inputs, key);
+    engine.from_scratch(&mut want, key);
     check_pages(rt, found, &want, script);
 }
 
 /// Checks that no rule is started for `key` when nothing changed.
-fn check_again<R: Rules<Key = SumsKey, Value = SumsValue>>(
+fn check_again<E: Demands>(
     rt: &(impl Abort + AllocGlobal),
-    engine: &mut Engine<R>,
+    engine: &mut E,
     starts: &Cell<u32>,
     key: &SumsKey,
     script: &str,
 ) {
-    let demanded = demand(rt, engine, starts, key, script);
-    check_that(rt, demanded.carried.is_empty(), script);
+    let mut answer = Page::new(rt.alloc());
+    let mut carried = Page::new(rt.alloc());
+    let count = demand(rt, engine, starts, &mut answer, &mut carried, key, script);
+    check_number(rt, count, 0, script);
 }
 
-/// Checks a demand, and returns it as text: `ANSWER | CARRIED`.
-fn check_demand<R: Rules<Key = SumsKey, Value = SumsValue>>(
+/// Checks a demand, and writes it to `page` as `ANSWER | CARRIED`.
+fn check_demand<E: Demands>(
     rt: &(impl Abort + AllocGlobal),
-    engine: &mut Engine<R>,
+    engine: &mut E,
     starts: &Cell<u32>,
+    page: &mut Page,
     asked: &str,
     script: &str,
-) -> Page {
+) {
     let key = key_of(rt, asked);
-    let demanded = demand(rt, engine, starts, &key, script);
-    let mut page = Page::new(rt.alloc());
-    add_answer(&mut page, demanded.answer.get());
-    check_answer(rt, engine.inputs(), &key, &page, script);
+    let mut carried = Page::new(rt.alloc());
+    let _count = demand(rt, engine, starts, page, &mut carried, &key, script);
+    check_answer(rt, engine, &key, page, script);
     check_again(rt, engine, starts, &key, script);
     page.add(" | ");
-    add_carried(&mut page, demanded.carried.as_slice());
-    page
+    page.add(text_of(rt, &carried));
 }
 
 /// Checks what the demand of `line` answers and carries, where the line says what is wanted.
-fn check_line<R: Rules<Key = SumsKey, Value = SumsValue>>(
+fn check_line<E: Demands>(
     rt: &(impl Abort + AllocGlobal),
-    engine: &mut Engine<R>,
+    engine: &mut E,
     starts: &Cell<u32>,
     line: &str,
     script: &str,
 ) {
     let (asked, want) = line.split_once(" => ").unwrap_or((line, ""));
-    let found = check_demand(rt, engine, starts, asked, script);
+    let mut found = Page::new(rt.alloc());
+    check_demand(rt, engine, starts, &mut found, asked, script);
     if asked.len() < line.len() {
         check_page(rt, &found, want, line);
+    }
+}
+
+/// Carries out the events of `script`, each demand checked. The rules count in `starts`.
+fn check_lines<E: Demands>(
+    rt: &(impl Abort + AllocGlobal),
+    engine: &mut E,
+    starts: &Cell<u32>,
+    script: &str,
+) {
+    for line in script.lines() {
+        if line.starts_with("Sum ") || line.starts_with("Total ") {
+            check_line(rt, engine, starts, line, script);
+        } else {
+            edit(rt, engine, line);
+        }
     }
 }
 
@@ -143,16 +204,13 @@ fn check_script_by<R: Rules<Key = SumsKey, Value = SumsValue>>(
     rules: R,
     starts: &Cell<u32>,
     script: &str,
-) {
+)
+where
+    Engine<R>: Demands,
+{
     let inputs = Inputs::new(rt.alloc()).expect(rt, "memory");
     let mut engine = Engine::new(rt.alloc(), rules, inputs);
-    for line in script.lines() {
-        if line.starts_with("Sum ") || line.starts_with("Total ") {
-            check_line(rt, &mut engine, starts, line, script);
-        } else {
-            edit(rt, &mut engine, line);
-        }
-    }
+    check_lines(rt, &mut engine, starts, script);
 }
 
 /// Runs a script, each of its demands checked.
