@@ -25,8 +25,8 @@ REPLIED = Follows("byte replied", lambda n, sent, replied: replied)
 NOTHING = Follows("session", lambda n, sent, replied: 1)
 
 # The sizes are n times each of `times`. The cost may grow by `slack` times the growth of what it follows: 1.1 gives 2.2 for a
-# doubling of n, and 4.4 for one of pairs.
-Shape = namedtuple("Shape", "title make n follows times slack", defaults=(COUNT, (1, 2, 4), 1.1))
+# doubling of n, and 4.4 for one of pairs. `library` makes the texts of the files under `--lib`, by name; reading them is measured.
+Shape = namedtuple("Shape", "title make n follows times slack library", defaults=(COUNT, (1, 2, 4), 1.1, None))
 HEAD = 'syntax="proto3";'
 EDITS = 10
 WORKSPACE, LONG = (1, 10), (1, 10, 40)
@@ -130,6 +130,22 @@ def defined_beside(n):
     files = [("f%d" % i, HEAD + "package q;message T%d{}" % i) for i in range(n)]
     text = HEAD + "package q;" + "".join('import "f%d";message U%d{}' % (i, i) for i in range(n))
     return b"", files_opened(files) + opened("top", text) + diagnosed(1, "top")
+
+
+# Libraries.
+
+def library(name, n):
+    """n files, by their names in a folder."""
+    return {name % i: HEAD + "message M%d{}" % i for i in range(n)}
+
+
+def nothing_sent(n):
+    return b"", b""
+
+
+def library_asked(n):
+    """A file that imports the n files of a library."""
+    return b"", opened("top", HEAD + "".join('import "f%d.proto";' % i for i in range(n))) + diagnosed(1, "top")
 
 
 # Graphs of imports. Each maker gives the files, and then the one that is asked where one is asked.
@@ -339,4 +355,10 @@ MESSAGES = [
     Shape("n small requests", lambda n: inside(sessions.small_requests(n)), 500),
     Shape("one notification with n changes", many_changes, 1_000)]
 
-SHAPES = TEXTS + ASKED + CHANGES + MESSAGES
+LIBRARIES = [
+    Shape("a library of n files", nothing_sent, 1_000, library=lambda n: library("f%d.proto", n)),
+    Shape("a library of n folders", nothing_sent, 1_000, library=lambda n: library("d%d/a.proto", n)),
+    Shape("a library of n files that are not read", nothing_sent, 1_000, library=lambda n: library("f%d.txt", n)),
+    Shape("a library of n files, one that imports all asked", library_asked, 1_000, library=lambda n: library("f%d.proto", n))]
+
+SHAPES = TEXTS + ASKED + CHANGES + MESSAGES + LIBRARIES

@@ -6,6 +6,8 @@ use Rattle.pq_frame.specs.declared.fault.FrameFault.{FrameFault}
 use Rattle.pq_frame.specs.declared.fault.FrameFault.TheVariants as frame
 use Rattle.pq_inputs.specs.declared.fault.InputFault.{InputFault}
 use Rattle.pq_inputs.specs.declared.fault.InputFault.TheVariants as input
+use Rattle.pq_server.specs.declared.library.fault.LibraryFault.{LibraryFault}
+use Rattle.pq_server.specs.declared.library.fault.LibraryFault.TheVariants as library
 use Rattle.pq_session.specs.declared.fault.ScriptFault.{ScriptFault}
 use Rattle.pq_session.specs.declared.fault.ScriptFault.TheVariants.{Write, Memory, Frame, Cut, Edit, Read, TooManyReads}
 
@@ -78,3 +80,13 @@ unread_status _ = 64
 abbrev pub unread_line : ErrorKind → List ℕ
 unread_line io.OutOfMemory = line (codes "pq_server: out of memory")
 unread_line _ = line (codes "pq_server: the command line is not UTF-8")
+
+-- `start_status fault` is the exit status if the library was not taken.
+abbrev pub start_status : LibraryFault → ℕ
+start_status library.Unreadable = 4
+start_status library.Memory = 5
+
+-- `start_line fault` is the line of standard error if the library was not taken.
+abbrev pub start_line : LibraryFault → List ℕ
+start_line library.Unreadable = line (codes "pq_server: start failed")
+start_line library.Memory = line (codes "pq_server: out of memory")

@@ -1,14 +1,17 @@
 //! pq_server: a compile server for proto3 that speaks the Language Server Protocol.
-//! Here are the words of the command line and the standard streams; `command` reads the words, and
-//! `status` maps the outcome of a script to the exit status and the line of standard error.
+//! Here are the words of the command line, the library that they may name, and the standard streams.
+//! `command` reads the words, `library` reads the library before the first message, and `status` maps
+//! the outcome of a script to the exit status and the line of standard error.
 #![tactic(auto)]
 
 mod command;
+mod library;
 mod status;
 #[cfg(test)]
 mod tests;
 
-use command::refusal;
+use command::library_of;
+use library::{read_library, run_library_script};
 use pq_session::Counted;
 use status::{COMMAND_LINE, run_script, unread};
 use std::process::ExitCode;
@@ -31,12 +34,25 @@ fn main(rt: HostRuntime) -> ExitCode {
             return ExitCode::from(status);
         }
     };
-    if let Some(error) = refusal(words.as_slice(), alloc) {
-        let _ = eprint!(rt; "{error}");
-        return ExitCode::from(COMMAND_LINE);
-    }
+    let library = match library_of(words.as_slice(), alloc) {
+        Ok(library) => library,
+        Err(error) => {
+            let _ = eprint!(rt; "{error}");
+            return ExitCode::from(COMMAND_LINE);
+        }
+    };
     let mut input = Counted::new(rt.stdin());
     let mut output = Counted::new(rt.stdout());
     let mut errors = Counted::new(rt.stderr());
-    ExitCode::from(run_script(alloc, &mut input, &mut output, &mut errors))
+    let status = match library {
+        None => run_script(alloc, &mut input, &mut output, &mut errors),
+        Some(dir) => run_library_script(
+            alloc,
+            read_library(&rt, dir),
+            &mut input,
+            &mut output,
+            &mut errors,
+        ),
+    };
+    ExitCode::from(status)
 }

@@ -6,19 +6,21 @@
 //! | 1 | `exit` without it; the input ends between frames |
 //! | 2 | a frame error; the input ends inside a frame |
 //! | 3 | an edit was refused, or its parameters were unreadable |
-//! | 4 | a read or a write failed, or there were too many reads |
+//! | 4 | a read or a write failed, or there were too many reads; the library was not read |
 //! | 5 | out of memory outside a reply |
 //! | 64 | the command line |
 //!
-//! `specs/Status` has this table for the outcomes of a script, with the lines. [`run_script`] is
-//! proved to follow it.
+//! `specs/Status` has this table for the outcomes of a script and for the faults of a library, with
+//! the lines. [`run_script`] and `run_library_script` are proved to follow it.
 ghost use Rattle.std.specs.Prelude.{◌≡◌, ◌+◌, ◌<◌, ◌^◌, ℕ, List, Result};
 ghost use Rattle.std.specs.Io.KnownBytes.{Appends, Consumes, IsAtEnd};
 ghost use Rattle.pq_session.specs.Counts.{inner_of, failed_of, reads_of};
+ghost use Rattle.pq_session.specs.Responses.{fresh};
 ghost use Rattle.pq_session.specs.Script.{Scripts, IsMemoryAlone, FailsToRead, FailsToWrite};
 ghost use Rattle.pq_session.specs.declared.fault.ScriptFault.{ScriptFault};
-ghost use Rattle.pq_server.specs.Status.{status_of, line_of, frame_line, edit_line, unread_status, unread_line};
+ghost use Rattle.pq_server.specs.Status.{status_of, line_of, frame_line, edit_line, unread_status, unread_line, start_status, start_line};
 
+use crate::library::LibraryFault;
 use pq_frame::FrameFault;
 use pq_inputs::InputFault;
 use pq_session::{Counted, ScriptFault, UNREADABLE_PARAMETERS, script, write_all};
@@ -30,6 +32,9 @@ pub(crate) const COMMAND_LINE: u8 = 64;
 
 /// The status when memory ran out outside a reply.
 const OUT_OF_MEMORY: u8 = 5;
+
+/// The status when the library was not read.
+const START_FAILED: u8 = 4;
 
 /// The status when an edit was refused.
 const EDIT_REFUSED: u8 = 3;
@@ -43,6 +48,17 @@ pub(crate) fn unread(kind: ErrorKind) -> (u8, &'static str)
     match kind {
         ErrorKind::OutOfMemory => (OUT_OF_MEMORY, "pq_server: out of memory\n"),
         _ => (COMMAND_LINE, "pq_server: the command line is not UTF-8\n"),
+    }
+}
+
+/// The exit status and the line of standard error if the library was not taken.
+pub(crate) fn not_started(fault: LibraryFault) -> (u8, &'static str)
+    ensures status { result.0 ≡ start_status fault }
+    ensures line { result.1.now ≡ start_line fault }
+{
+    match fault {
+        LibraryFault::Unreadable => (START_FAILED, "pq_server: start failed\n"),
+        LibraryFault::Memory => (OUT_OF_MEMORY, "pq_server: out of memory\n"),
     }
 }
 
@@ -107,7 +123,7 @@ pub(crate) fn status_of(outcome: Result<u8, ScriptFault>) -> u8
 }
 
 /// Writes `line`, up to the first call that fails.
-fn write_line<E: Write>(errors: &mut Counted<E>, line: &[u8])
+pub(crate) fn write_line<E: Write>(errors: &mut Counted<E>, line: &[u8])
     requires { failed_of errors.old < 2 ^ 63 }
     ensures { failed_of errors.new ≡ failed_of errors.old → Appends (E.contents (inner_of errors.old)) (E.contents (inner_of errors.new)) line.now }
 {
@@ -132,7 +148,7 @@ pub fn run_script<R: Read, W: Write, E: Write>(
     // The script theorem, with its clauses on failed calls, for an outcome whose status is the
     // result. The line of that outcome was written, unless a write of it failed.
     ensures serves { (bytes : List ℕ) × (out : List ℕ) × (outcome : Result ℕ ScriptFault)
-        × Scripts (IsAtEnd (R.remaining (inner_of reader.new))) (reads_of reader.new ≡ reads_of reader.old + 4294967296) bytes out outcome
+        × Scripts fresh (IsAtEnd (R.remaining (inner_of reader.new))) (reads_of reader.new ≡ reads_of reader.old + 4294967296) bytes out outcome
         × Consumes (R.remaining (inner_of reader.old)) (R.remaining (inner_of reader.new)) bytes
         × Appends (W.contents (inner_of writer.old)) (W.contents (inner_of writer.new)) out
         × FailsToRead outcome (failed_of reader.old) (failed_of reader.new)

@@ -2,5 +2,8 @@
 //!
 //! They cover what no contract says. All other tests are rows of `cases/`, or stand in crates of
 //! tests alone.
+mod libraries;
+mod over_library;
 mod program;
+mod scratch;
 mod support;

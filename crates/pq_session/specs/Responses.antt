@@ -17,16 +17,20 @@ use Rattle.pq_session.specs.Session.{Meaning, asks, says, edits, ignores, ends, 
 use Rattle.pq_session.specs.Reply.{out_of_memory_text}
 use Rattle.pq_session.specs.Replies.{answer_text}
 
--- The state of a script: the phase of the session, the sources that its edits made, and the number
--- of those edits.
+-- The state of a script: the phase of the session, the sources now, and the number of their
+-- revision: one for each file that was set before the script, and one for each edit.
 pub record ScriptState : Type 0 where
   pub phase : Phase
   pub files : Sources
   pub revision : ℕ
 
--- `fresh` is the state of a script at its start.
+-- `started files revision` is the state of a script at its start, over these sources.
+abbrev pub started : Sources → ℕ → ScriptState
+started files revision = record { phase = Fresh; files = files; revision = revision }
+
+-- `fresh` is the state of a script that starts without files.
 abbrev pub fresh : ScriptState
-fresh = record { phase = Fresh; files = []; revision = 0 }
+fresh = started [] 0
 
 -- The response to a message: a text, nothing, the end of the session with a status, or the refusal
 -- of an edit, which ends the script.

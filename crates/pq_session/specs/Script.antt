@@ -6,7 +6,7 @@ use Rattle.pq_frame.specs.declared.fault.FrameFault.TheVariants as frame
 use Rattle.pq_inputs.specs.declared.fault.InputFault.TheVariants as input
 use Rattle.pq_session.specs.declared.fault.ScriptFault.{ScriptFault}
 use Rattle.pq_session.specs.declared.fault.ScriptFault.TheVariants.{Write, Memory, Frame, Cut, Edit, Read, TooManyReads}
-use Rattle.pq_session.specs.Responses.{ScriptState, fresh}
+use Rattle.pq_session.specs.Responses.{ScriptState}
 use Rattle.pq_session.specs.Output.{Ending, exits, refused, Outputs, Stopped}
 
 -- `max_reads` is the largest number of reads of one script: 2^32.
@@ -22,34 +22,34 @@ max_piece = 16384
 abbrev pub StopsWithin : List ℕ → ScriptState → List ℕ → Type 0
 StopsWithin bytes start out = (prefix : List ℕ) × (later : List ℕ) × (bodies : List (List ℕ)) × (state : State) × (bytes ≡ prefix ++ later) × Frames prefix bodies state × Stopped start bodies out
 
--- `AnsweredAll bytes out state` is that all bodies of `bytes` were answered by `out`, and that none
--- ended the session. The rest of `bytes` leaves a reader in `state`.
-abbrev pub AnsweredAll : List ℕ → List ℕ → State → Type 0
-AnsweredAll bytes out state = (bodies : List (List ℕ)) × Frames bytes bodies state × Outputs fresh bodies (record { bytes = out; ending = None })
+-- `AnsweredAll start bytes out state` is that a script which began in `start` answered all bodies of
+-- `bytes` by `out`, and that none ended the session. The rest of `bytes` leaves a reader in `state`.
+abbrev pub AnsweredAll : ScriptState → List ℕ → List ℕ → State → Type 0
+AnsweredAll start bytes out state = (bodies : List (List ℕ)) × Frames bytes bodies state × Outputs start bodies (record { bytes = out; ending = None })
 
--- `ShowsInLastPiece bytes` is that the input showed the reason to stop in its `last` bytes, at most
--- `max_piece` of them: all bodies of the bytes before were answered, none ended the session, and the
--- frames had no error.
-abbrev pub ShowsInLastPiece : List ℕ → Type 0
-ShowsInLastPiece bytes = (before : List ℕ) × (last : List ℕ) × (out : List ℕ) × (rest : List ℕ) × (bytes ≡ before ++ last) × (length last ≤ max_piece) × AnsweredAll before out (Reading rest)
+-- `ShowsInLastPiece start bytes` is that the input showed the reason to stop in its `last` bytes, at
+-- most `max_piece` of them: all bodies of the bytes before were answered, none ended the session, and
+-- the frames had no error.
+abbrev pub ShowsInLastPiece : ScriptState → List ℕ → Type 0
+ShowsInLastPiece start bytes = (before : List ℕ) × (last : List ℕ) × (out : List ℕ) × (rest : List ℕ) × (bytes ≡ before ++ last) × (length last ≤ max_piece) × AnsweredAll start before out (Reading rest)
 
--- `Ended bytes out how` is that a body of `bytes` ended the session by `how`, after `out` was
+-- `Ended start bytes out how` is that a body of `bytes` ended the session by `how`, after `out` was
 -- written for those before it. The end of that body is among the last `max_piece` bytes of `bytes`.
-abbrev pub Ended : List ℕ → List ℕ → Ending → Type 0
-Ended bytes out how = (bodies : List (List ℕ)) × (state : State) × Frames bytes bodies state × Outputs fresh bodies (record { bytes = out; ending = Some how }) × ShowsInLastPiece bytes
+abbrev pub Ended : ScriptState → List ℕ → List ℕ → Ending → Type 0
+Ended start bytes out how = (bodies : List (List ℕ)) × (state : State) × Frames bytes bodies state × Outputs start bodies (record { bytes = out; ending = Some how }) × ShowsInLastPiece start bytes
 
--- `Scripts AtEnd UsedUp bytes out result` is that a script that read `bytes` may write `out` and
--- return `result`. `AtEnd` is that the input ended after `bytes`, and `UsedUp` that all reads were
--- made.
-abbrev pub Scripts : Type 0 → Type 0 → List ℕ → List ℕ → Result ℕ ScriptFault → Type 0
-Scripts AtEnd UsedUp bytes out (Ok status) = Ended bytes out (exits status) ⊎ ((status ≡ 1) × AtEnd × AnsweredAll bytes out (Reading []))
-Scripts AtEnd UsedUp bytes out (Err (Frame fault)) = AnsweredAll bytes out (Failed fault) × ShowsInLastPiece bytes
-Scripts AtEnd UsedUp bytes out (Err Cut) = (rest : List ℕ) × (rest ≢ []) × AtEnd × AnsweredAll bytes out (Reading rest)
-Scripts AtEnd UsedUp bytes out (Err (Edit fault)) = Ended bytes out (refused fault)
-Scripts AtEnd UsedUp bytes out (Err Read) = (rest : List ℕ) × AnsweredAll bytes out (Reading rest)
-Scripts AtEnd UsedUp bytes out (Err TooManyReads) = (rest : List ℕ) × UsedUp × AnsweredAll bytes out (Reading rest)
-Scripts AtEnd UsedUp bytes out (Err Write) = StopsWithin bytes fresh out
-Scripts AtEnd UsedUp bytes out (Err Memory) = StopsWithin bytes fresh out
+-- `Scripts start AtEnd UsedUp bytes out result` is that a script that began in the state `start` and
+-- read `bytes` may write `out` and return `result`. `AtEnd` is that the input ended after `bytes`,
+-- and `UsedUp` that all reads were made.
+abbrev pub Scripts : ScriptState → Type 0 → Type 0 → List ℕ → List ℕ → Result ℕ ScriptFault → Type 0
+Scripts start AtEnd UsedUp bytes out (Ok status) = Ended start bytes out (exits status) ⊎ ((status ≡ 1) × AtEnd × AnsweredAll start bytes out (Reading []))
+Scripts start AtEnd UsedUp bytes out (Err (Frame fault)) = AnsweredAll start bytes out (Failed fault) × ShowsInLastPiece start bytes
+Scripts start AtEnd UsedUp bytes out (Err Cut) = (rest : List ℕ) × (rest ≢ []) × AtEnd × AnsweredAll start bytes out (Reading rest)
+Scripts start AtEnd UsedUp bytes out (Err (Edit fault)) = Ended start bytes out (refused fault)
+Scripts start AtEnd UsedUp bytes out (Err Read) = (rest : List ℕ) × AnsweredAll start bytes out (Reading rest)
+Scripts start AtEnd UsedUp bytes out (Err TooManyReads) = (rest : List ℕ) × UsedUp × AnsweredAll start bytes out (Reading rest)
+Scripts start AtEnd UsedUp bytes out (Err Write) = StopsWithin bytes start out
+Scripts start AtEnd UsedUp bytes out (Err Memory) = StopsWithin bytes start out
 
 -- `IsMemoryAlone result` is that an allocation failure is `Memory` alone, never the error of a
 -- frame or an edit.

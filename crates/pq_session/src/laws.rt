@@ -11,22 +11,23 @@ ghost use Rattle.serde_json.specs.Written.{compact_text};
 ghost use Rattle.pq_frame.specs.Labels.{LabelModel, label_data};
 ghost use Rattle.pq_session.specs.Reply.{reply_data, symbols_text, descriptor_data, descriptor_text};
 ghost use Rattle.pq_frame.specs.Frames.{Frames, State};
-ghost use Rattle.pq_session.specs.Responses.{fresh};
+ghost use Rattle.pq_session.specs.Responses.{ScriptState};
 ghost use Rattle.std.specs.Io.{StartsWith};
 ghost use Rattle.pq_session.specs.Output.{Output, Outputs};
 ghost use Rattle.pq_session.specs.Script.{StopsWithin};
 ghost use Rattle.pq_session.specs.Uri.{root_of, file_of, uri_of, is_file_name};
 
-/// Every list of bodies has an output.
+/// Every list of bodies has an output, in every state of a script.
 pub fn each_output()
-    ensures { (bodies : List (List ℕ)) → (o : Output) × Outputs fresh bodies o }
+    ensures { (state : ScriptState) (bodies : List (List ℕ)) → (o : Output) × Outputs state bodies o }
 {}
 
-/// A script that stops within its input has written a prefix of an output for all of its frames.
+/// A script that stops within its input has written a prefix of an output for all of its frames,
+/// in whatever state it started.
 pub fn stops_at_a_front()
-    ensures { (bytes out : List ℕ) (bodies : List (List ℕ)) (state : State) →
-        Frames bytes bodies state → StopsWithin bytes fresh out →
-        (o : Output) × Outputs fresh bodies o × StartsWith o.bytes out }
+    ensures { (start : ScriptState) (bytes out : List ℕ) (bodies : List (List ℕ)) (state : State) →
+        Frames bytes bodies state → StopsWithin bytes start out →
+        (o : Output) × Outputs start bodies o × StartsWith o.bytes out }
 {}
 
 /// Where a text is the compact text of data, the response that has the text as its result is the

@@ -1,11 +1,11 @@
 //! A session of the language server, and the script that serves one client from a reader to a
 //! writer.
 //!
-//! `script` reads frames (`run`), handles the bodies of each piece in order (`bodies`), and writes
-//! the response to a request before it reads on (`send`). `state` has the server's state and what
-//! each message asks of it, and `protocol` the methods, parameters and responses on the wire. One
-//! incremental engine answers all queries. `counted` has the readers and writers whose calls are
-//! counted.
+//! `script` starts without files, and `script_over` over inputs that its caller has filled. A script
+//! reads frames (`run`), handles the bodies of each piece in order (`bodies`), and writes the response
+//! to a request before it reads on (`send`). `state` has the server's state and what each message asks
+//! of it, and `protocol` the methods, parameters and responses on the wire. One incremental engine
+//! answers all queries. `counted` has the readers and writers whose calls are counted.
 //!
 //! `specs/Script` and `specs/Output` say which bytes are written for which input, `specs/Session`
 //! with `specs/Items` what a message means, `specs/Uri` which file a URI names, `specs/Responses`
@@ -29,7 +29,7 @@ pub use laws::{
 };
 pub use protocol::answers::reply_text;
 pub use protocol::root::Root;
-pub use run::{MAX_READS, script};
+pub use run::{MAX_READS, script, script_over};
 pub use send::write_all;
 pub use state::items::Item;
 pub use state::notifications::UNREADABLE_PARAMETERS;

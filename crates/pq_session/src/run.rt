@@ -1,11 +1,13 @@
 //! The script: one client, served from a reader to a writer on one thread.
 //!
 //! It reads pieces of at most 16,384 bytes, splits them into frames, and answers the bodies of each
-//! piece before it reads the next. It keeps the sources and at most one unfinished frame.
+//! piece before it reads the next. It keeps the sources and at most one unfinished frame. The sources
+//! at its start are none, or inputs that its caller has filled.
 ghost use Rattle.std.specs.Prelude.{◌≡◌, ◌≢◌, ◌+◌, ◌<◌, ◌≤◌, ◌^◌, ◌++◌, ◌⊎◌, ◌∷◌, [], ℕ, List, Option, Some, None, length, take, IfOk, IfErr, OnOk, MatchResult};
 ghost use Rattle.std.specs.Io.KnownBytes.{Appends, Consumes, IsAtEnd};
 ghost use Rattle.pq_frame.specs.Frames.{Frames, Feeds, State, Reading, Failed};
 ghost use Rattle.pq_session.specs.Counts.{inner_of, failed_of, reads_of};
+ghost use Rattle.pq_session.specs.Responses.{started, fresh};
 ghost use Rattle.pq_session.specs.Script.{Scripts, IsMemoryAlone, FailsToWrite, FailsToRead, max_reads};
 ghost use Rattle.pq_session.specs.aux.ServerState.{state_of};
 ghost use Rattle.pq_session.specs.aux.Steps.{Takes};
@@ -15,6 +17,7 @@ use crate::counted::Counted;
 use crate::fault::ScriptFault;
 use crate::state::server_state::ServerState;
 use pq_frame::FrameReader;
+use pq_inputs::Inputs;
 use std::alloc::Global;
 use std::io::{Read, Write};
 
@@ -60,13 +63,14 @@ fn at_end(frames: &FrameReader) -> Result<u8, ScriptFault>
 /// The largest number of reads of one script: 2^32.
 pub const MAX_READS: u64 = 4_294_967_296;
 
-/// Serves one client: reads frames to the end of the input, and writes and flushes the response to
-/// each request before the next read (LSP 3.17, "Base Protocol", "Server lifecycle").
+/// Serves one client from the sources of `inputs` on: reads frames to the end of the input, and writes
+/// and flushes the response to each request before the next read (LSP 3.17, "Base Protocol", "Server
+/// lifecycle").
 ///
 /// Returns the status with which `exit` ended the session, or 1 if the input ends between two
-/// frames. An edit of unreadable parameters ends the session with `UNREADABLE_PARAMETERS`. The
-/// script starts a session of its own, without files. A query is answered by the sources that the
-/// edits before it made. If an allocation fails for it, its response says so.
+/// frames. An edit of unreadable parameters ends the session with `UNREADABLE_PARAMETERS`. A query is
+/// answered by the sources that the edits before it made of those of `inputs`. If an allocation fails
+/// for it, its response says so.
 ///
 /// `Frame` and `Edit` are errors of the input, and `Cut` is an end inside a frame. They are returned
 /// after the responses to all messages before. `Read` is a failed read, also an interrupted one.
@@ -77,18 +81,19 @@ pub const MAX_READS: u64 = 4_294_967_296;
 /// The end of the message that ended the session, and the byte that shows an error of the input, are
 /// among the last 16,384 bytes that were read. `Read` and `Write` are answered if exactly one call
 /// failed.
-pub fn script<R: Read, W: Write>(
+pub fn script_over<R: Read, W: Write>(
     alloc: Global,
+    inputs: Inputs,
     reader: &mut Counted<R>,
     writer: &mut Counted<W>,
 ) -> Result<u8, ScriptFault>
     requires reads_left { reads_of reader.old < 2 ^ 63 }
     requires reader_left { failed_of reader.old < 2 ^ 63 }
     requires writer_left { failed_of writer.old < 2 ^ 63 }
-    // The bytes that were written are what the session may respond to the bytes that were read,
-    // and the bytes that were read show the result.
+    // The bytes that were written are what a session over the sources of `inputs` may respond to the
+    // bytes that were read, and the bytes that were read show the result.
     ensures writes { (bytes : List ℕ) × (out : List ℕ)
-        × Scripts (IsAtEnd (R.remaining (inner_of reader.new)))
+        × Scripts (started inputs.files inputs.revision) (IsAtEnd (R.remaining (inner_of reader.new)))
         (reads_of reader.new ≡ reads_of reader.old + max_reads) bytes out result
         × Consumes (R.remaining (inner_of reader.old)) (R.remaining (inner_of reader.new)) bytes
         × Appends (W.contents (inner_of writer.old)) (W.contents (inner_of writer.new)) out }
@@ -101,7 +106,7 @@ pub fn script<R: Read, W: Write>(
 {
     let mut buffer = [0u8; 16384];
     let mut frames = FrameReader::new(alloc);
-    let mut server = ServerState::new(alloc)?;
+    let mut server = ServerState::new(alloc, inputs);
     'reads: for _turn in 0..MAX_READS {
         let count = match reader.read(&mut buffer) {
             Ok(count) => count,
@@ -116,4 +121,31 @@ pub fn script<R: Read, W: Write>(
         }
     }
     Err(ScriptFault::TooManyReads)
+}
+
+/// Serves one client, as [`script_over`] does, without files at its start.
+pub fn script<R: Read, W: Write>(
+    alloc: Global,
+    reader: &mut Counted<R>,
+    writer: &mut Counted<W>,
+) -> Result<u8, ScriptFault>
+    requires reads_left { reads_of reader.old < 2 ^ 63 }
+    requires reader_left { failed_of reader.old < 2 ^ 63 }
+    requires writer_left { failed_of writer.old < 2 ^ 63 }
+    // The bytes that were written are what the session may respond to the bytes that were read,
+    // and the bytes that were read show the result.
+    ensures writes { (bytes : List ℕ) × (out : List ℕ)
+        × Scripts fresh (IsAtEnd (R.remaining (inner_of reader.new)))
+        (reads_of reader.new ≡ reads_of reader.old + max_reads) bytes out result
+        × Consumes (R.remaining (inner_of reader.old)) (R.remaining (inner_of reader.new)) bytes
+        × Appends (W.contents (inner_of writer.old)) (W.contents (inner_of writer.new)) out }
+    // One read failed if the result is `Read`, and none otherwise.
+    ensures read_failed { FailsToRead result (failed_of reader.old) (failed_of reader.new) }
+    // One write or flush failed if the result is `Write`, and none otherwise.
+    ensures write_failed { FailsToWrite result (failed_of writer.old) (failed_of writer.new) }
+    ensures memory_alone { IsMemoryAlone result }
+    ensures bound { reads_of reader.new ≤ reads_of reader.old + max_reads }
+{
+    let inputs = Inputs::new(alloc)?;
+    script_over(alloc, inputs, reader, writer)
 }

@@ -1,7 +1,8 @@
 //! The program: its exit statuses, its lines of standard error, and its command lines.
 use super::support::{check_row_count, check_text, frames, split_row};
-use crate::command::refusal;
-use crate::status::{COMMAND_LINE, line_of, run_script, status_of, unread};
+use crate::command::library_of;
+use crate::library::{LibraryFault, read_library, run_library_script};
+use crate::status::{COMMAND_LINE, line_of, not_started, run_script, status_of, unread};
 use pq_frame::FrameFault;
 use pq_inputs::InputFault;
 use pq_session::{Counted, Memory, ScriptFault};
@@ -199,24 +200,74 @@ fn outcomes_out_of_reach(rt: HostRuntime) -> Result<(), Fail> {
     check_outcome(&rt, ScriptFault::TooManyReads, "4 pq_server: read failed")
 }
 
-/// Whether `clap` refuses the command line `words`, which are separated by blanks.
-fn is_refused(alloc: Global, words: &str) -> Result<bool, Memory> {
+/// What the command line `words`, which are separated by blanks, says of a library, as text:
+/// `refused` if `clap` refuses it.
+fn shown_words(alloc: Global, words: &str) -> Result<String, Memory> {
     let mut given = Vec::new(alloc);
     for word in words.split_whitespace() {
         given.push(String::from_str(alloc, word)?)?;
     }
-    Ok(refusal(given.as_slice(), alloc).is_some())
+    match library_of(given.as_slice(), alloc) {
+        Ok(Some(dir)) => format!(in alloc; "library {dir}"),
+        Ok(None) => String::from_str(alloc, "no library"),
+        Err(_) => String::from_str(alloc, "refused"),
+    }
 }
 
 #[test]
 fn command_lines(rt: HostRuntime) -> Result<(), Fail> {
-    let rows = "pq_server\npq_server --help\npq_server listen\npq_server script more";
-    check_row_count(&rt, 4, rows);
-    for words in rows.lines() {
-        assert!(rt; is_refused(rt.alloc(), words)?, "{words}");
+    let rows = "\
+        pq_server => refused\n\
+        pq_server --help => refused\n\
+        pq_server listen => refused\n\
+        pq_server script more => refused\n\
+        pq_server --lib a script => refused\n\
+        pq_server script --lib => refused\n\
+        pq_server script --lib a --lib b => refused\n\
+        pq_server script => no library\n\
+        pq_server script --lib a/b => library a/b\n\
+        pq_server script --lib=a/b => library a/b\
+        ";
+    check_row_count(&rt, 10, rows);
+    for row in rows.lines() {
+        let (words, want) = split_row(&rt, row, " => ");
+        let found = shown_words(rt.alloc(), words)?;
+        check_text(&rt, found.as_str(), want, row);
     }
-    assert!(rt; !is_refused(rt.alloc(), "pq_server script")?);
     assert_eq!(rt; COMMAND_LINE, 64);
+    Ok(())
+}
+
+/// Checks the status and the line if a library was not taken.
+fn check_not_started(
+    rt: &(impl Abort + AllocGlobal),
+    fault: LibraryFault,
+    want: &str,
+) -> Result<(), Fail> {
+    let (status, line) = not_started(fault);
+    let found = shown_end(rt.alloc(), status, line.as_bytes())?;
+    check_text(rt, found.as_str(), want, want);
+    Ok(())
+}
+
+#[test]
+fn libraries_that_are_not_taken(rt: HostRuntime) -> Result<(), Fail> {
+    check_not_started(&rt, LibraryFault::Unreadable, "4 pq_server: start failed")?;
+    check_not_started(&rt, LibraryFault::Memory, "5 pq_server: out of memory")?;
+    let mut reader = Counted::new(Broken);
+    let mut writer = Counted::new(Broken);
+    let mut line = Vec::new(rt.alloc());
+    let mut errors = Counted::new(&mut line);
+    let library = read_library(&rt, "");
+    let status = run_library_script(rt.alloc(), library, &mut reader, &mut writer, &mut errors);
+    assert_eq!(rt; reader.reads(), 0);
+    let found = shown_end(rt.alloc(), status, line.as_slice())?;
+    check_text(
+        &rt,
+        found.as_str(),
+        "4 pq_server: start failed",
+        "a library",
+    );
     Ok(())
 }
 

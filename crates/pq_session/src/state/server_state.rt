@@ -9,7 +9,7 @@ ghost use Rattle.pq_proto.specs.Compile.{Compiles};
 ghost use Rattle.pq_session.specs.Session.{edits};
 ghost use Rattle.pq_session.specs.Items.{item_meaning, answer_meaning};
 ghost use Rattle.pq_session.specs.Replies.{answer_text};
-ghost use Rattle.pq_session.specs.Responses.{Responds, RespondsTo, IsAnswer, fresh, replies, root_of, silent};
+ghost use Rattle.pq_session.specs.Responses.{Responds, RespondsTo, IsAnswer, started, replies, root_of, silent};
 ghost use Rattle.pq_session.specs.aux.ServerState.{state_of, response_of};
 ghost use Rattle.pq_session.specs.aux.Steps.{Refuses, RefusesMeaning};
 
@@ -28,7 +28,7 @@ use pq_proto::{ProtoKey, ProtoRules, ProtoValue, proto_values};
 use pq_rules::{Answer, Shared};
 use std::alloc::{AllocError, Global};
 
-/// A session, and the engine over the sources that its edits made.
+/// A session, and the engine over the sources: those at the start, with the session's edits.
 #[derive(Drop)]
 pub(crate) struct ServerState {
     session: Session,
@@ -47,15 +47,14 @@ pub(crate) enum Step {
 }
 
 impl ServerState {
-    /// The state at the start of a session, without files.
-    pub(crate) fn new(alloc: Global) -> Result<ServerState, AllocError>
-        ensures { IfOk result (λ server. state_of server ≡ fresh) }
+    /// The state at the start of a session over the sources of `inputs`.
+    pub(crate) fn new(alloc: Global, inputs: Inputs) -> ServerState
+        ensures { state_of result ≡ started inputs.files inputs.revision }
     {
-        let inputs = Inputs::new(alloc)?;
-        Ok(ServerState {
+        ServerState {
             session: Session::new(),
             engine: Engine::new(alloc, ProtoRules, inputs),
-        })
+        }
     }
 
     /// The answer of `key` at the sources. What the engine has found stays for later demands.

@@ -1,6 +1,5 @@
-use Rattle.pq_session.specs.Responses.{fresh}
 use Rattle.pq_session.proofs.OutputLemmas.{some_output}
 use Rattle.pq_session.proofs.laws.each_output.Goals as goal
 
 pub returns : goal.returns
-returns c = some_output fresh
+returns c = some_output

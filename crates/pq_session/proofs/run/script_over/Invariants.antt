@@ -3,9 +3,9 @@ use Rattle.std.specs.Io.KnownBytes.{Appends, Consumes}
 use Rattle.pq_frame.specs.Frames.{Frames, Reading}
 use Rattle.pq_session.specs.aux.ServerState.{state_of}
 use Rattle.pq_session.specs.Counts.{inner_of, failed_of, reads_of}
-use Rattle.pq_session.specs.Responses.{fresh}
+use Rattle.pq_session.specs.Responses.{started}
 use Rattle.pq_session.specs.aux.Answered.{Answered}
-use Rattle.pq_session.proofs.run.script.Given as goal
+use Rattle.pq_session.proofs.run.script_over.Given as goal
 
 -- all bodies of the bytes so far were answered
 abbrev pub invariant-reads : goal.invariant-reads
@@ -17,7 +17,7 @@ invariant-reads g l =
       out : List ℕ;
       framed : Frames bytes bodies (Reading rest);
       stands : l.frames ≡ Reading rest;
-      answered : Answered fresh bodies out None (state_of l.server);
+      answered : Answered (started l.fn.inputs.files l.fn.inputs.revision) bodies out None (state_of l.server);
       consumed : Consumes (g.R.Read.remaining (inner_of l.fn.reader)) (g.R.Read.remaining (inner_of l.reader)) bytes;
       written : Appends (g.W.Write.contents (inner_of l.fn.writer)) (g.W.Write.contents (inner_of l.writer)) out;
       reads : reads_of l.reader ≡ reads_of l.fn.reader + l._turn;
