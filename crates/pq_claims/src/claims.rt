@@ -1,13 +1,13 @@
 //! The calls: a run claims a key, releases the key that it claimed last, or all its keys.
 ghost use Rattle.std.specs.Prelude.{◌≡◌, ◌↔◌, [], ℕ, None, IsTrue, IfSome, IfNone};
-ghost use Rattle.pq_claims.specs.Claims.{Claimed, Holds, Releases, ReleasesAll, hold_of};
+ghost use Rattle.pq_claims.specs.Claims.{Claimed, Holds, IsSet, Releases, ReleasesAll, hold_of};
 
 use crate::claim::Claim;
 use crate::claiming::claim_in;
 use crate::held::Held;
 use crate::holders::{Holder, holder_of, take_holder};
 use crate::run_id::RunId;
-use crate::runs::{close_run, keys_in, pop_key};
+use crate::runs::{close_run, drop_wait, keys_in, pop_key};
 use pq_rules::{Memory, Rules};
 use std::alloc::Global;
 use std::collections::BTreeMap;
@@ -94,6 +94,13 @@ impl<R: Rules> Claims<R> {
         );
         self.next += 1;
         claimed
+    }
+
+    /// Ends the wait of `run`, if it waits for a key. It takes no memory.
+    pub fn end_wait(&mut self, run: RunId)
+        ensures ended { IsSet self.old self.new run (record { keys = (hold_of self.old run).keys; wait = None }) }
+    {
+        drop_wait(&mut self.runs, run.number());
     }
 
     /// Releases the key that `run` claimed last, and returns it. All waits for it end. The wait of

@@ -89,6 +89,16 @@ pub(crate) fn set_wait<K: Drop>(runs: &mut BTreeMap<u64, Held<K>>, run: u64, wai
     }
 }
 
+/// Ends the wait of `run`, if it has an entry. It takes no memory.
+pub(crate) fn drop_wait<K: Drop>(runs: &mut BTreeMap<u64, Held<K>>, run: u64)
+    ensures set { IsSetAt runs.old.entries run (record { keys = (held_at runs.old.entries run).keys; wait = None }) runs.new.entries }
+{
+    match runs.get_mut(&run) {
+        Some(held) => held.set_wait(None),
+        None => {}
+    }
+}
+
 /// Removes the entry of `run`. It takes no memory.
 pub(crate) fn close_run<K: Drop>(runs: &mut BTreeMap<u64, Held<K>>, run: u64)
     ensures set { IsSetAt runs.old.entries run (record { keys = []; wait = None }) runs.new.entries }

@@ -12,14 +12,13 @@ use Rattle.pq_memo.specs.Cause.{IsCause}
 use Rattle.pq_memo.specs.declared.look.Why.{Why}
 use Rattle.pq_memo.specs.declared.look.Why.TheVariants.{Fresh, Changed, Ring}
 use Rattle.std.proofs.lemmas.Bool.{eqb-true}
-use Rattle.pq_core.proofs.Lists.{none_some, some_one}
+use Rattle.pq_core.proofs.Lists.{some_one}
 use Rattle.pq_core.proofs.Changing.{if_at, if_other}
 use Rattle.pq_core.proofs.Calling.{stands_same, run_seen, none_runs, run_at, lane_open, lane_shut}
 use Rattle.pq_core.proofs.Ending.{end_stands, out_stands}
 use Rattle.pq_core.proofs.Keeping.{runs_placed, kept_looks, kept_gives}
 use Rattle.pq_core.proofs.LaneMoves.{owed_within, running_owed, finished_stands, out_changed_stands}
 use Rattle.pq_core.proofs.Queued.{queue_same, queue_finished}
-use Rattle.pq_core.proofs.Renewed.{runs_kept}
 use Rattle.pq_core.specs.Replies.{ReplyView}
 use Rattle.pq_core.specs.Ledger.{Out, Ledger, with_entry}
 use Rattle.pq_core.specs.RightReply.{answer_by}
@@ -31,7 +30,7 @@ use Rattle.pq_core.specs.Cores.{Held, fields_of, run_seen as seen_of, StandsOf}
 use Rattle.pq_core.specs.aux.Stands.{RunSeen}
 use Rattle.pq_core.specs.declared.rising.Place.{Place}
 use Rattle.pq_core.specs.aux.Rising.{found}
-use Rattle.pq_core.specs.aux.Runs.{RunView, RunKept, Renewed, IsSameRun, HandedOut, IsAnswer, out_at}
+use Rattle.pq_core.specs.aux.Runs.{RunView, IsSameRun, HandedOut, IsAnswer, out_at}
 use Rattle.pq_core.specs.aux.Lanes.{LaneView, LaneStands, IsOwed, with_owed}
 use Rattle.pq_core.specs.aux.Queue.{IsQueue}
 use Rattle.pq_core.specs.declared.lane.Owed.TheVariants.{Running as OwedRunning, Ready as OwedReady}
@@ -260,29 +259,19 @@ module _ {K P V O : Type 0} (order : K → K → Ordering) (m : Machine K P V) (
           ∙ (ap Some seen_is ∙ (ap (option_map seen_of) (sym h) ∙ ap (λ (j : ℕ). option_map seen_of (found b.runs j)) (sym (eqb-true k r e))))
       same_seen k false e = ap (option_map seen_of) (runs k ∙ ap (λ (z : Bool). if z then Some after else found b.runs k) e)
 
--- the current runs, after a run was taken out, and maybe put back as another
-module _ {K P V : Type 0} (order : K → K → Ordering) (m : Machine K P V) (inputs : Table) (before after : K → Option (Memo K V)) where
-  pub others_kept : (b a : List (Place (RunView K P))) (r : ℕ) → Renewed m inputs.revision before after → ((k : ℕ) → found a k ≡ (if k == r then None else found b k))
-      → ((k : ℕ) (run : RunView K P) → found b k ≡ Some run → run.started ≡ inputs.revision → RunKept order m inputs before run)
-      → (k : ℕ) (run : RunView K P) → found a k ≡ Some run → run.started ≡ inputs.revision → RunKept order m inputs after run
-  others_kept b a r renewed f kept k run h e = by_test (k == r) refl
-    where
-      by_test : (t : Bool) → (k == r) ≡ t → RunKept order m inputs after run
-      by_test true w = absurd (none_some run (ap (λ (z : Bool). if z then None else found b k) (sym w) ∙ (sym (f k) ∙ h)))
-      by_test false w = runs_kept order m inputs before after renewed run (kept k run (ap (λ (z : Bool). if z then None else found b k) (sym w) ∙ (sym (f k) ∙ h)) e)
-
-  pub all_kept : (b a : List (Place (RunView K P))) (r : ℕ) (new : RunView K P) → Renewed m inputs.revision before after
-      → ((k : ℕ) → found a k ≡ (if k == r then Some new else found b k))
-      → ((k : ℕ) (run : RunView K P) → found b k ≡ Some run → run.started ≡ inputs.revision → RunKept order m inputs before run)
-      → (new.started ≡ inputs.revision → RunKept order m inputs after new)
-      → (k : ℕ) (run : RunView K P) → found a k ≡ Some run → run.started ≡ inputs.revision → RunKept order m inputs after run
-  all_kept b a r new renewed f kept mine k run h e = by_test (k == r) refl
-    where
-      by_test : (t : Bool) → (k == r) ≡ t → RunKept order m inputs after run
-      by_test true w =
-          let is : new ≡ run = some_one new run (ap (λ (z : Bool). if z then Some new else found b k) (sym w) ∙ (sym (f k) ∙ h)) in
-          subst (RunKept order m inputs after) is (mine (ap (λ (y : RunView K P). y.started) is ∙ e))
-      by_test false w = runs_kept order m inputs before after renewed run (kept k run (ap (λ (z : Bool). if z then Some new else found b k) (sym w) ∙ (sym (f k) ∙ h)) e)
+-- what the ledger knows of each run is the same
+module _ {K P V O : Type 0} (order : K → K → Ordering) (m : Machine K P V) (puts : O → List (ReplyView K V)) where
+  pub seen_moved : (b a : Held K P V O) (l : Ledger K V O) → ((k : ℕ) → option_map seen_of (found a.runs k) ≡ option_map seen_of (found b.runs k))
+      → ((k : ℕ) → found a.lanes k ≡ found b.lanes k) → SameBut b a → StandsOf order m puts b l → StandsOf order m puts a l
+  seen_moved b a l runs lanes but s =
+      stands_same (LaneStands puts) (answer_by order m) puts (fields_of b) (fields_of a) l
+      (record {
+        counts = record { inputs = but.inputs; opened = but.opened; clients = but.clients };
+        lanes = lanes;
+        runs = runs;
+        started = but.started;
+      })
+      s
 
 module _ {R K P V O : Type 0} (order : K → K → Ordering) (m : Machine K P V) (puts : O → List (ReplyView K V)) (rules : R) where
   -- a run that was overtaken and taken out is stopped

@@ -1,11 +1,9 @@
 -- Starting a run, at what a core keeps.
-use Rattle.std.proofs.Common.{◌≡◌, ℕ, ◌+◌, ◌≤◌, ◌^◌, ◌==◌, if◌then◌else◌, Bool, true, false, List, [], Option, Some, None, refl, sym, ◌∙◌, ap, subst, inl, inr}
+use Rattle.std.proofs.Common.{◌≡◌, ℕ, ◌+◌, ◌≤◌, ◌^◌, ◌==◌, if◌then◌else◌, List, [], Option, Some, None, refl, sym, ◌∙◌, ap, subst, inl, inr}
 use Rattle.std.specs.Option.{option_map}
 use Rattle.std.specs.declared.cmp.Ordering.{Ordering}
 use Rattle.pq_inputs.specs.Sources.{Table}
 use Rattle.pq_rules.specs.Turns.{Machine}
-use Rattle.pq_memo.specs.Sound.{Memo}
-use Rattle.pq_core.proofs.Lists.{some_one}
 use Rattle.pq_core.proofs.Changing.{if_at, if_other}
 use Rattle.pq_core.proofs.Moving.{start_stands}
 use Rattle.pq_core.proofs.Keeping.{kept_starts}
@@ -16,27 +14,13 @@ use Rattle.pq_core.specs.Ledger.{Entry, Client, Ledger}
 use Rattle.pq_core.specs.RightReply.{answer_by}
 use Rattle.pq_core.specs.Moves.{Reaches, Starts, started_at}
 use Rattle.pq_core.specs.Cores.{Held, fields_of, run_seen, StandsOf}
-use Rattle.pq_core.specs.declared.rising.Place.{Place}
 use Rattle.pq_core.specs.aux.Rising.{found}
 use Rattle.pq_core.specs.aux.Lanes.{LaneView, LaneStands, IsOwed, with_owed}
-use Rattle.pq_core.specs.aux.Runs.{RunView, RunKept}
+use Rattle.pq_core.specs.aux.Runs.{RunView}
 use Rattle.pq_core.specs.aux.Stands.{RunSeen}
 use Rattle.pq_core.specs.aux.Queue.{IsQueue}
 use Rattle.pq_core.specs.declared.request.Request.{Request}
 use Rattle.pq_core.specs.declared.lane.Owed.TheVariants.{Waiting as OwedWaiting, Running as OwedRunning}
-
--- the runs after a start keep their frames in order
-pub current_pushed : {K P V : Type 0} (order : K → K → Ordering) (m : Machine K P V) (inputs : Table) (table : K → Option (Memo K V)) (b a : List (Place (RunView K P))) (n : ℕ) (made : RunView K P)
-    → ((k : ℕ) → found a k ≡ (if k == n then Some made else found b k)) → RunKept order m inputs table made
-    → ((r : ℕ) (run : RunView K P) → found b r ≡ Some run → run.started ≡ inputs.revision → RunKept order m inputs table run)
-    → (r : ℕ) (run : RunView K P) → found a r ≡ Some run → run.started ≡ inputs.revision → RunKept order m inputs table run
-current_pushed {K} {P} order m inputs table b a n made f kept before r run h now = by_test (r == n) refl
-  where
-    by_test : (t : Bool) → (r == n) ≡ t → RunKept order m inputs table run
-    by_test true e =
-        subst (λ (x : RunView K P). RunKept order m inputs table x)
-        (some_one made run (sym (f r ∙ ap (λ (s : Bool). if s then Some made else found b r) e) ∙ h)) kept
-    by_test false e = before r run (sym (f r ∙ ap (λ (s : Bool). if s then Some made else found b r) e) ∙ h) now
 
 -- `seen_of c n request revision` is a run at its start
 abbrev pub seen_of : {K : Type 0} → ℕ → ℕ → Request K → ℕ → RunSeen K

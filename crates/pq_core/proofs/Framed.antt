@@ -1,34 +1,27 @@
--- The frames of a run, when some are pushed, popped and cut, and the round that they close.
-use Rattle.std.proofs.Common.{◌≡◌, ◌≢◌, ℕ, zero, suc, ◌-◌, ◌<◌, ◌≤◌, List, [], ◌∷◌, ◌++◌, length, take, drop, get_or, Option, Some, None, Result, Ok, Err, refl, sym, ◌∙◌, ap, subst, inl, inr, arith}
+-- The frames of a run, when some are pushed, popped and cut.
+use Rattle.std.proofs.Common.{◌≡◌, ◌≢◌, ℕ, zero, suc, ◌≤◌, List, [], ◌∷◌, ◌++◌, length, take, Option, None, refl, sym, ◌∙◌, ap, subst, inl, inr, arith}
 use Rattle.std.specs.declared.cmp.Ordering.{Ordering}
-use Rattle.std.proofs.lemmas.List.{take_all, length-drop}
-use Rattle.pq_inputs.specs.declared.durability.Durability.{Durability}
 use Rattle.pq_inputs.specs.Sources.{Table}
 use Rattle.pq_rules.specs.Turns.{Machine}
-use Rattle.pq_rules.specs.Relations.{Each, In}
-use Rattle.pq_rules.proofs.ListLemmas.{split, distinct_middle}
-use Rattle.pq_rules.proofs.Stack.{distinct_front, distinct_back, distinct_push}
-use Rattle.pq_rules.proofs.Weight.{Exact}
+use Rattle.pq_rules.specs.Relations.{In}
+use Rattle.pq_rules.proofs.ListLemmas.{distinct_middle}
+use Rattle.pq_rules.proofs.Stack.{distinct_front, distinct_push}
 use Rattle.pq_memo.specs.declared.frame.Frame.{Frame}
 use Rattle.pq_memo.specs.declared.frame.Stage.{Stage}
 use Rattle.pq_memo.specs.declared.frame.Stage.TheVariants.{Walking, Waiting}
 use Rattle.pq_memo.specs.Sound.{Memo}
 use Rattle.pq_memo.specs.Look.{IsUpToDate}
 use Rattle.pq_memo.specs.Table.{HasIn}
-use Rattle.pq_memo.specs.Writes.{RingWritten, ring_keys}
-use Rattle.pq_memo.specs.Frames.{Sits, IsFrame, IsSameStage, Awaits, RoundOf, IsWaitRound, frame_keys}
+use Rattle.pq_memo.specs.Frames.{Sits, IsFrame, IsSameStage, Awaits, frame_keys}
 use Rattle.pq_memo.specs.Demand.{Differ}
 use Rattle.pq_memo.specs.Steps.{HasRead}
 use Rattle.pq_memo.proofs.Demanding.{differ}
 use Rattle.pq_memo.proofs.RoundBegun.{distinct_of}
 use Rattle.pq_memo.proofs.Stacked.{keys_append, awaits_frame}
 use Rattle.pq_memo.proofs.TableCalls.{zero_or}
-use Rattle.pq_memo.proofs.Wrote.{wrote_ring}
 use Rattle.pq_core.specs.declared.frames.Top.{Top}
 use Rattle.pq_core.specs.declared.frames.Top.TheVariants.{Empty, At, Away}
-use Rattle.pq_claims.specs.Claims.{Hold}
-use Rattle.pq_core.specs.aux.Runs.{Enters, Renewed, CanGoOn, WaitsFor, first_key, WaitsUp, KeptBelow, FramesKept, IsLowered, out_at}
-use Rattle.pq_core.proofs.Renewed.{renewed_wrote}
+use Rattle.pq_core.specs.aux.Runs.{CanGoOn, WaitsFor, first_key, WaitsUp, KeptBelow, FramesKept, IsLowered, out_at}
 
 not_empty : {K : Type 0} (front : List K) (k : K) → front ++ k ∷ [] ≢ []
 not_empty [] k e = absurd (cc)
@@ -41,9 +34,6 @@ has_read (Waiting part asked front) reads h e = not_empty front.items asked (sym
 
 differ_front : {K : Type 0} (xs ys : List K) → Differ (xs ++ ys) → Differ xs
 differ_front xs ys d = differ xs (distinct_front xs ys (distinct_of (xs ++ ys) d))
-
-differ_back : {K : Type 0} (xs ys : List K) → Differ (xs ++ ys) → Differ ys
-differ_back xs ys d = differ ys (distinct_back xs ys (distinct_of (xs ++ ys) d))
 
 differ_push : {K : Type 0} (xs : List K) (y : K) → Differ xs → (In y xs → ⊥) → Differ (xs ++ y ∷ [])
 differ_push xs y d out = differ (xs ++ y ∷ []) (distinct_push xs y (distinct_of xs d) out)
@@ -64,28 +54,6 @@ cut_keys {K} {P} (suc n) (f ∷ fs) d = (λ i. d.0 (inside n fs i), cut_keys n f
     inside (suc i) [] j = j
     inside (suc i) (g ∷ gs) (inl e) = inl e
     inside (suc i) (g ∷ gs) (inr j) = inr (inside i gs j)
-
-pub drop_keys : {K P : Type 0} (n : ℕ) (fs : List (Frame K P)) → Differ (frame_keys fs) → Differ (frame_keys (drop n fs))
-drop_keys zero fs d = d
-drop_keys (suc n) [] d = d
-drop_keys (suc n) (f ∷ fs) d = drop_keys n fs d.1
-
--- the frames from a place on, as a slice
-pub slice_from : {A : Type 0} (fs all : List A) (n : ℕ) → fs ≡ all → take (length fs - n) (drop n fs) ≡ drop n all
-slice_from {A} fs all n e =
-    take_all (length fs - n) (drop n fs) (let l : length (drop n fs) ≡ length fs - n = length-drop n fs in omega arith)
-    ∙ ap (λ (l : List A). drop n l) e
-
--- one item more
-pub each_more : {A : Type 0} (Q : A → Type 0) (xs : List A) (i : ℕ) (d : A) → i < length xs → Q (get_or xs i d) → Each Q (take i xs) → Each Q (take (suc i) xs)
-each_more Q [] i d h q e = absurd (omega arith)
-each_more Q (x ∷ xs) zero d h q e = (q, tt)
-each_more Q (x ∷ xs) (suc i) d h q e = (e.0, each_more Q xs i d (omega arith) q e.1)
-
-each_in : {K P : Type 0} (Q : K → Type 0) (fs : List (Frame K P)) → Each (λ f. Q f.key) fs → (k : K) → In k (frame_keys fs) → Q k
-each_in Q [] e k i = absurd i
-each_in Q (f ∷ fs) e k (inl same) = subst Q (sym same) e.0
-each_in Q (f ∷ fs) e k (inr i) = each_in Q fs e.1 k i
 
 -- the key for which the last of the first `n` frames waits
 abbrev key_at : {K P : Type 0} → ℕ → K → List (Frame K P) → K
@@ -124,31 +92,6 @@ module _ {K P V : Type 0} (order : K → K → Ordering) (m : Machine K P V) (in
   waits_cut (suc n) z [] w = tt
   waits_cut (suc n) z (f ∷ fs) w =
       (subst (λ (k : K). WaitsFor order m inputs table f k) (key_same n z fs) w.0, waits_cut n z fs w.1)
-
-  waits_back : (z : K) (fs gs : List (Frame K P)) → Waits z (fs ++ gs) → Waits z gs
-  unfolding WaitsUp
-  waits_back z [] gs w = w
-  waits_back z (f ∷ fs) gs w = waits_back z fs gs w.1
-
-  round_way : (z : K) (f : Frame K P) (fs : List (Frame K P)) → Waits z (f ∷ fs)
-      → Each (λ (g : Frame K P). IsUpToDate m inputs.revision (HasIn table) g.key → ⊥) (f ∷ fs)
-      → RoundOf order m inputs.history inputs.revision table z (f ∷ fs)
-  unfolding WaitsUp RoundOf
-  round_way z f [] w e = elim w.0 [ inl up ↦ absurd (e.0 up) | inr a ↦ a ]
-  round_way z f (g ∷ gs) w e = (elim w.0 [ inl up ↦ absurd (e.0 up) | inr a ↦ a ], round_way z g gs w.1 e.1)
-
-  -- the frames from a place on, whose last waits for the key there, are a round
-  pub closes : (z : K) (fs : List (Frame K P)) (place : ℕ) → Waits z fs → place < length fs → ((d : Frame K P) → (get_or fs place d).key ≡ z)
-      → Each (λ (g : Frame K P). IsUpToDate m inputs.revision (HasIn table) g.key → ⊥) (drop place fs)
-      → IsWaitRound order m inputs.history inputs.revision table (drop place fs)
-  closes z fs place w within there stale =
-      let s = split fs place within in
-      let key : s.item.key ≡ z = ap (λ (f : Frame K P). f.key) (sym (s.at s.item)) ∙ there s.item in
-      let back : Waits z (s.item ∷ s.back) = waits_back z s.front (s.item ∷ s.back) (subst (λ (l : List (Frame K P)). Waits z l) s.whole w) in
-      let each : Each (λ (g : Frame K P). IsUpToDate m inputs.revision (HasIn table) g.key → ⊥) (s.item ∷ s.back) =
-      subst (λ (l : List (Frame K P)). Each (λ (g : Frame K P). IsUpToDate m inputs.revision (HasIn table) g.key → ⊥) l) s.left stale in
-      subst (λ (l : List (Frame K P)). IsWaitRound order m inputs.history inputs.revision table l) (sym s.left)
-      (subst (λ (k : K). RoundOf order m inputs.history inputs.revision table k (s.item ∷ s.back)) (sym key) (round_way z s.item s.back back each))
 
   waiting_frame : (f : Frame K P) (z : K) → WaitsFor order m inputs table f z → CanGoOn order m inputs table f
   waiting_frame f z (inl up) = inl up
@@ -212,27 +155,6 @@ module _ {K P V : Type 0} (order : K → K → Ordering) (m : Machine K P V) (in
   -- what the invariant says of a top that is known
   pub kept_as : (stack : List (Frame K P)) (top other : Top K P) → top ≡ other → FramesKept order m inputs table stack top → FramesKept order m inputs table stack other
   kept_as stack top other e kept = subst (λ (t : Top K P). FramesKept order m inputs table stack t) e kept
-
-  -- a key was entered, or the last frame is the top again
-  pub entered_kept : {E : Type 0} (claims : List (ℕ × Hold K)) (id : ℕ) (next : K) (answer : Result (Option ℕ) E) (before after : List (Frame K P)) (top : Top K P)
-      → Enters claims id next answer before after top → Waits next before → Differ (frame_keys before) → (In next (frame_keys before) → ⊥)
-      → (IsUpToDate m inputs.revision (HasIn table) next → ⊥) → FramesKept order m inputs table after top
-  entered_kept claims id next (Ok None) before after top e w d apart stale =
-      kept_as after (At (record { key = next; stage = Walking 0 })) top (sym e.1)
-      (subst (λ (l : List (Frame K P)). KeptBelow order m inputs table l next) (sym e.0) (record { waits = w; differ = d; apart = apart }), inr (walked next stale))
-  entered_kept claims id next (Ok (Some other)) before after top e w d apart stale = lowered next before after top w d e.0
-  entered_kept claims id next (Err failure) before after top e w d apart stale = lowered next before after top w d e
-
--- the ring of the frames from a place on was published
-pub renewed_ring : {K P V : Type 0} (order : K → K → Ordering) → Exact order → (m : Machine K P V) (inputs : Table) (before after : K → Option (Memo K V))
-    (frames : List (Frame K P)) (members : List (K × List K)) (durability : Durability)
-    → Each (λ (f : Frame K P). IsUpToDate m inputs.revision (HasIn before) f.key → ⊥) frames
-    → ((k : K) → (In k (ring_keys members) → In k (frame_keys frames)) × (In k (frame_keys frames) → In k (ring_keys members)))
-    → RingWritten inputs.revision (HasIn before) (HasIn after) members durability → Renewed m inputs.revision before after
-renewed_ring {K} order exact m inputs before after frames members durability stale keys written =
-    renewed_wrote order exact m inputs.revision before after (ring_keys members)
-    (wrote_ring inputs.revision before after members durability written)
-    (λ k i. each_in (λ (x : K). IsUpToDate m inputs.revision (HasIn before) x → ⊥) frames stale k ((keys k).0 i))
 
 -- a top that was lowered has no work out
 pub lowered_idle : {K P : Type 0} (before after : List (Frame K P)) (top : Top K P) → IsLowered before after top → out_at top ≡ None

@@ -6,12 +6,13 @@ pub mod Moving
 pub mod Ending
 pub mod Changing
 pub mod Claiming
+pub mod RunsKept
 pub mod Beginning
 pub mod CoreOpening
 pub mod CoreAccepting
 pub mod CoreRunning
 pub mod Keeping
-pub mod Closing
+pub mod Shutting
 pub mod Slots
 pub mod Writes
 pub mod Queued
@@ -19,6 +20,12 @@ pub mod LaneMoves
 pub mod Framed
 pub mod OneTurn
 pub mod Renewed
+pub mod Stepping
+pub mod Rounds
+pub mod RingFrames
+pub mod RingRuns
+pub mod RingMembers
+pub mod RingLeaving
 pub mod CoreReleasing
 pub mod CoreResting
 pub mod CoreStarting

@@ -1,5 +1,5 @@
 -- A rule comes to one turn by equally many right reads.
-use Rattle.std.proofs.Common.{◌≡◌, ℕ, suc, List, [], ◌∷◌, length, slice_get, Option, Some, refl, sym, ◌∙◌, ap, subst, arith}
+use Rattle.std.proofs.Common.{◌≡◌, ℕ, suc, List, [], ◌∷◌, length, slice_get, Option, Some, refl, sym, ◌∙◌, ap, subst, inl, inr, arith}
 use Rattle.std.specs.declared.cmp.Ordering.{Ordering}
 use Rattle.pq_inputs.specs.Sources.{Sources, Table}
 use Rattle.pq_rules.specs.declared.turn.Turn.{Turn}
@@ -13,7 +13,10 @@ use Rattle.pq_memo.specs.Sound.{Memo, at, asked_keys}
 use Rattle.pq_memo.specs.Table.{HasIn}
 use Rattle.pq_memo.specs.Frames.{Came}
 use Rattle.pq_memo.proofs.Reading.{now_files}
+use Rattle.pq_memo.specs.Look.{IsUpToDate}
+use Rattle.pq_core.specs.declared.frames.Pending.{Pending}
 use Rattle.pq_core.specs.Works.{IsDue}
+use Rattle.pq_core.specs.aux.Runs.{CanTake}
 
 asked_long : {K V : Type 0} (es : Trace K V) → length (asked_keys es) ≡ length es
 asked_long [] = refl
@@ -58,6 +61,15 @@ module _ {K P V : Type 0} (order : K → K → Ordering) (strict : Strict order)
 
       turns : turn ≡ other
       turns = one_comes (at order m inputs.history inputs.revision) strict k came.run due.run turn other came.comes here counts
+
+  -- so it is where the key of the run's work is not up to date
+  pub took : (p : Pending K) (q : K) (turn : Turn K P V) (front : List K) (files : Sources) → p.key ≡ q → files ≡ inputs.files → length p.reads.items ≡ length front
+      → (IsUpToDate m inputs.revision (HasIn table) p.key → ⊥) → CanTake order m inputs table p → IsDue order m files q front turn
+      → Came order m inputs.history inputs.revision (HasIn table) p.key turn p.reads.items
+  took p q turn front files key same long stale can due = elim can [
+    | inl up ↦ absurd (stale up)
+    | inr came ↦ came_to p.key q came.0 turn p.reads.items front files key same long came.1 due
+  ]
 
   -- and work whose rule came there is due
   pub came_due : (k : K) (turn : Turn K P V) (reads : List K) → Came order m inputs.history inputs.revision (HasIn table) k turn reads

@@ -145,7 +145,7 @@ module _ {K P V : Type 0} (order : K → K → Ordering) (m : Machine K P V) (in
   can_still f (inl up) = inl (up_still f.key up)
   can_still f (inr frame) = elim (renewed f.key) [ inl same ↦ inr (frame_still f.key f.stage same frame) | inr r ↦ inl (inr (r.1.0, r.1.1, r.1.2)) ]
 
-  waits_still : (f : Frame K P) (z : K) → WaitsFor order m inputs before f z → WaitsFor order m inputs after f z
+  pub waits_still : (f : Frame K P) (z : K) → WaitsFor order m inputs before f z → WaitsFor order m inputs after f z
   waits_still f z (inl up) = inl (up_still f.key up)
   waits_still f z (inr awaits) = elim (renewed f.key) [ inl same ↦ inr (awaits_still f.key f.stage z same awaits) | inr r ↦ inl (inr (r.1.0, r.1.1, r.1.2)) ]
 

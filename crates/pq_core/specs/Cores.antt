@@ -18,7 +18,7 @@ use Rattle.pq_core.specs.RightReply.{answer_by}
 use Rattle.pq_core.specs.declared.rising.Place.{Place}
 use Rattle.pq_core.specs.aux.Rising.{Slots, found, IsAbove}
 use Rattle.pq_core.specs.aux.Lanes.{LaneView, LaneStands}
-use Rattle.pq_core.specs.aux.Runs.{RunView, RunKept, AreClaimed, out_at}
+use Rattle.pq_core.specs.aux.Runs.{RunView, RunsKept, out_at}
 use Rattle.pq_core.specs.aux.Stands.{RunSeen, Fields, Stands}
 use Rattle.pq_core.specs.aux.Queue.{IsQueue}
 
@@ -80,17 +80,14 @@ StandsFor order m puts core l = StandsOf order m puts (held core) l
 
 -- `IsWhole order m puts core` is the invariant of a core: its table keeps its invariant; the
 -- numbers of clients and runs are above those given; its queue is of the requests that wait, and
--- there is room for a run of each; the frames of the current runs are in order; each run holds the
--- keys of its frames; and it stands for a ledger
+-- there is room for a run of each; its runs and their claims are kept; and it stands for a ledger
 pub record IsWhole {R K P V O : Type 0} (order : K → K → Ordering) (m : Machine K P V) (puts : O → List (ReplyView K V)) (core : CoreView R K P V O) : Type 0 where
   pub kept : KeptOver order m core.inputs core.places
   pub lanes_above : IsAbove core.clients core.lanes.items
   pub runs_above : IsAbove core.started core.runs.items
   pub queue : IsQueue core.lanes.items core.waiting
   pub room : length core.waiting ≤ core.runs.room
-  pub current : (r : ℕ) (run : RunView K P) → found core.runs.items r ≡ Some run → run.started ≡ core.inputs.revision
-      → RunKept order m core.inputs (memo_at order core.places) run
-  pub claimed : AreClaimed core.claims core.runs.items
+  pub runs : RunsKept order m core.inputs (memo_at order core.places) core.claims core.runs.items
   pub ledger : (l : Ledger K V O) × StandsOf order m puts (held core) l
 
 -- `OnCarry Says move` is that `Says` holds of the work that `move` hands out, if it hands out work

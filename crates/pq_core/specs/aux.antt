@@ -6,6 +6,7 @@ pub mod Rising
 pub mod Changes
 pub mod Lanes
 pub mod Runs
+pub mod Rings
 pub mod Accepting
 pub mod Queue
 pub mod Resting

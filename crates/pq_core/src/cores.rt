@@ -7,6 +7,7 @@
 //!
 //! A run claims the keys of its frames. A run that needs a key of another run waits until that run
 //! releases it. A run that was overtaken keeps its claims until it is looked at, given to or starved.
+//! A ring of keys, in one run or through several, is published by the look that meets it.
 //!
 //! A run is current while no edit was accepted since its start. The invariant of a current run is
 //! that of its frames over the table of memos; it outlasts the steps of other runs.

@@ -4,25 +4,24 @@
 //! key of the one above. A run claims a key before it enters it, and releases the key where its
 //! frame leaves. A key that another run holds is not entered: the run is blocked.
 //!
-//! Where the wait for another run would close a ring of runs, the run releases its keys and claims
-//! none from then on. It brings up to date itself all that it needs. So the key of a frame may be up
-//! to date before its turn comes: then the frame leaves.
+//! Where the wait for another run would close a ring of runs, or the key is on the run's own stack, the
+//! step says which ring closes: `closing` publishes it. So no key of a frame is up to date before its
+//! turn comes.
 //!
-//! A step costs what one step of a frame costs and at most one claim or release; or, where it closes
-//! a round, time and memory linear in its keys and their reads.
-ghost use Rattle.std.specs.Prelude.{◌≡◌, ◌≢◌, ◌++◌, ◌∷◌, [], length, None, false, IfOk, IfErr, OnOk, OnErr};
-ghost use Rattle.pq_memo.specs.Look.{IsUpToDate};
+//! A step costs what one step of a frame costs and at most one claim or release.
+ghost use Rattle.std.specs.Prelude.{◌≡◌, ◌≢◌, ◌++◌, ◌∷◌, [], length, None, IfOk, IfErr, OnOk, OnErr};
 ghost use Rattle.pq_memo.specs.Table.{memo_at, HasIn, IsSameTable, KeptOver};
-ghost use Rattle.pq_memo.specs.Frames.{Came, IsFrame, Awaits, frame_keys};
+ghost use Rattle.pq_memo.specs.Writes.{IsPublished};
+ghost use Rattle.pq_memo.specs.Frames.{Came, IsFrame, frame_keys};
 ghost use Rattle.pq_memo.specs.Steps.{IsWhy};
 ghost use Rattle.pq_claims.specs.Claims.{hold_of};
 ghost use Rattle.pq_core.specs.Moves.{out_of};
-ghost use Rattle.pq_core.specs.aux.Runs.{FramesKept, HandedOut, HasAdvanced, IsLowered, KeptBelow, CanGoOn, CanTake, Loosens, OthersHold, Renewed, keys_held, out_at, run_keys};
+ghost use Rattle.pq_core.specs.aux.Runs.{AreStale, FramesKept, HandedOut, HasAdvanced, IsLowered, KeptBelow, CanGoOn, CanTake, OthersHold, Renewed, WaitStands, OthersUnwritten, out_at, run_keys};
 ghost use Rattle.pq_core.specs.declared.frames.Top.TheVariants.{Empty};
 
 use crate::fault::Memory;
 use crate::work::{Done, Task, Work};
-use pq_claims::{Claims, RunId};
+use pq_claims::{Claims, RunId, claims_are_sound};
 use pq_inputs::Inputs;
 use pq_memo::{Frame, Memos, Stack, Stage, Step, Unpublished, Why, turns_are_right};
 use pq_rules::{Answer, Rules, Shared, Turn};
@@ -46,23 +45,24 @@ pub(crate) enum Top<K, P> {
     Away(Pending<K>),
 }
 
-/// What a step of a run came to. `W` is the work that it may hand out.
+/// What a step of a run came to. `W` is the work that it may hand out, `K` the type of keys.
 #[derive(Drop)]
-pub(crate) enum Went<W> {
+pub(crate) enum Went<W, K> {
     /// This work is handed out.
     Carry(W),
     /// The run went on.
     Stepped,
     /// The run waits for this other run.
     Blocked(RunId),
+    /// The top waits for a key, and a wait of the run for it would close the ring of these keys.
+    Ring(Vec<K>),
 }
 
-/// The frames of a run, and whether it claims no keys any more.
+/// The frames of a run.
 #[derive(Drop)]
 pub(crate) struct Frames<R: Rules> {
     pub(crate) stack: Stack<R>,
     pub(crate) top: Top<R::Key, R::Part>,
-    pub(crate) loose: bool,
 }
 
 /// The answer that is this value.
@@ -88,10 +88,9 @@ fn publish_value<R: Rules>(
 ) -> Result<(), Pending<R::Key>>
     requires kept { KeptOver R.Key.cmp (R.machine memos.old.rules) inputs.now memos.old.places }
     requires came { Came R.Key.cmp (R.machine memos.old.rules) inputs.now.history inputs.now.revision (HasIn (memo_at R.Key.cmp memos.old.places)) pending.key (Turn.Done value.now) pending.reads.items }
-    requires stale { IsUpToDate (R.machine memos.old.rules) inputs.now.revision (HasIn (memo_at R.Key.cmp memos.old.places)) pending.key → ⊥ }
     ensures rules { memos.new.rules ≡ memos.old.rules }
     ensures kept { KeptOver R.Key.cmp (R.machine memos.old.rules) inputs.now memos.new.places }
-    ensures renewed { Renewed (R.machine memos.old.rules) inputs.now.revision (memo_at R.Key.cmp memos.old.places) (memo_at R.Key.cmp memos.new.places) }
+    ensures published { OnOk result (IsPublished R.Key.cmp (R.machine memos.old.rules) inputs.now memos.old.places pending.key (Answer.Value value.now) pending.reads.items memos.new.places) }
     ensures returned { IfErr result (λ p. (p.key ≡ pending.key) × (p.reads.items ≡ pending.reads.items)) }
     ensures refused { OnErr result (IsSameTable (memo_at R.Key.cmp memos.old.places) (memo_at R.Key.cmp memos.new.places)) }
 {
@@ -117,19 +116,16 @@ impl<R: Rules> Frames<R> {
     pub(crate) fn new(alloc: Global) -> Self
         ensures stack { result.stack ≡ [] }
         ensures top { result.top ≡ Empty }
-        ensures claims { result.loose ≡ false }
     {
         Frames {
             stack: Stack::new(alloc),
             top: Top::Empty,
-            loose: false,
         }
     }
 
     /// Makes the last frame below the top the top, in the place of that.
     pub(crate) fn lower(&mut self)
         ensures lowered { IsLowered self.old.stack self.new.stack self.new.top }
-        ensures same { self.new.loose ≡ self.old.loose }
     {
         match self.stack.pop() {
             Some(frame) => {
@@ -157,7 +153,6 @@ impl<R: Rules> Frames<R> {
         requires copied { copy ≡ key }
         requires because { IsWhy (R.machine memos.now.rules) inputs.now.history inputs.now.revision (HasIn (memo_at R.Key.cmp memos.now.places)) key why }
         ensures keys { run_keys self.new.stack self.new.top ≡ frame_keys self.old.stack ++ key ∷ [] }
-        ensures same { self.new.loose ≡ self.old.loose }
         ensures frames_kept { FramesKept R.Key.cmp (R.machine memos.now.rules) inputs.now (memo_at R.Key.cmp memos.now.places) self.new.stack self.new.top }
         ensures handed { HandedOut (R.machine memos.now.rules) memos.now.rules inputs.now (memo_at R.Key.cmp memos.now.places) id self.new.top result }
     {
@@ -195,7 +190,6 @@ impl<R: Rules> Frames<R> {
         requires came { Came R.Key.cmp (R.machine memos.now.rules) inputs.now.history inputs.now.revision (HasIn (memo_at R.Key.cmp memos.now.places)) key ((R.machine memos.now.rules).advance part answer) reads.items }
         requires read { reads.items ≢ [] }
         ensures keys { run_keys self.new.stack self.new.top ≡ frame_keys self.old.stack ++ key ∷ [] }
-        ensures same { self.new.loose ≡ self.old.loose }
         ensures frames_kept { FramesKept R.Key.cmp (R.machine memos.now.rules) inputs.now (memo_at R.Key.cmp memos.now.places) self.new.stack self.new.top }
         ensures handed { HandedOut (R.machine memos.now.rules) memos.now.rules inputs.now (memo_at R.Key.cmp memos.now.places) id self.new.top result }
     {
@@ -207,7 +201,7 @@ impl<R: Rules> Frames<R> {
     }
 
     /// Takes one step of `frame`, which was the top and whose key is not up to date. `copy` is a
-    /// copy of that key.
+    /// copy of that key. The run waits for no key.
     fn step(
         &mut self,
         alloc: Global,
@@ -217,33 +211,34 @@ impl<R: Rules> Frames<R> {
         inputs: &Inputs,
         frame: Frame<R::Key, R::Part>,
         copy: R::Key,
-    ) -> Result<Went<Work<R>>, Memory>
+    ) -> Result<Went<Work<R>, R::Key>, Memory>
         requires kept { KeptOver R.Key.cmp (R.machine memos.old.rules) inputs.now memos.old.places }
         requires below { KeptBelow R.Key.cmp (R.machine memos.old.rules) inputs.now (memo_at R.Key.cmp memos.old.places) self.old.stack frame.key }
-        requires stale { IsUpToDate (R.machine memos.old.rules) inputs.now.revision (HasIn (memo_at R.Key.cmp memos.old.places)) frame.key → ⊥ }
+        requires stale { AreStale (R.machine memos.old.rules) inputs.now.revision (memo_at R.Key.cmp memos.old.places) (frame_keys self.old.stack ++ frame.key ∷ []) }
+        requires awake { (hold_of claims.old id).wait ≡ None }
         requires frame { IsFrame R.Key.cmp (R.machine memos.old.rules) inputs.now.history inputs.now.revision (HasIn (memo_at R.Key.cmp memos.old.places)) frame.key frame.stage }
         requires copied { copy ≡ frame.key }
-        requires claimed { (hold_of claims.old id).keys ≡ keys_held self.old.loose (frame_keys self.old.stack ++ frame.key ∷ []) }
+        requires claimed { (hold_of claims.old id).keys ≡ frame_keys self.old.stack ++ frame.key ∷ [] }
         ensures rules { memos.new.rules ≡ memos.old.rules }
         ensures kept { KeptOver R.Key.cmp (R.machine memos.old.rules) inputs.now memos.new.places }
         ensures renewed { Renewed (R.machine memos.old.rules) inputs.now.revision (memo_at R.Key.cmp memos.old.places) (memo_at R.Key.cmp memos.new.places) }
         ensures frames_kept { FramesKept R.Key.cmp (R.machine memos.old.rules) inputs.now (memo_at R.Key.cmp memos.new.places) self.new.stack self.new.top }
-        ensures claimed { (hold_of claims.new id).keys ≡ keys_held self.new.loose (run_keys self.new.stack self.new.top) }
+        ensures claimed { (hold_of claims.new id).keys ≡ run_keys self.new.stack self.new.top }
         ensures others { OthersHold id claims.old claims.new }
-        ensures loosens { Loosens R.Key.cmp claims.old id self.old.loose self.new.loose }
-        ensures advanced { IfOk result (λ w. HasAdvanced (R.machine memos.old.rules) memos.old.rules inputs.now (memo_at R.Key.cmp memos.old.places) claims.new id self.new.top w) }
+        ensures stale { AreStale (R.machine memos.old.rules) inputs.now.revision (memo_at R.Key.cmp memos.new.places) (run_keys self.new.stack self.new.top) }
+        ensures waits { WaitStands R.Key.cmp (R.machine memos.old.rules) inputs.now (memo_at R.Key.cmp memos.new.places) claims.new id self.new.top }
+        ensures written { OthersUnwritten claims.old id (memo_at R.Key.cmp memos.old.places) (memo_at R.Key.cmp memos.new.places) }
+        ensures advanced { IfOk result (λ w. HasAdvanced R.Key.cmp (R.machine memos.old.rules) memos.old.rules inputs.now (memo_at R.Key.cmp memos.old.places) claims.new id self.new.top w) }
         ensures refused { OnErr result (out_at self.new.top ≡ None) }
     {
         match memos.step(alloc, frame, inputs) {
             Ok(Step::Finished) => {
+                claims_are_sound(claims);
                 self.leave(id, claims);
                 Ok(Went::Stepped)
             }
             Ok(Step::Needs(frame, next)) => {
-                match self.wait(alloc, id, memos, claims, inputs, frame, next)? {
-                    Some(other) => Ok(Went::Blocked(other)),
-                    None => Ok(Went::Stepped),
-                }
+                self.wait(alloc, id, memos, claims, inputs, frame, next)
             }
             Ok(Step::Starts(key, why)) => {
                 Ok(Went::Carry(self.start(alloc, id, memos, inputs, key, copy, why)))
@@ -258,7 +253,8 @@ impl<R: Rules> Frames<R> {
         }
     }
 
-    /// Takes one step of `frame`, which was the top.
+    /// Takes one step of `frame`, which was the top. If the run waited, its wait ends: it waits again
+    /// if the key that it needs is still held.
     pub(crate) fn advance(
         &mut self,
         alloc: Global,
@@ -267,25 +263,25 @@ impl<R: Rules> Frames<R> {
         claims: &mut Claims<R>,
         inputs: &Inputs,
         frame: Frame<R::Key, R::Part>,
-    ) -> Result<Went<Work<R>>, Memory>
+    ) -> Result<Went<Work<R>, R::Key>, Memory>
         requires kept { KeptOver R.Key.cmp (R.machine memos.old.rules) inputs.now memos.old.places }
         requires below { KeptBelow R.Key.cmp (R.machine memos.old.rules) inputs.now (memo_at R.Key.cmp memos.old.places) self.old.stack frame.key }
         requires can { CanGoOn R.Key.cmp (R.machine memos.old.rules) inputs.now (memo_at R.Key.cmp memos.old.places) frame }
-        requires claimed { (hold_of claims.old id).keys ≡ keys_held self.old.loose (frame_keys self.old.stack ++ frame.key ∷ []) }
+        requires stale { AreStale (R.machine memos.old.rules) inputs.now.revision (memo_at R.Key.cmp memos.old.places) (frame_keys self.old.stack ++ frame.key ∷ []) }
+        requires claimed { (hold_of claims.old id).keys ≡ frame_keys self.old.stack ++ frame.key ∷ [] }
         ensures rules { memos.new.rules ≡ memos.old.rules }
         ensures kept { KeptOver R.Key.cmp (R.machine memos.old.rules) inputs.now memos.new.places }
         ensures renewed { Renewed (R.machine memos.old.rules) inputs.now.revision (memo_at R.Key.cmp memos.old.places) (memo_at R.Key.cmp memos.new.places) }
         ensures frames_kept { FramesKept R.Key.cmp (R.machine memos.old.rules) inputs.now (memo_at R.Key.cmp memos.new.places) self.new.stack self.new.top }
-        ensures claimed { (hold_of claims.new id).keys ≡ keys_held self.new.loose (run_keys self.new.stack self.new.top) }
+        ensures claimed { (hold_of claims.new id).keys ≡ run_keys self.new.stack self.new.top }
         ensures others { OthersHold id claims.old claims.new }
-        ensures loosens { Loosens R.Key.cmp claims.old id self.old.loose self.new.loose }
-        ensures advanced { IfOk result (λ w. HasAdvanced (R.machine memos.old.rules) memos.old.rules inputs.now (memo_at R.Key.cmp memos.old.places) claims.new id self.new.top w) }
+        ensures stale { AreStale (R.machine memos.old.rules) inputs.now.revision (memo_at R.Key.cmp memos.new.places) (run_keys self.new.stack self.new.top) }
+        ensures waits { WaitStands R.Key.cmp (R.machine memos.old.rules) inputs.now (memo_at R.Key.cmp memos.new.places) claims.new id self.new.top }
+        ensures written { OthersUnwritten claims.old id (memo_at R.Key.cmp memos.old.places) (memo_at R.Key.cmp memos.new.places) }
+        ensures advanced { IfOk result (λ w. HasAdvanced R.Key.cmp (R.machine memos.old.rules) memos.old.rules inputs.now (memo_at R.Key.cmp memos.old.places) claims.new id self.new.top w) }
         ensures refused { OnErr result (out_at self.new.top ≡ None) }
     {
-        if memos.is_up_to_date(&frame.key, inputs) {
-            self.leave(id, claims);
-            return Ok(Went::Stepped);
-        }
+        claims.end_wait(id);
         match memos.rules().copy_key(alloc, &frame.key) {
             Ok(copy) => self.step(alloc, id, memos, claims, inputs, frame, copy),
             Err(_) => {
@@ -295,9 +291,9 @@ impl<R: Rules> Frames<R> {
         }
     }
 
-    /// Takes `done`, the result of the work of `pending`, which was the top and whose key is not up
-    /// to date. If an allocation fails, no key gets another memo, and `done` comes back.
-    fn take_turn(
+    /// Takes `done`, the result of the work of `pending`, which was the top. If an allocation fails, no
+    /// key gets another memo, and `done` comes back.
+    pub(crate) fn take(
         &mut self,
         alloc: Global,
         id: RunId,
@@ -309,22 +305,28 @@ impl<R: Rules> Frames<R> {
     ) -> Result<(), Done<R>>
         requires kept { KeptOver R.Key.cmp (R.machine memos.old.rules) inputs.now memos.old.places }
         requires below { KeptBelow R.Key.cmp (R.machine memos.old.rules) inputs.now (memo_at R.Key.cmp memos.old.places) self.old.stack pending.key }
-        requires stale { IsUpToDate (R.machine memos.old.rules) inputs.now.revision (HasIn (memo_at R.Key.cmp memos.old.places)) pending.key → ⊥ }
-        requires came { Came R.Key.cmp (R.machine memos.old.rules) inputs.now.history inputs.now.revision (HasIn (memo_at R.Key.cmp memos.old.places)) pending.key done.turn pending.reads.items }
+        requires can { CanTake R.Key.cmp (R.machine memos.old.rules) inputs.now (memo_at R.Key.cmp memos.old.places) pending }
+        requires stale { AreStale (R.machine memos.old.rules) inputs.now.revision (memo_at R.Key.cmp memos.old.places) (frame_keys self.old.stack ++ pending.key ∷ []) }
+        requires awake { (hold_of claims.old id).wait ≡ None }
+        requires rules { done.rules ≡ memos.old.rules }
+        requires files { done.files ≡ inputs.now.files }
         requires counted { length pending.reads.items ≡ length done.front }
         requires key { pending.key ≡ done.key }
-        requires claimed { (hold_of claims.old id).keys ≡ keys_held self.old.loose (frame_keys self.old.stack ++ pending.key ∷ []) }
+        requires claimed { (hold_of claims.old id).keys ≡ frame_keys self.old.stack ++ pending.key ∷ [] }
         ensures rules { memos.new.rules ≡ memos.old.rules }
         ensures kept { KeptOver R.Key.cmp (R.machine memos.old.rules) inputs.now memos.new.places }
         ensures renewed { Renewed (R.machine memos.old.rules) inputs.now.revision (memo_at R.Key.cmp memos.old.places) (memo_at R.Key.cmp memos.new.places) }
         ensures frames_kept { FramesKept R.Key.cmp (R.machine memos.old.rules) inputs.now (memo_at R.Key.cmp memos.new.places) self.new.stack self.new.top }
-        ensures claimed { (hold_of claims.new id).keys ≡ keys_held self.new.loose (run_keys self.new.stack self.new.top) }
+        ensures claimed { (hold_of claims.new id).keys ≡ run_keys self.new.stack self.new.top }
         ensures others { OthersHold id claims.old claims.new }
-        ensures same { self.new.loose ≡ self.old.loose }
+        ensures stale { AreStale (R.machine memos.old.rules) inputs.now.revision (memo_at R.Key.cmp memos.new.places) (run_keys self.new.stack self.new.top) }
+        ensures waits { WaitStands R.Key.cmp (R.machine memos.old.rules) inputs.now (memo_at R.Key.cmp memos.new.places) claims.new id self.new.top }
+        ensures written { OthersUnwritten claims.old id (memo_at R.Key.cmp memos.old.places) (memo_at R.Key.cmp memos.new.places) }
         ensures taken { OnOk result (out_at self.new.top ≡ None) }
         ensures back { IfErr result (λ d. d ≡ done) }
         ensures refused { OnErr result (out_at self.new.top ≡ Some (out_of done)) }
     {
+        let _latest = inputs.now();
         let Done {
             rules,
             run,
@@ -347,6 +349,7 @@ impl<R: Rules> Frames<R> {
             }
             Turn::Done(value) => match publish_value(alloc, memos, inputs, pending, &value) {
                 Ok(()) => {
+                    claims_are_sound(claims);
                     self.leave(id, claims);
                     Ok(())
                 }
@@ -365,45 +368,5 @@ impl<R: Rules> Frames<R> {
                 }
             },
         }
-    }
-
-    /// Takes `done`, the result of the work of `pending`, which was the top. If its key is up to
-    /// date meanwhile, the result is dropped. If an allocation fails, no key gets another memo, and
-    /// `done` comes back.
-    pub(crate) fn take(
-        &mut self,
-        alloc: Global,
-        id: RunId,
-        memos: &mut Memos<R>,
-        claims: &mut Claims<R>,
-        inputs: &Inputs,
-        pending: Pending<R::Key>,
-        done: Done<R>,
-    ) -> Result<(), Done<R>>
-        requires kept { KeptOver R.Key.cmp (R.machine memos.old.rules) inputs.now memos.old.places }
-        requires below { KeptBelow R.Key.cmp (R.machine memos.old.rules) inputs.now (memo_at R.Key.cmp memos.old.places) self.old.stack pending.key }
-        requires can { CanTake R.Key.cmp (R.machine memos.old.rules) inputs.now (memo_at R.Key.cmp memos.old.places) pending }
-        requires rules { done.rules ≡ memos.old.rules }
-        requires files { done.files ≡ inputs.now.files }
-        requires counted { length pending.reads.items ≡ length done.front }
-        requires key { pending.key ≡ done.key }
-        requires claimed { (hold_of claims.old id).keys ≡ keys_held self.old.loose (frame_keys self.old.stack ++ pending.key ∷ []) }
-        ensures rules { memos.new.rules ≡ memos.old.rules }
-        ensures kept { KeptOver R.Key.cmp (R.machine memos.old.rules) inputs.now memos.new.places }
-        ensures renewed { Renewed (R.machine memos.old.rules) inputs.now.revision (memo_at R.Key.cmp memos.old.places) (memo_at R.Key.cmp memos.new.places) }
-        ensures frames_kept { FramesKept R.Key.cmp (R.machine memos.old.rules) inputs.now (memo_at R.Key.cmp memos.new.places) self.new.stack self.new.top }
-        ensures claimed { (hold_of claims.new id).keys ≡ keys_held self.new.loose (run_keys self.new.stack self.new.top) }
-        ensures others { OthersHold id claims.old claims.new }
-        ensures same { self.new.loose ≡ self.old.loose }
-        ensures taken { OnOk result (out_at self.new.top ≡ None) }
-        ensures back { IfErr result (λ d. d ≡ done) }
-        ensures refused { OnErr result (out_at self.new.top ≡ Some (out_of done)) }
-    {
-        let _latest = inputs.now();
-        if memos.is_up_to_date(&pending.key, inputs) {
-            self.leave(id, claims);
-            return Ok(());
-        }
-        self.take_turn(alloc, id, memos, claims, inputs, pending, done)
     }
 }

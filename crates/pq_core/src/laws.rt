@@ -6,12 +6,14 @@ ghost use Rattle.std.specs.declared.alloc.AllocError.{AllocError};
 ghost use Rattle.pq_core.specs.Changes.{ChangeView};
 ghost use Rattle.pq_core.specs.Works.{DoneView, WorkView};
 ghost use Rattle.pq_core.specs.Ledger.{Ledger, IsClosed};
-ghost use Rattle.pq_core.specs.Moves.{Opens, Accepts, Edits, Starts, Looks, Gives, Starves, Releases, Closes, TakesOut};
+ghost use Rattle.pq_core.specs.Moves.{Opens, Accepts, Edits, Starts, Looks, Gives, Starves, Releases, Closes, TakesOut, RunAt, Runs};
 ghost use Rattle.pq_core.specs.RightReply.{answer_by};
 ghost use Rattle.pq_core.specs.Kept.{Kept};
 ghost use Rattle.pq_core.specs.Cores.{StandsFor};
 ghost use Rattle.pq_memo.specs.Sound.{Sound};
+ghost use Rattle.pq_memo.specs.Look.{IsUpToDate};
 ghost use Rattle.pq_memo.specs.Table.{memo_at, HasIn};
+ghost use Rattle.pq_claims.specs.Claims.{AreSound, Holds};
 ghost use Rattle.pq_core.specs.declared.request.Request.{Request};
 ghost use Rattle.pq_core.specs.declared.fault.OpenRefused.{OpenRefused};
 ghost use Rattle.pq_core.specs.declared.fault.AcceptRefused.{AcceptRefused};
@@ -23,6 +25,7 @@ ghost use Rattle.pq_core.specs.declared.moves.Released.{Released};
 
 use crate::cores::Core;
 use crate::outbox::Outbox;
+use pq_claims::claims_are_sound;
 use pq_memo::kept_is_sound;
 use pq_rules::Rules;
 
@@ -63,4 +66,15 @@ pub fn core_is_sound<R: Rules, O: Outbox<R::Key, R::Value>>(core: &Core<R, O>)
     ensures stands { (l : Ledger R.Key R.Value O) × StandsFor R.Key.cmp (R.machine core.now.rules) O.puts core.now l × Kept (answer_by R.Key.cmp (R.machine core.now.rules)) O.puts l }
 {
     kept_is_sound(&core.memos);
+}
+
+/// Between any two calls a key has one holder at most, and waits between runs form no ring. A run
+/// that holds a key exists. No key that a run holds is up to date: so a key is released in the call
+/// that brings it up to date, and after a ring was published no run holds a key of it.
+pub fn runs_hold_their_keys<R: Rules, O: Outbox<R::Key, R::Value>>(core: &Core<R, O>)
+    ensures sound { AreSound core.now.claims }
+    ensures runs { (run : ℕ) (key : R.Key) → Holds core.now.claims run key → (l : Ledger R.Key R.Value O) → StandsFor R.Key.cmp (R.machine core.now.rules) O.puts core.now l → (at : RunAt R.Key R.Value O) × Runs l run at }
+    ensures stale { (run : ℕ) (key : R.Key) → Holds core.now.claims run key → IsUpToDate (R.machine core.now.rules) core.now.inputs.revision (HasIn (memo_at R.Key.cmp core.now.places)) key → ⊥ }
+{
+    claims_are_sound(&core.claims);
 }

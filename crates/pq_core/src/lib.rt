@@ -12,10 +12,12 @@
 //! call is refused), `moves` (what runs and releases come to), `outbox` (where replies go), `work`
 //! (a rule that is to be carried out), `cores` (the core), `opening`, `accepting`, `starting`,
 //! `running` and `releasing` (its calls), `lane` and `in_lanes` (an open client), `rising` (a map from
-//! rising numbers), `run`, `frames` and `entering` (how a run goes on), `laws` (what each move keeps).
+//! rising numbers), `run`, `frames` and `entering` (how a run goes on), `closing` (of a ring of keys),
+//! `laws` (what each move keeps).
 #![tactic(auto)]
 
 mod accepting;
+mod closing;
 mod cores;
 mod entering;
 mod fault;
@@ -47,7 +49,7 @@ pub use fault::{
 };
 pub use ids::{ClientId, Number};
 pub use label::Label;
-pub use laws::{closed_for_good, core_is_sound, moves_keep};
+pub use laws::{closed_for_good, core_is_sound, moves_keep, runs_hold_their_keys};
 pub use limits::{MAX_CLIENTS, WINDOW};
 pub use list_outbox::ListOutbox;
 pub use moves::{Move, Released};

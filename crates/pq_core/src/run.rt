@@ -4,12 +4,12 @@
 //! A run takes steps, and other runs take steps on the same table in between. Its invariant
 //! (`specs/aux/Runs`) holds while its start is the revision now. It outlasts each write of a key
 //! that was not up to date, so every write is of such a key.
-ghost use Rattle.std.specs.Prelude.{◌≡◌, ◌↔◌, [], length, None, Some, false, IsTrue, IsSome, IfOk, IfErr, IfSome, IfNone, OnOk, OnErr};
+ghost use Rattle.std.specs.Prelude.{◌≡◌, ◌↔◌, [], length, None, Some, IsTrue, IsSome, IfOk, IfErr, IfSome, IfNone, OnOk, OnErr};
 ghost use Rattle.pq_memo.specs.Table.{memo_at, HasIn, KeptOver};
 ghost use Rattle.pq_claims.specs.Claims.{hold_of};
 ghost use Rattle.pq_core.specs.Kept.{IsDemand};
 ghost use Rattle.pq_core.specs.Moves.{out_of};
-ghost use Rattle.pq_core.specs.aux.Runs.{FramesKept, HasLooked, IsAnswer, IsSameRun, IsStale, Loosens, OthersHold, Renewed, RunKept, keys_held, out_at, run_keys};
+ghost use Rattle.pq_core.specs.aux.Runs.{AreStale, FramesKept, HasLooked, IsAnswer, IsSameRun, IsStale, OthersHold, Renewed, RunKept, WaitStands, OthersUnwritten, out_at, run_keys};
 ghost use Rattle.pq_core.specs.declared.frames.Top.TheVariants.{Empty, At};
 ghost use Rattle.pq_core.specs.declared.request.Want.TheVariants.{Demand};
 
@@ -17,7 +17,7 @@ use crate::fault::Memory;
 use crate::frames::{Frames, Pending, Top, Went};
 use crate::request::{Request, Want};
 use crate::work::{Done, Work};
-use pq_claims::{Claims, RunId};
+use pq_claims::{Claim, Claims, RunId};
 use pq_inputs::{Inputs, Revision};
 use pq_memo::{Frame, Memos, Stage};
 use pq_rules::{Answer, Rules, Shared, is_same_key};
@@ -25,15 +25,17 @@ use std::alloc::Global;
 use std::marker::Model;
 use std::mem::replace;
 
-/// What a look comes to.
+/// What a look comes to. `W` is the work that it may hand out, `K` the type of keys, `A` that of answers.
 #[derive(Drop)]
-pub(crate) enum Looked<W, A> {
+pub(crate) enum Looked<W, K, A> {
     /// This work is handed out.
     Carry(W),
     /// The run went on.
     Stepped,
     /// The run waits for this other run.
     Blocked(RunId),
+    /// The top frame waits for a key, and a wait of the run for it would close the ring of these keys.
+    Ring(Vec<K>),
     /// This is the answer of the request's key.
     Answered(A),
 }
@@ -53,7 +55,7 @@ impl<R: Rules> Model for Run<R> {
 
     ghost Value = { RunView R.Key R.Part };
 
-    ghost view = { λ r. record { client = r.client; number = r.number; request = r.request; started = r.started; stack = r.frames.stack; top = r.frames.top; loose = r.frames.loose } };
+    ghost view = { λ r. record { client = r.client; number = r.number; request = r.request; started = r.started; stack = r.frames.stack; top = r.frames.top } };
 }
 
 /// Whether `done` is of the key of `pending`, after as many reads.
@@ -74,7 +76,7 @@ impl<R: Rules> Run<R> {
         request: Request<R::Key>,
         started: Revision,
     ) -> Self
-        ensures { result ≡ record { client = client; number = number; request = request; started = started; stack = []; top = Empty; loose = false } }
+        ensures { result ≡ record { client = client; number = number; request = request; started = started; stack = []; top = Empty } }
     {
         Run {
             client,
@@ -146,18 +148,21 @@ impl<R: Rules> Run<R> {
         claims: &mut Claims<R>,
         inputs: &Inputs,
         frame: Frame<R::Key, R::Part>,
-    ) -> Result<Looked<Work<R>, Shared<Answer<R::Key, R::Value>>>, Memory>
+    ) -> Result<Looked<Work<R>, R::Key, Shared<Answer<R::Key, R::Value>>>, Memory>
         requires kept { KeptOver R.Key.cmp (R.machine memos.old.rules) inputs.now memos.old.places }
         requires frames_kept { FramesKept R.Key.cmp (R.machine memos.old.rules) inputs.now (memo_at R.Key.cmp memos.old.places) self.old.stack (At frame) }
-        requires claimed { (hold_of claims.old id).keys ≡ keys_held self.old.loose (run_keys self.old.stack (At frame)) }
+        requires claimed { (hold_of claims.old id).keys ≡ run_keys self.old.stack (At frame) }
+        requires stale { AreStale (R.machine memos.old.rules) inputs.now.revision (memo_at R.Key.cmp memos.old.places) (run_keys self.old.stack (At frame)) }
         ensures rules { memos.new.rules ≡ memos.old.rules }
         ensures kept { KeptOver R.Key.cmp (R.machine memos.old.rules) inputs.now memos.new.places }
         ensures renewed { Renewed (R.machine memos.old.rules) inputs.now.revision (memo_at R.Key.cmp memos.old.places) (memo_at R.Key.cmp memos.new.places) }
         ensures same { IsSameRun self.old self.new }
         ensures run_kept { RunKept R.Key.cmp (R.machine memos.old.rules) inputs.now (memo_at R.Key.cmp memos.new.places) self.new }
-        ensures claimed { (hold_of claims.new id).keys ≡ keys_held self.new.loose (run_keys self.new.stack self.new.top) }
+        ensures claimed { (hold_of claims.new id).keys ≡ run_keys self.new.stack self.new.top }
         ensures others { OthersHold id claims.old claims.new }
-        ensures loosens { Loosens R.Key.cmp claims.old id self.old.loose self.new.loose }
+        ensures stale { AreStale (R.machine memos.old.rules) inputs.now.revision (memo_at R.Key.cmp memos.new.places) (run_keys self.new.stack self.new.top) }
+        ensures waits { WaitStands R.Key.cmp (R.machine memos.old.rules) inputs.now (memo_at R.Key.cmp memos.new.places) claims.new id self.new.top }
+        ensures written { OthersUnwritten claims.old id (memo_at R.Key.cmp memos.old.places) (memo_at R.Key.cmp memos.new.places) }
         ensures looked { IfOk result (λ l. HasLooked R.Key.cmp (R.machine memos.old.rules) memos.old.rules inputs.now (memo_at R.Key.cmp memos.old.places) claims.new id self.old.request self.new.top l) }
         ensures refused { OnErr result (out_at self.new.top ≡ None) }
     {
@@ -168,6 +173,7 @@ impl<R: Rules> Run<R> {
             Went::Carry(work) => Ok(Looked::Carry(work)),
             Went::Stepped => Ok(Looked::Stepped),
             Went::Blocked(other) => Ok(Looked::Blocked(other)),
+            Went::Ring(ring) => Ok(Looked::Ring(ring)),
         }
     }
 
@@ -180,19 +186,21 @@ impl<R: Rules> Run<R> {
         memos: &mut Memos<R>,
         claims: &mut Claims<R>,
         inputs: &Inputs,
-    ) -> Result<Looked<Work<R>, Shared<Answer<R::Key, R::Value>>>, Memory>
+    ) -> Result<Looked<Work<R>, R::Key, Shared<Answer<R::Key, R::Value>>>, Memory>
         requires demand { IsDemand self.old.request.want }
         requires empty { (self.old.stack ≡ []) × (self.old.top ≡ Empty) }
         requires kept { KeptOver R.Key.cmp (R.machine memos.old.rules) inputs.now memos.old.places }
-        requires claimed { (hold_of claims.old id).keys ≡ keys_held self.old.loose (run_keys self.old.stack self.old.top) }
+        requires claimed { (hold_of claims.old id).keys ≡ run_keys self.old.stack self.old.top }
         ensures rules { memos.new.rules ≡ memos.old.rules }
         ensures kept { KeptOver R.Key.cmp (R.machine memos.old.rules) inputs.now memos.new.places }
         ensures renewed { Renewed (R.machine memos.old.rules) inputs.now.revision (memo_at R.Key.cmp memos.old.places) (memo_at R.Key.cmp memos.new.places) }
         ensures same { IsSameRun self.old self.new }
         ensures run_kept { RunKept R.Key.cmp (R.machine memos.old.rules) inputs.now (memo_at R.Key.cmp memos.new.places) self.new }
-        ensures claimed { (hold_of claims.new id).keys ≡ keys_held self.new.loose (run_keys self.new.stack self.new.top) }
+        ensures claimed { (hold_of claims.new id).keys ≡ run_keys self.new.stack self.new.top }
         ensures others { OthersHold id claims.old claims.new }
-        ensures loosens { Loosens R.Key.cmp claims.old id self.old.loose self.new.loose }
+        ensures stale { AreStale (R.machine memos.old.rules) inputs.now.revision (memo_at R.Key.cmp memos.new.places) (run_keys self.new.stack self.new.top) }
+        ensures waits { WaitStands R.Key.cmp (R.machine memos.old.rules) inputs.now (memo_at R.Key.cmp memos.new.places) claims.new id self.new.top }
+        ensures written { OthersUnwritten claims.old id (memo_at R.Key.cmp memos.old.places) (memo_at R.Key.cmp memos.new.places) }
         ensures looked { IfOk result (λ l. HasLooked R.Key.cmp (R.machine memos.old.rules) memos.old.rules inputs.now (memo_at R.Key.cmp memos.old.places) claims.new id self.old.request self.new.top l) }
         ensures refused { OnErr result (out_at self.new.top ≡ None) }
     {
@@ -200,15 +208,18 @@ impl<R: Rules> Run<R> {
             return Ok(Looked::Answered(answer));
         }
         let key = self.first_key(alloc, memos.rules())?;
-        if let Some(other) = self.frames.claim_next(alloc, id, claims, &key)? {
-            return Ok(Looked::Blocked(other));
+        match claims.claim(alloc, id, &key)? {
+            Claim::Got => {
+                let stage = Stage::Walking(0);
+                self.advance(alloc, id, memos, claims, inputs, Frame { key, stage })
+            }
+            Claim::HeldBy(other) => Ok(Looked::Blocked(other)),
+            Claim::Ring(_) => unreachable!(),
         }
-        let stage = Stage::Walking(0);
-        self.advance(alloc, id, memos, claims, inputs, Frame { key, stage })
     }
 
-    /// Takes one step: hands out work, goes on, waits for another run, or finds the answer of the
-    /// request's key. If an allocation fails, no key gets another memo.
+    /// Takes one step: hands out work, goes on, waits for another run, finds a ring, or finds the
+    /// answer of the request's key. If an allocation fails, no key gets another memo.
     pub(crate) fn look(
         &mut self,
         alloc: Global,
@@ -216,21 +227,24 @@ impl<R: Rules> Run<R> {
         memos: &mut Memos<R>,
         claims: &mut Claims<R>,
         inputs: &Inputs,
-    ) -> Result<Looked<Work<R>, Shared<Answer<R::Key, R::Value>>>, Memory>
+    ) -> Result<Looked<Work<R>, R::Key, Shared<Answer<R::Key, R::Value>>>, Memory>
         requires demand { IsDemand self.old.request.want }
         requires idle { out_at self.old.top ≡ None }
         requires current { self.old.started ≡ inputs.now.revision }
         requires kept { KeptOver R.Key.cmp (R.machine memos.old.rules) inputs.now memos.old.places }
         requires run_kept { RunKept R.Key.cmp (R.machine memos.old.rules) inputs.now (memo_at R.Key.cmp memos.old.places) self.old }
-        requires claimed { (hold_of claims.old id).keys ≡ keys_held self.old.loose (run_keys self.old.stack self.old.top) }
+        requires claimed { (hold_of claims.old id).keys ≡ run_keys self.old.stack self.old.top }
+        requires stale { AreStale (R.machine memos.old.rules) inputs.now.revision (memo_at R.Key.cmp memos.old.places) (run_keys self.old.stack self.old.top) }
         ensures rules { memos.new.rules ≡ memos.old.rules }
         ensures kept { KeptOver R.Key.cmp (R.machine memos.old.rules) inputs.now memos.new.places }
         ensures renewed { Renewed (R.machine memos.old.rules) inputs.now.revision (memo_at R.Key.cmp memos.old.places) (memo_at R.Key.cmp memos.new.places) }
         ensures same { IsSameRun self.old self.new }
         ensures run_kept { RunKept R.Key.cmp (R.machine memos.old.rules) inputs.now (memo_at R.Key.cmp memos.new.places) self.new }
-        ensures claimed { (hold_of claims.new id).keys ≡ keys_held self.new.loose (run_keys self.new.stack self.new.top) }
+        ensures claimed { (hold_of claims.new id).keys ≡ run_keys self.new.stack self.new.top }
         ensures others { OthersHold id claims.old claims.new }
-        ensures loosens { Loosens R.Key.cmp claims.old id self.old.loose self.new.loose }
+        ensures stale { AreStale (R.machine memos.old.rules) inputs.now.revision (memo_at R.Key.cmp memos.new.places) (run_keys self.new.stack self.new.top) }
+        ensures waits { WaitStands R.Key.cmp (R.machine memos.old.rules) inputs.now (memo_at R.Key.cmp memos.new.places) claims.new id self.new.top }
+        ensures written { OthersUnwritten claims.old id (memo_at R.Key.cmp memos.old.places) (memo_at R.Key.cmp memos.new.places) }
         ensures looked { IfOk result (λ l. HasLooked R.Key.cmp (R.machine memos.old.rules) memos.old.rules inputs.now (memo_at R.Key.cmp memos.old.places) claims.new id self.old.request self.new.top l) }
         ensures refused { OnErr result (out_at self.new.top ≡ None) }
     {
@@ -241,8 +255,8 @@ impl<R: Rules> Run<R> {
         }
     }
 
-    /// Takes `done`, the result of the work that is out. If its key is up to date meanwhile, the
-    /// result is dropped. If an allocation fails, no key gets another memo, and `done` comes back.
+    /// Takes `done`, the result of the work that is out. If an allocation fails, no key gets another
+    /// memo, and `done` comes back.
     pub(crate) fn give(
         &mut self,
         alloc: Global,
@@ -258,15 +272,19 @@ impl<R: Rules> Run<R> {
         requires current { self.old.started ≡ inputs.now.revision }
         requires kept { KeptOver R.Key.cmp (R.machine memos.old.rules) inputs.now memos.old.places }
         requires run_kept { RunKept R.Key.cmp (R.machine memos.old.rules) inputs.now (memo_at R.Key.cmp memos.old.places) self.old }
-        requires claimed { (hold_of claims.old id).keys ≡ keys_held self.old.loose (run_keys self.old.stack self.old.top) }
+        requires claimed { (hold_of claims.old id).keys ≡ run_keys self.old.stack self.old.top }
+        requires stale { AreStale (R.machine memos.old.rules) inputs.now.revision (memo_at R.Key.cmp memos.old.places) (run_keys self.old.stack self.old.top) }
+        requires waits { WaitStands R.Key.cmp (R.machine memos.old.rules) inputs.now (memo_at R.Key.cmp memos.old.places) claims.old id self.old.top }
         ensures rules { memos.new.rules ≡ memos.old.rules }
         ensures kept { KeptOver R.Key.cmp (R.machine memos.old.rules) inputs.now memos.new.places }
         ensures renewed { Renewed (R.machine memos.old.rules) inputs.now.revision (memo_at R.Key.cmp memos.old.places) (memo_at R.Key.cmp memos.new.places) }
         ensures same { IsSameRun self.old self.new }
         ensures run_kept { RunKept R.Key.cmp (R.machine memos.old.rules) inputs.now (memo_at R.Key.cmp memos.new.places) self.new }
-        ensures claimed { (hold_of claims.new id).keys ≡ keys_held self.new.loose (run_keys self.new.stack self.new.top) }
+        ensures claimed { (hold_of claims.new id).keys ≡ run_keys self.new.stack self.new.top }
         ensures others { OthersHold id claims.old claims.new }
-        ensures same_loose { self.new.loose ≡ self.old.loose }
+        ensures stale { AreStale (R.machine memos.old.rules) inputs.now.revision (memo_at R.Key.cmp memos.new.places) (run_keys self.new.stack self.new.top) }
+        ensures waits { WaitStands R.Key.cmp (R.machine memos.old.rules) inputs.now (memo_at R.Key.cmp memos.new.places) claims.new id self.new.top }
+        ensures written { OthersUnwritten claims.old id (memo_at R.Key.cmp memos.old.places) (memo_at R.Key.cmp memos.new.places) }
         ensures taken { OnOk result (out_at self.new.top ≡ None) }
         ensures back { IfErr result (λ d. d ≡ done) }
         ensures refused { OnErr result (out_at self.new.top ≡ Some (out_of done)) }

@@ -11,11 +11,11 @@ ghost use Rattle.pq_core.specs.Moves.{Reaches, Looks, Gives, Starves, IsMade, Is
 ghost use Rattle.pq_core.specs.Cores.{StandsFor, HandsOut, HasCause, NamesHolder};
 ghost use Rattle.pq_core.specs.aux.Rising.{found, IsAbove};
 ghost use Rattle.pq_core.specs.aux.Changes.{IsSetAt, IsSameMap};
-ghost use Rattle.pq_core.specs.aux.Runs.{LoosensEach};
 ghost use Rattle.pq_core.specs.aux.Lanes.{LaneView, with_owed};
 ghost use Rattle.pq_core.specs.declared.lane.Owed.TheVariants.{Ready as OwedReady};
 ghost use Rattle.pq_core.specs.declared.outcome.Outcome.TheVariants.{Cancelled, Starved, Answered};
 
+use crate::closing::close_ring;
 use crate::cores::Core;
 use crate::fault::{GiveFault, GiveRefused, LookFault};
 use crate::ids::{ClientId, Number};
@@ -28,7 +28,7 @@ use crate::reply::Reply;
 use crate::rising::Rising;
 use crate::run::{Looked, Run};
 use crate::work::{Done, Work};
-use pq_claims::RunId;
+use pq_claims::{RunId, claims_are_sound};
 use pq_inputs::Revision;
 use pq_memo::look_is_right;
 use pq_rules::Rules;
@@ -118,10 +118,10 @@ impl<R: Rules, O: Outbox<R::Key, R::Value> + Drop> Core<R, O> {
             → Reaches (Looks R.Key.cmp (R.machine self.old.rules) self.old.rules run result) l (StandsFor R.Key.cmp (R.machine self.old.rules) O.puts self.new) }
         ensures handed { IfOk result (HandsOut self.old run) }
         ensures holder { IfOk result (NamesHolder self.new.claims run) }
-        ensures loosens { LoosensEach R.Key.cmp self.old.claims self.old.runs.items self.new.runs.items }
         ensures cause { IfOk result (HasCause R.Key.cmp (R.machine self.old.rules) self.old) }
     {
         look_is_right(&self.memos);
+        claims_are_sound(&self.claims);
         let who = run;
         let id = run.number();
         let now = self.inputs.now();
@@ -138,7 +138,9 @@ impl<R: Rules, O: Outbox<R::Key, R::Value> + Drop> Core<R, O> {
                     self.runs.put_back(id, run);
                     return Ok(Move::Blocked(who));
                 }
-                match run.look(alloc, who, &mut self.memos, &mut self.claims, &self.inputs) {
+                let looked = run.look(alloc, who, &mut self.memos, &mut self.claims, &self.inputs);
+                claims_are_sound(&self.claims);
+                match looked {
                     Ok(looked) => match looked {
                         Looked::Carry(work) => {
                             self.runs.put_back(id, run);
@@ -151,6 +153,21 @@ impl<R: Rules, O: Outbox<R::Key, R::Value> + Drop> Core<R, O> {
                         Looked::Blocked(other) => {
                             self.runs.put_back(id, run);
                             return Ok(Move::Blocked(other));
+                        }
+                        Looked::Ring(ring) => {
+                            self.runs.put_back(id, run);
+                            match close_ring(
+                                alloc,
+                                &mut self.memos,
+                                &mut self.claims,
+                                &mut self.runs,
+                                &self.inputs,
+                                who,
+                                &ring,
+                            ) {
+                                Ok(()) => return Ok(Move::Stepped),
+                                Err(_) => return Err(LookFault::Memory),
+                            }
                         }
                         Looked::Answered(answer) => {
                             self.claims.release_all(who);
@@ -184,10 +201,10 @@ impl<R: Rules, O: Outbox<R::Key, R::Value> + Drop> Core<R, O> {
         ensures inputs { self.new.inputs ≡ self.old.inputs }
         ensures none_lost { NoneLost (memo_at R.Key.cmp self.old.places) (memo_at R.Key.cmp self.new.places) }
         ensures back { IfErr result (λ refused. refused.done ≡ done) }
-        ensures loosens { LoosensEach R.Key.cmp self.old.claims self.old.runs.items self.new.runs.items }
         ensures moved { (l : Ledger R.Key R.Value O) → StandsFor R.Key.cmp (R.machine self.old.rules) O.puts self.old l
             → Reaches (Gives run done result) l (StandsFor R.Key.cmp (R.machine self.old.rules) O.puts self.new) }
     {
+        claims_are_sound(&self.claims);
         let who = run;
         let id = run.number();
         let now = self.inputs.now();
@@ -208,14 +225,16 @@ impl<R: Rules, O: Outbox<R::Key, R::Value> + Drop> Core<R, O> {
                     stop_run(&mut self.lanes, run, now);
                     return Ok(Move::Stopped);
                 }
-                match run.give(
+                let given = run.give(
                     alloc,
                     who,
                     &mut self.memos,
                     &mut self.claims,
                     &self.inputs,
                     done,
-                ) {
+                );
+                claims_are_sound(&self.claims);
+                match given {
                     Ok(()) => {
                         self.runs.put_back(id, run);
                         return Ok(Move::Stepped);

@@ -14,7 +14,7 @@ use Rattle.pq_core.specs.RightReply.{IsRight, IsRightFor, answer_by}
 use Rattle.pq_core.specs.Kept.{PlaceKept, Kept}
 use Rattle.pq_core.proofs.Lists.{some_one, none_some, get_within, get_there}
 use Rattle.pq_core.proofs.Keeping.{kept_opens, kept_accepts, kept_edits, kept_starts, kept_looks, kept_gives, kept_starves, kept_releases, kept_closes, kept_takes}
-use Rattle.pq_core.proofs.Closing.{shut_opens, shut_accepts, shut_edits, shut_starts, shut_looks, shut_gives, shut_starves, shut_releases, shut_closes, shut_takes}
+use Rattle.pq_core.proofs.Shutting.{shut_opens, shut_accepts, shut_edits, shut_starts, shut_looks, shut_gives, shut_starves, shut_releases, shut_closes, shut_takes}
 use Rattle.pq_play.specs.World.{World, no_files, beginning, replies_of}
 use Rattle.pq_play.specs.Headline.{Headline, LeavesClosed}
 use Rattle.pq_play.specs.Steps.{Steps, LeadsTo, empty_list}

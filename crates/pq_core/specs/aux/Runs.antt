@@ -4,7 +4,7 @@
 --
 -- `order` is the order of the keys, `m` the rule set, `inputs` the inputs, and a table is a
 -- function from keys.
-use Rattle.std.specs.Prelude.{ℕ, ◌≡◌, ◌≢◌, ◌⊎◌, Bool, true, false, List, [], ◌∷◌, ◌++◌, length, Option, Some, None, Result, Ok, Err}
+use Rattle.std.specs.Prelude.{ℕ, ◌≡◌, ◌≢◌, ◌⊎◌, ◌≤◌, List, [], ◌∷◌, ◌++◌, length, Option, Some, None, Result, Ok, Err}
 use Rattle.std.specs.declared.cmp.Ordering.{Ordering}
 use Rattle.pq_inputs.specs.Sources.{Table}
 use Rattle.pq_rules.specs.declared.turn.Turn.{Turn}
@@ -21,7 +21,7 @@ use Rattle.pq_memo.specs.Frames.{Came, IsFrame, Awaits, frame_keys}
 use Rattle.pq_memo.specs.Steps.{IsWhy}
 use Rattle.pq_memo.specs.Demand.{Differ}
 use Rattle.pq_memo.specs.declared.frame.Stage.TheVariants.{Walking}
-use Rattle.pq_claims.specs.Claims.{Hold, Holds, AreSound, IsClosed, WaitsFor as RunWaitsFor, hold_of}
+use Rattle.pq_claims.specs.Claims.{Hold, Holds, IsClosed, WaitsFor as RunWaitsFor, hold_of}
 use Rattle.pq_core.specs.Ledger.{Out}
 use Rattle.pq_core.specs.Works.{WorkView, HasWhy}
 use Rattle.pq_core.specs.Moves.{out_of}
@@ -31,14 +31,14 @@ use Rattle.pq_core.specs.declared.frames.Pending.{Pending}
 use Rattle.pq_core.specs.declared.frames.Top.{Top}
 use Rattle.pq_core.specs.declared.frames.Top.TheVariants.{Empty, At, Away}
 use Rattle.pq_core.specs.declared.frames.Went.{Went}
-use Rattle.pq_core.specs.declared.frames.Went.TheVariants.{Carry as WentCarry, Stepped as WentStepped, Blocked as WentBlocked}
+use Rattle.pq_core.specs.declared.frames.Went.TheVariants.{Carry as WentCarry, Stepped as WentStepped, Blocked as WentBlocked, Ring as WentRing}
 use Rattle.pq_core.specs.declared.run.Looked.{Looked}
-use Rattle.pq_core.specs.declared.run.Looked.TheVariants.{Carry, Stepped, Blocked, Answered}
+use Rattle.pq_core.specs.declared.run.Looked.TheVariants.{Carry, Stepped, Blocked, Ring, Answered}
 use Rattle.pq_core.specs.declared.rising.Place.{Place}
 use Rattle.pq_core.specs.aux.Rising.{found}
 
 -- `RunView K P` is a run: its client, the number of its request, the request, the revision of its
--- start, the frames below the top, the top, and whether it claims no keys any more
+-- start, the frames below the top, and the top
 pub record RunView (K P : Type 0) : Type 0 where
   pub client : ℕ
   pub number : ℕ
@@ -46,7 +46,6 @@ pub record RunView (K P : Type 0) : Type 0 where
   pub started : ℕ
   pub stack : List (Frame K P)
   pub top : Top K P
-  pub loose : Bool
 
 -- `IsSameRun old new` is that `new` is the run `old` at another step
 pub record IsSameRun {K P : Type 0} (old new : RunView K P) : Type 0 where
@@ -71,60 +70,28 @@ top_keys (Away pending) = pending.key ∷ []
 abbrev pub run_keys : {K P : Type 0} → List (Frame K P) → Top K P → List K
 run_keys stack top = frame_keys stack ++ top_keys top
 
--- `keys_held loose keys` is the keys that a run holds whose frames have `keys`: all of them, or none
--- where it claims no keys any more
-abbrev pub keys_held : {K : Type 0} → Bool → List K → List K
-keys_held true keys = []
-keys_held false keys = keys
-
 -- `claimed_keys run` is the keys that `run` holds, if it exists
 abbrev pub claimed_keys : {K P : Type 0} → Option (RunView K P) → List K
 claimed_keys None = []
-claimed_keys (Some run) = keys_held run.loose (run_keys run.stack run.top)
+claimed_keys (Some run) = run_keys run.stack run.top
 
 -- `AreClaimed claims runs` is that each of `runs` holds the keys of its frames, and no other run any
 abbrev pub AreClaimed : {K P : Type 0} → List (ℕ × Hold K) → List (Place (RunView K P)) → Type 0
 AreClaimed claims runs = (r : ℕ) → (hold_of claims r).keys ≡ claimed_keys (found runs r)
 
--- `HoldsBelow claims run loose stack` is that `run` holds the keys of `stack` and one key more
-abbrev pub HoldsBelow : {K P : Type 0} → List (ℕ × Hold K) → ℕ → Bool → List (Frame K P) → Type 0
-HoldsBelow {K} claims run loose stack = (k : K) × ((hold_of claims run).keys ≡ keys_held loose (frame_keys stack ++ k ∷ []))
+-- `HoldsBelow claims run stack` is that `run` holds the keys of `stack` and one key more
+abbrev pub HoldsBelow : {K P : Type 0} → List (ℕ × Hold K) → ℕ → List (Frame K P) → Type 0
+HoldsBelow {K} claims run stack = (k : K) × ((hold_of claims run).keys ≡ frame_keys stack ++ k ∷ [])
 
--- `OthersHold run before after` is that each run but `run` holds the same keys
+-- `OthersHold run before after` is that each run but `run` holds the same keys, and waits `after`
+-- for no other key than `before`
 abbrev pub OthersHold : {K : Type 0} → ℕ → (before after : List (ℕ × Hold K)) → Type 0
-OthersHold run before after = (r : ℕ) → r ≢ run → (hold_of after r).keys ≡ (hold_of before r).keys
+OthersHold {K} run before after =
+    (r : ℕ) → r ≢ run → ((hold_of after r).keys ≡ (hold_of before r).keys) × ((k : K) → (hold_of after r).wait ≡ Some k → (hold_of before r).wait ≡ Some k)
 
 -- `IsHeldUp claims run other` is that `run` waits for a key that `other` holds, which is another run
 abbrev pub IsHeldUp : {K : Type 0} → List (ℕ × Hold K) → ℕ → ℕ → Type 0
 IsHeldUp claims run other = (other ≢ run) × RunWaitsFor claims run other
-
--- `OthersStay run before after` is that each run but `run` holds the same keys, and waits for the
--- same key
-abbrev pub OthersStay : {K : Type 0} → ℕ → (before after : List (ℕ × Hold K)) → Type 0
-OthersStay run before after = (r : ℕ) → r ≢ run → hold_of after r ≡ hold_of before r
-
--- `MayLetGo order claims run` is that `run` came to need a key that another run holds, where its
--- wait for that would have closed a ring. Only `run` has claimed keys since `claims`.
-pub record MayLetGo {K : Type 0} (order : K → K → Ordering) (claims : List (ℕ × Hold K)) (run : ℕ) : Type 0 where
-  pub there : List (ℕ × Hold K)
-  pub sound : AreSound there
-  pub others : OthersStay run claims there
-  pub key : K
-  pub holder : ℕ
-  pub holds : Holds there holder key
-  pub another : holder ≢ run
-  pub ring : List K
-  pub closed : IsClosed order there run key ring
-
--- `Loosens order claims run before after` is that `run` claims no keys any more, `after`, where it
--- claimed none `before`, or where it may let go of its keys
-abbrev pub Loosens : {K : Type 0} → (K → K → Ordering) → List (ℕ × Hold K) → ℕ → (before after : Bool) → Type 0
-Loosens order claims run before after = (after ≡ before) ⊎ ((after ≡ true) × MayLetGo order claims run)
-
--- `LoosensEach order claims before after` is that of each of the runs `before` that is one of `after`
-abbrev pub LoosensEach : {K P : Type 0} → (K → K → Ordering) → List (ℕ × Hold K) → (before after : List (Place (RunView K P))) → Type 0
-LoosensEach {K} {P} order claims before after =
-    (r : ℕ) (old new : RunView K P) → found before r ≡ Some old → found after r ≡ Some new → Loosens order claims r old.loose new.loose
 
 -- `IsRenewed m now before after k` is that `after` has of `k` the memo of `before`, or that `k` was
 -- not up to date and has a memo that was verified now, with the changed revision of its answer
@@ -175,6 +142,27 @@ CanTake {K} {P} {V} order m inputs table pending =
     IsUpToDate m inputs.revision (HasIn table) pending.key
     ⊎ ((turn : Turn K P V) × Came order m inputs.history inputs.revision (HasIn table) pending.key turn pending.reads.items)
 
+-- `TopAwaits order m inputs table top k` is that a run may wait for `k` whose top is `top`: it has no
+-- frame, or the key of the top frame is up to date, or that frame waits for `k`
+abbrev pub TopAwaits : {K P V : Type 0} → (K → K → Ordering) → Machine K P V → Table → (K → Option (Memo K V)) → Top K P → K → Type 0
+TopAwaits order m inputs table Empty k = Unit {0}
+TopAwaits order m inputs table (At f) k = WaitsFor order m inputs table f k
+TopAwaits order m inputs table (Away p) k = ⊥
+
+-- `WaitStands order m inputs table claims run top` is that `run`, whose top is `top`, may wait for the
+-- key that it waits for, if it waits
+abbrev pub WaitStands : {K P V : Type 0} → (K → K → Ordering) → Machine K P V → Table → (K → Option (Memo K V)) → List (ℕ × Hold K) → ℕ → Top K P → Type 0
+WaitStands {K} order m inputs table claims run top = (k : K) → (hold_of claims run).wait ≡ Some k → TopAwaits order m inputs table top k
+
+-- `AreStale m now table ks` is that none of `ks` is up to date
+abbrev pub AreStale : {K P V : Type 0} → Machine K P V → ℕ → (K → Option (Memo K V)) → List K → Type 0
+AreStale {K} m now table ks = (k : K) → In k ks → IsUpToDate m now (HasIn table) k → ⊥
+
+-- `OthersUnwritten claims run before after` is that `after` has the memo of `before` of each key that
+-- another run than `run` holds
+abbrev pub OthersUnwritten : {K V : Type 0} → List (ℕ × Hold K) → ℕ → (before after : K → Option (Memo K V)) → Type 0
+OthersUnwritten {K} claims run before after = (r : ℕ) (k : K) → r ≢ run → Holds claims r k → after k ≡ before k
+
 -- `FramesKept order m inputs table stack top` is the invariant of the frames of a run that was
 -- started at the revision now
 abbrev pub FramesKept : {K P V : Type 0} → (K → K → Ordering) → Machine K P V → Table → (K → Option (Memo K V)) → List (Frame K P) → Top K P → Type 0
@@ -204,27 +192,38 @@ pub record HandedOut {R K P V : Type 0} (m : Machine K P V) (rules : R) (inputs 
   pub out : out_at top ≡ Some (out_of work.done)
   pub why : HasWhy (IsWhy m inputs.history inputs.revision (HasIn table) work.done.key) work.done.front work.why
 
--- `ClaimsNext claims run next answer loose stack` is that `run`, whose frames are `stack`, claimed
--- `next`; or that another run holds it, or an allocation failed
-abbrev pub ClaimsNext : {E K P : Type 0} → List (ℕ × Hold K) → ℕ → K → Result (Option ℕ) E → Bool → List (Frame K P) → Type 0
-ClaimsNext claims run next (Ok None) loose stack = (hold_of claims run).keys ≡ keys_held loose (frame_keys stack ++ next ∷ [])
-ClaimsNext claims run next (Ok (Some other)) loose stack = ((hold_of claims run).keys ≡ keys_held loose (frame_keys stack)) × IsHeldUp claims run other
-ClaimsNext claims run next (Err failure) loose stack = (hold_of claims run).keys ≡ keys_held loose (frame_keys stack)
+-- `ClosesRing order m inputs table claims run top ring` is that `top` is a frame of `run` that waits
+-- for a key, and that `ring` is the ring that closes if `run` waits for it
+pub record ClosesRing {K P V : Type 0} (order : K → K → Ordering) (m : Machine K P V) (inputs : Table) (table : K → Option (Memo K V)) (claims : List (ℕ × Hold K))
+    (run : ℕ) (top : Top K P) (ring : List K) : Type 0 where
+  pub frame : Frame K P
+  pub is_top : top ≡ At frame
+  pub next : K
+  pub awaits : Awaits order m inputs.history inputs.revision (HasIn table) frame.key frame.stage next
+  pub closed : IsClosed order claims run next ring
 
--- `Enters claims run next answer before after top` is that the key `next` was entered, as the top
--- over `before`; or that another run holds it, or an allocation failed, and the last of `before` is
--- the top again
-abbrev pub Enters : {E K P : Type 0} → List (ℕ × Hold K) → ℕ → K → Result (Option ℕ) E → (before after : List (Frame K P)) → Top K P → Type 0
-Enters claims run next (Ok None) before after top = (after ≡ before) × (top ≡ At (record { key = next; stage = Walking 0 }))
-Enters claims run next (Ok (Some other)) before after top = IsLowered before after top × IsHeldUp claims run other
-Enters claims run next (Err failure) before after top = IsLowered before after top
+-- `Enters order claims run next answer before after top` is that `run`, whose frames were `before`,
+-- claimed `next`, a key of none of them, which is the key of its top over `before`; or that another run
+-- holds it, or that a wait would close a ring, or that an allocation failed. Then the last of `before`
+-- is the top again.
+abbrev pub Enters : {W E K P : Type 0} → (K → K → Ordering) → List (ℕ × Hold K) → ℕ → K → Result (Went W K) E → (before after : List (Frame K P)) → Top K P → Type 0
+Enters order claims run next (Ok (WentCarry work)) before after top = ⊥
+Enters order claims run next (Ok WentStepped) before after top =
+    (after ≡ before) × (top ≡ At (record { key = next; stage = Walking 0 })) × ((hold_of claims run).wait ≡ None) × (In next (frame_keys before) → ⊥)
+Enters order claims run next (Ok (WentBlocked other)) before after top =
+    IsLowered before after top × IsHeldUp claims run other × ((hold_of claims run).wait ≡ Some next)
+Enters order claims run next (Ok (WentRing ring)) before after top =
+    IsLowered before after top × IsClosed order claims run next ring.items × ((hold_of claims run).wait ≡ None)
+Enters order claims run next (Err failure) before after top = IsLowered before after top × ((hold_of claims run).wait ≡ None)
 
--- `HasAdvanced m rules inputs table claims run top went` is that a step handed out work, or went on,
--- or that another run holds the key that it needs
-abbrev pub HasAdvanced : {R K P V : Type 0} → Machine K P V → R → Table → (K → Option (Memo K V)) → List (ℕ × Hold K) → ℕ → Top K P → Went (WorkView R K P V) → Type 0
-HasAdvanced m rules inputs table claims run top (WentCarry work) = HandedOut m rules inputs table run top work
-HasAdvanced m rules inputs table claims run top WentStepped = out_at top ≡ None
-HasAdvanced m rules inputs table claims run top (WentBlocked other) = (out_at top ≡ None) × IsHeldUp claims run other
+-- `HasAdvanced order m rules inputs table claims run top went` is that a step handed out work, or went
+-- on, or that another run holds the key that it needs, or that a wait for that key would close a ring
+abbrev pub HasAdvanced : {R K P V : Type 0} → (K → K → Ordering) → Machine K P V → R → Table → (K → Option (Memo K V)) → List (ℕ × Hold K) → ℕ → Top K P
+    → Went (WorkView R K P V) K → Type 0
+HasAdvanced order m rules inputs table claims run top (WentCarry work) = HandedOut m rules inputs table run top work
+HasAdvanced order m rules inputs table claims run top WentStepped = out_at top ≡ None
+HasAdvanced order m rules inputs table claims run top (WentBlocked other) = (out_at top ≡ None) × IsHeldUp claims run other
+HasAdvanced order m rules inputs table claims run top (WentRing ring) = (out_at top ≡ None) × ClosesRing order m inputs table claims run top ring.items
 
 -- `IsAnswer order m inputs request answer` is that `answer` is that of the key of `request` at the
 -- sources now
@@ -236,11 +235,27 @@ abbrev pub IsStale : {K P V : Type 0} → Machine K P V → ℕ → (K → Memo 
 IsStale {K} m now Has request = (key : K) → request.want ≡ Demand key → IsUpToDate m now Has key → ⊥
 
 -- `HasLooked order m rules inputs table claims run request top looked` is that a look handed out
--- work, went on, found that another run holds the key that it needs, or found the answer of the
--- request's key at the sources now
+-- work, went on, found that another run holds the key that it needs, or that a wait for that key would
+-- close a ring, or found the answer of the request's key at the sources now
 abbrev pub HasLooked : {R K P V : Type 0} → (K → K → Ordering) → Machine K P V → R → Table → (K → Option (Memo K V)) → List (ℕ × Hold K) → ℕ → Request K → Top K P
-    → Looked (WorkView R K P V) (Answer K V) → Type 0
+    → Looked (WorkView R K P V) K (Answer K V) → Type 0
 HasLooked order m rules inputs table claims run request top (Carry work) = HandedOut m rules inputs table run top work
 HasLooked order m rules inputs table claims run request top Stepped = out_at top ≡ None
 HasLooked order m rules inputs table claims run request top (Blocked other) = (out_at top ≡ None) × IsHeldUp claims run other
+HasLooked order m rules inputs table claims run request top (Ring ring) = (out_at top ≡ None) × ClosesRing order m inputs table claims run top ring.items
 HasLooked order m rules inputs table claims run request top (Answered answer) = IsAnswer order m inputs request answer × (out_at top ≡ None)
+
+-- `RunsKept order m inputs table claims runs` is what holds of `runs` and their `claims` between any
+-- two steps
+pub record RunsKept {K P V : Type 0} (order : K → K → Ordering) (m : Machine K P V) (inputs : Table) (table : K → Option (Memo K V)) (claims : List (ℕ × Hold K))
+    (runs : List (Place (RunView K P))) : Type 0 where
+  -- each run holds the keys of its frames
+  pub claimed : AreClaimed claims runs
+  -- the frames of a current run are in order
+  pub current : (r : ℕ) (run : RunView K P) → found runs r ≡ Some run → run.started ≡ inputs.revision → RunKept order m inputs table run
+  -- no key that a run holds is up to date
+  pub stale : (r : ℕ) (k : K) → Holds claims r k → IsUpToDate m inputs.revision (HasIn table) k → ⊥
+  -- the top of a current run waits for the key for which the run waits
+  pub waits : (r : ℕ) (run : RunView K P) → found runs r ≡ Some run → run.started ≡ inputs.revision → WaitStands order m inputs table claims r run.top
+  -- a run waits for a run that started no later
+  pub no_later : (r s : ℕ) (a b : RunView K P) → RunWaitsFor claims r s → found runs r ≡ Some a → found runs s ≡ Some b → b.started ≤ a.started

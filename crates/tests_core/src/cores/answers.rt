@@ -6,6 +6,7 @@
 //!   `LEFT` puts.
 //! - `start`, `look RUN`, `starve RUN` and `request RUN` are calls of a run. The work that a look
 //!   hands out is lost.
+//! - `step RUN` takes one step: it looks, carries work out and gives the result.
 //! - `finish RUN` takes steps until the run is over: it carries work out and gives the result. It
 //!   answers the rules that were started, and the run's end. `turns RUN OTHER` takes steps of both.
 //! - `swap RUN OTHER` gives the result of the work of `RUN` to `OTHER`, and then to `RUN`.
@@ -114,6 +115,7 @@ fn work_answer<C: Calls>(
     rest: &str,
 ) {
     match call {
+        "step" => core.stepped(page, log, run),
         "finish" => finish(rt, page, core, log, run),
         "late" => core.given_late(page, log, run, change_of(rt, rest)),
         "turns" => turns(rt, page, core, log, run, RunId::new(number_of(rt, rest))),
@@ -149,7 +151,7 @@ pub(super) fn answer<C: Calls>(
         "look" | "starve" | "request" => {
             run_answer(page, core, call, RunId::new(number_of(rt, first)));
         }
-        "finish" | "turns" | "late" | "swap" => {
+        "step" | "finish" | "turns" | "late" | "swap" => {
             let run = RunId::new(number_of(rt, first));
             work_answer(rt, page, core, log, call, run, more);
         }

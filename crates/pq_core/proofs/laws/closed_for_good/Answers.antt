@@ -1,5 +1,5 @@
 use Rattle.pq_core.specs.RightReply.{answer_by}
-use Rattle.pq_core.proofs.Closing.{shut_opens, shut_accepts, shut_edits, shut_starts, shut_looks, shut_gives, shut_starves, shut_releases, shut_closes, shut_takes}
+use Rattle.pq_core.proofs.Shutting.{shut_opens, shut_accepts, shut_edits, shut_starts, shut_looks, shut_gives, shut_starves, shut_releases, shut_closes, shut_takes}
 use Rattle.pq_core.proofs.laws.closed_for_good.Goals as goal
 
 pub returns : goal.returns

@@ -1,7 +1,7 @@
 use Rattle.std.proofs.Common.{◌≡◌, ◌≤◌, ◌∷◌, ◌++◌, [], length, refl, sym, ◌∙◌, subst, arith}
 use Rattle.pq_core.specs.Cores.{CoreView, held}
 use Rattle.pq_core.specs.aux.Accepting.{MayNot, MayPost}
-use Rattle.pq_core.proofs.Claiming.{same_claimed}
+use Rattle.pq_core.proofs.RunsKept.{same_runs}
 use Rattle.pq_core.proofs.CoreOpening.{unmoved}
 use Rattle.pq_core.proofs.CoreAccepting.{accept_refusal_so, may_post, accept_moved, queue_room, not_full, false_true}
 use Rattle.pq_core.proofs.Queued.{queue_same, queue_pushed, queue_fixed}
@@ -31,8 +31,7 @@ invariant_of-self g c =
           let a : length c.self.inside.waiting.items ≤ c.self.inside.runs.room = w.room in
           let b : c.self.inside.runs.room ≤ c.make_room.new.runs.room = c.make_room.ensures.runs.room in
           rw c.make_room.ensures.queue (omega arith);
-      current = λ r run h e. w.current r run (sym (c.make_room.ensures.runs.found r) ∙ h) e;
-      claimed = same_claimed c.self.inside.claims _ _ c.make_room.ensures.runs.found w.claimed;
+      runs = same_runs _ _ _ _ _ _ _ c.make_room.ensures.runs.found w.runs;
       ledger = (
         w.ledger.0,
         unmoved g.R.Key.Ord.cmp (g.R.Rules.machine c.self.inside.memos.rules) g.O.Outbox.puts _ _ w.ledger.0
@@ -90,8 +89,7 @@ invariant_of-self-then-waits g c =
       queue = queue_pushed _ _ _ _ c.args.client c.in-Ok.number c.now-revision.result told.0 c.args.request c.args.request.want (c.is_demand-waits.ensures.0 c.if-waits.true)
           told.2 told.1 told.3.found pushed w.queue;
       room = queue_room c.make_room.result c.make_room.new.waiting.items c.push_back_reserved.new.self.items _ c.make_room.ensures.run_room c.if-is_err.false c.is_err.ensures.value c.push_back_reserved.ensures.items;
-      current = λ r run h e. w.current r run (sym (c.make_room.ensures.runs.found r) ∙ h) e;
-      claimed = same_claimed c.self.inside.claims _ _ c.make_room.ensures.runs.found w.claimed;
+      runs = same_runs _ _ _ _ _ _ _ c.make_room.ensures.runs.found w.runs;
       ledger = (moved.0, moved.2);
     }
 
@@ -132,8 +130,7 @@ invariant_of-self-else-waits g c =
           let a : length c.self.inside.waiting.items ≤ c.self.inside.runs.room = w.room in
           let b : c.self.inside.runs.room ≤ c.make_room.new.runs.room = c.make_room.ensures.runs.room in
           rw c.make_room.ensures.queue (omega arith);
-      current = λ r run h e. w.current r run (sym (c.make_room.ensures.runs.found r) ∙ h) e;
-      claimed = same_claimed c.self.inside.claims _ _ c.make_room.ensures.runs.found w.claimed;
+      runs = same_runs _ _ _ _ _ _ _ c.make_room.ensures.runs.found w.runs;
       ledger = (moved.0, moved.2);
     }
 
@@ -163,8 +160,7 @@ invariant_of-self-in-Err g c =
           let a : length c.self.inside.waiting.items ≤ c.self.inside.runs.room = w.room in
           let b : c.self.inside.runs.room ≤ c.make_room.new.runs.room = c.make_room.ensures.runs.room in
           rw c.make_room.ensures.queue (omega arith);
-      current = λ r run h e. w.current r run (sym (c.make_room.ensures.runs.found r) ∙ h) e;
-      claimed = same_claimed c.self.inside.claims _ _ c.make_room.ensures.runs.found w.claimed;
+      runs = same_runs _ _ _ _ _ _ _ c.make_room.ensures.runs.found w.runs;
       ledger = (
         w.ledger.0,
         unmoved g.R.Key.Ord.cmp (g.R.Rules.machine c.self.inside.memos.rules) g.O.Outbox.puts _ _ w.ledger.0

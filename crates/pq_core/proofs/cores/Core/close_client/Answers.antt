@@ -29,8 +29,7 @@ invariant_of-self g c =
       runs_above = w.runs_above;
       queue = queue_closed _ _ _ _ c.number-seat.result c.take.ensures.found c.drop_queued.ensures w.queue;
       room = omega arith;
-      current = w.current;
-      claimed = w.claimed;
+      runs = w.runs;
       ledger = (moved.0, moved.2);
     }
 
@@ -58,8 +57,7 @@ invariant_of-self-in-None g c =
       runs_above = w.runs_above;
       queue = queue_same _ _ _ (none_taken c.self.inside.lanes c.take.new.self c.number-seat.result (sym c.in-None.ensures.value) c.take.ensures.found c.take.ensures.above c.take.ensures.room).found w.queue;
       room = w.room;
-      current = w.current;
-      claimed = w.claimed;
+      runs = w.runs;
       ledger = (moved.0, moved.2);
     }
 

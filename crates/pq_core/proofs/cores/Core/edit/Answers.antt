@@ -1,10 +1,11 @@
-use Rattle.std.proofs.Common.{◌≡◌, refl, sym, ◌∙◌, subst, ap, Some, arith}
+use Rattle.std.proofs.Common.{◌≡◌, refl, sym, ◌∙◌, subst, ap, Some}
 use Rattle.std.specs.Option.{option_map}
 use Rattle.std.specs.Prelude.{string_bytes}
 use Rattle.pq_core.specs.Cores.{CoreView, held}
 use Rattle.pq_core.specs.aux.Accepting.{MayNotEdit}
 use Rattle.pq_core.specs.aux.Rising.{found}
 use Rattle.pq_core.specs.aux.Lanes.{LaneView}
+use Rattle.pq_core.proofs.RunsKept.{edited_runs}
 use Rattle.pq_core.proofs.CoreOpening.{unmoved}
 use Rattle.pq_core.proofs.CoreAccepting.{edit_refusal_so, edit_moved, edit_refused, run_past, table_is}
 use Rattle.pq_core.proofs.cores.Core.edit.Goals as goal
@@ -39,11 +40,7 @@ invariant_of-self g c =
       runs_above = w.runs_above;
       queue = w.queue;
       room = w.room;
-      current = λ r run h e.
-          let a = run_past g.R.Key.Ord.cmp (g.R.Rules.machine c.self.inside.memos.rules) g.O.Outbox.puts (held (record { rules = c.self.inside.memos.rules; places = c.self.inside.memos.places; inputs = c.self.inside.inputs; lanes = c.self.inside.lanes; opened = c.self.inside.opened; clients = c.self.inside.clients; waiting = c.self.inside.waiting.items; runs = c.self.inside.runs; started = c.self.inside.started; claims = c.self.inside.claims })) w.ledger.0 r run w.ledger.1 h in
-          let b = told.revision.1 ∙ told.revision.0 in
-          absurd (omega (arith, a, b, e));
-      claimed = w.claimed;
+      runs = edited_runs _ _ _ _ _ c.set.new.self _ (told.revision.1 ∙ told.revision.0) (λ s y h. run_past g.R.Key.Ord.cmp (g.R.Rules.machine c.self.inside.memos.rules) g.O.Outbox.puts (held (record { rules = c.self.inside.memos.rules; places = c.self.inside.memos.places; inputs = c.self.inside.inputs; lanes = c.self.inside.lanes; opened = c.self.inside.opened; clients = c.self.inside.clients; waiting = c.self.inside.waiting.items; runs = c.self.inside.runs; started = c.self.inside.started; claims = c.self.inside.claims })) w.ledger.0 s y w.ledger.1 h) w.kept w.runs;
       ledger = (moved.0, moved.2);
     }
 

@@ -1,15 +1,15 @@
-use Rattle.std.proofs.Common.{◌≡◌, ◌≤◌, length, Some, refl, sym, ◌∙◌, ap, subst, inl, arith}
+use Rattle.std.proofs.Common.{◌≡◌, ◌≤◌, length, Some, refl, sym, ◌∙◌, subst, arith}
 use Rattle.pq_memo.specs.Table.{memo_at}
 use Rattle.pq_core.specs.Cores.{CoreView, held}
 use Rattle.pq_core.specs.Moves.{IsMade, ended, out_of}
-use Rattle.pq_core.specs.aux.Runs.{claimed_keys, out_at}
+use Rattle.pq_core.specs.aux.Runs.{out_at}
 use Rattle.pq_core.specs.declared.outcome.Outcome.TheVariants.{Cancelled}
-use Rattle.pq_core.proofs.Claiming.{end_claimed, end_loosens, others_same, put_claimed, put_loosens, same_claimed, same_loosens}
+use Rattle.pq_core.proofs.RunsKept.{back_runs, own_claimed, own_stale, same_runs, stepped_runs, stopped_runs}
 use Rattle.pq_core.proofs.Changing.{none_taken, set_back}
 use Rattle.pq_core.proofs.CoreOpening.{unmoved}
-use Rattle.pq_core.proofs.CoreAccepting.{false_true}
-use Rattle.pq_core.proofs.CoreRunning.{end_queue, run_here, no_run, run_within, current, stop_moved, back_moved, others_kept, all_kept, not_fitting, give_stopped, give_moved, give_refused}
-use Rattle.pq_core.proofs.Renewed.{renewed_same, renewed_none_lost, same_none_lost}
+use Rattle.pq_core.proofs.CoreAccepting.{false_true, run_past}
+use Rattle.pq_core.proofs.CoreRunning.{end_queue, run_here, no_run, run_within, current, stop_moved, back_moved, not_fitting, give_stopped, give_moved, give_refused}
+use Rattle.pq_core.proofs.Renewed.{renewed_none_lost, same_none_lost}
 use Rattle.pq_core.proofs.cores.Core.give.Goals as goal
 
 pub invariant_of-self : goal.invariant_of-self
@@ -26,8 +26,7 @@ invariant_of-self g c =
           let a : length c.self.inside.waiting.items ≤ c.self.inside.runs.room = w.room in
           let b = same.room in
           omega (arith, a, b);
-      current = λ r run h e. w.current r run (sym (same.found r) ∙ h) e;
-      claimed = same_claimed c.self.inside.claims _ _ same.found w.claimed;
+      runs = same_runs _ _ _ _ _ _ _ same.found w.runs;
       ledger = (
         w.ledger.0,
         unmoved g.R.Key.Ord.cmp (g.R.Rules.machine c.self.inside.memos.rules) g.O.Outbox.puts _ _ w.ledger.0 (record {
@@ -78,8 +77,7 @@ invariant_of-self-then-not-fits g c =
           let a : length c.self.inside.waiting.items ≤ c.self.inside.runs.room = w.room in
           let b = set.room in
           omega (arith, a, b);
-      current = all_kept g.R.Key.Ord.cmp (g.R.Rules.machine c.self.inside.memos.rules) c.self.inside.inputs (memo_at g.R.Key.Ord.cmp c.self.inside.memos.places) (memo_at g.R.Key.Ord.cmp c.self.inside.memos.places) c.self.inside.runs.items _ c.args.run c.in-Some.taken (renewed_same (g.R.Rules.machine c.self.inside.memos.rules) c.self.inside.inputs.revision _ _ (λ q. refl)) set.found w.current (w.current c.args.run c.in-Some.taken here);
-      claimed = put_claimed c.self.inside.claims c.self.inside.claims c.self.inside.runs.items _ c.args.run c.in-Some.taken set.found (w.claimed c.args.run ∙ ap (λ o. claimed_keys o) here) (others_same c.args.run c.self.inside.claims) w.claimed;
+      runs = back_runs _ _ _ _ _ _ _ c.args.run c.in-Some.taken here set.found w.runs;
       ledger = (w.ledger.0, back_moved g.R.Key.Ord.cmp (g.R.Rules.machine c.self.inside.memos.rules) g.O.Outbox.puts (held (record { rules = c.self.inside.memos.rules; places = c.self.inside.memos.places; inputs = c.self.inside.inputs; lanes = c.self.inside.lanes; opened = c.self.inside.opened; clients = c.self.inside.clients; waiting = c.self.inside.waiting.items; runs = c.self.inside.runs; started = c.self.inside.started; claims = c.self.inside.claims })) (record { inputs = c.self.inside.inputs; lanes = c.self.inside.lanes.items; opened = c.self.inside.opened; clients = c.self.inside.clients; runs = c.put_back.new.self.items; started = c.self.inside.started }) w.ledger.0 c.args.run c.in-Some.taken c.in-Some.taken w.ledger.1 here (record { client = refl; number = refl; request = refl; started = refl }) refl set.found (λ k. refl) (record { inputs = refl; opened = refl; clients = refl; started = refl }));
     }
 
@@ -121,8 +119,7 @@ invariant_of-self-then-is_overtaken g c =
           let a : length c.self.inside.waiting.items ≤ c.self.inside.runs.room = w.room in
           let b = c.take.ensures.room in
           omega (arith, a, b);
-      current = others_kept g.R.Key.Ord.cmp (g.R.Rules.machine c.self.inside.memos.rules) c.self.inside.inputs (memo_at g.R.Key.Ord.cmp c.self.inside.memos.places) (memo_at g.R.Key.Ord.cmp c.self.inside.memos.places) c.self.inside.runs.items c.take.new.self.items c.args.run (renewed_same (g.R.Rules.machine c.self.inside.memos.rules) c.self.inside.inputs.revision _ _ (λ q. refl)) runs w.current;
-      claimed = end_claimed c.self.inside.claims c.release_all.new.self c.self.inside.runs.items c.take.new.self.items c.args.run c.self.inside.claims runs (others_same c.args.run c.self.inside.claims) c.release_all.ensures.released w.claimed;
+      runs = stopped_runs _ _ _ _ _ _ _ c.args.run c.release_all.new.self runs c.release_all.ensures.released w.runs;
       ledger = (ended w.ledger.0 x.at x.at.entry.starved (Cancelled x.at.started w.ledger.0.inputs.revision), moved.1);
     }
 
@@ -142,8 +139,8 @@ returns-then-is_overtaken-clause-moved g c =
     (λ lane h k. rw c.now-now.ensures.now at ((c.stop_run.ensures.«open» lane h).found k)) (λ h k. (c.stop_run.ensures.closed h).found k) (record { inputs = refl; opened = refl; clients = refl; started = refl }) in
     give_stopped g.R.Key.Ord.cmp (g.R.Rules.machine c.self.inside.memos.rules) g.O.Outbox.puts c.self.inside.memos.rules (held (record { rules = c.self.inside.memos.rules; places = c.self.inside.memos.places; inputs = c.self.inside.inputs; lanes = c.self.inside.lanes; opened = c.self.inside.opened; clients = c.self.inside.clients; waiting = c.self.inside.waiting.items; runs = c.self.inside.runs; started = c.self.inside.started; claims = c.self.inside.claims })) (record { inputs = c.self.inside.inputs; lanes = c.stop_run.new.lanes.items; opened = c.self.inside.opened; clients = c.self.inside.clients; runs = c.take.new.self.items; started = c.self.inside.started }) l c.args.run c.in-Some.taken c.args.done x (c.fits.ensures.0 c.if-not-fits.false) moved s (rw c.now-now.ensures.now at (c.is_overtaken.ensures.0 c.if-is_overtaken.true)))
 
-pub give-requires-clause-rules : goal.give-requires-clause-rules
-give-requires-clause-rules g c =
+pub give-given-requires-clause-rules : goal.give-given-requires-clause-rules
+give-given-requires-clause-rules g c =
     let here = sym (rw c.number-id.ensures at (c.in-Some.ensures {u = tt}).value) in
     let made = subst (λ (v : CoreView g.row.R.Denot g.row.R-Key.Denot g.row.R-Part.Denot g.row.R-Value.Denot g.row.O.Denot). IsMade v.rules v.inputs c.args.done) (sym c.self.view_is) c.requires in
     let fit = (c.fits.ensures.0 c.if-not-fits.false) in
@@ -151,8 +148,8 @@ give-requires-clause-rules g c =
     let now = (current g.R.Key.Ord.cmp (g.R.Rules.machine c.self.inside.memos.rules) g.O.Outbox.puts (held (record { rules = c.self.inside.memos.rules; places = c.self.inside.memos.places; inputs = c.self.inside.inputs; lanes = c.self.inside.lanes; opened = c.self.inside.opened; clients = c.self.inside.clients; waiting = c.self.inside.waiting.items; runs = c.self.inside.runs; started = c.self.inside.started; claims = c.self.inside.claims })) c.self.invariant.ledger.0 c.args.run c.in-Some.taken c.self.invariant.ledger.1 x (λ o. false_true (sym c.if-is_overtaken.false ∙ c.is_overtaken.ensures.1 (rw c.now-now.ensures.now o)))).1 in
     (made (fit.1 ∙ now)).0
 
-pub give-requires-clause-files : goal.give-requires-clause-files
-give-requires-clause-files g c =
+pub give-given-requires-clause-files : goal.give-given-requires-clause-files
+give-given-requires-clause-files g c =
     let here = sym (rw c.number-id.ensures at (c.in-Some.ensures {u = tt}).value) in
     let made = subst (λ (v : CoreView g.row.R.Denot g.row.R-Key.Denot g.row.R-Part.Denot g.row.R-Value.Denot g.row.O.Denot). IsMade v.rules v.inputs c.args.done) (sym c.self.view_is) c.requires in
     let fit = (c.fits.ensures.0 c.if-not-fits.false) in
@@ -160,8 +157,8 @@ give-requires-clause-files g c =
     let now = (current g.R.Key.Ord.cmp (g.R.Rules.machine c.self.inside.memos.rules) g.O.Outbox.puts (held (record { rules = c.self.inside.memos.rules; places = c.self.inside.memos.places; inputs = c.self.inside.inputs; lanes = c.self.inside.lanes; opened = c.self.inside.opened; clients = c.self.inside.clients; waiting = c.self.inside.waiting.items; runs = c.self.inside.runs; started = c.self.inside.started; claims = c.self.inside.claims })) c.self.invariant.ledger.0 c.args.run c.in-Some.taken c.self.invariant.ledger.1 x (λ o. false_true (sym c.if-is_overtaken.false ∙ c.is_overtaken.ensures.1 (rw c.now-now.ensures.now o)))).1 in
     (made (fit.1 ∙ now)).1
 
-pub give-requires-clause-current : goal.give-requires-clause-current
-give-requires-clause-current g c =
+pub give-given-requires-clause-current : goal.give-given-requires-clause-current
+give-given-requires-clause-current g c =
     let here = sym (rw c.number-id.ensures at (c.in-Some.ensures {u = tt}).value) in
     let made = subst (λ (v : CoreView g.row.R.Denot g.row.R-Key.Denot g.row.R-Part.Denot g.row.R-Value.Denot g.row.O.Denot). IsMade v.rules v.inputs c.args.done) (sym c.self.view_is) c.requires in
     let fit = (c.fits.ensures.0 c.if-not-fits.false) in
@@ -169,25 +166,25 @@ give-requires-clause-current g c =
     let now = (current g.R.Key.Ord.cmp (g.R.Rules.machine c.self.inside.memos.rules) g.O.Outbox.puts (held (record { rules = c.self.inside.memos.rules; places = c.self.inside.memos.places; inputs = c.self.inside.inputs; lanes = c.self.inside.lanes; opened = c.self.inside.opened; clients = c.self.inside.clients; waiting = c.self.inside.waiting.items; runs = c.self.inside.runs; started = c.self.inside.started; claims = c.self.inside.claims })) c.self.invariant.ledger.0 c.args.run c.in-Some.taken c.self.invariant.ledger.1 x (λ o. false_true (sym c.if-is_overtaken.false ∙ c.is_overtaken.ensures.1 (rw c.now-now.ensures.now o)))).1 in
     now
 
-pub give-requires-clause-run_kept : goal.give-requires-clause-run_kept
-give-requires-clause-run_kept g c =
+pub give-given-requires-clause-run_kept : goal.give-given-requires-clause-run_kept
+give-given-requires-clause-run_kept g c =
     let here = sym (rw c.number-id.ensures at (c.in-Some.ensures {u = tt}).value) in
     let made = subst (λ (v : CoreView g.row.R.Denot g.row.R-Key.Denot g.row.R-Part.Denot g.row.R-Value.Denot g.row.O.Denot). IsMade v.rules v.inputs c.args.done) (sym c.self.view_is) c.requires in
     let fit = (c.fits.ensures.0 c.if-not-fits.false) in
     let x = run_here g.R.Key.Ord.cmp (g.R.Rules.machine c.self.inside.memos.rules) g.O.Outbox.puts (held (record { rules = c.self.inside.memos.rules; places = c.self.inside.memos.places; inputs = c.self.inside.inputs; lanes = c.self.inside.lanes; opened = c.self.inside.opened; clients = c.self.inside.clients; waiting = c.self.inside.waiting.items; runs = c.self.inside.runs; started = c.self.inside.started; claims = c.self.inside.claims })) c.self.invariant.ledger.0 c.args.run c.in-Some.taken c.self.invariant.ledger.1 here in
     let now = (current g.R.Key.Ord.cmp (g.R.Rules.machine c.self.inside.memos.rules) g.O.Outbox.puts (held (record { rules = c.self.inside.memos.rules; places = c.self.inside.memos.places; inputs = c.self.inside.inputs; lanes = c.self.inside.lanes; opened = c.self.inside.opened; clients = c.self.inside.clients; waiting = c.self.inside.waiting.items; runs = c.self.inside.runs; started = c.self.inside.started; claims = c.self.inside.claims })) c.self.invariant.ledger.0 c.args.run c.in-Some.taken c.self.invariant.ledger.1 x (λ o. false_true (sym c.if-is_overtaken.false ∙ c.is_overtaken.ensures.1 (rw c.now-now.ensures.now o)))).1 in
-    c.self.invariant.current c.args.run c.in-Some.taken here now
+    c.self.invariant.runs.current c.args.run c.in-Some.taken here now
 
 pub invariant_of-self-in-Ok : goal.invariant_of-self-in-Ok
 invariant_of-self-in-Ok g c =
     let w = c.self.invariant in
     let here = sym (rw c.number-id.ensures at (c.in-Some.ensures {u = tt}).value) in
-    let set = set_back c.self.inside.runs c.take.new.self c.put_back-in-Ok.new.self c.args.run c.give.new.self (rw c.number-id.ensures at c.take.ensures.found) c.take.ensures.above
+    let set = set_back c.self.inside.runs c.take.new.self c.put_back-in-Ok.new.self c.args.run c.give-given.new.self (rw c.number-id.ensures at c.take.ensures.found) c.take.ensures.above
     (rw c.in-Some.is at c.take.ensures.more_room) (rw c.number-id.ensures at c.put_back-in-Ok.ensures.found) c.put_back-in-Ok.ensures.room c.put_back-in-Ok.ensures.above in
-    let moved = give_moved g.R.Key.Ord.cmp (g.R.Rules.machine c.self.inside.memos.rules) g.O.Outbox.puts c.self.inside.memos.rules (held (record { rules = c.self.inside.memos.rules; places = c.self.inside.memos.places; inputs = c.self.inside.inputs; lanes = c.self.inside.lanes; opened = c.self.inside.opened; clients = c.self.inside.clients; waiting = c.self.inside.waiting.items; runs = c.self.inside.runs; started = c.self.inside.started; claims = c.self.inside.claims })) (record { inputs = c.self.inside.inputs; lanes = c.self.inside.lanes.items; opened = c.self.inside.opened; clients = c.self.inside.clients; runs = c.put_back-in-Ok.new.self.items; started = c.self.inside.started }) w.ledger.0 c.args.run c.in-Some.taken c.give.new.self c.args.done w.ledger.1 here (λ o. false_true (sym c.if-is_overtaken.false ∙ c.is_overtaken.ensures.1 (rw c.now-now.ensures.now o))) (c.fits.ensures.0 c.if-not-fits.false) c.give.ensures.same (c.in-Ok.ensures {u = tt}).taken set.found (λ k. refl) (record { inputs = refl; opened = refl; clients = refl; started = refl }) in
-    rw c.give.ensures.rules
+    let moved = give_moved g.R.Key.Ord.cmp (g.R.Rules.machine c.self.inside.memos.rules) g.O.Outbox.puts c.self.inside.memos.rules (held (record { rules = c.self.inside.memos.rules; places = c.self.inside.memos.places; inputs = c.self.inside.inputs; lanes = c.self.inside.lanes; opened = c.self.inside.opened; clients = c.self.inside.clients; waiting = c.self.inside.waiting.items; runs = c.self.inside.runs; started = c.self.inside.started; claims = c.self.inside.claims })) (record { inputs = c.self.inside.inputs; lanes = c.self.inside.lanes.items; opened = c.self.inside.opened; clients = c.self.inside.clients; runs = c.put_back-in-Ok.new.self.items; started = c.self.inside.started }) w.ledger.0 c.args.run c.in-Some.taken c.give-given.new.self c.args.done w.ledger.1 here (λ o. false_true (sym c.if-is_overtaken.false ∙ c.is_overtaken.ensures.1 (rw c.now-now.ensures.now o))) (c.fits.ensures.0 c.if-not-fits.false) c.give-given.ensures.same (c.in-Ok.ensures {u = tt}).taken set.found (λ k. refl) (record { inputs = refl; opened = refl; clients = refl; started = refl }) in
+    rw c.give-given.ensures.rules
     (record {
-      kept = c.give.ensures.kept;
+      kept = c.give-given.ensures.kept;
       lanes_above = w.lanes_above;
       runs_above = set.above c.self.inside.started w.runs_above;
       queue = w.queue;
@@ -195,34 +192,37 @@ invariant_of-self-in-Ok g c =
           let a : length c.self.inside.waiting.items ≤ c.self.inside.runs.room = w.room in
           let b = set.room in
           omega (arith, a, b);
-      current = all_kept g.R.Key.Ord.cmp (g.R.Rules.machine c.self.inside.memos.rules) c.self.inside.inputs (memo_at g.R.Key.Ord.cmp c.self.inside.memos.places) (memo_at g.R.Key.Ord.cmp c.give.new.memos.places) c.self.inside.runs.items _ c.args.run c.give.new.self c.give.ensures.renewed set.found w.current (λ e. c.give.ensures.run_kept);
-      claimed = put_claimed c.self.inside.claims c.give.new.claims c.self.inside.runs.items _ c.args.run c.give.new.self set.found c.give.ensures.claimed c.give.ensures.others w.claimed;
+      runs = stepped_runs _ _ c.self.inside.inputs _ _ _ _ _ _ c.args.run c.in-Some.taken c.give-given.new.self here set.found c.give-given.ensures.same
+          ((current g.R.Key.Ord.cmp (g.R.Rules.machine c.self.inside.memos.rules) g.O.Outbox.puts (held (record { rules = c.self.inside.memos.rules; places = c.self.inside.memos.places; inputs = c.self.inside.inputs; lanes = c.self.inside.lanes; opened = c.self.inside.opened; clients = c.self.inside.clients; waiting = c.self.inside.waiting.items; runs = c.self.inside.runs; started = c.self.inside.started; claims = c.self.inside.claims })) w.ledger.0 c.args.run c.in-Some.taken w.ledger.1 (run_here g.R.Key.Ord.cmp (g.R.Rules.machine c.self.inside.memos.rules) g.O.Outbox.puts (held (record { rules = c.self.inside.memos.rules; places = c.self.inside.memos.places; inputs = c.self.inside.inputs; lanes = c.self.inside.lanes; opened = c.self.inside.opened; clients = c.self.inside.clients; waiting = c.self.inside.waiting.items; runs = c.self.inside.runs; started = c.self.inside.started; claims = c.self.inside.claims })) w.ledger.0 c.args.run c.in-Some.taken w.ledger.1 here) (λ o. false_true (sym c.if-is_overtaken.false ∙ c.is_overtaken.ensures.1 (rw c.now-now.ensures.now o)))).1)
+          (λ s y h. run_past g.R.Key.Ord.cmp (g.R.Rules.machine c.self.inside.memos.rules) g.O.Outbox.puts (held (record { rules = c.self.inside.memos.rules; places = c.self.inside.memos.places; inputs = c.self.inside.inputs; lanes = c.self.inside.lanes; opened = c.self.inside.opened; clients = c.self.inside.clients; waiting = c.self.inside.waiting.items; runs = c.self.inside.runs; started = c.self.inside.started; claims = c.self.inside.claims })) w.ledger.0 s y w.ledger.1 h)
+          c.claims_are_sound.ensures.sound c.claims_are_sound-in-Some.ensures.sound c.give-given.ensures.renewed c.give-given.ensures.written
+          c.give-given.ensures.run_kept c.give-given.ensures.claimed c.give-given.ensures.others c.give-given.ensures.stale c.give-given.ensures.waits w.runs;
       ledger = (moved.0, moved.2);
     })
 
 pub returns-in-Ok-clause-none_lost : goal.returns-in-Ok-clause-none_lost
 returns-in-Ok-clause-none_lost g c = rw (← c.self.view_is)
     (renewed_none_lost (g.R.Rules.machine c.self.inside.memos.rules) c.self.inside.inputs.revision (memo_at g.R.Key.Ord.cmp c.self.inside.memos.places)
-    (memo_at g.R.Key.Ord.cmp c.give.new.memos.places) c.give.ensures.renewed)
+    (memo_at g.R.Key.Ord.cmp c.give-given.new.memos.places) c.give-given.ensures.renewed)
 
 pub returns-in-Ok-clause-moved : goal.returns-in-Ok-clause-moved
 returns-in-Ok-clause-moved g c =
     let here = sym (rw c.number-id.ensures at (c.in-Some.ensures {u = tt}).value) in
-    let set = set_back c.self.inside.runs c.take.new.self c.put_back-in-Ok.new.self c.args.run c.give.new.self (rw c.number-id.ensures at c.take.ensures.found) c.take.ensures.above
+    let set = set_back c.self.inside.runs c.take.new.self c.put_back-in-Ok.new.self c.args.run c.give-given.new.self (rw c.number-id.ensures at c.take.ensures.found) c.take.ensures.above
     (rw c.in-Some.is at c.take.ensures.more_room) (rw c.number-id.ensures at c.put_back-in-Ok.ensures.found) c.put_back-in-Ok.ensures.room c.put_back-in-Ok.ensures.above in
     rw (← c.self.view_is)
-    (λ l s. give_moved g.R.Key.Ord.cmp (g.R.Rules.machine c.self.inside.memos.rules) g.O.Outbox.puts c.self.inside.memos.rules (held (record { rules = c.self.inside.memos.rules; places = c.self.inside.memos.places; inputs = c.self.inside.inputs; lanes = c.self.inside.lanes; opened = c.self.inside.opened; clients = c.self.inside.clients; waiting = c.self.inside.waiting.items; runs = c.self.inside.runs; started = c.self.inside.started; claims = c.self.inside.claims })) (record { inputs = c.self.inside.inputs; lanes = c.self.inside.lanes.items; opened = c.self.inside.opened; clients = c.self.inside.clients; runs = c.put_back-in-Ok.new.self.items; started = c.self.inside.started }) l c.args.run c.in-Some.taken c.give.new.self c.args.done s here (λ o. false_true (sym c.if-is_overtaken.false ∙ c.is_overtaken.ensures.1 (rw c.now-now.ensures.now o))) (c.fits.ensures.0 c.if-not-fits.false) c.give.ensures.same (c.in-Ok.ensures {u = tt}).taken set.found (λ k. refl) (record { inputs = refl; opened = refl; clients = refl; started = refl }))
+    (λ l s. give_moved g.R.Key.Ord.cmp (g.R.Rules.machine c.self.inside.memos.rules) g.O.Outbox.puts c.self.inside.memos.rules (held (record { rules = c.self.inside.memos.rules; places = c.self.inside.memos.places; inputs = c.self.inside.inputs; lanes = c.self.inside.lanes; opened = c.self.inside.opened; clients = c.self.inside.clients; waiting = c.self.inside.waiting.items; runs = c.self.inside.runs; started = c.self.inside.started; claims = c.self.inside.claims })) (record { inputs = c.self.inside.inputs; lanes = c.self.inside.lanes.items; opened = c.self.inside.opened; clients = c.self.inside.clients; runs = c.put_back-in-Ok.new.self.items; started = c.self.inside.started }) l c.args.run c.in-Some.taken c.give-given.new.self c.args.done s here (λ o. false_true (sym c.if-is_overtaken.false ∙ c.is_overtaken.ensures.1 (rw c.now-now.ensures.now o))) (c.fits.ensures.0 c.if-not-fits.false) c.give-given.ensures.same (c.in-Ok.ensures {u = tt}).taken set.found (λ k. refl) (record { inputs = refl; opened = refl; clients = refl; started = refl }))
 
 pub invariant_of-self-in-Err : goal.invariant_of-self-in-Err
 invariant_of-self-in-Err g c =
     let w = c.self.invariant in
     let here = sym (rw c.number-id.ensures at (c.in-Some.ensures {u = tt}).value) in
-    let set = set_back c.self.inside.runs c.take.new.self c.put_back-in-Err.new.self c.args.run c.give.new.self (rw c.number-id.ensures at c.take.ensures.found) c.take.ensures.above
+    let set = set_back c.self.inside.runs c.take.new.self c.put_back-in-Err.new.self c.args.run c.give-given.new.self (rw c.number-id.ensures at c.take.ensures.found) c.take.ensures.above
     (rw c.in-Some.is at c.take.ensures.more_room) (rw c.number-id.ensures at c.put_back-in-Err.ensures.found) c.put_back-in-Err.ensures.room c.put_back-in-Err.ensures.above in
     let fit = (c.fits.ensures.0 c.if-not-fits.false) in
-    rw c.give.ensures.rules
+    rw c.give-given.ensures.rules
     (record {
-      kept = c.give.ensures.kept;
+      kept = c.give-given.ensures.kept;
       lanes_above = w.lanes_above;
       runs_above = set.above c.self.inside.started w.runs_above;
       queue = w.queue;
@@ -230,65 +230,45 @@ invariant_of-self-in-Err g c =
           let a : length c.self.inside.waiting.items ≤ c.self.inside.runs.room = w.room in
           let b = set.room in
           omega (arith, a, b);
-      current = all_kept g.R.Key.Ord.cmp (g.R.Rules.machine c.self.inside.memos.rules) c.self.inside.inputs (memo_at g.R.Key.Ord.cmp c.self.inside.memos.places) (memo_at g.R.Key.Ord.cmp c.give.new.memos.places) c.self.inside.runs.items _ c.args.run c.give.new.self c.give.ensures.renewed set.found w.current (λ e. c.give.ensures.run_kept);
-      claimed = put_claimed c.self.inside.claims c.give.new.claims c.self.inside.runs.items _ c.args.run c.give.new.self set.found c.give.ensures.claimed c.give.ensures.others w.claimed;
-      ledger = (w.ledger.0, back_moved g.R.Key.Ord.cmp (g.R.Rules.machine c.self.inside.memos.rules) g.O.Outbox.puts (held (record { rules = c.self.inside.memos.rules; places = c.self.inside.memos.places; inputs = c.self.inside.inputs; lanes = c.self.inside.lanes; opened = c.self.inside.opened; clients = c.self.inside.clients; waiting = c.self.inside.waiting.items; runs = c.self.inside.runs; started = c.self.inside.started; claims = c.self.inside.claims })) (record { inputs = c.self.inside.inputs; lanes = c.self.inside.lanes.items; opened = c.self.inside.opened; clients = c.self.inside.clients; runs = c.put_back-in-Err.new.self.items; started = c.self.inside.started }) w.ledger.0 c.args.run c.in-Some.taken c.give.new.self w.ledger.1 here c.give.ensures.same ((c.in-Err.ensures {u = tt}).refused ∙ sym fit.2) set.found (λ k. refl) (record { inputs = refl; opened = refl; clients = refl; started = refl }));
+      runs = stepped_runs _ _ c.self.inside.inputs _ _ _ _ _ _ c.args.run c.in-Some.taken c.give-given.new.self here set.found c.give-given.ensures.same
+          ((current g.R.Key.Ord.cmp (g.R.Rules.machine c.self.inside.memos.rules) g.O.Outbox.puts (held (record { rules = c.self.inside.memos.rules; places = c.self.inside.memos.places; inputs = c.self.inside.inputs; lanes = c.self.inside.lanes; opened = c.self.inside.opened; clients = c.self.inside.clients; waiting = c.self.inside.waiting.items; runs = c.self.inside.runs; started = c.self.inside.started; claims = c.self.inside.claims })) w.ledger.0 c.args.run c.in-Some.taken w.ledger.1 (run_here g.R.Key.Ord.cmp (g.R.Rules.machine c.self.inside.memos.rules) g.O.Outbox.puts (held (record { rules = c.self.inside.memos.rules; places = c.self.inside.memos.places; inputs = c.self.inside.inputs; lanes = c.self.inside.lanes; opened = c.self.inside.opened; clients = c.self.inside.clients; waiting = c.self.inside.waiting.items; runs = c.self.inside.runs; started = c.self.inside.started; claims = c.self.inside.claims })) w.ledger.0 c.args.run c.in-Some.taken w.ledger.1 here) (λ o. false_true (sym c.if-is_overtaken.false ∙ c.is_overtaken.ensures.1 (rw c.now-now.ensures.now o)))).1)
+          (λ s y h. run_past g.R.Key.Ord.cmp (g.R.Rules.machine c.self.inside.memos.rules) g.O.Outbox.puts (held (record { rules = c.self.inside.memos.rules; places = c.self.inside.memos.places; inputs = c.self.inside.inputs; lanes = c.self.inside.lanes; opened = c.self.inside.opened; clients = c.self.inside.clients; waiting = c.self.inside.waiting.items; runs = c.self.inside.runs; started = c.self.inside.started; claims = c.self.inside.claims })) w.ledger.0 s y w.ledger.1 h)
+          c.claims_are_sound.ensures.sound c.claims_are_sound-in-Some.ensures.sound c.give-given.ensures.renewed c.give-given.ensures.written
+          c.give-given.ensures.run_kept c.give-given.ensures.claimed c.give-given.ensures.others c.give-given.ensures.stale c.give-given.ensures.waits w.runs;
+      ledger = (w.ledger.0, back_moved g.R.Key.Ord.cmp (g.R.Rules.machine c.self.inside.memos.rules) g.O.Outbox.puts (held (record { rules = c.self.inside.memos.rules; places = c.self.inside.memos.places; inputs = c.self.inside.inputs; lanes = c.self.inside.lanes; opened = c.self.inside.opened; clients = c.self.inside.clients; waiting = c.self.inside.waiting.items; runs = c.self.inside.runs; started = c.self.inside.started; claims = c.self.inside.claims })) (record { inputs = c.self.inside.inputs; lanes = c.self.inside.lanes.items; opened = c.self.inside.opened; clients = c.self.inside.clients; runs = c.put_back-in-Err.new.self.items; started = c.self.inside.started }) w.ledger.0 c.args.run c.in-Some.taken c.give-given.new.self w.ledger.1 here c.give-given.ensures.same ((c.in-Err.ensures {u = tt}).refused ∙ sym fit.2) set.found (λ k. refl) (record { inputs = refl; opened = refl; clients = refl; started = refl }));
     })
 
 pub returns-in-Err-clause-none_lost : goal.returns-in-Err-clause-none_lost
 returns-in-Err-clause-none_lost g c = rw (← c.self.view_is)
     (renewed_none_lost (g.R.Rules.machine c.self.inside.memos.rules) c.self.inside.inputs.revision (memo_at g.R.Key.Ord.cmp c.self.inside.memos.places)
-    (memo_at g.R.Key.Ord.cmp c.give.new.memos.places) c.give.ensures.renewed)
+    (memo_at g.R.Key.Ord.cmp c.give-given.new.memos.places) c.give-given.ensures.renewed)
 
 pub returns-in-Err-clause-moved : goal.returns-in-Err-clause-moved
 returns-in-Err-clause-moved g c =
     let here = sym (rw c.number-id.ensures at (c.in-Some.ensures {u = tt}).value) in
-    let set = set_back c.self.inside.runs c.take.new.self c.put_back-in-Err.new.self c.args.run c.give.new.self (rw c.number-id.ensures at c.take.ensures.found) c.take.ensures.above
+    let set = set_back c.self.inside.runs c.take.new.self c.put_back-in-Err.new.self c.args.run c.give-given.new.self (rw c.number-id.ensures at c.take.ensures.found) c.take.ensures.above
     (rw c.in-Some.is at c.take.ensures.more_room) (rw c.number-id.ensures at c.put_back-in-Err.ensures.found) c.put_back-in-Err.ensures.room c.put_back-in-Err.ensures.above in
     let fit = (c.fits.ensures.0 c.if-not-fits.false) in
     rw (← c.self.view_is)
     (λ l s. (
       l,
       ((c.in-Err.ensures {u = tt}).back, give_refused g.R.Key.Ord.cmp (g.R.Rules.machine c.self.inside.memos.rules) g.O.Outbox.puts c.self.inside.memos.rules (held (record { rules = c.self.inside.memos.rules; places = c.self.inside.memos.places; inputs = c.self.inside.inputs; lanes = c.self.inside.lanes; opened = c.self.inside.opened; clients = c.self.inside.clients; waiting = c.self.inside.waiting.items; runs = c.self.inside.runs; started = c.self.inside.started; claims = c.self.inside.claims })) l c.args.run c.in-Some.taken c.args.done s here (λ o. false_true (sym c.if-is_overtaken.false ∙ c.is_overtaken.ensures.1 (rw c.now-now.ensures.now o))) fit, refl),
-      back_moved g.R.Key.Ord.cmp (g.R.Rules.machine c.self.inside.memos.rules) g.O.Outbox.puts (held (record { rules = c.self.inside.memos.rules; places = c.self.inside.memos.places; inputs = c.self.inside.inputs; lanes = c.self.inside.lanes; opened = c.self.inside.opened; clients = c.self.inside.clients; waiting = c.self.inside.waiting.items; runs = c.self.inside.runs; started = c.self.inside.started; claims = c.self.inside.claims })) (record { inputs = c.self.inside.inputs; lanes = c.self.inside.lanes.items; opened = c.self.inside.opened; clients = c.self.inside.clients; runs = c.put_back-in-Err.new.self.items; started = c.self.inside.started }) l c.args.run c.in-Some.taken c.give.new.self s here c.give.ensures.same ((c.in-Err.ensures {u = tt}).refused ∙ sym fit.2) set.found (λ k. refl) (record { inputs = refl; opened = refl; clients = refl; started = refl }),
+      back_moved g.R.Key.Ord.cmp (g.R.Rules.machine c.self.inside.memos.rules) g.O.Outbox.puts (held (record { rules = c.self.inside.memos.rules; places = c.self.inside.memos.places; inputs = c.self.inside.inputs; lanes = c.self.inside.lanes; opened = c.self.inside.opened; clients = c.self.inside.clients; waiting = c.self.inside.waiting.items; runs = c.self.inside.runs; started = c.self.inside.started; claims = c.self.inside.claims })) (record { inputs = c.self.inside.inputs; lanes = c.self.inside.lanes.items; opened = c.self.inside.opened; clients = c.self.inside.clients; runs = c.put_back-in-Err.new.self.items; started = c.self.inside.started }) l c.args.run c.in-Some.taken c.give-given.new.self s here c.give-given.ensures.same ((c.in-Err.ensures {u = tt}).refused ∙ sym fit.2) set.found (λ k. refl) (record { inputs = refl; opened = refl; clients = refl; started = refl }),
     ))
 
-pub give-requires-clause-claimed : goal.give-requires-clause-claimed
-give-requires-clause-claimed g c =
+pub give-given-requires-clause-claimed : goal.give-given-requires-clause-claimed
+give-given-requires-clause-claimed g c =
     let here = sym (rw c.number-id.ensures at (c.in-Some.ensures {u = tt}).value) in
-    c.self.invariant.claimed c.args.run ∙ ap (λ o. claimed_keys o) here
+    own_claimed _ _ _ _ _ _ c.args.run c.in-Some.taken here c.self.invariant.runs
 
-pub returns-in-None-clause-loosens : goal.returns-in-None-clause-loosens
-returns-in-None-clause-loosens g c =
-    let nothing = sym (rw c.number-id.ensures at (c.in-None.ensures {u = tt}).value) in
-    let same = none_taken c.self.inside.runs c.take.new.self c.args.run nothing (rw c.number-id.ensures at c.take.ensures.found) c.take.ensures.above c.take.ensures.room in
-    rw (← c.self.view_is)
-    (same_loosens g.R.Key.Ord.cmp c.self.inside.claims c.self.inside.runs.items c.take.new.self.items same.found)
-
-pub returns-then-not-fits-clause-loosens : goal.returns-then-not-fits-clause-loosens
-returns-then-not-fits-clause-loosens g c =
+pub give-given-requires-clause-stale : goal.give-given-requires-clause-stale
+give-given-requires-clause-stale g c =
     let here = sym (rw c.number-id.ensures at (c.in-Some.ensures {u = tt}).value) in
-    let set = set_back c.self.inside.runs c.take.new.self c.put_back.new.self c.args.run c.in-Some.taken (rw c.number-id.ensures at c.take.ensures.found) c.take.ensures.above
-    (rw c.in-Some.is at c.take.ensures.more_room) (rw c.number-id.ensures at c.put_back.ensures.found) c.put_back.ensures.room c.put_back.ensures.above in
-    rw (← c.self.view_is)
-    (put_loosens g.R.Key.Ord.cmp c.self.inside.claims c.self.inside.runs.items c.put_back.new.self.items c.args.run c.in-Some.taken c.in-Some.taken here set.found (inl refl))
+    own_stale _ _ _ _ _ _ c.args.run c.in-Some.taken here c.self.invariant.runs
 
-pub returns-then-is_overtaken-clause-loosens : goal.returns-then-is_overtaken-clause-loosens
-returns-then-is_overtaken-clause-loosens g c = rw (← c.self.view_is)
-    (end_loosens g.R.Key.Ord.cmp c.self.inside.claims c.self.inside.runs.items c.take.new.self.items c.args.run (rw c.number-id.ensures at c.take.ensures.found))
-
-pub returns-in-Ok-clause-loosens : goal.returns-in-Ok-clause-loosens
-returns-in-Ok-clause-loosens g c =
+pub give-given-requires-clause-waits : goal.give-given-requires-clause-waits
+give-given-requires-clause-waits g c =
+    let w = c.self.invariant in
     let here = sym (rw c.number-id.ensures at (c.in-Some.ensures {u = tt}).value) in
-    let set = set_back c.self.inside.runs c.take.new.self c.put_back-in-Ok.new.self c.args.run c.give.new.self (rw c.number-id.ensures at c.take.ensures.found) c.take.ensures.above
-    (rw c.in-Some.is at c.take.ensures.more_room) (rw c.number-id.ensures at c.put_back-in-Ok.ensures.found) c.put_back-in-Ok.ensures.room c.put_back-in-Ok.ensures.above in
-    rw (← c.self.view_is)
-    (put_loosens g.R.Key.Ord.cmp c.self.inside.claims c.self.inside.runs.items c.put_back-in-Ok.new.self.items c.args.run c.in-Some.taken c.give.new.self here set.found (inl c.give.ensures.same_loose))
-
-pub returns-in-Err-clause-loosens : goal.returns-in-Err-clause-loosens
-returns-in-Err-clause-loosens g c =
-    let here = sym (rw c.number-id.ensures at (c.in-Some.ensures {u = tt}).value) in
-    let set = set_back c.self.inside.runs c.take.new.self c.put_back-in-Err.new.self c.args.run c.give.new.self (rw c.number-id.ensures at c.take.ensures.found) c.take.ensures.above
-    (rw c.in-Some.is at c.take.ensures.more_room) (rw c.number-id.ensures at c.put_back-in-Err.ensures.found) c.put_back-in-Err.ensures.room c.put_back-in-Err.ensures.above in
-    rw (← c.self.view_is)
-    (put_loosens g.R.Key.Ord.cmp c.self.inside.claims c.self.inside.runs.items c.put_back-in-Err.new.self.items c.args.run c.in-Some.taken c.give.new.self here set.found (inl c.give.ensures.same_loose))
+    w.runs.waits c.args.run c.in-Some.taken here
+    ((current g.R.Key.Ord.cmp (g.R.Rules.machine c.self.inside.memos.rules) g.O.Outbox.puts (held (record { rules = c.self.inside.memos.rules; places = c.self.inside.memos.places; inputs = c.self.inside.inputs; lanes = c.self.inside.lanes; opened = c.self.inside.opened; clients = c.self.inside.clients; waiting = c.self.inside.waiting.items; runs = c.self.inside.runs; started = c.self.inside.started; claims = c.self.inside.claims })) w.ledger.0 c.args.run c.in-Some.taken w.ledger.1 (run_here g.R.Key.Ord.cmp (g.R.Rules.machine c.self.inside.memos.rules) g.O.Outbox.puts (held (record { rules = c.self.inside.memos.rules; places = c.self.inside.memos.places; inputs = c.self.inside.inputs; lanes = c.self.inside.lanes; opened = c.self.inside.opened; clients = c.self.inside.clients; waiting = c.self.inside.waiting.items; runs = c.self.inside.runs; started = c.self.inside.started; claims = c.self.inside.claims })) w.ledger.0 c.args.run c.in-Some.taken w.ledger.1 here) (λ o. false_true (sym c.if-is_overtaken.false ∙ c.is_overtaken.ensures.1 (rw c.now-now.ensures.now o)))).1)

@@ -1,17 +1,18 @@
-use Rattle.std.proofs.Common.{ℕ, ◌≤◌, ◌<◌, ◌+◌, List, length, refl, sym, ◌∙◌, ap, subst, inl, inr, arith}
+use Rattle.std.proofs.Common.{ℕ, ◌≤◌, ◌<◌, ◌+◌, List, length, Some, refl, sym, ◌∙◌, ap, subst, inl, inr, arith}
 use Rattle.pq_rules.specs.Relations.{In}
 use Rattle.pq_memo.specs.Table.{memo_at, HasIn}
 use Rattle.pq_core.specs.aux.Rising.{found}
 use Rattle.pq_core.specs.Cores.{held}
 use Rattle.pq_core.specs.Moves.{ended}
-use Rattle.pq_core.specs.aux.Runs.{claimed_keys, out_at}
+use Rattle.pq_core.specs.aux.Runs.{out_at}
 use Rattle.pq_core.specs.declared.outcome.Outcome.TheVariants.{Cancelled, Answered}
-use Rattle.pq_core.proofs.Claiming.{end_claimed, end_loosens, holder_there, others_same, put_claimed, put_loosens, same_claimed, same_loosens}
-use Rattle.pq_core.proofs.Changing.{none_taken, set_back}
+use Rattle.pq_core.proofs.Claiming.{holder_there}
+use Rattle.pq_core.proofs.RunsKept.{back_runs, closes_still, ended_runs, own_claimed, own_stale, past_stepped, same_runs, stepped_runs, stopped_runs}
+use Rattle.pq_core.proofs.Changing.{if_at, none_taken, set_back}
 use Rattle.pq_core.proofs.CoreOpening.{unmoved}
-use Rattle.pq_core.proofs.CoreAccepting.{false_true}
-use Rattle.pq_core.proofs.CoreRunning.{end_queue, run_here, no_run, run_within, run_demands, current, stop_moved, back_moved, others_kept, all_kept, none_of, goes_on, look_blocked, carry_moved, answer_moved, why_cause, why_then, ended_as, look_held}
-use Rattle.pq_core.proofs.Renewed.{renewed_same, renewed_none_lost, same_none_lost}
+use Rattle.pq_core.proofs.CoreAccepting.{false_true, run_past}
+use Rattle.pq_core.proofs.CoreRunning.{end_queue, run_here, no_run, run_within, run_demands, current, stop_moved, back_moved, seen_moved, none_of, goes_on, look_blocked, carry_moved, answer_moved, why_cause, why_then, ended_as, look_held}
+use Rattle.pq_core.proofs.Renewed.{renewed_none_lost, renewed_then, same_none_lost}
 use Rattle.pq_core.proofs.cores.Core.look.Goals as goal
 
 pub invariant_of-self : goal.invariant_of-self
@@ -28,8 +29,7 @@ invariant_of-self g c =
           let a : length c.self.inside.waiting.items ≤ c.self.inside.runs.room = w.room in
           let b = same.room in
           omega (arith, a, b);
-      current = λ r run h e. w.current r run (sym (same.found r) ∙ h) e;
-      claimed = same_claimed c.self.inside.claims _ _ same.found w.claimed;
+      runs = same_runs _ _ _ _ _ _ _ same.found w.runs;
       ledger = (
         w.ledger.0,
         unmoved g.R.Key.Ord.cmp (g.R.Rules.machine c.self.inside.memos.rules) g.O.Outbox.puts _ _ w.ledger.0 (record {
@@ -89,8 +89,7 @@ invariant_of-self-then-is_overtaken g c =
           let a : length c.self.inside.waiting.items ≤ c.self.inside.runs.room = w.room in
           let b = c.take.ensures.room in
           omega (arith, a, b);
-      current = others_kept g.R.Key.Ord.cmp (g.R.Rules.machine c.self.inside.memos.rules) c.self.inside.inputs (memo_at g.R.Key.Ord.cmp c.self.inside.memos.places) (memo_at g.R.Key.Ord.cmp c.self.inside.memos.places) c.self.inside.runs.items c.take.new.self.items c.args.run (renewed_same (g.R.Rules.machine c.self.inside.memos.rules) c.self.inside.inputs.revision _ _ (λ q. refl)) runs w.current;
-      claimed = end_claimed c.self.inside.claims c.release_all.new.self c.self.inside.runs.items c.take.new.self.items c.args.run c.self.inside.claims runs (others_same c.args.run c.self.inside.claims) c.release_all.ensures.released w.claimed;
+      runs = stopped_runs _ _ _ _ _ _ _ c.args.run c.release_all.new.self runs c.release_all.ensures.released w.runs;
       ledger = (ended w.ledger.0 x.at x.at.entry.starved (Cancelled x.at.started w.ledger.0.inputs.revision), moved.1);
     }
 
@@ -125,8 +124,7 @@ invariant_of-self-then-is_out g c =
           let a : length c.self.inside.waiting.items ≤ c.self.inside.runs.room = w.room in
           let b = set.room in
           omega (arith, a, b);
-      current = all_kept g.R.Key.Ord.cmp (g.R.Rules.machine c.self.inside.memos.rules) c.self.inside.inputs (memo_at g.R.Key.Ord.cmp c.self.inside.memos.places) (memo_at g.R.Key.Ord.cmp c.self.inside.memos.places) c.self.inside.runs.items _ c.args.run c.in-Some.taken (renewed_same (g.R.Rules.machine c.self.inside.memos.rules) c.self.inside.inputs.revision _ _ (λ q. refl)) set.found w.current (w.current c.args.run c.in-Some.taken here);
-      claimed = put_claimed c.self.inside.claims c.self.inside.claims c.self.inside.runs.items _ c.args.run c.in-Some.taken set.found (w.claimed c.args.run ∙ ap (λ o. claimed_keys o) here) (others_same c.args.run c.self.inside.claims) w.claimed;
+      runs = back_runs _ _ _ _ _ _ _ c.args.run c.in-Some.taken here set.found w.runs;
       ledger = (w.ledger.0, back_moved g.R.Key.Ord.cmp (g.R.Rules.machine c.self.inside.memos.rules) g.O.Outbox.puts (held (record { rules = c.self.inside.memos.rules; places = c.self.inside.memos.places; inputs = c.self.inside.inputs; lanes = c.self.inside.lanes; opened = c.self.inside.opened; clients = c.self.inside.clients; waiting = c.self.inside.waiting.items; runs = c.self.inside.runs; started = c.self.inside.started; claims = c.self.inside.claims })) (record { inputs = c.self.inside.inputs; lanes = c.self.inside.lanes.items; opened = c.self.inside.opened; clients = c.self.inside.clients; runs = c.put_back.new.self.items; started = c.self.inside.started }) w.ledger.0 c.args.run c.in-Some.taken c.in-Some.taken w.ledger.1 here (record { client = refl; number = refl; request = refl; started = refl }) refl set.found (λ k. refl) (record { inputs = refl; opened = refl; clients = refl; started = refl }));
     }
 
@@ -144,35 +142,35 @@ returns-then-is_out-clause-moved g c =
     let b = look_blocked g.R.Key.Ord.cmp (g.R.Rules.machine c.self.inside.memos.rules) g.O.Outbox.puts c.self.inside.memos.rules (held (record { rules = c.self.inside.memos.rules; places = c.self.inside.memos.places; inputs = c.self.inside.inputs; lanes = c.self.inside.lanes; opened = c.self.inside.opened; clients = c.self.inside.clients; waiting = c.self.inside.waiting.items; runs = c.self.inside.runs; started = c.self.inside.started; claims = c.self.inside.claims })) l c.args.run c.in-Some.taken s here (λ o. false_true (sym c.if-is_overtaken.false ∙ c.is_overtaken.ensures.1 (rw c.now-now.ensures.now o))) (c.is_out.ensures.0 c.if-is_out.true) in
     (l, (b.0, b.1, b.2, inl (b.3, refl), refl), back_moved g.R.Key.Ord.cmp (g.R.Rules.machine c.self.inside.memos.rules) g.O.Outbox.puts (held (record { rules = c.self.inside.memos.rules; places = c.self.inside.memos.places; inputs = c.self.inside.inputs; lanes = c.self.inside.lanes; opened = c.self.inside.opened; clients = c.self.inside.clients; waiting = c.self.inside.waiting.items; runs = c.self.inside.runs; started = c.self.inside.started; claims = c.self.inside.claims })) (record { inputs = c.self.inside.inputs; lanes = c.self.inside.lanes.items; opened = c.self.inside.opened; clients = c.self.inside.clients; runs = c.put_back.new.self.items; started = c.self.inside.started }) l c.args.run c.in-Some.taken c.in-Some.taken s here (record { client = refl; number = refl; request = refl; started = refl }) refl set.found (λ k. refl) (record { inputs = refl; opened = refl; clients = refl; started = refl })))
 
-pub look-requires-clause-demand : goal.look-requires-clause-demand
-look-requires-clause-demand g c =
+pub look-looked-requires-clause-demand : goal.look-looked-requires-clause-demand
+look-looked-requires-clause-demand g c =
     let here = sym (rw c.number-id.ensures at (c.in-Some.ensures {u = tt}).value) in
     run_demands g.R.Key.Ord.cmp (g.R.Rules.machine c.self.inside.memos.rules) g.O.Outbox.puts (held (record { rules = c.self.inside.memos.rules; places = c.self.inside.memos.places; inputs = c.self.inside.inputs; lanes = c.self.inside.lanes; opened = c.self.inside.opened; clients = c.self.inside.clients; waiting = c.self.inside.waiting.items; runs = c.self.inside.runs; started = c.self.inside.started; claims = c.self.inside.claims })) c.self.invariant.ledger.0 c.args.run c.in-Some.taken c.self.invariant.ledger.1 here
 
-pub look-requires-clause-current : goal.look-requires-clause-current
-look-requires-clause-current g c =
+pub look-looked-requires-clause-current : goal.look-looked-requires-clause-current
+look-looked-requires-clause-current g c =
     let here = sym (rw c.number-id.ensures at (c.in-Some.ensures {u = tt}).value) in
     let x = run_here g.R.Key.Ord.cmp (g.R.Rules.machine c.self.inside.memos.rules) g.O.Outbox.puts (held (record { rules = c.self.inside.memos.rules; places = c.self.inside.memos.places; inputs = c.self.inside.inputs; lanes = c.self.inside.lanes; opened = c.self.inside.opened; clients = c.self.inside.clients; waiting = c.self.inside.waiting.items; runs = c.self.inside.runs; started = c.self.inside.started; claims = c.self.inside.claims })) c.self.invariant.ledger.0 c.args.run c.in-Some.taken c.self.invariant.ledger.1 here in
     let now = (current g.R.Key.Ord.cmp (g.R.Rules.machine c.self.inside.memos.rules) g.O.Outbox.puts (held (record { rules = c.self.inside.memos.rules; places = c.self.inside.memos.places; inputs = c.self.inside.inputs; lanes = c.self.inside.lanes; opened = c.self.inside.opened; clients = c.self.inside.clients; waiting = c.self.inside.waiting.items; runs = c.self.inside.runs; started = c.self.inside.started; claims = c.self.inside.claims })) c.self.invariant.ledger.0 c.args.run c.in-Some.taken c.self.invariant.ledger.1 x (λ o. false_true (sym c.if-is_overtaken.false ∙ c.is_overtaken.ensures.1 (rw c.now-now.ensures.now o)))).1 in
     now
 
-pub look-requires-clause-run_kept : goal.look-requires-clause-run_kept
-look-requires-clause-run_kept g c =
+pub look-looked-requires-clause-run_kept : goal.look-looked-requires-clause-run_kept
+look-looked-requires-clause-run_kept g c =
     let here = sym (rw c.number-id.ensures at (c.in-Some.ensures {u = tt}).value) in
     let x = run_here g.R.Key.Ord.cmp (g.R.Rules.machine c.self.inside.memos.rules) g.O.Outbox.puts (held (record { rules = c.self.inside.memos.rules; places = c.self.inside.memos.places; inputs = c.self.inside.inputs; lanes = c.self.inside.lanes; opened = c.self.inside.opened; clients = c.self.inside.clients; waiting = c.self.inside.waiting.items; runs = c.self.inside.runs; started = c.self.inside.started; claims = c.self.inside.claims })) c.self.invariant.ledger.0 c.args.run c.in-Some.taken c.self.invariant.ledger.1 here in
     let now = (current g.R.Key.Ord.cmp (g.R.Rules.machine c.self.inside.memos.rules) g.O.Outbox.puts (held (record { rules = c.self.inside.memos.rules; places = c.self.inside.memos.places; inputs = c.self.inside.inputs; lanes = c.self.inside.lanes; opened = c.self.inside.opened; clients = c.self.inside.clients; waiting = c.self.inside.waiting.items; runs = c.self.inside.runs; started = c.self.inside.started; claims = c.self.inside.claims })) c.self.invariant.ledger.0 c.args.run c.in-Some.taken c.self.invariant.ledger.1 x (λ o. false_true (sym c.if-is_overtaken.false ∙ c.is_overtaken.ensures.1 (rw c.now-now.ensures.now o)))).1 in
-    c.self.invariant.current c.args.run c.in-Some.taken here now
+    c.self.invariant.runs.current c.args.run c.in-Some.taken here now
 
 pub invariant_of-self-in-Carry : goal.invariant_of-self-in-Carry
 invariant_of-self-in-Carry g c =
     let w = c.self.invariant in
     let here = sym (rw c.number-id.ensures at (c.in-Some.ensures {u = tt}).value) in
-    let set = set_back c.self.inside.runs c.take.new.self c.put_back-in-Carry.new.self c.args.run c.look.new.self (rw c.number-id.ensures at c.take.ensures.found) c.take.ensures.above
+    let set = set_back c.self.inside.runs c.take.new.self c.put_back-in-Carry.new.self c.args.run c.look-looked.new.self (rw c.number-id.ensures at c.take.ensures.found) c.take.ensures.above
     (rw c.in-Some.is at c.take.ensures.more_room) (rw c.number-id.ensures at c.put_back-in-Carry.ensures.found) c.put_back-in-Carry.ensures.room c.put_back-in-Carry.ensures.above in
-    let moved = carry_moved g.R.Key.Ord.cmp (g.R.Rules.machine c.self.inside.memos.rules) g.O.Outbox.puts c.self.inside.memos.rules (held (record { rules = c.self.inside.memos.rules; places = c.self.inside.memos.places; inputs = c.self.inside.inputs; lanes = c.self.inside.lanes; opened = c.self.inside.opened; clients = c.self.inside.clients; waiting = c.self.inside.waiting.items; runs = c.self.inside.runs; started = c.self.inside.started; claims = c.self.inside.claims })) (record { inputs = c.self.inside.inputs; lanes = c.self.inside.lanes.items; opened = c.self.inside.opened; clients = c.self.inside.clients; runs = c.put_back-in-Carry.new.self.items; started = c.self.inside.started }) w.ledger.0 c.args.run c.in-Some.taken c.look.new.self c.in-Carry.work (memo_at g.R.Key.Ord.cmp c.self.inside.memos.places) w.ledger.1 here (λ o. false_true (sym c.if-is_overtaken.false ∙ c.is_overtaken.ensures.1 (rw c.now-now.ensures.now o))) (none_of (out_at c.in-Some.taken.top) (λ e. false_true (sym c.if-is_out.false ∙ c.is_out.ensures.1 e))) c.look.ensures.same (rw c.in-Carry.is at (c.in-Ok.ensures {u = tt}).looked) set.found (λ k. refl) (record { inputs = refl; opened = refl; clients = refl; started = refl }) in
-    rw c.look.ensures.rules
+    let moved = carry_moved g.R.Key.Ord.cmp (g.R.Rules.machine c.self.inside.memos.rules) g.O.Outbox.puts c.self.inside.memos.rules (held (record { rules = c.self.inside.memos.rules; places = c.self.inside.memos.places; inputs = c.self.inside.inputs; lanes = c.self.inside.lanes; opened = c.self.inside.opened; clients = c.self.inside.clients; waiting = c.self.inside.waiting.items; runs = c.self.inside.runs; started = c.self.inside.started; claims = c.self.inside.claims })) (record { inputs = c.self.inside.inputs; lanes = c.self.inside.lanes.items; opened = c.self.inside.opened; clients = c.self.inside.clients; runs = c.put_back-in-Carry.new.self.items; started = c.self.inside.started }) w.ledger.0 c.args.run c.in-Some.taken c.look-looked.new.self c.in-Carry.work (memo_at g.R.Key.Ord.cmp c.self.inside.memos.places) w.ledger.1 here (λ o. false_true (sym c.if-is_overtaken.false ∙ c.is_overtaken.ensures.1 (rw c.now-now.ensures.now o))) (none_of (out_at c.in-Some.taken.top) (λ e. false_true (sym c.if-is_out.false ∙ c.is_out.ensures.1 e))) c.look-looked.ensures.same (rw c.in-Carry.is at (c.in-Ok.ensures {u = tt}).looked) set.found (λ k. refl) (record { inputs = refl; opened = refl; clients = refl; started = refl }) in
+    rw c.look-looked.ensures.rules
     (record {
-      kept = c.look.ensures.kept;
+      kept = c.look-looked.ensures.kept;
       lanes_above = w.lanes_above;
       runs_above = set.above c.self.inside.started w.runs_above;
       queue = w.queue;
@@ -180,23 +178,26 @@ invariant_of-self-in-Carry g c =
           let a : length c.self.inside.waiting.items ≤ c.self.inside.runs.room = w.room in
           let b = set.room in
           omega (arith, a, b);
-      current = all_kept g.R.Key.Ord.cmp (g.R.Rules.machine c.self.inside.memos.rules) c.self.inside.inputs (memo_at g.R.Key.Ord.cmp c.self.inside.memos.places) (memo_at g.R.Key.Ord.cmp c.look.new.memos.places) c.self.inside.runs.items _ c.args.run c.look.new.self c.look.ensures.renewed set.found w.current (λ e. c.look.ensures.run_kept);
-      claimed = put_claimed c.self.inside.claims c.look.new.claims c.self.inside.runs.items _ c.args.run c.look.new.self set.found c.look.ensures.claimed c.look.ensures.others w.claimed;
+      runs = stepped_runs _ _ c.self.inside.inputs _ _ _ _ _ _ c.args.run c.in-Some.taken c.look-looked.new.self here set.found c.look-looked.ensures.same
+          ((current g.R.Key.Ord.cmp (g.R.Rules.machine c.self.inside.memos.rules) g.O.Outbox.puts (held (record { rules = c.self.inside.memos.rules; places = c.self.inside.memos.places; inputs = c.self.inside.inputs; lanes = c.self.inside.lanes; opened = c.self.inside.opened; clients = c.self.inside.clients; waiting = c.self.inside.waiting.items; runs = c.self.inside.runs; started = c.self.inside.started; claims = c.self.inside.claims })) w.ledger.0 c.args.run c.in-Some.taken w.ledger.1 (run_here g.R.Key.Ord.cmp (g.R.Rules.machine c.self.inside.memos.rules) g.O.Outbox.puts (held (record { rules = c.self.inside.memos.rules; places = c.self.inside.memos.places; inputs = c.self.inside.inputs; lanes = c.self.inside.lanes; opened = c.self.inside.opened; clients = c.self.inside.clients; waiting = c.self.inside.waiting.items; runs = c.self.inside.runs; started = c.self.inside.started; claims = c.self.inside.claims })) w.ledger.0 c.args.run c.in-Some.taken w.ledger.1 here) (λ o. false_true (sym c.if-is_overtaken.false ∙ c.is_overtaken.ensures.1 (rw c.now-now.ensures.now o)))).1)
+          (λ s y h. run_past g.R.Key.Ord.cmp (g.R.Rules.machine c.self.inside.memos.rules) g.O.Outbox.puts (held (record { rules = c.self.inside.memos.rules; places = c.self.inside.memos.places; inputs = c.self.inside.inputs; lanes = c.self.inside.lanes; opened = c.self.inside.opened; clients = c.self.inside.clients; waiting = c.self.inside.waiting.items; runs = c.self.inside.runs; started = c.self.inside.started; claims = c.self.inside.claims })) w.ledger.0 s y w.ledger.1 h)
+          c.claims_are_sound.ensures.sound c.claims_are_sound-in-Some.ensures.sound c.look-looked.ensures.renewed c.look-looked.ensures.written
+          c.look-looked.ensures.run_kept c.look-looked.ensures.claimed c.look-looked.ensures.others c.look-looked.ensures.stale c.look-looked.ensures.waits w.runs;
       ledger = (moved.0, moved.2);
     })
 
 pub returns-in-Carry-clause-none_lost : goal.returns-in-Carry-clause-none_lost
 returns-in-Carry-clause-none_lost g c = rw (← c.self.view_is)
     (renewed_none_lost (g.R.Rules.machine c.self.inside.memos.rules) c.self.inside.inputs.revision (memo_at g.R.Key.Ord.cmp c.self.inside.memos.places)
-    (memo_at g.R.Key.Ord.cmp c.look.new.memos.places) c.look.ensures.renewed)
+    (memo_at g.R.Key.Ord.cmp c.look-looked.new.memos.places) c.look-looked.ensures.renewed)
 
 pub returns-in-Carry-clause-moved : goal.returns-in-Carry-clause-moved
 returns-in-Carry-clause-moved g c =
     let here = sym (rw c.number-id.ensures at (c.in-Some.ensures {u = tt}).value) in
-    let set = set_back c.self.inside.runs c.take.new.self c.put_back-in-Carry.new.self c.args.run c.look.new.self (rw c.number-id.ensures at c.take.ensures.found) c.take.ensures.above
+    let set = set_back c.self.inside.runs c.take.new.self c.put_back-in-Carry.new.self c.args.run c.look-looked.new.self (rw c.number-id.ensures at c.take.ensures.found) c.take.ensures.above
     (rw c.in-Some.is at c.take.ensures.more_room) (rw c.number-id.ensures at c.put_back-in-Carry.ensures.found) c.put_back-in-Carry.ensures.room c.put_back-in-Carry.ensures.above in
     rw (← c.self.view_is)
-    (λ l s. carry_moved g.R.Key.Ord.cmp (g.R.Rules.machine c.self.inside.memos.rules) g.O.Outbox.puts c.self.inside.memos.rules (held (record { rules = c.self.inside.memos.rules; places = c.self.inside.memos.places; inputs = c.self.inside.inputs; lanes = c.self.inside.lanes; opened = c.self.inside.opened; clients = c.self.inside.clients; waiting = c.self.inside.waiting.items; runs = c.self.inside.runs; started = c.self.inside.started; claims = c.self.inside.claims })) (record { inputs = c.self.inside.inputs; lanes = c.self.inside.lanes.items; opened = c.self.inside.opened; clients = c.self.inside.clients; runs = c.put_back-in-Carry.new.self.items; started = c.self.inside.started }) l c.args.run c.in-Some.taken c.look.new.self c.in-Carry.work (memo_at g.R.Key.Ord.cmp c.self.inside.memos.places) s here (λ o. false_true (sym c.if-is_overtaken.false ∙ c.is_overtaken.ensures.1 (rw c.now-now.ensures.now o))) (none_of (out_at c.in-Some.taken.top) (λ e. false_true (sym c.if-is_out.false ∙ c.is_out.ensures.1 e))) c.look.ensures.same (rw c.in-Carry.is at (c.in-Ok.ensures {u = tt}).looked) set.found (λ k. refl) (record { inputs = refl; opened = refl; clients = refl; started = refl }))
+    (λ l s. carry_moved g.R.Key.Ord.cmp (g.R.Rules.machine c.self.inside.memos.rules) g.O.Outbox.puts c.self.inside.memos.rules (held (record { rules = c.self.inside.memos.rules; places = c.self.inside.memos.places; inputs = c.self.inside.inputs; lanes = c.self.inside.lanes; opened = c.self.inside.opened; clients = c.self.inside.clients; waiting = c.self.inside.waiting.items; runs = c.self.inside.runs; started = c.self.inside.started; claims = c.self.inside.claims })) (record { inputs = c.self.inside.inputs; lanes = c.self.inside.lanes.items; opened = c.self.inside.opened; clients = c.self.inside.clients; runs = c.put_back-in-Carry.new.self.items; started = c.self.inside.started }) l c.args.run c.in-Some.taken c.look-looked.new.self c.in-Carry.work (memo_at g.R.Key.Ord.cmp c.self.inside.memos.places) s here (λ o. false_true (sym c.if-is_overtaken.false ∙ c.is_overtaken.ensures.1 (rw c.now-now.ensures.now o))) (none_of (out_at c.in-Some.taken.top) (λ e. false_true (sym c.if-is_out.false ∙ c.is_out.ensures.1 e))) c.look-looked.ensures.same (rw c.in-Carry.is at (c.in-Ok.ensures {u = tt}).looked) set.found (λ k. refl) (record { inputs = refl; opened = refl; clients = refl; started = refl }))
 
 pub returns-in-Carry-clause-handed : goal.returns-in-Carry-clause-handed
 returns-in-Carry-clause-handed g c =
@@ -218,11 +219,11 @@ pub invariant_of-self-in-Stepped : goal.invariant_of-self-in-Stepped
 invariant_of-self-in-Stepped g c =
     let w = c.self.invariant in
     let here = sym (rw c.number-id.ensures at (c.in-Some.ensures {u = tt}).value) in
-    let set = set_back c.self.inside.runs c.take.new.self c.put_back-in-Stepped.new.self c.args.run c.look.new.self (rw c.number-id.ensures at c.take.ensures.found) c.take.ensures.above
+    let set = set_back c.self.inside.runs c.take.new.self c.put_back-in-Stepped.new.self c.args.run c.look-looked.new.self (rw c.number-id.ensures at c.take.ensures.found) c.take.ensures.above
     (rw c.in-Some.is at c.take.ensures.more_room) (rw c.number-id.ensures at c.put_back-in-Stepped.ensures.found) c.put_back-in-Stepped.ensures.room c.put_back-in-Stepped.ensures.above in
-    rw c.look.ensures.rules
+    rw c.look-looked.ensures.rules
     (record {
-      kept = c.look.ensures.kept;
+      kept = c.look-looked.ensures.kept;
       lanes_above = w.lanes_above;
       runs_above = set.above c.self.inside.started w.runs_above;
       queue = w.queue;
@@ -230,35 +231,38 @@ invariant_of-self-in-Stepped g c =
           let a : length c.self.inside.waiting.items ≤ c.self.inside.runs.room = w.room in
           let b = set.room in
           omega (arith, a, b);
-      current = all_kept g.R.Key.Ord.cmp (g.R.Rules.machine c.self.inside.memos.rules) c.self.inside.inputs (memo_at g.R.Key.Ord.cmp c.self.inside.memos.places) (memo_at g.R.Key.Ord.cmp c.look.new.memos.places) c.self.inside.runs.items _ c.args.run c.look.new.self c.look.ensures.renewed set.found w.current (λ e. c.look.ensures.run_kept);
-      claimed = put_claimed c.self.inside.claims c.look.new.claims c.self.inside.runs.items _ c.args.run c.look.new.self set.found c.look.ensures.claimed c.look.ensures.others w.claimed;
-      ledger = (w.ledger.0, back_moved g.R.Key.Ord.cmp (g.R.Rules.machine c.self.inside.memos.rules) g.O.Outbox.puts (held (record { rules = c.self.inside.memos.rules; places = c.self.inside.memos.places; inputs = c.self.inside.inputs; lanes = c.self.inside.lanes; opened = c.self.inside.opened; clients = c.self.inside.clients; waiting = c.self.inside.waiting.items; runs = c.self.inside.runs; started = c.self.inside.started; claims = c.self.inside.claims })) (record { inputs = c.self.inside.inputs; lanes = c.self.inside.lanes.items; opened = c.self.inside.opened; clients = c.self.inside.clients; runs = c.put_back-in-Stepped.new.self.items; started = c.self.inside.started }) w.ledger.0 c.args.run c.in-Some.taken c.look.new.self w.ledger.1 here c.look.ensures.same ((rw c.in-Stepped.is at (c.in-Ok.ensures {u = tt}).looked) ∙ sym (none_of (out_at c.in-Some.taken.top) (λ e. false_true (sym c.if-is_out.false ∙ c.is_out.ensures.1 e)))) set.found (λ k. refl) (record { inputs = refl; opened = refl; clients = refl; started = refl }));
+      runs = stepped_runs _ _ c.self.inside.inputs _ _ _ _ _ _ c.args.run c.in-Some.taken c.look-looked.new.self here set.found c.look-looked.ensures.same
+          ((current g.R.Key.Ord.cmp (g.R.Rules.machine c.self.inside.memos.rules) g.O.Outbox.puts (held (record { rules = c.self.inside.memos.rules; places = c.self.inside.memos.places; inputs = c.self.inside.inputs; lanes = c.self.inside.lanes; opened = c.self.inside.opened; clients = c.self.inside.clients; waiting = c.self.inside.waiting.items; runs = c.self.inside.runs; started = c.self.inside.started; claims = c.self.inside.claims })) w.ledger.0 c.args.run c.in-Some.taken w.ledger.1 (run_here g.R.Key.Ord.cmp (g.R.Rules.machine c.self.inside.memos.rules) g.O.Outbox.puts (held (record { rules = c.self.inside.memos.rules; places = c.self.inside.memos.places; inputs = c.self.inside.inputs; lanes = c.self.inside.lanes; opened = c.self.inside.opened; clients = c.self.inside.clients; waiting = c.self.inside.waiting.items; runs = c.self.inside.runs; started = c.self.inside.started; claims = c.self.inside.claims })) w.ledger.0 c.args.run c.in-Some.taken w.ledger.1 here) (λ o. false_true (sym c.if-is_overtaken.false ∙ c.is_overtaken.ensures.1 (rw c.now-now.ensures.now o)))).1)
+          (λ s y h. run_past g.R.Key.Ord.cmp (g.R.Rules.machine c.self.inside.memos.rules) g.O.Outbox.puts (held (record { rules = c.self.inside.memos.rules; places = c.self.inside.memos.places; inputs = c.self.inside.inputs; lanes = c.self.inside.lanes; opened = c.self.inside.opened; clients = c.self.inside.clients; waiting = c.self.inside.waiting.items; runs = c.self.inside.runs; started = c.self.inside.started; claims = c.self.inside.claims })) w.ledger.0 s y w.ledger.1 h)
+          c.claims_are_sound.ensures.sound c.claims_are_sound-in-Some.ensures.sound c.look-looked.ensures.renewed c.look-looked.ensures.written
+          c.look-looked.ensures.run_kept c.look-looked.ensures.claimed c.look-looked.ensures.others c.look-looked.ensures.stale c.look-looked.ensures.waits w.runs;
+      ledger = (w.ledger.0, back_moved g.R.Key.Ord.cmp (g.R.Rules.machine c.self.inside.memos.rules) g.O.Outbox.puts (held (record { rules = c.self.inside.memos.rules; places = c.self.inside.memos.places; inputs = c.self.inside.inputs; lanes = c.self.inside.lanes; opened = c.self.inside.opened; clients = c.self.inside.clients; waiting = c.self.inside.waiting.items; runs = c.self.inside.runs; started = c.self.inside.started; claims = c.self.inside.claims })) (record { inputs = c.self.inside.inputs; lanes = c.self.inside.lanes.items; opened = c.self.inside.opened; clients = c.self.inside.clients; runs = c.put_back-in-Stepped.new.self.items; started = c.self.inside.started }) w.ledger.0 c.args.run c.in-Some.taken c.look-looked.new.self w.ledger.1 here c.look-looked.ensures.same ((rw c.in-Stepped.is at (c.in-Ok.ensures {u = tt}).looked) ∙ sym (none_of (out_at c.in-Some.taken.top) (λ e. false_true (sym c.if-is_out.false ∙ c.is_out.ensures.1 e)))) set.found (λ k. refl) (record { inputs = refl; opened = refl; clients = refl; started = refl }));
     })
 
 pub returns-in-Stepped-clause-none_lost : goal.returns-in-Stepped-clause-none_lost
 returns-in-Stepped-clause-none_lost g c = rw (← c.self.view_is)
     (renewed_none_lost (g.R.Rules.machine c.self.inside.memos.rules) c.self.inside.inputs.revision (memo_at g.R.Key.Ord.cmp c.self.inside.memos.places)
-    (memo_at g.R.Key.Ord.cmp c.look.new.memos.places) c.look.ensures.renewed)
+    (memo_at g.R.Key.Ord.cmp c.look-looked.new.memos.places) c.look-looked.ensures.renewed)
 
 pub returns-in-Stepped-clause-moved : goal.returns-in-Stepped-clause-moved
 returns-in-Stepped-clause-moved g c =
     let here = sym (rw c.number-id.ensures at (c.in-Some.ensures {u = tt}).value) in
-    let set = set_back c.self.inside.runs c.take.new.self c.put_back-in-Stepped.new.self c.args.run c.look.new.self (rw c.number-id.ensures at c.take.ensures.found) c.take.ensures.above
+    let set = set_back c.self.inside.runs c.take.new.self c.put_back-in-Stepped.new.self c.args.run c.look-looked.new.self (rw c.number-id.ensures at c.take.ensures.found) c.take.ensures.above
     (rw c.in-Some.is at c.take.ensures.more_room) (rw c.number-id.ensures at c.put_back-in-Stepped.ensures.found) c.put_back-in-Stepped.ensures.room c.put_back-in-Stepped.ensures.above in
     rw (← c.self.view_is)
     (λ l s.
     let b = goes_on g.R.Key.Ord.cmp (g.R.Rules.machine c.self.inside.memos.rules) g.O.Outbox.puts c.self.inside.memos.rules (held (record { rules = c.self.inside.memos.rules; places = c.self.inside.memos.places; inputs = c.self.inside.inputs; lanes = c.self.inside.lanes; opened = c.self.inside.opened; clients = c.self.inside.clients; waiting = c.self.inside.waiting.items; runs = c.self.inside.runs; started = c.self.inside.started; claims = c.self.inside.claims })) l c.args.run c.in-Some.taken s here (λ o. false_true (sym c.if-is_overtaken.false ∙ c.is_overtaken.ensures.1 (rw c.now-now.ensures.now o))) (none_of (out_at c.in-Some.taken.top) (λ e. false_true (sym c.if-is_out.false ∙ c.is_out.ensures.1 e))) in
-    (l, (b.0, b.1, refl), back_moved g.R.Key.Ord.cmp (g.R.Rules.machine c.self.inside.memos.rules) g.O.Outbox.puts (held (record { rules = c.self.inside.memos.rules; places = c.self.inside.memos.places; inputs = c.self.inside.inputs; lanes = c.self.inside.lanes; opened = c.self.inside.opened; clients = c.self.inside.clients; waiting = c.self.inside.waiting.items; runs = c.self.inside.runs; started = c.self.inside.started; claims = c.self.inside.claims })) (record { inputs = c.self.inside.inputs; lanes = c.self.inside.lanes.items; opened = c.self.inside.opened; clients = c.self.inside.clients; runs = c.put_back-in-Stepped.new.self.items; started = c.self.inside.started }) l c.args.run c.in-Some.taken c.look.new.self s here c.look.ensures.same ((rw c.in-Stepped.is at (c.in-Ok.ensures {u = tt}).looked) ∙ sym (none_of (out_at c.in-Some.taken.top) (λ e. false_true (sym c.if-is_out.false ∙ c.is_out.ensures.1 e)))) set.found (λ k. refl) (record { inputs = refl; opened = refl; clients = refl; started = refl })))
+    (l, (b.0, b.1, refl), back_moved g.R.Key.Ord.cmp (g.R.Rules.machine c.self.inside.memos.rules) g.O.Outbox.puts (held (record { rules = c.self.inside.memos.rules; places = c.self.inside.memos.places; inputs = c.self.inside.inputs; lanes = c.self.inside.lanes; opened = c.self.inside.opened; clients = c.self.inside.clients; waiting = c.self.inside.waiting.items; runs = c.self.inside.runs; started = c.self.inside.started; claims = c.self.inside.claims })) (record { inputs = c.self.inside.inputs; lanes = c.self.inside.lanes.items; opened = c.self.inside.opened; clients = c.self.inside.clients; runs = c.put_back-in-Stepped.new.self.items; started = c.self.inside.started }) l c.args.run c.in-Some.taken c.look-looked.new.self s here c.look-looked.ensures.same ((rw c.in-Stepped.is at (c.in-Ok.ensures {u = tt}).looked) ∙ sym (none_of (out_at c.in-Some.taken.top) (λ e. false_true (sym c.if-is_out.false ∙ c.is_out.ensures.1 e)))) set.found (λ k. refl) (record { inputs = refl; opened = refl; clients = refl; started = refl })))
 
 pub invariant_of-self-in-Blocked : goal.invariant_of-self-in-Blocked
 invariant_of-self-in-Blocked g c =
     let w = c.self.invariant in
     let here = sym (rw c.number-id.ensures at (c.in-Some.ensures {u = tt}).value) in
-    let set = set_back c.self.inside.runs c.take.new.self c.put_back-in-Blocked.new.self c.args.run c.look.new.self (rw c.number-id.ensures at c.take.ensures.found) c.take.ensures.above
+    let set = set_back c.self.inside.runs c.take.new.self c.put_back-in-Blocked.new.self c.args.run c.look-looked.new.self (rw c.number-id.ensures at c.take.ensures.found) c.take.ensures.above
     (rw c.in-Some.is at c.take.ensures.more_room) (rw c.number-id.ensures at c.put_back-in-Blocked.ensures.found) c.put_back-in-Blocked.ensures.room c.put_back-in-Blocked.ensures.above in
-    rw c.look.ensures.rules
+    rw c.look-looked.ensures.rules
     (record {
-      kept = c.look.ensures.kept;
+      kept = c.look-looked.ensures.kept;
       lanes_above = w.lanes_above;
       runs_above = set.above c.self.inside.started w.runs_above;
       queue = w.queue;
@@ -266,28 +270,31 @@ invariant_of-self-in-Blocked g c =
           let a : length c.self.inside.waiting.items ≤ c.self.inside.runs.room = w.room in
           let b = set.room in
           omega (arith, a, b);
-      current = all_kept g.R.Key.Ord.cmp (g.R.Rules.machine c.self.inside.memos.rules) c.self.inside.inputs (memo_at g.R.Key.Ord.cmp c.self.inside.memos.places) (memo_at g.R.Key.Ord.cmp c.look.new.memos.places) c.self.inside.runs.items _ c.args.run c.look.new.self c.look.ensures.renewed set.found w.current (λ e. c.look.ensures.run_kept);
-      claimed = put_claimed c.self.inside.claims c.look.new.claims c.self.inside.runs.items _ c.args.run c.look.new.self set.found c.look.ensures.claimed c.look.ensures.others w.claimed;
-      ledger = (w.ledger.0, back_moved g.R.Key.Ord.cmp (g.R.Rules.machine c.self.inside.memos.rules) g.O.Outbox.puts (held (record { rules = c.self.inside.memos.rules; places = c.self.inside.memos.places; inputs = c.self.inside.inputs; lanes = c.self.inside.lanes; opened = c.self.inside.opened; clients = c.self.inside.clients; waiting = c.self.inside.waiting.items; runs = c.self.inside.runs; started = c.self.inside.started; claims = c.self.inside.claims })) (record { inputs = c.self.inside.inputs; lanes = c.self.inside.lanes.items; opened = c.self.inside.opened; clients = c.self.inside.clients; runs = c.put_back-in-Blocked.new.self.items; started = c.self.inside.started }) w.ledger.0 c.args.run c.in-Some.taken c.look.new.self w.ledger.1 here c.look.ensures.same ((rw c.in-Blocked.is at (c.in-Ok.ensures {u = tt}).looked).0 ∙ sym (none_of (out_at c.in-Some.taken.top) (λ e. false_true (sym c.if-is_out.false ∙ c.is_out.ensures.1 e)))) set.found (λ k. refl) (record { inputs = refl; opened = refl; clients = refl; started = refl }));
+      runs = stepped_runs _ _ c.self.inside.inputs _ _ _ _ _ _ c.args.run c.in-Some.taken c.look-looked.new.self here set.found c.look-looked.ensures.same
+          ((current g.R.Key.Ord.cmp (g.R.Rules.machine c.self.inside.memos.rules) g.O.Outbox.puts (held (record { rules = c.self.inside.memos.rules; places = c.self.inside.memos.places; inputs = c.self.inside.inputs; lanes = c.self.inside.lanes; opened = c.self.inside.opened; clients = c.self.inside.clients; waiting = c.self.inside.waiting.items; runs = c.self.inside.runs; started = c.self.inside.started; claims = c.self.inside.claims })) w.ledger.0 c.args.run c.in-Some.taken w.ledger.1 (run_here g.R.Key.Ord.cmp (g.R.Rules.machine c.self.inside.memos.rules) g.O.Outbox.puts (held (record { rules = c.self.inside.memos.rules; places = c.self.inside.memos.places; inputs = c.self.inside.inputs; lanes = c.self.inside.lanes; opened = c.self.inside.opened; clients = c.self.inside.clients; waiting = c.self.inside.waiting.items; runs = c.self.inside.runs; started = c.self.inside.started; claims = c.self.inside.claims })) w.ledger.0 c.args.run c.in-Some.taken w.ledger.1 here) (λ o. false_true (sym c.if-is_overtaken.false ∙ c.is_overtaken.ensures.1 (rw c.now-now.ensures.now o)))).1)
+          (λ s y h. run_past g.R.Key.Ord.cmp (g.R.Rules.machine c.self.inside.memos.rules) g.O.Outbox.puts (held (record { rules = c.self.inside.memos.rules; places = c.self.inside.memos.places; inputs = c.self.inside.inputs; lanes = c.self.inside.lanes; opened = c.self.inside.opened; clients = c.self.inside.clients; waiting = c.self.inside.waiting.items; runs = c.self.inside.runs; started = c.self.inside.started; claims = c.self.inside.claims })) w.ledger.0 s y w.ledger.1 h)
+          c.claims_are_sound.ensures.sound c.claims_are_sound-in-Some.ensures.sound c.look-looked.ensures.renewed c.look-looked.ensures.written
+          c.look-looked.ensures.run_kept c.look-looked.ensures.claimed c.look-looked.ensures.others c.look-looked.ensures.stale c.look-looked.ensures.waits w.runs;
+      ledger = (w.ledger.0, back_moved g.R.Key.Ord.cmp (g.R.Rules.machine c.self.inside.memos.rules) g.O.Outbox.puts (held (record { rules = c.self.inside.memos.rules; places = c.self.inside.memos.places; inputs = c.self.inside.inputs; lanes = c.self.inside.lanes; opened = c.self.inside.opened; clients = c.self.inside.clients; waiting = c.self.inside.waiting.items; runs = c.self.inside.runs; started = c.self.inside.started; claims = c.self.inside.claims })) (record { inputs = c.self.inside.inputs; lanes = c.self.inside.lanes.items; opened = c.self.inside.opened; clients = c.self.inside.clients; runs = c.put_back-in-Blocked.new.self.items; started = c.self.inside.started }) w.ledger.0 c.args.run c.in-Some.taken c.look-looked.new.self w.ledger.1 here c.look-looked.ensures.same ((rw c.in-Blocked.is at (c.in-Ok.ensures {u = tt}).looked).0 ∙ sym (none_of (out_at c.in-Some.taken.top) (λ e. false_true (sym c.if-is_out.false ∙ c.is_out.ensures.1 e)))) set.found (λ k. refl) (record { inputs = refl; opened = refl; clients = refl; started = refl }));
     })
 
 pub returns-in-Blocked-clause-none_lost : goal.returns-in-Blocked-clause-none_lost
 returns-in-Blocked-clause-none_lost g c = rw (← c.self.view_is)
     (renewed_none_lost (g.R.Rules.machine c.self.inside.memos.rules) c.self.inside.inputs.revision (memo_at g.R.Key.Ord.cmp c.self.inside.memos.places)
-    (memo_at g.R.Key.Ord.cmp c.look.new.memos.places) c.look.ensures.renewed)
+    (memo_at g.R.Key.Ord.cmp c.look-looked.new.memos.places) c.look-looked.ensures.renewed)
 
 pub returns-in-Blocked-clause-moved : goal.returns-in-Blocked-clause-moved
 returns-in-Blocked-clause-moved g c =
     let here = sym (rw c.number-id.ensures at (c.in-Some.ensures {u = tt}).value) in
-    let set = set_back c.self.inside.runs c.take.new.self c.put_back-in-Blocked.new.self c.args.run c.look.new.self (rw c.number-id.ensures at c.take.ensures.found) c.take.ensures.above
+    let set = set_back c.self.inside.runs c.take.new.self c.put_back-in-Blocked.new.self c.args.run c.look-looked.new.self (rw c.number-id.ensures at c.take.ensures.found) c.take.ensures.above
     (rw c.in-Some.is at c.take.ensures.more_room) (rw c.number-id.ensures at c.put_back-in-Blocked.ensures.found) c.put_back-in-Blocked.ensures.room c.put_back-in-Blocked.ensures.above in
     rw (← c.self.view_is)
     (λ l s.
     let told = rw c.in-Blocked.is at (c.in-Ok.ensures {u = tt}).looked in
-    let there = holder_there c.self.inside.claims c.self.inside.runs.items c.in-Blocked.other told.1.1.0 c.self.invariant.claimed
-    (subst (λ (ks : List g.row.R-Key.Denot). In told.1.1.0 ks) (c.look.ensures.others c.in-Blocked.other told.1.0) told.1.1.2) in
+    let there = holder_there c.self.inside.claims c.self.inside.runs.items c.in-Blocked.other told.1.1.0 c.self.invariant.runs.claimed
+    (subst (λ (ks : List g.row.R-Key.Denot). In told.1.1.0 ks) (c.look-looked.ensures.others c.in-Blocked.other told.1.0).0 told.1.1.2) in
     let b = look_held g.R.Key.Ord.cmp (g.R.Rules.machine c.self.inside.memos.rules) g.O.Outbox.puts c.self.inside.memos.rules (held (record { rules = c.self.inside.memos.rules; places = c.self.inside.memos.places; inputs = c.self.inside.inputs; lanes = c.self.inside.lanes; opened = c.self.inside.opened; clients = c.self.inside.clients; waiting = c.self.inside.waiting.items; runs = c.self.inside.runs; started = c.self.inside.started; claims = c.self.inside.claims })) l c.args.run c.in-Some.taken c.in-Blocked.other there.0 s here (λ o. false_true (sym c.if-is_overtaken.false ∙ c.is_overtaken.ensures.1 (rw c.now-now.ensures.now o))) (none_of (out_at c.in-Some.taken.top) (λ e. false_true (sym c.if-is_out.false ∙ c.is_out.ensures.1 e))) told.1.0 there.1 in
-    (l, (b.0, b.1, b.2, b.3, refl), back_moved g.R.Key.Ord.cmp (g.R.Rules.machine c.self.inside.memos.rules) g.O.Outbox.puts (held (record { rules = c.self.inside.memos.rules; places = c.self.inside.memos.places; inputs = c.self.inside.inputs; lanes = c.self.inside.lanes; opened = c.self.inside.opened; clients = c.self.inside.clients; waiting = c.self.inside.waiting.items; runs = c.self.inside.runs; started = c.self.inside.started; claims = c.self.inside.claims })) (record { inputs = c.self.inside.inputs; lanes = c.self.inside.lanes.items; opened = c.self.inside.opened; clients = c.self.inside.clients; runs = c.put_back-in-Blocked.new.self.items; started = c.self.inside.started }) l c.args.run c.in-Some.taken c.look.new.self s here c.look.ensures.same ((rw c.in-Blocked.is at (c.in-Ok.ensures {u = tt}).looked).0 ∙ sym (none_of (out_at c.in-Some.taken.top) (λ e. false_true (sym c.if-is_out.false ∙ c.is_out.ensures.1 e)))) set.found (λ k. refl) (record { inputs = refl; opened = refl; clients = refl; started = refl })))
+    (l, (b.0, b.1, b.2, b.3, refl), back_moved g.R.Key.Ord.cmp (g.R.Rules.machine c.self.inside.memos.rules) g.O.Outbox.puts (held (record { rules = c.self.inside.memos.rules; places = c.self.inside.memos.places; inputs = c.self.inside.inputs; lanes = c.self.inside.lanes; opened = c.self.inside.opened; clients = c.self.inside.clients; waiting = c.self.inside.waiting.items; runs = c.self.inside.runs; started = c.self.inside.started; claims = c.self.inside.claims })) (record { inputs = c.self.inside.inputs; lanes = c.self.inside.lanes.items; opened = c.self.inside.opened; clients = c.self.inside.clients; runs = c.put_back-in-Blocked.new.self.items; started = c.self.inside.started }) l c.args.run c.in-Some.taken c.look-looked.new.self s here c.look-looked.ensures.same ((rw c.in-Blocked.is at (c.in-Ok.ensures {u = tt}).looked).0 ∙ sym (none_of (out_at c.in-Some.taken.top) (λ e. false_true (sym c.if-is_out.false ∙ c.is_out.ensures.1 e)))) set.found (λ k. refl) (record { inputs = refl; opened = refl; clients = refl; started = refl })))
 
 pub returns-in-Blocked-clause-holder : goal.returns-in-Blocked-clause-holder
 returns-in-Blocked-clause-holder g c =
@@ -301,9 +308,9 @@ pub end_run-requires-clause-within : goal.end_run-requires-clause-within
 end_run-requires-clause-within g c =
     let here = sym (rw c.number-id.ensures at (c.in-Some.ensures {u = tt}).value) in
     λ lane h.
-    subst (λ (n : ℕ). (lane.put ≤ n) × (n < lane.put + length lane.owed)) (sym c.look.ensures.same.number)
+    subst (λ (n : ℕ). (lane.put ≤ n) × (n < lane.put + length lane.owed)) (sym c.look-looked.ensures.same.number)
     (run_within g.R.Key.Ord.cmp (g.R.Rules.machine c.self.inside.memos.rules) g.O.Outbox.puts (held (record { rules = c.self.inside.memos.rules; places = c.self.inside.memos.places; inputs = c.self.inside.inputs; lanes = c.self.inside.lanes; opened = c.self.inside.opened; clients = c.self.inside.clients; waiting = c.self.inside.waiting.items; runs = c.self.inside.runs; started = c.self.inside.started; claims = c.self.inside.claims })) c.self.invariant.ledger.0 c.args.run c.in-Some.taken lane c.self.invariant.ledger.1 here
-    (ap (λ (n : ℕ). found c.self.inside.lanes.items n) (sym c.look.ensures.same.client) ∙ h))
+    (ap (λ (n : ℕ). found c.self.inside.lanes.items n) (sym c.look-looked.ensures.same.client) ∙ h))
 
 pub invariant_of-self-in-Answered : goal.invariant_of-self-in-Answered
 invariant_of-self-in-Answered g c =
@@ -312,29 +319,28 @@ invariant_of-self-in-Answered g c =
     let runs = rw c.number-id.ensures at c.take.ensures.found in
     let told = rw c.in-Answered.is at (c.in-Ok.ensures {u = tt}).looked in
     let moved = answer_moved g.R.Key.Ord.cmp (g.R.Rules.machine c.self.inside.memos.rules) g.O.Outbox.puts c.self.inside.memos.rules (held (record { rules = c.self.inside.memos.rules; places = c.self.inside.memos.places; inputs = c.self.inside.inputs; lanes = c.self.inside.lanes; opened = c.self.inside.opened; clients = c.self.inside.clients; waiting = c.self.inside.waiting.items; runs = c.self.inside.runs; started = c.self.inside.started; claims = c.self.inside.claims })) (record { inputs = c.self.inside.inputs; lanes = c.end_run.new.lanes.items; opened = c.self.inside.opened; clients = c.self.inside.clients; runs = c.take.new.self.items; started = c.self.inside.started }) w.ledger.0 c.args.run c.in-Some.taken c.in-Answered.answer w.ledger.1 here (λ o. false_true (sym c.if-is_overtaken.false ∙ c.is_overtaken.ensures.1 (rw c.now-now.ensures.now o))) (none_of (out_at c.in-Some.taken.top) (λ e. false_true (sym c.if-is_out.false ∙ c.is_out.ensures.1 e))) told.0 runs
-    (ended_as (held (record { rules = c.self.inside.memos.rules; places = c.self.inside.memos.places; inputs = c.self.inside.inputs; lanes = c.self.inside.lanes; opened = c.self.inside.opened; clients = c.self.inside.clients; waiting = c.self.inside.waiting.items; runs = c.self.inside.runs; started = c.self.inside.started; claims = c.self.inside.claims })) (record { inputs = c.self.inside.inputs; lanes = c.end_run.new.lanes.items; opened = c.self.inside.opened; clients = c.self.inside.clients; runs = c.take.new.self.items; started = c.self.inside.started }) c.in-Some.taken c.look.new.self c.self.inside.inputs.revision (Answered c.in-Answered.answer) c.look.ensures.same
+    (ended_as (held (record { rules = c.self.inside.memos.rules; places = c.self.inside.memos.places; inputs = c.self.inside.inputs; lanes = c.self.inside.lanes; opened = c.self.inside.opened; clients = c.self.inside.clients; waiting = c.self.inside.waiting.items; runs = c.self.inside.runs; started = c.self.inside.started; claims = c.self.inside.claims })) (record { inputs = c.self.inside.inputs; lanes = c.end_run.new.lanes.items; opened = c.self.inside.opened; clients = c.self.inside.clients; runs = c.take.new.self.items; started = c.self.inside.started }) c.in-Some.taken c.look-looked.new.self c.self.inside.inputs.revision (Answered c.in-Answered.answer) c.look-looked.ensures.same
     (λ lane h k. rw c.now-now.ensures.now at ((c.end_run.ensures.«open» lane h).found k)))
-    (λ h k. (c.end_run.ensures.closed (ap (λ (n : ℕ). found c.self.inside.lanes.items n) c.look.ensures.same.client ∙ h)).found k) (record { inputs = refl; opened = refl; clients = refl; started = refl }) in
-    rw c.look.ensures.rules
+    (λ h k. (c.end_run.ensures.closed (ap (λ (n : ℕ). found c.self.inside.lanes.items n) c.look-looked.ensures.same.client ∙ h)).found k) (record { inputs = refl; opened = refl; clients = refl; started = refl }) in
+    rw c.look-looked.ensures.rules
     (record {
-      kept = c.look.ensures.kept;
+      kept = c.look-looked.ensures.kept;
       lanes_above = c.end_run.ensures.above c.self.inside.clients w.lanes_above;
       runs_above = c.take.ensures.above c.self.inside.started w.runs_above;
-      queue = end_queue g.R.Key.Ord.cmp (g.R.Rules.machine c.self.inside.memos.rules) g.O.Outbox.puts _ _ _ w.ledger.0 c.args.run c.in-Some.taken _ _ w.ledger.1 here c.look.ensures.same
+      queue = end_queue g.R.Key.Ord.cmp (g.R.Rules.machine c.self.inside.memos.rules) g.O.Outbox.puts _ _ _ w.ledger.0 c.args.run c.in-Some.taken _ _ w.ledger.1 here c.look-looked.ensures.same
           (λ lane h k. (c.end_run.ensures.«open» lane h).found k) (λ h k. (c.end_run.ensures.closed h).found k) w.queue;
       room =
           let a : length c.self.inside.waiting.items ≤ c.self.inside.runs.room = w.room in
           let b = c.take.ensures.room in
           omega (arith, a, b);
-      current = others_kept g.R.Key.Ord.cmp (g.R.Rules.machine c.self.inside.memos.rules) c.self.inside.inputs (memo_at g.R.Key.Ord.cmp c.self.inside.memos.places) (memo_at g.R.Key.Ord.cmp c.look.new.memos.places) c.self.inside.runs.items c.take.new.self.items c.args.run c.look.ensures.renewed runs w.current;
-      claimed = end_claimed c.self.inside.claims c.release_all-in-Answered.new.self c.self.inside.runs.items c.take.new.self.items c.args.run c.look.new.claims runs c.look.ensures.others c.release_all-in-Answered.ensures.released w.claimed;
+      runs = ended_runs _ _ _ _ _ _ _ _ _ c.args.run c.look-looked.new.claims runs c.look-looked.ensures.renewed c.look-looked.ensures.written c.look-looked.ensures.others c.release_all-in-Answered.ensures.released w.runs;
       ledger = (moved.0, moved.2);
     })
 
 pub returns-in-Answered-clause-none_lost : goal.returns-in-Answered-clause-none_lost
 returns-in-Answered-clause-none_lost g c = rw (← c.self.view_is)
     (renewed_none_lost (g.R.Rules.machine c.self.inside.memos.rules) c.self.inside.inputs.revision (memo_at g.R.Key.Ord.cmp c.self.inside.memos.places)
-    (memo_at g.R.Key.Ord.cmp c.look.new.memos.places) c.look.ensures.renewed)
+    (memo_at g.R.Key.Ord.cmp c.look-looked.new.memos.places) c.look-looked.ensures.renewed)
 
 pub returns-in-Answered-clause-moved : goal.returns-in-Answered-clause-moved
 returns-in-Answered-clause-moved g c =
@@ -343,19 +349,19 @@ returns-in-Answered-clause-moved g c =
     let told = rw c.in-Answered.is at (c.in-Ok.ensures {u = tt}).looked in
     rw (← c.self.view_is)
     (λ l s. answer_moved g.R.Key.Ord.cmp (g.R.Rules.machine c.self.inside.memos.rules) g.O.Outbox.puts c.self.inside.memos.rules (held (record { rules = c.self.inside.memos.rules; places = c.self.inside.memos.places; inputs = c.self.inside.inputs; lanes = c.self.inside.lanes; opened = c.self.inside.opened; clients = c.self.inside.clients; waiting = c.self.inside.waiting.items; runs = c.self.inside.runs; started = c.self.inside.started; claims = c.self.inside.claims })) (record { inputs = c.self.inside.inputs; lanes = c.end_run.new.lanes.items; opened = c.self.inside.opened; clients = c.self.inside.clients; runs = c.take.new.self.items; started = c.self.inside.started }) l c.args.run c.in-Some.taken c.in-Answered.answer s here (λ o. false_true (sym c.if-is_overtaken.false ∙ c.is_overtaken.ensures.1 (rw c.now-now.ensures.now o))) (none_of (out_at c.in-Some.taken.top) (λ e. false_true (sym c.if-is_out.false ∙ c.is_out.ensures.1 e))) told.0 runs
-    (ended_as (held (record { rules = c.self.inside.memos.rules; places = c.self.inside.memos.places; inputs = c.self.inside.inputs; lanes = c.self.inside.lanes; opened = c.self.inside.opened; clients = c.self.inside.clients; waiting = c.self.inside.waiting.items; runs = c.self.inside.runs; started = c.self.inside.started; claims = c.self.inside.claims })) (record { inputs = c.self.inside.inputs; lanes = c.end_run.new.lanes.items; opened = c.self.inside.opened; clients = c.self.inside.clients; runs = c.take.new.self.items; started = c.self.inside.started }) c.in-Some.taken c.look.new.self c.self.inside.inputs.revision (Answered c.in-Answered.answer) c.look.ensures.same
+    (ended_as (held (record { rules = c.self.inside.memos.rules; places = c.self.inside.memos.places; inputs = c.self.inside.inputs; lanes = c.self.inside.lanes; opened = c.self.inside.opened; clients = c.self.inside.clients; waiting = c.self.inside.waiting.items; runs = c.self.inside.runs; started = c.self.inside.started; claims = c.self.inside.claims })) (record { inputs = c.self.inside.inputs; lanes = c.end_run.new.lanes.items; opened = c.self.inside.opened; clients = c.self.inside.clients; runs = c.take.new.self.items; started = c.self.inside.started }) c.in-Some.taken c.look-looked.new.self c.self.inside.inputs.revision (Answered c.in-Answered.answer) c.look-looked.ensures.same
     (λ lane h k. rw c.now-now.ensures.now at ((c.end_run.ensures.«open» lane h).found k)))
-    (λ h k. (c.end_run.ensures.closed (ap (λ (n : ℕ). found c.self.inside.lanes.items n) c.look.ensures.same.client ∙ h)).found k) (record { inputs = refl; opened = refl; clients = refl; started = refl }))
+    (λ h k. (c.end_run.ensures.closed (ap (λ (n : ℕ). found c.self.inside.lanes.items n) c.look-looked.ensures.same.client ∙ h)).found k) (record { inputs = refl; opened = refl; clients = refl; started = refl }))
 
 pub invariant_of-self-in-Err : goal.invariant_of-self-in-Err
 invariant_of-self-in-Err g c =
     let w = c.self.invariant in
     let here = sym (rw c.number-id.ensures at (c.in-Some.ensures {u = tt}).value) in
-    let set = set_back c.self.inside.runs c.take.new.self c.put_back-in-Err.new.self c.args.run c.look.new.self (rw c.number-id.ensures at c.take.ensures.found) c.take.ensures.above
+    let set = set_back c.self.inside.runs c.take.new.self c.put_back-in-Err.new.self c.args.run c.look-looked.new.self (rw c.number-id.ensures at c.take.ensures.found) c.take.ensures.above
     (rw c.in-Some.is at c.take.ensures.more_room) (rw c.number-id.ensures at c.put_back-in-Err.ensures.found) c.put_back-in-Err.ensures.room c.put_back-in-Err.ensures.above in
-    rw c.look.ensures.rules
+    rw c.look-looked.ensures.rules
     (record {
-      kept = c.look.ensures.kept;
+      kept = c.look-looked.ensures.kept;
       lanes_above = w.lanes_above;
       runs_above = set.above c.self.inside.started w.runs_above;
       queue = w.queue;
@@ -363,82 +369,174 @@ invariant_of-self-in-Err g c =
           let a : length c.self.inside.waiting.items ≤ c.self.inside.runs.room = w.room in
           let b = set.room in
           omega (arith, a, b);
-      current = all_kept g.R.Key.Ord.cmp (g.R.Rules.machine c.self.inside.memos.rules) c.self.inside.inputs (memo_at g.R.Key.Ord.cmp c.self.inside.memos.places) (memo_at g.R.Key.Ord.cmp c.look.new.memos.places) c.self.inside.runs.items _ c.args.run c.look.new.self c.look.ensures.renewed set.found w.current (λ e. c.look.ensures.run_kept);
-      claimed = put_claimed c.self.inside.claims c.look.new.claims c.self.inside.runs.items _ c.args.run c.look.new.self set.found c.look.ensures.claimed c.look.ensures.others w.claimed;
-      ledger = (w.ledger.0, back_moved g.R.Key.Ord.cmp (g.R.Rules.machine c.self.inside.memos.rules) g.O.Outbox.puts (held (record { rules = c.self.inside.memos.rules; places = c.self.inside.memos.places; inputs = c.self.inside.inputs; lanes = c.self.inside.lanes; opened = c.self.inside.opened; clients = c.self.inside.clients; waiting = c.self.inside.waiting.items; runs = c.self.inside.runs; started = c.self.inside.started; claims = c.self.inside.claims })) (record { inputs = c.self.inside.inputs; lanes = c.self.inside.lanes.items; opened = c.self.inside.opened; clients = c.self.inside.clients; runs = c.put_back-in-Err.new.self.items; started = c.self.inside.started }) w.ledger.0 c.args.run c.in-Some.taken c.look.new.self w.ledger.1 here c.look.ensures.same ((c.in-Err.ensures {u = tt}).refused ∙ sym (none_of (out_at c.in-Some.taken.top) (λ e. false_true (sym c.if-is_out.false ∙ c.is_out.ensures.1 e)))) set.found (λ k. refl) (record { inputs = refl; opened = refl; clients = refl; started = refl }));
+      runs = stepped_runs _ _ c.self.inside.inputs _ _ _ _ _ _ c.args.run c.in-Some.taken c.look-looked.new.self here set.found c.look-looked.ensures.same
+          ((current g.R.Key.Ord.cmp (g.R.Rules.machine c.self.inside.memos.rules) g.O.Outbox.puts (held (record { rules = c.self.inside.memos.rules; places = c.self.inside.memos.places; inputs = c.self.inside.inputs; lanes = c.self.inside.lanes; opened = c.self.inside.opened; clients = c.self.inside.clients; waiting = c.self.inside.waiting.items; runs = c.self.inside.runs; started = c.self.inside.started; claims = c.self.inside.claims })) w.ledger.0 c.args.run c.in-Some.taken w.ledger.1 (run_here g.R.Key.Ord.cmp (g.R.Rules.machine c.self.inside.memos.rules) g.O.Outbox.puts (held (record { rules = c.self.inside.memos.rules; places = c.self.inside.memos.places; inputs = c.self.inside.inputs; lanes = c.self.inside.lanes; opened = c.self.inside.opened; clients = c.self.inside.clients; waiting = c.self.inside.waiting.items; runs = c.self.inside.runs; started = c.self.inside.started; claims = c.self.inside.claims })) w.ledger.0 c.args.run c.in-Some.taken w.ledger.1 here) (λ o. false_true (sym c.if-is_overtaken.false ∙ c.is_overtaken.ensures.1 (rw c.now-now.ensures.now o)))).1)
+          (λ s y h. run_past g.R.Key.Ord.cmp (g.R.Rules.machine c.self.inside.memos.rules) g.O.Outbox.puts (held (record { rules = c.self.inside.memos.rules; places = c.self.inside.memos.places; inputs = c.self.inside.inputs; lanes = c.self.inside.lanes; opened = c.self.inside.opened; clients = c.self.inside.clients; waiting = c.self.inside.waiting.items; runs = c.self.inside.runs; started = c.self.inside.started; claims = c.self.inside.claims })) w.ledger.0 s y w.ledger.1 h)
+          c.claims_are_sound.ensures.sound c.claims_are_sound-in-Some.ensures.sound c.look-looked.ensures.renewed c.look-looked.ensures.written
+          c.look-looked.ensures.run_kept c.look-looked.ensures.claimed c.look-looked.ensures.others c.look-looked.ensures.stale c.look-looked.ensures.waits w.runs;
+      ledger = (w.ledger.0, back_moved g.R.Key.Ord.cmp (g.R.Rules.machine c.self.inside.memos.rules) g.O.Outbox.puts (held (record { rules = c.self.inside.memos.rules; places = c.self.inside.memos.places; inputs = c.self.inside.inputs; lanes = c.self.inside.lanes; opened = c.self.inside.opened; clients = c.self.inside.clients; waiting = c.self.inside.waiting.items; runs = c.self.inside.runs; started = c.self.inside.started; claims = c.self.inside.claims })) (record { inputs = c.self.inside.inputs; lanes = c.self.inside.lanes.items; opened = c.self.inside.opened; clients = c.self.inside.clients; runs = c.put_back-in-Err.new.self.items; started = c.self.inside.started }) w.ledger.0 c.args.run c.in-Some.taken c.look-looked.new.self w.ledger.1 here c.look-looked.ensures.same ((c.in-Err.ensures {u = tt}).refused ∙ sym (none_of (out_at c.in-Some.taken.top) (λ e. false_true (sym c.if-is_out.false ∙ c.is_out.ensures.1 e)))) set.found (λ k. refl) (record { inputs = refl; opened = refl; clients = refl; started = refl }));
     })
 
 pub returns-in-Err-clause-none_lost : goal.returns-in-Err-clause-none_lost
 returns-in-Err-clause-none_lost g c = rw (← c.self.view_is)
     (renewed_none_lost (g.R.Rules.machine c.self.inside.memos.rules) c.self.inside.inputs.revision (memo_at g.R.Key.Ord.cmp c.self.inside.memos.places)
-    (memo_at g.R.Key.Ord.cmp c.look.new.memos.places) c.look.ensures.renewed)
+    (memo_at g.R.Key.Ord.cmp c.look-looked.new.memos.places) c.look-looked.ensures.renewed)
 
 pub returns-in-Err-clause-moved : goal.returns-in-Err-clause-moved
 returns-in-Err-clause-moved g c =
     let here = sym (rw c.number-id.ensures at (c.in-Some.ensures {u = tt}).value) in
-    let set = set_back c.self.inside.runs c.take.new.self c.put_back-in-Err.new.self c.args.run c.look.new.self (rw c.number-id.ensures at c.take.ensures.found) c.take.ensures.above
+    let set = set_back c.self.inside.runs c.take.new.self c.put_back-in-Err.new.self c.args.run c.look-looked.new.self (rw c.number-id.ensures at c.take.ensures.found) c.take.ensures.above
     (rw c.in-Some.is at c.take.ensures.more_room) (rw c.number-id.ensures at c.put_back-in-Err.ensures.found) c.put_back-in-Err.ensures.room c.put_back-in-Err.ensures.above in
     rw (← c.self.view_is)
     (λ l s.
     let b = goes_on g.R.Key.Ord.cmp (g.R.Rules.machine c.self.inside.memos.rules) g.O.Outbox.puts c.self.inside.memos.rules (held (record { rules = c.self.inside.memos.rules; places = c.self.inside.memos.places; inputs = c.self.inside.inputs; lanes = c.self.inside.lanes; opened = c.self.inside.opened; clients = c.self.inside.clients; waiting = c.self.inside.waiting.items; runs = c.self.inside.runs; started = c.self.inside.started; claims = c.self.inside.claims })) l c.args.run c.in-Some.taken s here (λ o. false_true (sym c.if-is_overtaken.false ∙ c.is_overtaken.ensures.1 (rw c.now-now.ensures.now o))) (none_of (out_at c.in-Some.taken.top) (λ e. false_true (sym c.if-is_out.false ∙ c.is_out.ensures.1 e))) in
-    (l, (b.0, b.1, refl), back_moved g.R.Key.Ord.cmp (g.R.Rules.machine c.self.inside.memos.rules) g.O.Outbox.puts (held (record { rules = c.self.inside.memos.rules; places = c.self.inside.memos.places; inputs = c.self.inside.inputs; lanes = c.self.inside.lanes; opened = c.self.inside.opened; clients = c.self.inside.clients; waiting = c.self.inside.waiting.items; runs = c.self.inside.runs; started = c.self.inside.started; claims = c.self.inside.claims })) (record { inputs = c.self.inside.inputs; lanes = c.self.inside.lanes.items; opened = c.self.inside.opened; clients = c.self.inside.clients; runs = c.put_back-in-Err.new.self.items; started = c.self.inside.started }) l c.args.run c.in-Some.taken c.look.new.self s here c.look.ensures.same ((c.in-Err.ensures {u = tt}).refused ∙ sym (none_of (out_at c.in-Some.taken.top) (λ e. false_true (sym c.if-is_out.false ∙ c.is_out.ensures.1 e)))) set.found (λ k. refl) (record { inputs = refl; opened = refl; clients = refl; started = refl })))
+    (l, (b.0, b.1, refl), back_moved g.R.Key.Ord.cmp (g.R.Rules.machine c.self.inside.memos.rules) g.O.Outbox.puts (held (record { rules = c.self.inside.memos.rules; places = c.self.inside.memos.places; inputs = c.self.inside.inputs; lanes = c.self.inside.lanes; opened = c.self.inside.opened; clients = c.self.inside.clients; waiting = c.self.inside.waiting.items; runs = c.self.inside.runs; started = c.self.inside.started; claims = c.self.inside.claims })) (record { inputs = c.self.inside.inputs; lanes = c.self.inside.lanes.items; opened = c.self.inside.opened; clients = c.self.inside.clients; runs = c.put_back-in-Err.new.self.items; started = c.self.inside.started }) l c.args.run c.in-Some.taken c.look-looked.new.self s here c.look-looked.ensures.same ((c.in-Err.ensures {u = tt}).refused ∙ sym (none_of (out_at c.in-Some.taken.top) (λ e. false_true (sym c.if-is_out.false ∙ c.is_out.ensures.1 e)))) set.found (λ k. refl) (record { inputs = refl; opened = refl; clients = refl; started = refl })))
 
-pub look-requires-clause-claimed : goal.look-requires-clause-claimed
-look-requires-clause-claimed g c =
+pub look-looked-requires-clause-claimed : goal.look-looked-requires-clause-claimed
+look-looked-requires-clause-claimed g c =
     let here = sym (rw c.number-id.ensures at (c.in-Some.ensures {u = tt}).value) in
-    c.self.invariant.claimed c.args.run ∙ ap (λ o. claimed_keys o) here
+    own_claimed _ _ _ _ _ _ c.args.run c.in-Some.taken here c.self.invariant.runs
 
-pub returns-in-None-clause-loosens : goal.returns-in-None-clause-loosens
-returns-in-None-clause-loosens g c =
-    let nothing = sym (rw c.number-id.ensures at (c.in-None.ensures {u = tt}).value) in
-    let same = none_taken c.self.inside.runs c.take.new.self c.args.run nothing (rw c.number-id.ensures at c.take.ensures.found) c.take.ensures.above c.take.ensures.room in
-    rw (← c.self.view_is)
-    (same_loosens g.R.Key.Ord.cmp c.self.inside.claims c.self.inside.runs.items c.take.new.self.items same.found)
-
-pub returns-then-is_overtaken-clause-loosens : goal.returns-then-is_overtaken-clause-loosens
-returns-then-is_overtaken-clause-loosens g c = rw (← c.self.view_is)
-    (end_loosens g.R.Key.Ord.cmp c.self.inside.claims c.self.inside.runs.items c.take.new.self.items c.args.run (rw c.number-id.ensures at c.take.ensures.found))
-
-pub returns-then-is_out-clause-loosens : goal.returns-then-is_out-clause-loosens
-returns-then-is_out-clause-loosens g c =
+pub look-looked-requires-clause-stale : goal.look-looked-requires-clause-stale
+look-looked-requires-clause-stale g c =
     let here = sym (rw c.number-id.ensures at (c.in-Some.ensures {u = tt}).value) in
-    let set = set_back c.self.inside.runs c.take.new.self c.put_back.new.self c.args.run c.in-Some.taken (rw c.number-id.ensures at c.take.ensures.found) c.take.ensures.above
-    (rw c.in-Some.is at c.take.ensures.more_room) (rw c.number-id.ensures at c.put_back.ensures.found) c.put_back.ensures.room c.put_back.ensures.above in
-    rw (← c.self.view_is)
-    (put_loosens g.R.Key.Ord.cmp c.self.inside.claims c.self.inside.runs.items c.put_back.new.self.items c.args.run c.in-Some.taken c.in-Some.taken here set.found (inl refl))
+    own_stale _ _ _ _ _ _ c.args.run c.in-Some.taken here c.self.invariant.runs
 
-pub returns-in-Carry-clause-loosens : goal.returns-in-Carry-clause-loosens
-returns-in-Carry-clause-loosens g c =
+pub close_ring-requires-clause-kept : goal.close_ring-requires-clause-kept
+close_ring-requires-clause-kept g c =
+    rw c.look-looked.ensures.rules c.look-looked.ensures.kept
+
+pub close_ring-requires-clause-runs_kept : goal.close_ring-requires-clause-runs_kept
+close_ring-requires-clause-runs_kept g c =
+    let w = c.self.invariant in
     let here = sym (rw c.number-id.ensures at (c.in-Some.ensures {u = tt}).value) in
-    let set = set_back c.self.inside.runs c.take.new.self c.put_back-in-Carry.new.self c.args.run c.look.new.self (rw c.number-id.ensures at c.take.ensures.found) c.take.ensures.above
-    (rw c.in-Some.is at c.take.ensures.more_room) (rw c.number-id.ensures at c.put_back-in-Carry.ensures.found) c.put_back-in-Carry.ensures.room c.put_back-in-Carry.ensures.above in
-    rw (← c.self.view_is)
-    (put_loosens g.R.Key.Ord.cmp c.self.inside.claims c.self.inside.runs.items c.put_back-in-Carry.new.self.items c.args.run c.in-Some.taken c.look.new.self here set.found c.look.ensures.loosens)
+    let set = set_back c.self.inside.runs c.take.new.self c.put_back-in-Ring.new.self c.args.run c.look-looked.new.self (rw c.number-id.ensures at c.take.ensures.found) c.take.ensures.above
+    (rw c.in-Some.is at c.take.ensures.more_room) (rw c.number-id.ensures at c.put_back-in-Ring.ensures.found) c.put_back-in-Ring.ensures.room c.put_back-in-Ring.ensures.above in
+    rw c.look-looked.ensures.rules
+    (stepped_runs _ _ c.self.inside.inputs _ _ _ _ _ _ c.args.run c.in-Some.taken c.look-looked.new.self here set.found c.look-looked.ensures.same
+    ((current g.R.Key.Ord.cmp (g.R.Rules.machine c.self.inside.memos.rules) g.O.Outbox.puts (held (record { rules = c.self.inside.memos.rules; places = c.self.inside.memos.places; inputs = c.self.inside.inputs; lanes = c.self.inside.lanes; opened = c.self.inside.opened; clients = c.self.inside.clients; waiting = c.self.inside.waiting.items; runs = c.self.inside.runs; started = c.self.inside.started; claims = c.self.inside.claims })) w.ledger.0 c.args.run c.in-Some.taken w.ledger.1 (run_here g.R.Key.Ord.cmp (g.R.Rules.machine c.self.inside.memos.rules) g.O.Outbox.puts (held (record { rules = c.self.inside.memos.rules; places = c.self.inside.memos.places; inputs = c.self.inside.inputs; lanes = c.self.inside.lanes; opened = c.self.inside.opened; clients = c.self.inside.clients; waiting = c.self.inside.waiting.items; runs = c.self.inside.runs; started = c.self.inside.started; claims = c.self.inside.claims })) w.ledger.0 c.args.run c.in-Some.taken w.ledger.1 here) (λ o. false_true (sym c.if-is_overtaken.false ∙ c.is_overtaken.ensures.1 (rw c.now-now.ensures.now o)))).1)
+    (λ s y h. run_past g.R.Key.Ord.cmp (g.R.Rules.machine c.self.inside.memos.rules) g.O.Outbox.puts (held (record { rules = c.self.inside.memos.rules; places = c.self.inside.memos.places; inputs = c.self.inside.inputs; lanes = c.self.inside.lanes; opened = c.self.inside.opened; clients = c.self.inside.clients; waiting = c.self.inside.waiting.items; runs = c.self.inside.runs; started = c.self.inside.started; claims = c.self.inside.claims })) w.ledger.0 s y w.ledger.1 h)
+    c.claims_are_sound.ensures.sound c.claims_are_sound-in-Some.ensures.sound c.look-looked.ensures.renewed c.look-looked.ensures.written
+    c.look-looked.ensures.run_kept c.look-looked.ensures.claimed c.look-looked.ensures.others c.look-looked.ensures.stale c.look-looked.ensures.waits w.runs)
 
-pub returns-in-Stepped-clause-loosens : goal.returns-in-Stepped-clause-loosens
-returns-in-Stepped-clause-loosens g c =
+pub close_ring-requires-clause-within : goal.close_ring-requires-clause-within
+close_ring-requires-clause-within g c =
+    let w = c.self.invariant in
     let here = sym (rw c.number-id.ensures at (c.in-Some.ensures {u = tt}).value) in
-    let set = set_back c.self.inside.runs c.take.new.self c.put_back-in-Stepped.new.self c.args.run c.look.new.self (rw c.number-id.ensures at c.take.ensures.found) c.take.ensures.above
-    (rw c.in-Some.is at c.take.ensures.more_room) (rw c.number-id.ensures at c.put_back-in-Stepped.ensures.found) c.put_back-in-Stepped.ensures.room c.put_back-in-Stepped.ensures.above in
-    rw (← c.self.view_is)
-    (put_loosens g.R.Key.Ord.cmp c.self.inside.claims c.self.inside.runs.items c.put_back-in-Stepped.new.self.items c.args.run c.in-Some.taken c.look.new.self here set.found c.look.ensures.loosens)
+    let set = set_back c.self.inside.runs c.take.new.self c.put_back-in-Ring.new.self c.args.run c.look-looked.new.self (rw c.number-id.ensures at c.take.ensures.found) c.take.ensures.above
+    (rw c.in-Some.is at c.take.ensures.more_room) (rw c.number-id.ensures at c.put_back-in-Ring.ensures.found) c.put_back-in-Ring.ensures.room c.put_back-in-Ring.ensures.above in
+    past_stepped c.self.inside.inputs.revision _ _ c.args.run c.in-Some.taken c.look-looked.new.self here set.found c.look-looked.ensures.same
+    (λ s y h. run_past g.R.Key.Ord.cmp (g.R.Rules.machine c.self.inside.memos.rules) g.O.Outbox.puts (held (record { rules = c.self.inside.memos.rules; places = c.self.inside.memos.places; inputs = c.self.inside.inputs; lanes = c.self.inside.lanes; opened = c.self.inside.opened; clients = c.self.inside.clients; waiting = c.self.inside.waiting.items; runs = c.self.inside.runs; started = c.self.inside.started; claims = c.self.inside.claims })) w.ledger.0 s y w.ledger.1 h)
 
-pub returns-in-Blocked-clause-loosens : goal.returns-in-Blocked-clause-loosens
-returns-in-Blocked-clause-loosens g c =
+pub close_ring-requires-clause-closes : goal.close_ring-requires-clause-closes
+close_ring-requires-clause-closes g c =
+    let w = c.self.invariant in
     let here = sym (rw c.number-id.ensures at (c.in-Some.ensures {u = tt}).value) in
-    let set = set_back c.self.inside.runs c.take.new.self c.put_back-in-Blocked.new.self c.args.run c.look.new.self (rw c.number-id.ensures at c.take.ensures.found) c.take.ensures.above
-    (rw c.in-Some.is at c.take.ensures.more_room) (rw c.number-id.ensures at c.put_back-in-Blocked.ensures.found) c.put_back-in-Blocked.ensures.room c.put_back-in-Blocked.ensures.above in
-    rw (← c.self.view_is)
-    (put_loosens g.R.Key.Ord.cmp c.self.inside.claims c.self.inside.runs.items c.put_back-in-Blocked.new.self.items c.args.run c.in-Some.taken c.look.new.self here set.found c.look.ensures.loosens)
+    let set = set_back c.self.inside.runs c.take.new.self c.put_back-in-Ring.new.self c.args.run c.look-looked.new.self (rw c.number-id.ensures at c.take.ensures.found) c.take.ensures.above
+    (rw c.in-Some.is at c.take.ensures.more_room) (rw c.number-id.ensures at c.put_back-in-Ring.ensures.found) c.put_back-in-Ring.ensures.room c.put_back-in-Ring.ensures.above in
+    let told = rw c.in-Ring.is at (c.in-Ok.ensures {u = tt}).looked in
+    rw c.look-looked.ensures.rules
+    (rw c.deref.ensures.value (
+      c.look-looked.new.self,
+      set.found c.args.run ∙ if_at c.args.run (Some c.look-looked.new.self) (found c.self.inside.runs.items c.args.run),
+      c.look-looked.ensures.same.started ∙ (current g.R.Key.Ord.cmp (g.R.Rules.machine c.self.inside.memos.rules) g.O.Outbox.puts (held (record { rules = c.self.inside.memos.rules; places = c.self.inside.memos.places; inputs = c.self.inside.inputs; lanes = c.self.inside.lanes; opened = c.self.inside.opened; clients = c.self.inside.clients; waiting = c.self.inside.waiting.items; runs = c.self.inside.runs; started = c.self.inside.started; claims = c.self.inside.claims })) w.ledger.0 c.args.run c.in-Some.taken w.ledger.1 (run_here g.R.Key.Ord.cmp (g.R.Rules.machine c.self.inside.memos.rules) g.O.Outbox.puts (held (record { rules = c.self.inside.memos.rules; places = c.self.inside.memos.places; inputs = c.self.inside.inputs; lanes = c.self.inside.lanes; opened = c.self.inside.opened; clients = c.self.inside.clients; waiting = c.self.inside.waiting.items; runs = c.self.inside.runs; started = c.self.inside.started; claims = c.self.inside.claims })) w.ledger.0 c.args.run c.in-Some.taken w.ledger.1 here) (λ o. false_true (sym c.if-is_overtaken.false ∙ c.is_overtaken.ensures.1 (rw c.now-now.ensures.now o)))).1,
+      closes_still g.R.Key.Ord.cmp (g.R.Rules.machine c.self.inside.memos.rules) c.self.inside.inputs _ _ c.look-looked.new.claims c.args.run c.look-looked.new.self.stack c.look-looked.new.self.top _ c.look-looked.ensures.renewed c.look-looked.ensures.stale told.1,
+    ))
 
-pub returns-in-Err-clause-loosens : goal.returns-in-Err-clause-loosens
-returns-in-Err-clause-loosens g c =
+pub invariant_of-self-in-Ok-close_ring : goal.invariant_of-self-in-Ok-close_ring
+invariant_of-self-in-Ok-close_ring g c =
+    let w = c.self.invariant in
     let here = sym (rw c.number-id.ensures at (c.in-Some.ensures {u = tt}).value) in
-    let set = set_back c.self.inside.runs c.take.new.self c.put_back-in-Err.new.self c.args.run c.look.new.self (rw c.number-id.ensures at c.take.ensures.found) c.take.ensures.above
-    (rw c.in-Some.is at c.take.ensures.more_room) (rw c.number-id.ensures at c.put_back-in-Err.ensures.found) c.put_back-in-Err.ensures.room c.put_back-in-Err.ensures.above in
-    rw (← c.self.view_is)
-    (put_loosens g.R.Key.Ord.cmp c.self.inside.claims c.self.inside.runs.items c.put_back-in-Err.new.self.items c.args.run c.in-Some.taken c.look.new.self here set.found c.look.ensures.loosens)
+    let set = set_back c.self.inside.runs c.take.new.self c.put_back-in-Ring.new.self c.args.run c.look-looked.new.self (rw c.number-id.ensures at c.take.ensures.found) c.take.ensures.above
+    (rw c.in-Some.is at c.take.ensures.more_room) (rw c.number-id.ensures at c.put_back-in-Ring.ensures.found) c.put_back-in-Ring.ensures.room c.put_back-in-Ring.ensures.above in
+    let told = rw c.in-Ring.is at (c.in-Ok.ensures {u = tt}).looked in
+    rw (c.close_ring.ensures.rules ∙ c.look-looked.ensures.rules)
+    (record {
+      kept = rw c.look-looked.ensures.rules at c.close_ring.ensures.kept;
+      lanes_above = w.lanes_above;
+      runs_above = c.close_ring.ensures.above c.self.inside.started (set.above c.self.inside.started w.runs_above);
+      queue = w.queue;
+      room =
+          let a : length c.self.inside.waiting.items ≤ c.self.inside.runs.room = w.room in
+          let b = set.room in
+          let d = c.close_ring.ensures.room in
+          omega (arith, a, b, d);
+      runs = rw c.look-looked.ensures.rules at c.close_ring.ensures.runs_kept;
+      ledger = (
+        w.ledger.0,
+        seen_moved g.R.Key.Ord.cmp (g.R.Rules.machine c.self.inside.memos.rules) g.O.Outbox.puts (record { inputs = c.self.inside.inputs; lanes = c.self.inside.lanes.items; opened = c.self.inside.opened; clients = c.self.inside.clients; runs = c.put_back-in-Ring.new.self.items; started = c.self.inside.started }) (record { inputs = c.self.inside.inputs; lanes = c.self.inside.lanes.items; opened = c.self.inside.opened; clients = c.self.inside.clients; runs = c.close_ring.new.runs.items; started = c.self.inside.started }) w.ledger.0 c.close_ring.ensures.seen (λ k. refl) (record { inputs = refl; opened = refl; clients = refl; started = refl })
+            (back_moved g.R.Key.Ord.cmp (g.R.Rules.machine c.self.inside.memos.rules) g.O.Outbox.puts (held (record { rules = c.self.inside.memos.rules; places = c.self.inside.memos.places; inputs = c.self.inside.inputs; lanes = c.self.inside.lanes; opened = c.self.inside.opened; clients = c.self.inside.clients; waiting = c.self.inside.waiting.items; runs = c.self.inside.runs; started = c.self.inside.started; claims = c.self.inside.claims })) (record { inputs = c.self.inside.inputs; lanes = c.self.inside.lanes.items; opened = c.self.inside.opened; clients = c.self.inside.clients; runs = c.put_back-in-Ring.new.self.items; started = c.self.inside.started }) w.ledger.0 c.args.run c.in-Some.taken c.look-looked.new.self w.ledger.1 here c.look-looked.ensures.same (told.0 ∙ sym (none_of (out_at c.in-Some.taken.top) (λ e. false_true (sym c.if-is_out.false ∙ c.is_out.ensures.1 e)))) set.found (λ k. refl) (record { inputs = refl; opened = refl; clients = refl; started = refl })),
+      );
+    })
 
-pub returns-in-Answered-clause-loosens : goal.returns-in-Answered-clause-loosens
-returns-in-Answered-clause-loosens g c = rw (← c.self.view_is)
-    (end_loosens g.R.Key.Ord.cmp c.self.inside.claims c.self.inside.runs.items c.take.new.self.items c.args.run (rw c.number-id.ensures at c.take.ensures.found))
+pub returns-in-Ok-close_ring-clause-none_lost : goal.returns-in-Ok-close_ring-clause-none_lost
+returns-in-Ok-close_ring-clause-none_lost g c =
+    rw (← c.self.view_is)
+    (renewed_none_lost (g.R.Rules.machine c.self.inside.memos.rules) c.self.inside.inputs.revision (memo_at g.R.Key.Ord.cmp c.self.inside.memos.places)
+    (memo_at g.R.Key.Ord.cmp c.close_ring.new.memos.places)
+    (renewed_then (g.R.Rules.machine c.self.inside.memos.rules) c.self.inside.inputs.revision (memo_at g.R.Key.Ord.cmp c.self.inside.memos.places)
+    (memo_at g.R.Key.Ord.cmp c.look-looked.new.memos.places) (memo_at g.R.Key.Ord.cmp c.close_ring.new.memos.places) c.look-looked.ensures.renewed (rw c.look-looked.ensures.rules at c.close_ring.ensures.renewed)))
+
+pub returns-in-Ok-close_ring-clause-moved : goal.returns-in-Ok-close_ring-clause-moved
+returns-in-Ok-close_ring-clause-moved g c =
+    let here = sym (rw c.number-id.ensures at (c.in-Some.ensures {u = tt}).value) in
+    let set = set_back c.self.inside.runs c.take.new.self c.put_back-in-Ring.new.self c.args.run c.look-looked.new.self (rw c.number-id.ensures at c.take.ensures.found) c.take.ensures.above
+    (rw c.in-Some.is at c.take.ensures.more_room) (rw c.number-id.ensures at c.put_back-in-Ring.ensures.found) c.put_back-in-Ring.ensures.room c.put_back-in-Ring.ensures.above in
+    let told = rw c.in-Ring.is at (c.in-Ok.ensures {u = tt}).looked in
+    rw (← c.self.view_is)
+    (λ l s.
+    let b = goes_on g.R.Key.Ord.cmp (g.R.Rules.machine c.self.inside.memos.rules) g.O.Outbox.puts c.self.inside.memos.rules (held (record { rules = c.self.inside.memos.rules; places = c.self.inside.memos.places; inputs = c.self.inside.inputs; lanes = c.self.inside.lanes; opened = c.self.inside.opened; clients = c.self.inside.clients; waiting = c.self.inside.waiting.items; runs = c.self.inside.runs; started = c.self.inside.started; claims = c.self.inside.claims })) l c.args.run c.in-Some.taken s here (λ o. false_true (sym c.if-is_overtaken.false ∙ c.is_overtaken.ensures.1 (rw c.now-now.ensures.now o))) (none_of (out_at c.in-Some.taken.top) (λ e. false_true (sym c.if-is_out.false ∙ c.is_out.ensures.1 e))) in (
+      l,
+      (b.0, b.1, refl),
+      seen_moved g.R.Key.Ord.cmp (g.R.Rules.machine c.self.inside.memos.rules) g.O.Outbox.puts (record { inputs = c.self.inside.inputs; lanes = c.self.inside.lanes.items; opened = c.self.inside.opened; clients = c.self.inside.clients; runs = c.put_back-in-Ring.new.self.items; started = c.self.inside.started }) (record { inputs = c.self.inside.inputs; lanes = c.self.inside.lanes.items; opened = c.self.inside.opened; clients = c.self.inside.clients; runs = c.close_ring.new.runs.items; started = c.self.inside.started }) l c.close_ring.ensures.seen (λ k. refl) (record { inputs = refl; opened = refl; clients = refl; started = refl })
+          (back_moved g.R.Key.Ord.cmp (g.R.Rules.machine c.self.inside.memos.rules) g.O.Outbox.puts (held (record { rules = c.self.inside.memos.rules; places = c.self.inside.memos.places; inputs = c.self.inside.inputs; lanes = c.self.inside.lanes; opened = c.self.inside.opened; clients = c.self.inside.clients; waiting = c.self.inside.waiting.items; runs = c.self.inside.runs; started = c.self.inside.started; claims = c.self.inside.claims })) (record { inputs = c.self.inside.inputs; lanes = c.self.inside.lanes.items; opened = c.self.inside.opened; clients = c.self.inside.clients; runs = c.put_back-in-Ring.new.self.items; started = c.self.inside.started }) l c.args.run c.in-Some.taken c.look-looked.new.self s here c.look-looked.ensures.same (told.0 ∙ sym (none_of (out_at c.in-Some.taken.top) (λ e. false_true (sym c.if-is_out.false ∙ c.is_out.ensures.1 e)))) set.found (λ k. refl) (record { inputs = refl; opened = refl; clients = refl; started = refl })),
+    ))
+
+pub invariant_of-self-in-Err-close_ring : goal.invariant_of-self-in-Err-close_ring
+invariant_of-self-in-Err-close_ring g c =
+    let w = c.self.invariant in
+    let here = sym (rw c.number-id.ensures at (c.in-Some.ensures {u = tt}).value) in
+    let set = set_back c.self.inside.runs c.take.new.self c.put_back-in-Ring.new.self c.args.run c.look-looked.new.self (rw c.number-id.ensures at c.take.ensures.found) c.take.ensures.above
+    (rw c.in-Some.is at c.take.ensures.more_room) (rw c.number-id.ensures at c.put_back-in-Ring.ensures.found) c.put_back-in-Ring.ensures.room c.put_back-in-Ring.ensures.above in
+    let told = rw c.in-Ring.is at (c.in-Ok.ensures {u = tt}).looked in
+    rw (c.close_ring.ensures.rules ∙ c.look-looked.ensures.rules)
+    (record {
+      kept = rw c.look-looked.ensures.rules at c.close_ring.ensures.kept;
+      lanes_above = w.lanes_above;
+      runs_above = c.close_ring.ensures.above c.self.inside.started (set.above c.self.inside.started w.runs_above);
+      queue = w.queue;
+      room =
+          let a : length c.self.inside.waiting.items ≤ c.self.inside.runs.room = w.room in
+          let b = set.room in
+          let d = c.close_ring.ensures.room in
+          omega (arith, a, b, d);
+      runs = rw c.look-looked.ensures.rules at c.close_ring.ensures.runs_kept;
+      ledger = (
+        w.ledger.0,
+        seen_moved g.R.Key.Ord.cmp (g.R.Rules.machine c.self.inside.memos.rules) g.O.Outbox.puts (record { inputs = c.self.inside.inputs; lanes = c.self.inside.lanes.items; opened = c.self.inside.opened; clients = c.self.inside.clients; runs = c.put_back-in-Ring.new.self.items; started = c.self.inside.started }) (record { inputs = c.self.inside.inputs; lanes = c.self.inside.lanes.items; opened = c.self.inside.opened; clients = c.self.inside.clients; runs = c.close_ring.new.runs.items; started = c.self.inside.started }) w.ledger.0 c.close_ring.ensures.seen (λ k. refl) (record { inputs = refl; opened = refl; clients = refl; started = refl })
+            (back_moved g.R.Key.Ord.cmp (g.R.Rules.machine c.self.inside.memos.rules) g.O.Outbox.puts (held (record { rules = c.self.inside.memos.rules; places = c.self.inside.memos.places; inputs = c.self.inside.inputs; lanes = c.self.inside.lanes; opened = c.self.inside.opened; clients = c.self.inside.clients; waiting = c.self.inside.waiting.items; runs = c.self.inside.runs; started = c.self.inside.started; claims = c.self.inside.claims })) (record { inputs = c.self.inside.inputs; lanes = c.self.inside.lanes.items; opened = c.self.inside.opened; clients = c.self.inside.clients; runs = c.put_back-in-Ring.new.self.items; started = c.self.inside.started }) w.ledger.0 c.args.run c.in-Some.taken c.look-looked.new.self w.ledger.1 here c.look-looked.ensures.same (told.0 ∙ sym (none_of (out_at c.in-Some.taken.top) (λ e. false_true (sym c.if-is_out.false ∙ c.is_out.ensures.1 e)))) set.found (λ k. refl) (record { inputs = refl; opened = refl; clients = refl; started = refl })),
+      );
+    })
+
+pub returns-in-Err-close_ring-clause-none_lost : goal.returns-in-Err-close_ring-clause-none_lost
+returns-in-Err-close_ring-clause-none_lost g c =
+    rw (← c.self.view_is)
+    (renewed_none_lost (g.R.Rules.machine c.self.inside.memos.rules) c.self.inside.inputs.revision (memo_at g.R.Key.Ord.cmp c.self.inside.memos.places)
+    (memo_at g.R.Key.Ord.cmp c.close_ring.new.memos.places)
+    (renewed_then (g.R.Rules.machine c.self.inside.memos.rules) c.self.inside.inputs.revision (memo_at g.R.Key.Ord.cmp c.self.inside.memos.places)
+    (memo_at g.R.Key.Ord.cmp c.look-looked.new.memos.places) (memo_at g.R.Key.Ord.cmp c.close_ring.new.memos.places) c.look-looked.ensures.renewed (rw c.look-looked.ensures.rules at c.close_ring.ensures.renewed)))
+
+pub returns-in-Err-close_ring-clause-moved : goal.returns-in-Err-close_ring-clause-moved
+returns-in-Err-close_ring-clause-moved g c =
+    let here = sym (rw c.number-id.ensures at (c.in-Some.ensures {u = tt}).value) in
+    let set = set_back c.self.inside.runs c.take.new.self c.put_back-in-Ring.new.self c.args.run c.look-looked.new.self (rw c.number-id.ensures at c.take.ensures.found) c.take.ensures.above
+    (rw c.in-Some.is at c.take.ensures.more_room) (rw c.number-id.ensures at c.put_back-in-Ring.ensures.found) c.put_back-in-Ring.ensures.room c.put_back-in-Ring.ensures.above in
+    let told = rw c.in-Ring.is at (c.in-Ok.ensures {u = tt}).looked in
+    rw (← c.self.view_is)
+    (λ l s.
+    let b = goes_on g.R.Key.Ord.cmp (g.R.Rules.machine c.self.inside.memos.rules) g.O.Outbox.puts c.self.inside.memos.rules (held (record { rules = c.self.inside.memos.rules; places = c.self.inside.memos.places; inputs = c.self.inside.inputs; lanes = c.self.inside.lanes; opened = c.self.inside.opened; clients = c.self.inside.clients; waiting = c.self.inside.waiting.items; runs = c.self.inside.runs; started = c.self.inside.started; claims = c.self.inside.claims })) l c.args.run c.in-Some.taken s here (λ o. false_true (sym c.if-is_overtaken.false ∙ c.is_overtaken.ensures.1 (rw c.now-now.ensures.now o))) (none_of (out_at c.in-Some.taken.top) (λ e. false_true (sym c.if-is_out.false ∙ c.is_out.ensures.1 e))) in (
+      l,
+      (b.0, b.1, refl),
+      seen_moved g.R.Key.Ord.cmp (g.R.Rules.machine c.self.inside.memos.rules) g.O.Outbox.puts (record { inputs = c.self.inside.inputs; lanes = c.self.inside.lanes.items; opened = c.self.inside.opened; clients = c.self.inside.clients; runs = c.put_back-in-Ring.new.self.items; started = c.self.inside.started }) (record { inputs = c.self.inside.inputs; lanes = c.self.inside.lanes.items; opened = c.self.inside.opened; clients = c.self.inside.clients; runs = c.close_ring.new.runs.items; started = c.self.inside.started }) l c.close_ring.ensures.seen (λ k. refl) (record { inputs = refl; opened = refl; clients = refl; started = refl })
+          (back_moved g.R.Key.Ord.cmp (g.R.Rules.machine c.self.inside.memos.rules) g.O.Outbox.puts (held (record { rules = c.self.inside.memos.rules; places = c.self.inside.memos.places; inputs = c.self.inside.inputs; lanes = c.self.inside.lanes; opened = c.self.inside.opened; clients = c.self.inside.clients; waiting = c.self.inside.waiting.items; runs = c.self.inside.runs; started = c.self.inside.started; claims = c.self.inside.claims })) (record { inputs = c.self.inside.inputs; lanes = c.self.inside.lanes.items; opened = c.self.inside.opened; clients = c.self.inside.clients; runs = c.put_back-in-Ring.new.self.items; started = c.self.inside.started }) l c.args.run c.in-Some.taken c.look-looked.new.self s here c.look-looked.ensures.same (told.0 ∙ sym (none_of (out_at c.in-Some.taken.top) (λ e. false_true (sym c.if-is_out.false ∙ c.is_out.ensures.1 e)))) set.found (λ k. refl) (record { inputs = refl; opened = refl; clients = refl; started = refl })),
+    ))

@@ -1,6 +1,6 @@
 use Rattle.std.proofs.Common.{refl, sym, ◌∙◌, ap, arith}
 use Rattle.pq_claims.specs.Claims.{Hold}
-use Rattle.pq_core.specs.aux.Runs.{claimed_keys}
+use Rattle.pq_core.proofs.RunsKept.{no_runs}
 use Rattle.pq_core.proofs.Lists.{none_some}
 use Rattle.pq_core.proofs.Queued.{once_none}
 use Rattle.pq_core.proofs.CoreOpening.{new_stands}
@@ -19,8 +19,7 @@ invariant_of-result g c =
         once = once_none _;
       });
       room = rw c.new-3.ensures.items (omega arith);
-      current = λ r run h. absurd (none_some run (sym (c.new-4.ensures.none r) ∙ h));
-      claimed = λ r. ap (λ (h : Hold g.row.R-Key.Denot). h.keys) (c.new-5.ensures.empty r) ∙ ap (λ o. claimed_keys o) (sym (c.new-4.ensures.none r));
+      runs = no_runs _ _ _ _ _ _ (λ r. ap (λ (h : Hold g.row.R-Key.Denot). h.keys) (c.new-5.ensures.empty r)) c.new-4.ensures.none;
       ledger = (
         unused c.args.inputs,
         new_stands g.R.Key.Ord.cmp (g.R.Rules.machine c.new.result.rules) g.O.Outbox.puts _ c.now-latest.ensures.counted c.now-latest.ensures.last

@@ -31,8 +31,7 @@ invariant_of-self g c =
       runs_above = w.runs_above;
       queue = queue_same _ _ _ (λ k. c.reserve.ensures.same.same k) w.queue;
       room = w.room;
-      current = w.current;
-      claimed = w.claimed;
+      runs = w.runs;
       ledger = (
         w.ledger.0,
         unmoved g.R.Key.Ord.cmp (g.R.Rules.machine c.self.inside.memos.rules) g.O.Outbox.puts _ _ w.ledger.0
@@ -62,8 +61,7 @@ invariant_of-self-2 g c =
       runs_above = w.runs_above;
       queue = queue_opened _ _ _ c.self.inside.clients c.args.outbox (found_above c.self.inside.clients _ w.lanes_above) lanes w.queue;
       room = w.room;
-      current = w.current;
-      claimed = w.claimed;
+      runs = w.runs;
       ledger = (moved.0, moved.2);
     }
 

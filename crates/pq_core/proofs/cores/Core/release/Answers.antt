@@ -30,8 +30,7 @@ invariant_of-self g c =
           (λ lane h. let x = c.release_in.ensures.«open» lane h in (x.0, released_waits g.O.Outbox.puts g.O.Outbox.takes g.O.Outbox.was_full g.O.Outbox.was_gone c.release_in.result lane x.0 x.1, x.2.found))
           (λ h. let x = c.release_in.ensures.closed h in (x.0, x.1.found)) w.queue;
       room = w.room;
-      current = w.current;
-      claimed = w.claimed;
+      runs = w.runs;
       ledger = (moved.0, moved.2);
     }
 

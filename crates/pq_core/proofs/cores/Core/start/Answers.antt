@@ -1,12 +1,12 @@
-use Rattle.std.proofs.Common.{◌≡◌, ◌≤◌, ◌+◌, ℕ, List, ◌∷◌, length, refl, ◌∙◌, ap, inl, arith}
-use Rattle.pq_memo.specs.Table.{memo_at}
-use Rattle.pq_core.specs.aux.Runs.{claimed_keys}
+use Rattle.std.proofs.Common.{◌≡◌, ◌≤◌, ◌+◌, ℕ, List, ◌∷◌, length, refl, ap, inl, arith}
+use Rattle.pq_core.specs.Cores.{held}
 use Rattle.pq_core.proofs.Slots.{found_above}
-use Rattle.pq_core.proofs.Claiming.{put_claimed, others_same}
+use Rattle.pq_core.proofs.RunsKept.{started_runs}
 use Rattle.pq_core.proofs.Changing.{above_next}
 use Rattle.pq_core.proofs.Queued.{queue_started}
 use Rattle.pq_core.proofs.CoreResting.{no_length}
-use Rattle.pq_core.proofs.CoreStarting.{seen_of, current_pushed, start_none, start_moved}
+use Rattle.pq_core.proofs.CoreAccepting.{run_past}
+use Rattle.pq_core.proofs.CoreStarting.{seen_of, start_none, start_moved}
 use Rattle.pq_core.proofs.cores.Core.start.Goals as goal
 
 pub start_in-request-requires : goal.start_in-request-requires
@@ -35,10 +35,10 @@ invariant_of-self g c =
           let d : length c.self.inside.waiting.items ≡ length ((c.in-Some.client, c.in-Some.number) ∷ c.pop_front.new.self.items) =
           ap (λ (xs : List (ℕ × ℕ)). length xs) (c.in-Some.ensures {u = tt}).items in
           omega arith;
-      current = current_pushed g.R.Key.Ord.cmp (g.R.Rules.machine c.self.inside.memos.rules) c.self.inside.inputs (memo_at g.R.Key.Ord.cmp c.self.inside.memos.places) c.self.inside.runs.items c.push_reserved.new.self.items c.self.inside.started c.new-made.result c.push_reserved.ensures.found
-          (rw c.new-made.ensures refl) w.current;
-      claimed = put_claimed c.self.inside.claims c.self.inside.claims c.self.inside.runs.items c.push_reserved.new.self.items c.self.inside.started c.new-made.result c.push_reserved.ensures.found
-          (rw c.new-made.ensures (w.claimed c.self.inside.started ∙ ap (λ o. claimed_keys o) (found_above c.self.inside.started _ w.runs_above))) (others_same c.self.inside.started c.self.inside.claims) w.claimed;
+      runs = started_runs _ _ c.self.inside.inputs _ _ _ _ c.self.inside.started c.new-made.result c.push_reserved.ensures.found
+          (found_above c.self.inside.started _ w.runs_above) (rw c.new-made.ensures refl) (rw c.new-made.ensures refl) (rw c.new-made.ensures (λ k. tt))
+          (rw c.new-made.ensures c.now-revision.ensures.now)
+          (λ s y h. run_past g.R.Key.Ord.cmp (g.R.Rules.machine c.self.inside.memos.rules) g.O.Outbox.puts (held (record { rules = c.self.inside.memos.rules; places = c.self.inside.memos.places; inputs = c.self.inside.inputs; lanes = c.self.inside.lanes; opened = c.self.inside.opened; clients = c.self.inside.clients; waiting = c.self.inside.waiting.items; runs = c.self.inside.runs; started = c.self.inside.started; claims = c.self.inside.claims })) w.ledger.0 s y w.ledger.1 h) w.runs;
       ledger = (moved.0, moved.2);
     }
 

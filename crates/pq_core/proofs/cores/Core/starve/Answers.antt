@@ -1,15 +1,13 @@
-use Rattle.std.proofs.Common.{◌≤◌, true, length, refl, sym, ◌∙◌, arith}
-use Rattle.pq_memo.specs.Table.{memo_at}
+use Rattle.std.proofs.Common.{◌≤◌, true, length, refl, sym, arith}
 use Rattle.pq_core.specs.RightReply.{answer_by}
 use Rattle.pq_core.specs.Cores.{held}
 use Rattle.pq_core.specs.Moves.{Starves, ended}
 use Rattle.pq_core.specs.declared.outcome.Outcome.TheVariants.{Starved}
-use Rattle.pq_core.proofs.Claiming.{end_claimed, others_same, same_claimed}
+use Rattle.pq_core.proofs.RunsKept.{same_runs, stopped_runs}
 use Rattle.pq_core.proofs.Changing.{none_taken}
 use Rattle.pq_core.proofs.Keeping.{kept_starves}
 use Rattle.pq_core.proofs.CoreOpening.{unmoved}
-use Rattle.pq_core.proofs.CoreRunning.{end_queue, run_here, no_run, run_within, end_moved, others_kept}
-use Rattle.pq_core.proofs.Renewed.{renewed_same}
+use Rattle.pq_core.proofs.CoreRunning.{end_queue, run_here, no_run, run_within, end_moved}
 use Rattle.pq_core.proofs.cores.Core.starve.Goals as goal
 
 pub end_run-requires-clause-within : goal.end_run-requires-clause-within
@@ -37,10 +35,7 @@ invariant_of-self g c =
           let a : length c.self.inside.waiting.items ≤ c.self.inside.runs.room = w.room in
           let b : c.self.inside.runs.room ≤ c.take.new.self.room = c.take.ensures.room in
           omega arith;
-      current = others_kept g.R.Key.Ord.cmp (g.R.Rules.machine c.self.inside.memos.rules) c.self.inside.inputs
-          (memo_at g.R.Key.Ord.cmp c.self.inside.memos.places) (memo_at g.R.Key.Ord.cmp c.self.inside.memos.places) c.self.inside.runs.items c.take.new.self.items c.args.run
-          (renewed_same (g.R.Rules.machine c.self.inside.memos.rules) c.self.inside.inputs.revision _ _ (λ q. refl)) runs w.current;
-      claimed = end_claimed c.self.inside.claims c.release_all.new.self c.self.inside.runs.items c.take.new.self.items c.args.run c.self.inside.claims runs (others_same c.args.run c.self.inside.claims) c.release_all.ensures.released w.claimed;
+      runs = stopped_runs _ _ _ _ _ _ _ c.args.run c.release_all.new.self runs c.release_all.ensures.released w.runs;
       ledger = (ended w.ledger.0 x.at true Starved, stands);
     }
 
@@ -71,8 +66,7 @@ invariant_of-self-in-None g c =
           let a : length c.self.inside.waiting.items ≤ c.self.inside.runs.room = w.room in
           let b : c.self.inside.runs.room ≤ c.take.new.self.room = same.room in
           omega arith;
-      current = λ r run h e. w.current r run (sym (same.found r) ∙ h) e;
-      claimed = same_claimed c.self.inside.claims _ _ same.found w.claimed;
+      runs = same_runs _ _ _ _ _ _ _ same.found w.runs;
       ledger = (
         w.ledger.0,
         unmoved g.R.Key.Ord.cmp (g.R.Rules.machine c.self.inside.memos.rules) g.O.Outbox.puts _ _ w.ledger.0 (record {

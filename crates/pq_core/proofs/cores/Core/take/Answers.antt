@@ -20,8 +20,7 @@ invariant_of-self g c =
           (λ lane h. let x = c.take_in.ensures.«open» lane h in (x.0, taken_waits g.O.Outbox.puts g.O.Outbox.takes c.take_in.result lane x.0 x.1, x.2.found))
           (λ h. let x = c.take_in.ensures.closed h in (x.0, x.1.found)) w.queue;
       room = w.room;
-      current = w.current;
-      claimed = w.claimed;
+      runs = w.runs;
       ledger = (moved.0, moved.2);
     }
 

@@ -1,8 +1,43 @@
+use Rattle.std.proofs.Common.{◌∙◌, ap, inl, inr}
 use Rattle.pq_memo.specs.Table.{memo_at}
-use Rattle.pq_core.proofs.Framed.{lowered}
+use Rattle.pq_memo.specs.Frames.{frame_keys}
+use Rattle.pq_claims.specs.Claims.{Hold}
+use Rattle.pq_core.specs.declared.frames.Top.TheVariants.{At}
+use Rattle.pq_core.proofs.Claiming.{others_then, set_others, set_own}
+use Rattle.pq_core.proofs.Stepping.{awake_stands, stale_last, unwritten_then}
 use Rattle.pq_core.proofs.frames.Frames.advance.Goals as goal
 
-pub returns-then-is_up_to_date-clause-frames_kept : goal.returns-then-is_up_to_date-clause-frames_kept
-returns-then-is_up_to_date-clause-frames_kept g c =
-    lowered g.R.Key.Ord.cmp (g.R.Rules.machine c.args.memos.now.rules) c.args.inputs.now (memo_at g.R.Key.Ord.cmp c.args.memos.now.places) c.args.frame.key c.args.self.now.stack
-    c.leave.new.self.stack c.leave.new.self.top c.requires.below.waits c.requires.below.differ c.leave.ensures.lowered
+pub step-requires-clause-claimed : goal.step-requires-clause-claimed
+step-requires-clause-claimed g c =
+    ap (λ (h : Hold g.row.R-Key.Denot). h.keys) (set_own c.args.id c.args.claims.now c.end_wait.new.self _ c.end_wait.ensures.ended) ∙ c.requires.claimed
+
+pub step-requires-clause-awake : goal.step-requires-clause-awake
+step-requires-clause-awake g c = ap (λ (h : Hold g.row.R-Key.Denot). h.wait) (set_own c.args.id c.args.claims.now c.end_wait.new.self _ c.end_wait.ensures.ended)
+
+pub step-requires-clause-frame : goal.step-requires-clause-frame
+step-requires-clause-frame g c =
+    elim c.requires.can [
+      | inl up ↦ absurd (stale_last (g.R.Rules.machine c.args.memos.now.rules) c.args.inputs.now.revision (memo_at g.R.Key.Ord.cmp c.args.memos.now.places) (frame_keys c.args.self.now.stack) c.args.frame.key c.requires.stale up)
+      | inr frame ↦ frame
+    ]
+
+pub returns-in-Ok-clause-others : goal.returns-in-Ok-clause-others
+returns-in-Ok-clause-others g c =
+    others_then c.args.id c.args.claims.now c.end_wait.new.self c.step.new.claims (set_others c.args.id c.args.claims.now c.end_wait.new.self _ c.end_wait.ensures.ended) c.step.ensures.others
+
+pub returns-in-Ok-clause-written : goal.returns-in-Ok-clause-written
+returns-in-Ok-clause-written g c =
+    unwritten_then c.args.id c.args.claims.now c.end_wait.new.self (memo_at g.R.Key.Ord.cmp c.args.memos.now.places) (memo_at g.R.Key.Ord.cmp c.step.new.memos.places)
+    (set_others c.args.id c.args.claims.now c.end_wait.new.self _ c.end_wait.ensures.ended) c.step.ensures.written
+
+pub returns-in-Err-clause-claimed : goal.returns-in-Err-clause-claimed
+returns-in-Err-clause-claimed g c =
+    ap (λ (h : Hold g.row.R-Key.Denot). h.keys) (set_own c.args.id c.args.claims.now c.end_wait.new.self _ c.end_wait.ensures.ended) ∙ c.requires.claimed
+
+pub returns-in-Err-clause-others : goal.returns-in-Err-clause-others
+returns-in-Err-clause-others g c = set_others c.args.id c.args.claims.now c.end_wait.new.self _ c.end_wait.ensures.ended
+
+pub returns-in-Err-clause-waits : goal.returns-in-Err-clause-waits
+returns-in-Err-clause-waits g c =
+    awake_stands g.R.Key.Ord.cmp (g.R.Rules.machine c.args.memos.now.rules) c.args.inputs.now (memo_at g.R.Key.Ord.cmp c.args.memos.now.places) c.end_wait.new.self c.args.id (At c.args.frame)
+    (ap (λ (h : Hold g.row.R-Key.Denot). h.wait) (set_own c.args.id c.args.claims.now c.end_wait.new.self _ c.end_wait.ensures.ended))

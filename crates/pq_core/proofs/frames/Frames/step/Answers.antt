@@ -1,42 +1,17 @@
-use Rattle.std.proofs.Common.{[], Option, sym, subst, inr}
+use Rattle.std.proofs.Common.{[], Option, IfOk, sym, subst, inr}
 use Rattle.pq_rules.proofs.Weight.{Exact}
 use Rattle.pq_memo.specs.Sound.{Memo}
 use Rattle.pq_memo.specs.Table.{memo_at, HasIn}
-use Rattle.pq_memo.specs.Frames.{Came, IsFrame}
+use Rattle.pq_memo.specs.Frames.{Came, IsFrame, frame_keys}
 use Rattle.pq_memo.specs.Steps.{IsWhy}
 use Rattle.pq_memo.proofs.Advancing.{one_table, moved_to}
+use Rattle.pq_memo.proofs.Wrote.{wrote_finished}
 use Rattle.pq_core.specs.declared.frames.Top.TheVariants.{At}
-use Rattle.pq_core.specs.aux.Runs.{Renewed, KeptBelow, HandedOut}
+use Rattle.pq_core.specs.aux.Runs.{KeptBelow, HandedOut, HasAdvanced}
 use Rattle.pq_core.proofs.Renewed.{renewed_same, renewed_finished, up_waits, frames_still}
 use Rattle.pq_core.proofs.Framed.{lowered, below_as, frame_as, has_read}
+use Rattle.pq_core.proofs.Stepping.{awake_stands, handed_stale, holds_last, left_stale, same_unwritten, stale_last, woken_stands, wrote_own}
 use Rattle.pq_core.proofs.frames.Frames.step.Goals as goal
-
-pub returns-in_err-other-in-Ok-Needs-clause-renewed : goal.returns-in_err-other-in-Ok-Needs-clause-renewed
-returns-in_err-other-in-Ok-Needs-clause-renewed g c =
-    let s = rw c.in-Ok-Needs.field-0-is at c.in-Ok-Needs.ensures.step in
-    moved_to (λ (r : g.row.R.Denot) (t : g.row.R-Key.Denot → Option (Memo g.row.R-Key.Denot g.row.R-Value.Denot)).
-    Renewed (g.R.Rules.machine r) c.args.inputs.now.revision t (memo_at g.R.Key.Ord.cmp c.wait.new.memos.places))
-    c.step.new.self.rules c.args.memos.now.rules (memo_at g.R.Key.Ord.cmp c.step.new.self.places) (memo_at g.R.Key.Ord.cmp c.args.memos.now.places)
-    (sym c.step.ensures.rules) (sym (one_table (memo_at g.R.Key.Ord.cmp c.args.memos.now.places) (memo_at g.R.Key.Ord.cmp c.step.new.self.places) s.0))
-    c.wait.ensures.renewed
-
-pub returns-in-Some-clause-renewed : goal.returns-in-Some-clause-renewed
-returns-in-Some-clause-renewed g c =
-    let s = rw c.in-Ok-Needs.field-0-is at c.in-Ok-Needs.ensures.step in
-    moved_to (λ (r : g.row.R.Denot) (t : g.row.R-Key.Denot → Option (Memo g.row.R-Key.Denot g.row.R-Value.Denot)).
-    Renewed (g.R.Rules.machine r) c.args.inputs.now.revision t (memo_at g.R.Key.Ord.cmp c.wait.new.memos.places))
-    c.step.new.self.rules c.args.memos.now.rules (memo_at g.R.Key.Ord.cmp c.step.new.self.places) (memo_at g.R.Key.Ord.cmp c.args.memos.now.places)
-    (sym c.step.ensures.rules) (sym (one_table (memo_at g.R.Key.Ord.cmp c.args.memos.now.places) (memo_at g.R.Key.Ord.cmp c.step.new.self.places) s.0))
-    c.wait.ensures.renewed
-
-pub returns-in-Ok-Needs-clause-renewed : goal.returns-in-Ok-Needs-clause-renewed
-returns-in-Ok-Needs-clause-renewed g c =
-    let s = rw c.in-Ok-Needs.field-0-is at c.in-Ok-Needs.ensures.step in
-    moved_to (λ (r : g.row.R.Denot) (t : g.row.R-Key.Denot → Option (Memo g.row.R-Key.Denot g.row.R-Value.Denot)).
-    Renewed (g.R.Rules.machine r) c.args.inputs.now.revision t (memo_at g.R.Key.Ord.cmp c.wait.new.memos.places))
-    c.step.new.self.rules c.args.memos.now.rules (memo_at g.R.Key.Ord.cmp c.step.new.self.places) (memo_at g.R.Key.Ord.cmp c.args.memos.now.places)
-    (sym c.step.ensures.rules) (sym (one_table (memo_at g.R.Key.Ord.cmp c.args.memos.now.places) (memo_at g.R.Key.Ord.cmp c.step.new.self.places) s.0))
-    c.wait.ensures.renewed
 
 pub start-requires-clause-below : goal.start-requires-clause-below
 start-requires-clause-below g c =
@@ -86,7 +61,7 @@ returns-in-Ok-Finished-clause-renewed g c =
     let laws = g.met.R.Rules.lawful c.args.memos.now.rules [] in
     let exact : Exact g.R.Key.Ord.cmp = record { total = g.met.R.Key.Ord.total; exact = laws.exact } in
     let s = rw c.in-Ok-Finished.field-0-is at c.in-Ok-Finished.ensures.step in
-    (renewed_finished g.R.Key.Ord.cmp exact (g.R.Rules.machine c.args.memos.now.rules) c.args.inputs.now c.args.memos.now.places c.step.new.self.places c.args.frame.key c.requires.stale s)
+    (renewed_finished g.R.Key.Ord.cmp exact (g.R.Rules.machine c.args.memos.now.rules) c.args.inputs.now c.args.memos.now.places c.step.new.self.places c.args.frame.key (stale_last (g.R.Rules.machine c.args.memos.now.rules) c.args.inputs.now.revision (memo_at g.R.Key.Ord.cmp c.args.memos.now.places) (frame_keys c.args.self.now.stack) c.args.frame.key c.requires.stale) s)
 
 pub returns-in-Ok-Finished-clause-frames_kept : goal.returns-in-Ok-Finished-clause-frames_kept
 returns-in-Ok-Finished-clause-frames_kept g c =
@@ -96,7 +71,7 @@ returns-in-Ok-Finished-clause-frames_kept g c =
     lowered g.R.Key.Ord.cmp (g.R.Rules.machine c.args.memos.now.rules) c.args.inputs.now (memo_at g.R.Key.Ord.cmp c.step.new.self.places) c.args.frame.key c.args.self.now.stack
     c.leave.new.self.stack c.leave.new.self.top
     (up_waits g.R.Key.Ord.cmp (g.R.Rules.machine c.args.memos.now.rules) c.args.inputs.now (memo_at g.R.Key.Ord.cmp c.args.memos.now.places) (memo_at g.R.Key.Ord.cmp c.step.new.self.places)
-    (renewed_finished g.R.Key.Ord.cmp exact (g.R.Rules.machine c.args.memos.now.rules) c.args.inputs.now c.args.memos.now.places c.step.new.self.places c.args.frame.key c.requires.stale s)
+    (renewed_finished g.R.Key.Ord.cmp exact (g.R.Rules.machine c.args.memos.now.rules) c.args.inputs.now c.args.memos.now.places c.step.new.self.places c.args.frame.key (stale_last (g.R.Rules.machine c.args.memos.now.rules) c.args.inputs.now.revision (memo_at g.R.Key.Ord.cmp c.args.memos.now.places) (frame_keys c.args.self.now.stack) c.args.frame.key c.requires.stale) s)
     c.args.frame.key c.args.self.now.stack c.requires.below.waits)
     c.requires.below.differ c.leave.ensures.lowered
 
@@ -118,8 +93,8 @@ returns-in-Ok-GoesOn-clause-advanced g c =
     (sym c.step.ensures.rules) (sym (one_table (memo_at g.R.Key.Ord.cmp c.args.memos.now.places) (memo_at g.R.Key.Ord.cmp c.step.new.self.places) s.0))
     c.go_on.ensures.handed
 
-pub returns-clause-frames_kept : goal.returns-clause-frames_kept
-returns-clause-frames_kept g c =
+pub returns-in-Err-clause-frames_kept : goal.returns-in-Err-clause-frames_kept
+returns-in-Err-clause-frames_kept g c =
     let back = c.in-Err.ensures.returned in
     frames_still g.R.Key.Ord.cmp (g.R.Rules.machine c.args.memos.now.rules) c.args.inputs.now (memo_at g.R.Key.Ord.cmp c.args.memos.now.places) (memo_at g.R.Key.Ord.cmp c.step.new.self.places)
     (renewed_same (g.R.Rules.machine c.args.memos.now.rules) c.args.inputs.now.revision (memo_at g.R.Key.Ord.cmp c.args.memos.now.places) (memo_at g.R.Key.Ord.cmp c.step.new.self.places) c.in-Err.ensures.refused)
@@ -131,3 +106,88 @@ returns-clause-frames_kept g c =
           (frame_as g.R.Key.Ord.cmp (g.R.Rules.machine c.args.memos.now.rules) c.args.inputs.now (memo_at g.R.Key.Ord.cmp c.args.memos.now.places) c.args.frame.key c.in-Err.frame.stage c.args.frame.stage back.1 c.requires.frame)
           ),
     )
+
+pub returns-in-Ok-Finished-clause-stale : goal.returns-in-Ok-Finished-clause-stale
+returns-in-Ok-Finished-clause-stale g c =
+    let laws = g.met.R.Rules.lawful c.args.memos.now.rules [] in
+    let exact : Exact g.R.Key.Ord.cmp = record { total = g.met.R.Key.Ord.total; exact = laws.exact } in
+    let s = rw c.in-Ok-Finished.field-0-is at c.in-Ok-Finished.ensures.step in
+    let wrote = wrote_finished g.R.Key.Ord.cmp exact (g.R.Rules.machine c.args.memos.now.rules) c.args.inputs.now c.args.memos.now.places c.args.frame.key c.step.new.self.places
+    (stale_last (g.R.Rules.machine c.args.memos.now.rules) c.args.inputs.now.revision (memo_at g.R.Key.Ord.cmp c.args.memos.now.places) (frame_keys c.args.self.now.stack) c.args.frame.key c.requires.stale) s in
+    left_stale (g.R.Rules.machine c.args.memos.now.rules) c.args.inputs.now.revision (memo_at g.R.Key.Ord.cmp c.args.memos.now.places) (memo_at g.R.Key.Ord.cmp c.step.new.self.places) c.args.frame.key c.args.self.now.stack c.leave.new.self.stack c.leave.new.self.top c.requires.stale c.requires.below.apart wrote c.leave.ensures.lowered
+
+pub returns-in-Ok-Finished-clause-waits : goal.returns-in-Ok-Finished-clause-waits
+returns-in-Ok-Finished-clause-waits g c =
+    woken_stands g.R.Key.Ord.cmp (g.R.Rules.machine c.args.memos.now.rules) c.args.inputs.now (memo_at g.R.Key.Ord.cmp c.step.new.self.places) c.leave.new.claims c.args.id c.args.claims.now c.leave.new.self.top c.requires.awake c.leave.ensures.wait
+
+pub returns-in-Ok-Finished-clause-written : goal.returns-in-Ok-Finished-clause-written
+returns-in-Ok-Finished-clause-written g c =
+    let laws = g.met.R.Rules.lawful c.args.memos.now.rules [] in
+    let exact : Exact g.R.Key.Ord.cmp = record { total = g.met.R.Key.Ord.total; exact = laws.exact } in
+    let s = rw c.in-Ok-Finished.field-0-is at c.in-Ok-Finished.ensures.step in
+    let wrote = wrote_finished g.R.Key.Ord.cmp exact (g.R.Rules.machine c.args.memos.now.rules) c.args.inputs.now c.args.memos.now.places c.args.frame.key c.step.new.self.places
+    (stale_last (g.R.Rules.machine c.args.memos.now.rules) c.args.inputs.now.revision (memo_at g.R.Key.Ord.cmp c.args.memos.now.places) (frame_keys c.args.self.now.stack) c.args.frame.key c.requires.stale) s in
+    wrote_own c.args.inputs.now.revision (memo_at g.R.Key.Ord.cmp c.args.memos.now.places) (memo_at g.R.Key.Ord.cmp c.step.new.self.places) c.args.claims.now c.args.id c.args.frame.key c.claims_are_sound.ensures.sound
+    (holds_last c.args.claims.now c.args.id (frame_keys c.args.self.now.stack) c.args.frame.key c.requires.claimed) wrote
+
+pub returns-in-Ok-Needs-clause-renewed : goal.returns-in-Ok-Needs-clause-renewed
+returns-in-Ok-Needs-clause-renewed g c =
+    let s = rw c.in-Ok-Needs.field-0-is at c.in-Ok-Needs.ensures.step in
+    renewed_same (g.R.Rules.machine c.args.memos.now.rules) c.args.inputs.now.revision (memo_at g.R.Key.Ord.cmp c.args.memos.now.places) (memo_at g.R.Key.Ord.cmp c.step.new.self.places) s.0
+
+pub returns-in-Ok-Needs-clause-written : goal.returns-in-Ok-Needs-clause-written
+returns-in-Ok-Needs-clause-written g c =
+    let s = rw c.in-Ok-Needs.field-0-is at c.in-Ok-Needs.ensures.step in
+    same_unwritten c.args.claims.now c.args.id (memo_at g.R.Key.Ord.cmp c.args.memos.now.places) (memo_at g.R.Key.Ord.cmp c.step.new.self.places) s.0
+
+pub returns-in-Ok-Needs-clause-advanced : goal.returns-in-Ok-Needs-clause-advanced
+returns-in-Ok-Needs-clause-advanced g c =
+    let s = rw c.in-Ok-Needs.field-0-is at c.in-Ok-Needs.ensures.step in
+    moved_to (λ (r : g.row.R.Denot) (t : g.row.R-Key.Denot → Option (Memo g.row.R-Key.Denot g.row.R-Value.Denot)).
+    IfOk c.wait.result (λ w. HasAdvanced g.R.Key.Ord.cmp (g.R.Rules.machine r) r c.args.inputs.now t c.wait.new.claims c.args.id c.wait.new.self.top w))
+    c.step.new.self.rules c.args.memos.now.rules (memo_at g.R.Key.Ord.cmp c.step.new.self.places) (memo_at g.R.Key.Ord.cmp c.args.memos.now.places)
+    (sym c.step.ensures.rules) (sym (one_table (memo_at g.R.Key.Ord.cmp c.args.memos.now.places) (memo_at g.R.Key.Ord.cmp c.step.new.self.places) s.0)) c.wait.ensures.went
+
+pub wait-requires-clause-stale : goal.wait-requires-clause-stale
+wait-requires-clause-stale g c =
+    let s = rw c.in-Ok-Needs.field-0-is at c.in-Ok-Needs.ensures.step in
+    rw c.step.ensures.rules
+    (handed_stale (g.R.Rules.machine c.args.memos.now.rules) c.args.inputs.now.revision (memo_at g.R.Key.Ord.cmp c.args.memos.now.places) (memo_at g.R.Key.Ord.cmp c.step.new.self.places) c.args.self.now.stack c.args.frame.key c.in-Ok-Needs.frame.key s.1 s.0 c.requires.stale)
+
+pub returns-in-Ok-Starts-clause-stale : goal.returns-in-Ok-Starts-clause-stale
+returns-in-Ok-Starts-clause-stale g c =
+    let s = rw c.in-Ok-Starts.field-0-is at c.in-Ok-Starts.ensures.step in
+    rw c.start.ensures.keys
+    (handed_stale (g.R.Rules.machine c.args.memos.now.rules) c.args.inputs.now.revision (memo_at g.R.Key.Ord.cmp c.args.memos.now.places) (memo_at g.R.Key.Ord.cmp c.step.new.self.places) c.args.self.now.stack c.args.frame.key c.in-Ok-Starts.key s.1 s.0 c.requires.stale)
+
+pub returns-in-Ok-Starts-clause-waits : goal.returns-in-Ok-Starts-clause-waits
+returns-in-Ok-Starts-clause-waits g c = awake_stands g.R.Key.Ord.cmp (g.R.Rules.machine c.args.memos.now.rules) c.args.inputs.now (memo_at g.R.Key.Ord.cmp c.step.new.self.places) c.args.claims.now c.args.id c.start.new.self.top c.requires.awake
+
+pub returns-in-Ok-Starts-clause-written : goal.returns-in-Ok-Starts-clause-written
+returns-in-Ok-Starts-clause-written g c =
+    let s = rw c.in-Ok-Starts.field-0-is at c.in-Ok-Starts.ensures.step in
+    same_unwritten c.args.claims.now c.args.id (memo_at g.R.Key.Ord.cmp c.args.memos.now.places) (memo_at g.R.Key.Ord.cmp c.step.new.self.places) s.0
+
+pub returns-in-Ok-GoesOn-clause-stale : goal.returns-in-Ok-GoesOn-clause-stale
+returns-in-Ok-GoesOn-clause-stale g c =
+    let s = rw c.in-Ok-GoesOn.field-0-is at c.in-Ok-GoesOn.ensures.step in
+    rw c.go_on.ensures.keys
+    (handed_stale (g.R.Rules.machine c.args.memos.now.rules) c.args.inputs.now.revision (memo_at g.R.Key.Ord.cmp c.args.memos.now.places) (memo_at g.R.Key.Ord.cmp c.step.new.self.places) c.args.self.now.stack c.args.frame.key c.in-Ok-GoesOn.key s.1 s.0 c.requires.stale)
+
+pub returns-in-Ok-GoesOn-clause-waits : goal.returns-in-Ok-GoesOn-clause-waits
+returns-in-Ok-GoesOn-clause-waits g c = awake_stands g.R.Key.Ord.cmp (g.R.Rules.machine c.args.memos.now.rules) c.args.inputs.now (memo_at g.R.Key.Ord.cmp c.step.new.self.places) c.args.claims.now c.args.id c.go_on.new.self.top c.requires.awake
+
+pub returns-in-Ok-GoesOn-clause-written : goal.returns-in-Ok-GoesOn-clause-written
+returns-in-Ok-GoesOn-clause-written g c =
+    let s = rw c.in-Ok-GoesOn.field-0-is at c.in-Ok-GoesOn.ensures.step in
+    same_unwritten c.args.claims.now c.args.id (memo_at g.R.Key.Ord.cmp c.args.memos.now.places) (memo_at g.R.Key.Ord.cmp c.step.new.self.places) s.0
+
+pub returns-in-Err-clause-stale : goal.returns-in-Err-clause-stale
+returns-in-Err-clause-stale g c =
+    handed_stale (g.R.Rules.machine c.args.memos.now.rules) c.args.inputs.now.revision (memo_at g.R.Key.Ord.cmp c.args.memos.now.places) (memo_at g.R.Key.Ord.cmp c.step.new.self.places) c.args.self.now.stack c.args.frame.key c.in-Err.frame.key c.in-Err.ensures.returned.0 c.in-Err.ensures.refused c.requires.stale
+
+pub returns-in-Err-clause-waits : goal.returns-in-Err-clause-waits
+returns-in-Err-clause-waits g c = awake_stands g.R.Key.Ord.cmp (g.R.Rules.machine c.args.memos.now.rules) c.args.inputs.now (memo_at g.R.Key.Ord.cmp c.step.new.self.places) c.args.claims.now c.args.id (At c.in-Err.frame) c.requires.awake
+
+pub returns-in-Err-clause-written : goal.returns-in-Err-clause-written
+returns-in-Err-clause-written g c = same_unwritten c.args.claims.now c.args.id (memo_at g.R.Key.Ord.cmp c.args.memos.now.places) (memo_at g.R.Key.Ord.cmp c.step.new.self.places) c.in-Err.ensures.refused

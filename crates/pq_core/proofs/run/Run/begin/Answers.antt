@@ -1,31 +1,68 @@
-use Rattle.std.proofs.Common.{◌≡◌, List, sym, subst, ap, ◌∙◌}
-use Rattle.pq_rules.specs.Relations.{In}
-use Rattle.pq_memo.specs.declared.frame.Frame.{Frame}
+use Rattle.std.proofs.Common.{refl, ap, ◌∙◌}
 use Rattle.pq_memo.specs.Table.{memo_at}
-use Rattle.pq_memo.specs.Frames.{frame_keys}
 use Rattle.pq_claims.specs.Claims.{hold_of}
-use Rattle.pq_core.specs.aux.Runs.{RunView, Loosens, keys_held}
-use Rattle.pq_core.proofs.Claiming.{loosens_both, none_held}
-use Rattle.pq_core.proofs.Beginning.{first_kept}
+use Rattle.pq_core.specs.declared.frames.Top.{Top}
+use Rattle.pq_core.specs.aux.Runs.{out_at}
+use Rattle.pq_core.proofs.Claiming.{claimed_others, got_keys, held_keys, held_up, others_then}
+use Rattle.pq_core.proofs.Stepping.{empty_stands, none_closed, unwritten_then}
+use Rattle.pq_core.proofs.Beginning.{first_held, first_kept, first_stale, none_held}
 use Rattle.pq_core.proofs.run.Run.begin.Goals as goal
-
-pub claim_next-requires : goal.claim_next-requires
-claim_next-requires g c = record {
-  claimed = subst (λ (v : RunView g.row.R-Key.Denot g.row.R-Part.Denot). (hold_of c.args.claims.now c.args.id).keys ≡ keys_held v.loose (frame_keys v.stack)) (sym c.self.view_is)
-      (none_held (hold_of c.args.claims.now c.args.id).keys c.args.self.now c.requires.empty.0 c.requires.empty.1 c.requires.claimed);
-  apart = λ i. subst (λ (fs : List (Frame g.row.R-Key.Denot g.row.R-Part.Denot)). In c.in_ok-key.key (frame_keys fs))
-      (ap (λ (v : RunView g.row.R-Key.Denot g.row.R-Part.Denot). v.stack) c.self.view_is ∙ c.requires.empty.0) i;
-}
-
-pub returns-clause-loosens : goal.returns-clause-loosens
-returns-clause-loosens g c =
-    subst (λ (v : RunView g.row.R-Key.Denot g.row.R-Part.Denot). Loosens g.R.Key.Ord.cmp c.args.claims.now c.args.id v.loose c.advance.new.self.loose) c.self.view_is
-    (loosens_both g.R.Key.Ord.cmp c.args.claims.now c.args.id c.claim_next.new.claims c.self.inside.frames.loose c.claim_next.new.self.loose c.advance.new.self.loose
-    c.claim_next.ensures.loosens c.claim_next.ensures.still c.advance.ensures.loosens)
 
 pub advance-requires-clause-frames_kept : goal.advance-requires-clause-frames_kept
 advance-requires-clause-frames_kept g c =
     first_kept g.R.Key.Ord.cmp (g.R.Rules.machine c.args.memos.now.rules) c.args.inputs.now (memo_at g.R.Key.Ord.cmp c.args.memos.now.places)
-    c.claim_next.new.self.stack c.self.inside.frames.stack c.args.self.now.request c.in_ok-key.key
-    (ap (λ (v : RunView g.row.R-Key.Denot g.row.R-Part.Denot). v.stack) c.self.view_is ∙ c.requires.empty.0)
-    c.claim_next.ensures.stack (c.in_ok-key.ensures {u = tt}) (rw c.in_default.is at (c.in_ok-answer.ensures {u = tt}).stale)
+    c.args.self.now.stack c.args.self.now.stack c.args.self.now.request c.in_ok-key.key
+    c.requires.empty.0
+    refl (c.in_ok-key.ensures {u = tt}) (rw c.in_default.is at (c.in_ok-answer.ensures {u = tt}).stale)
+
+pub advance-requires-clause-claimed : goal.advance-requires-clause-claimed
+advance-requires-clause-claimed g c =
+    first_held (hold_of c.args.claims.now c.args.id).keys (hold_of c.claim.new.self c.args.id).keys c.args.self.now.stack c.in_ok-key.key
+    c.requires.empty.0
+    (none_held (hold_of c.args.claims.now c.args.id).keys c.args.self.now.stack c.args.self.now.top c.requires.empty.0 c.requires.empty.1 c.requires.claimed)
+    (got_keys c.args.id c.args.claims.now c.claim.new.self g.R.Key.Ord.cmp c.in_ok-key.key (rw c.in-Got.is at (c.in_ok-claim.ensures {u = tt}).claimed))
+
+pub advance-requires-clause-stale : goal.advance-requires-clause-stale
+advance-requires-clause-stale g c =
+    first_stale (g.R.Rules.machine c.args.memos.now.rules) c.args.inputs.now.revision (memo_at g.R.Key.Ord.cmp c.args.memos.now.places)
+    c.args.self.now.stack c.args.self.now.request c.in_ok-key.key
+    c.requires.empty.0
+    (c.in_ok-key.ensures {u = tt}) (rw c.in_default.is at (c.in_ok-answer.ensures {u = tt}).stale)
+
+pub returns-in-Got-clause-others : goal.returns-in-Got-clause-others
+returns-in-Got-clause-others g c =
+    others_then c.args.id c.args.claims.now c.claim.new.self c.advance.new.claims
+    (claimed_others c.args.id c.args.claims.now c.claim.new.self g.R.Key.Ord.cmp c.in_ok-key.key c.claim.result c.claim.ensures.claimed) c.advance.ensures.others
+
+pub returns-in-Got-clause-written : goal.returns-in-Got-clause-written
+returns-in-Got-clause-written g c =
+    unwritten_then c.args.id c.args.claims.now c.claim.new.self (memo_at g.R.Key.Ord.cmp c.args.memos.now.places) (memo_at g.R.Key.Ord.cmp c.advance.new.memos.places)
+    (claimed_others c.args.id c.args.claims.now c.claim.new.self g.R.Key.Ord.cmp c.in_ok-key.key c.claim.result c.claim.ensures.claimed) c.advance.ensures.written
+
+pub returns-in-HeldBy-clause-claimed : goal.returns-in-HeldBy-clause-claimed
+returns-in-HeldBy-clause-claimed g c =
+    let told = rw c.in-HeldBy.is at (c.in_ok-claim.ensures {u = tt}).claimed in
+    held_keys c.args.id c.args.claims.now c.claim.new.self g.R.Key.Ord.cmp c.in_ok-key.key c.in-HeldBy.other told
+    ∙ c.requires.claimed
+
+pub returns-in-HeldBy-clause-others : goal.returns-in-HeldBy-clause-others
+returns-in-HeldBy-clause-others g c =
+    claimed_others c.args.id c.args.claims.now c.claim.new.self g.R.Key.Ord.cmp c.in_ok-key.key c.claim.result c.claim.ensures.claimed
+
+pub returns-in-HeldBy-clause-waits : goal.returns-in-HeldBy-clause-waits
+returns-in-HeldBy-clause-waits g c =
+    empty_stands g.R.Key.Ord.cmp (g.R.Rules.machine c.args.memos.now.rules) c.args.inputs.now (memo_at g.R.Key.Ord.cmp c.args.memos.now.places) c.claim.new.self c.args.id c.args.self.now.top
+    c.requires.empty.1
+
+pub returns-in-HeldBy-clause-looked : goal.returns-in-HeldBy-clause-looked
+returns-in-HeldBy-clause-looked g c =
+    let told = rw c.in-HeldBy.is at (c.in_ok-claim.ensures {u = tt}).claimed in (
+      ap (λ (t : Top g.row.R-Key.Denot g.row.R-Part.Denot). out_at t) c.requires.empty.1,
+      held_up c.args.id c.args.claims.now c.claim.new.self g.R.Key.Ord.cmp c.in_ok-key.key c.in-HeldBy.other told,
+    )
+
+pub unreachable-requires : goal.unreachable-requires
+unreachable-requires g c =
+    let told = rw c.in-Ring.is at (c.in_ok-claim.ensures {u = tt}).claimed in
+    none_closed g.R.Key.Ord.cmp c.args.claims.now c.args.id c.in_ok-key.key c.in-Ring.field-0.items
+    (none_held (hold_of c.args.claims.now c.args.id).keys c.args.self.now.stack c.args.self.now.top c.requires.empty.0 c.requires.empty.1 c.requires.claimed) told.0
