@@ -112,24 +112,40 @@ fn one_file_too_many(rt: HostRuntime) -> Result<(), Fail> {
     check(&rt, dir.as_str(), "more.proto", "", UNREAD)
 }
 
+/// Checks what is read of the folder `dir` when its file `a.proto` has these bytes.
+fn check_bytes(
+    rt: &(impl Abort + AllocGlobal + Files + Clone + Drop),
+    dir: &str,
+    bytes: &[u8],
+    want: &str,
+) -> Result<(), Fail> {
+    let path = format!(in rt.alloc(); "{dir}/a.proto")?;
+    fs::write(rt, path.as_str(), bytes)?;
+    check_read(rt, dir, "a.proto", want)
+}
+
 #[test]
-fn files_that_cannot_be_read(rt: HostRuntime) -> Result<(), Fail> {
+fn texts_that_cannot_be_taken(rt: HostRuntime) -> Result<(), Fail> {
+    let dir = path_of(&rt, rt.process(), "texts")?;
+    make(&rt, dir.as_str(), "a.proto")?;
+    check_bytes(&rt, dir.as_str(), b"\xff".as_slice(), UNREAD)?;
+    let longest = " ".repeat(rt.alloc(), MAX_TEXT)?;
+    check_bytes(&rt, dir.as_str(), longest.as_bytes(), "1: 1")?;
+    let longer = " ".repeat(rt.alloc(), MAX_TEXT + 1)?;
+    check_bytes(&rt, dir.as_str(), longer.as_bytes(), UNREAD)?;
+    fs::remove_dir_all(&rt, dir.as_str())?;
+    Ok(())
+}
+
+#[test]
+fn folders_that_are_not_there(rt: HostRuntime) -> Result<(), Fail> {
     check_read(&rt, "", "", UNREAD)?;
-    let base = path_of(&rt, rt.process(), "unread")?;
-    check_read(&rt, base.as_str(), "", UNREAD)?;
-    make(&rt, base.as_str(), "a.txt = \n")?;
-    check_read(&rt, base.as_str(), "", "0:")?;
-    let path = format!(in rt.alloc(); "{base}/a.txt")?;
-    check_read(&rt, path.as_str(), "", UNREAD)?;
-    let path = format!(in rt.alloc(); "{base}/a.proto")?;
-    fs::write(&rt, path.as_str(), b"\xff".as_slice())?;
-    check_read(&rt, base.as_str(), "", UNREAD)?;
-    let text = " ".repeat(rt.alloc(), MAX_TEXT)?;
-    fs::write(&rt, path.as_str(), text.as_str())?;
-    check_read(&rt, base.as_str(), "a.proto", "1: 1")?;
-    let text = format!(in rt.alloc(); "{text} ")?;
-    fs::write(&rt, path.as_str(), text.as_str())?;
-    check_read(&rt, base.as_str(), "", UNREAD)?;
-    fs::remove_dir_all(&rt, base.as_str())?;
+    let dir = path_of(&rt, rt.process(), "there")?;
+    check_read(&rt, dir.as_str(), "", UNREAD)?;
+    make(&rt, dir.as_str(), "a.txt")?;
+    check_read(&rt, dir.as_str(), "", "0:")?;
+    let file = format!(in rt.alloc(); "{dir}/a.txt")?;
+    check_read(&rt, file.as_str(), "", UNREAD)?;
+    fs::remove_dir_all(&rt, dir.as_str())?;
     Ok(())
 }

@@ -43,19 +43,42 @@ const OTHER_NAMES: &str =
 > {"id":1,"jsonrpc":"2.0","method":"textDocument/diagnostic","params":{"textDocument":{"uri":"file:///a.proto"}}}
 < {"id":1,"jsonrpc":"2.0","result":{"items":[{"code":"P102","message":"import \"notes.txt\" is not found","range":{"end":{"character":18,"line":1},"start":{"character":7,"line":1}},"severity":1,"source":"proto"}],"kind":"full","resultId":"3"}}"#;
 
-/// Adds to `bytes` the frames of the rows of `side`, which is `<` or `>`.
-fn add_frames(
-    rt: &(impl Abort + AllocGlobal),
-    rows: &str,
-    side: &str,
-    bytes: &mut Vec<u8>,
-) -> Result<(), Memory> {
+/// The frames of the rows of `side`, which is `<` or `>`.
+fn frames_of(rt: &(impl Abort + AllocGlobal), rows: &str, side: &str) -> Result<Vec<u8>, Memory> {
+    let mut bytes = Vec::new(rt.alloc());
     for row in rows.lines() {
         let (mark, body) = split_row(rt, row, " ");
         if mark == side {
             bytes.extend_from_slice(&frame(rt.alloc(), body.as_bytes())?)?;
         }
     }
+    Ok(bytes)
+}
+
+/// The status of a script over the folder `dir`. What it writes is added to `written`.
+fn status_over(
+    rt: &(impl AllocGlobal + Files + Clone + Drop),
+    dir: &str,
+    sent: &[u8],
+    written: &mut Vec<u8>,
+) -> u8 {
+    let library = read_library(rt, dir);
+    let mut reader = Counted::new(sent);
+    let mut writer = Counted::new(written);
+    let mut errors = Counted::new(Vec::new(rt.alloc()));
+    run_library_script(rt.alloc(), library, &mut reader, &mut writer, &mut errors)
+}
+
+/// Checks that `found` is `wanted`; `rows` names the session.
+fn check_bytes(
+    rt: &(impl Abort + AllocGlobal),
+    found: &[u8],
+    wanted: &[u8],
+    rows: &str,
+) -> Result<(), Fail> {
+    let found = String::from_utf8_lossy(rt.alloc(), found)?;
+    let wanted = String::from_utf8_lossy(rt.alloc(), wanted)?;
+    check_text(rt, found.as_str(), wanted.as_str(), rows);
     Ok(())
 }
 
@@ -66,23 +89,13 @@ fn check_session(
     rows: &str,
     status: u8,
 ) -> Result<(), Fail> {
-    let alloc = rt.alloc();
-    let (mut sent, mut wanted) = (Vec::new(alloc), Vec::new(alloc));
-    for part in [BEGIN, rows] {
-        add_frames(rt, part, ">", &mut sent)?;
-        add_frames(rt, part, "<", &mut wanted)?;
-    }
-    let (mut written, mut line) = (Vec::new(alloc), Vec::new(alloc));
-    let mut reader = Counted::new(sent.as_slice());
-    let mut writer = Counted::new(&mut written);
-    let mut errors = Counted::new(&mut line);
-    let library = read_library(rt, dir);
-    let found = run_library_script(alloc, library, &mut reader, &mut writer, &mut errors);
+    let rows = format!(in rt.alloc(); "{BEGIN}\n{rows}")?;
+    let sent = frames_of(rt, rows.as_str(), ">")?;
+    let mut written = Vec::new(rt.alloc());
+    let found = status_over(rt, dir, sent.as_slice(), &mut written);
     assert_eq!(rt; found, status, "{rows}");
-    let written = String::from_utf8_lossy(alloc, written.as_slice())?;
-    let wanted = String::from_utf8_lossy(alloc, wanted.as_slice())?;
-    check_text(rt, written.as_str(), wanted.as_str(), rows);
-    Ok(())
+    let wanted = frames_of(rt, rows.as_str(), "<")?;
+    check_bytes(rt, written.as_slice(), wanted.as_slice(), rows.as_str())
 }
 
 #[test]
