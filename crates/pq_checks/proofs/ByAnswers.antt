@@ -11,7 +11,7 @@ use Rattle.pq_checks.specs.Surroundings.{state_of}
 use Rattle.pq_checks.specs.aux.Gathering.{checked_of}
 use Rattle.pq_checks.specs.aux.Queries.{link_next, staged, placed, link_follows, link_placed, check_starts, check_advances}
 use Rattle.pq_checks.specs.declared.checked.CheckPart.{CheckPart}
-use Rattle.pq_checks.specs.declared.checked.CheckPart.TheVariants.{ReadFile, ReadImports, ReadLinks, ReadDefs, ReadScope, ReadReferences, ReadState, ReadNext}
+use Rattle.pq_checks.specs.declared.checked.CheckPart.TheVariants.{ReadItems, ReadImports, ReadLinks, ReadDefs, ReadScope, ReadReferences, ReadState, ReadNext}
 use Rattle.pq_checks.specs.declared.fault.Fault.{Fault}
 use Rattle.pq_checks.specs.declared.gathered.Known.{Known}
 use Rattle.pq_checks.specs.declared.gathered.LinkedFile.{LinkedFile}
@@ -80,7 +80,7 @@ module _ {K A : Type 0} (w : CheckWords K A) where
 
   -- the questions for states, and those for links
   states_given : (k : Known) (left : List Import) (imported : List Imported) (es : List (K × A)) (v : List Fault)
-      → Runs advances (placed k left imported (staged w.linked w.parse k (slice_get left 0) imported)) es (Done v)
+      → Runs advances (placed k left imported (staged w.linked w.items k (slice_get left 0) imported)) es (Done v)
       → (links : List (K × A)) × (more : List Imported) × (next : Option (List ℕ)) × AsksStates w left es links more
       × AsksLinks w k.linked.ring k.linked.imports links next × (v ≡ checked_of k (imported ++ more) next)
   unfolding Runs
@@ -90,20 +90,20 @@ module _ {K A : Type 0} (w : CheckWords K A) where
   states_given k (i ∷ is) imported [] v r = cc
   states_given k (i ∷ is) imported (e ∷ es) v r =
       let asks = r.1 in
-      let key : e.0 ≡ w.parse i.file = cc in
+      let key : e.0 ≡ w.items i.file = cc in
       let part : r.0 ≡ ReadState k (i ∷ is) imported = cc in
-      let new : Imported = record { file = i.file; state = state_of (w.parsed e.1) } in
+      let new : Imported = record { file = i.file; state = state_of (w.itemed e.1) } in
       let rest = states_given k is (imported ++ new ∷ []) es v (subst (λ (q : CheckPart). Runs advances (advances q e.1) es (Done v)) part r.2) in
       (rest.0, new ∷ rest.1, rest.2, (rest.1, key, refl, rest.3), rest.4, rest.5 ∙ ap (λ is. checked_of k is rest.2) (append_assoc imported (new ∷ []) rest.1))
 
-  pub checks_given : (f : List ℕ) (es : List (K × A)) (v : List Fault) → Runs advances (check_starts w.parse f) es (Done v) → AreChecksBy w f es v
+  pub checks_given : (f : List ℕ) (es : List (K × A)) (v : List Fault) → Runs advances (check_starts w.items f) es (Done v) → AreChecksBy w f es v
   checks_given f es v r =
-      let a = asked (w.parse f) (ReadFile f) es v r in
-      let p = w.parsed a.0 in
+      let a = asked (w.items f) (ReadItems f) es v r in
+      let p = w.itemed a.0 in
       let b = asked (w.imports f) (ReadImports f p) a.1 v a.3 in
       let is = unwrap_or (w.imported b.0) [] in
       let c = asked (w.linked f) (ReadLinks f p is) b.1 v b.3 in
-      let l : LinkedFile = record { file = f; parsed = p; imports = is; ring = w.ring c.0 } in
+      let l : LinkedFile = record { file = f; items = p; imports = is; ring = w.ring c.0 } in
       let d = asked (w.defs f) (ReadDefs l) c.1 v c.3 in
       let s = asked (w.scope f) (ReadScope l (w.defined d.0)) d.1 v d.3 in
       let t = asked (w.resolved f) (ReadReferences l (w.defined d.0) (w.scoped s.0)) s.1 v s.3 in
@@ -119,7 +119,7 @@ module _ {K A : Type 0} (w : CheckWords K A) where
         end.0,
         end.1,
         end.2,
-        a.2 ∙ ap (λ xs. (w.parse f, a.0) ∷ xs) (b.2 ∙ ap (λ xs. (w.imports f, b.0) ∷ xs) (c.2 ∙ ap (λ xs. (w.linked f, c.0) ∷ xs)
+        a.2 ∙ ap (λ xs. (w.items f, a.0) ∷ xs) (b.2 ∙ ap (λ xs. (w.imports f, b.0) ∷ xs) (c.2 ∙ ap (λ xs. (w.linked f, c.0) ∷ xs)
             (d.2 ∙ ap (λ xs. (w.defs f, d.0) ∷ xs) (s.2 ∙ ap (λ xs. (w.scope f, s.0) ∷ xs) t.2)))),
         end.3,
         end.4,

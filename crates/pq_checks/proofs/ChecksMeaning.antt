@@ -2,7 +2,7 @@
 -- of the checks of a file is what the sources say of its errors.
 use Rattle.std.proofs.Common.{◌≡◌, ℕ, ◌<◌, List, [], ◌∷◌, ◌++◌, map, Option, Some, None, refl, sym, ap, subst, ◌∙◌, inl, inr, arith}
 use Rattle.std.specs.Prelude.{slice_get, unwrap_or}
-use Rattle.pq_inputs.specs.Sources.{Sources, file_in}
+use Rattle.pq_inputs.specs.Sources.{Sources}
 use Rattle.pq_rules.specs.declared.turn.Turn.{Turn}
 use Rattle.pq_rules.specs.declared.turn.Turn.TheVariants.{Ask, Done}
 use Rattle.pq_rules.specs.declared.turn.Answer.{Answer}
@@ -13,10 +13,10 @@ use Rattle.pq_rules.specs.Value.{Trace, Means}
 use Rattle.pq_rules.specs.Embedding.{Runs}
 use Rattle.pq_rules.proofs.LowerReads.{lower_runs}
 use Rattle.pq_rules.proofs.Rings.{each_in}
-use Rattle.pq_links.specs.Files.{read_file, graph_of}
+use Rattle.pq_links.specs.Files.{read_in, items_in, graph_of}
 use Rattle.pq_links.specs.ImportGraph.{Graph, file_of, imported, IsGood, IsBad, IsNext, IsRingOf}
 use Rattle.pq_links.specs.LinkedKeys.{LinkedIs}
-use Rattle.pq_links.specs.declared.files.ParsedFile.{ParsedFile}
+use Rattle.pq_links.specs.declared.file_items.FileItems.{FileItems}
 use Rattle.pq_links.specs.declared.links.Import.{Import}
 use Rattle.pq_links.proofs.GraphLemmas.{ends_or_walks}
 use Rattle.pq_schema.specs.Contents.{Defs}
@@ -31,7 +31,7 @@ use Rattle.pq_checks.specs.Surroundings.{state_of, other_files}
 use Rattle.pq_checks.specs.aux.DiagnosticsTurns.{diagnostics_level, diagnostics_starts, diagnostics_advances}
 use Rattle.pq_checks.specs.aux.Queries.{check_level, link_next, staged, placed, with_state, link_follows, link_placed, check_starts, check_advances}
 use Rattle.pq_checks.specs.declared.checked.CheckPart.{CheckPart}
-use Rattle.pq_checks.specs.declared.checked.CheckPart.TheVariants.{ReadFile, ReadImports, ReadLinks, ReadDefs, ReadScope, ReadReferences, ReadState, ReadNext}
+use Rattle.pq_checks.specs.declared.checked.CheckPart.TheVariants.{ReadItems, ReadImports, ReadLinks, ReadDefs, ReadScope, ReadReferences, ReadState, ReadNext}
 use Rattle.pq_checks.specs.declared.gathered.Known.{Known}
 use Rattle.pq_checks.specs.declared.diagnostic.Diagnosed.{Diagnosed}
 use Rattle.pq_checks.specs.declared.diagnostics.DiagnosticsPart.{DiagnosticsPart}
@@ -107,11 +107,11 @@ module _ {K P V : Type 0} (m : Instance K P V) (files : Sources) (s : SchemaSum 
   done_low : (x : List Fault) → IsLow (Done x)
   done_low x k q e = cc
 
-  parse_low : (f : List ℕ) → m.level (s.parse f) < check_level
-  parse_low f = low (s.parse f) 1 (s.parse_embeds.level_is f) (omega arith)
+  items_low : (f : List ℕ) → m.level (s.items f) < check_level
+  items_low f = low (s.items f) 2 (s.items_embeds.level_is f) (omega arith)
 
   linked_low : (f : List ℕ) → m.level (s.linked f) < check_level
-  linked_low f = low (s.linked f) 3 (s.linked_embeds.level_is f) (omega arith)
+  linked_low f = low (s.linked f) 4 (s.linked_embeds.level_is f) (omega arith)
 
   link_next_low : (k : Known) (ring : Option (List (List ℕ))) (first : Option Import) (left : List Import) (is : List Imported)
       → IsLow (placed k left is (link_next s.linked k ring first is))
@@ -119,8 +119,8 @@ module _ {K P V : Type 0} (m : Instance K P V) (files : Sources) (s : SchemaSum 
   link_next_low k (Some ring) None left is = done_low _
   link_next_low k None first left is = done_low _
 
-  staged_low : (k : Known) (next : Option Import) (left : List Import) (is : List Imported) → IsLow (placed k left is (staged s.linked s.parse k next is))
-  staged_low k (Some i) left is = ask_low (s.parse i.file) (ReadState k left is) (parse_low i.file)
+  staged_low : (k : Known) (next : Option Import) (left : List Import) (is : List Imported) → IsLow (placed k left is (staged s.linked s.items k next is))
+  staged_low k (Some i) left is = ask_low (s.items i.file) (ReadState k left is) (items_low i.file)
   staged_low k None left is = link_next_low k k.linked.ring (slice_get k.linked.imports 0) left is
 
   link_low : (k : Known) (i : Import) (second : Option Import) (ring : Option (List (List ℕ))) (left : List Import) (is : List Imported)
@@ -130,15 +130,15 @@ module _ {K P V : Type 0} (m : Instance K P V) (files : Sources) (s : SchemaSum 
   link_low k i None None left is = done_low _
 
   advance_low : (p : CheckPart) (a : Answer K V) → IsLow (advances p a)
-  advance_low (ReadFile f) a = ask_low (s.imports f) _ (low (s.imports f) 2 (s.imports_embeds.level_is f) (omega arith))
+  advance_low (ReadItems f) a = ask_low (s.imports f) _ (low (s.imports f) 3 (s.imports_embeds.level_is f) (omega arith))
   advance_low (ReadImports f p) a = ask_low (s.linked f) _ (linked_low f)
-  advance_low (ReadLinks f p is) a = ask_low (s.defs f) _ (low (s.defs f) 4 (s.defs_embeds.level_is f) (omega arith))
-  advance_low (ReadDefs l) a = ask_low (s.scope l.file) _ (low (s.scope l.file) 5 (s.scope_embeds.level_is l.file) (omega arith))
-  advance_low (ReadScope l d) a = ask_low (s.resolved l.file) _ (low (s.resolved l.file) 6 (s.resolved_embeds.level_is l.file) (omega arith))
+  advance_low (ReadLinks f p is) a = ask_low (s.defs f) _ (low (s.defs f) 5 (s.defs_embeds.level_is f) (omega arith))
+  advance_low (ReadDefs l) a = ask_low (s.scope l.file) _ (low (s.scope l.file) 6 (s.scope_embeds.level_is l.file) (omega arith))
+  advance_low (ReadScope l d) a = ask_low (s.resolved l.file) _ (low (s.resolved l.file) 7 (s.resolved_embeds.level_is l.file) (omega arith))
   advance_low (ReadReferences l d sc) a =
       staged_low (record { linked = l; defs = d; scope = sc; references = c.referred_read a }) (slice_get l.imports 0) l.imports []
   advance_low (ReadState k [] is) a = done_low _
-  advance_low (ReadState k (i ∷ left) is) a = staged_low k (slice_get left 0) left (with_state (Some i) (s.parsed_read a) is)
+  advance_low (ReadState k (i ∷ left) is) a = staged_low k (slice_get left 0) left (with_state (Some i) (s.items_read a) is)
   advance_low (ReadNext k [] is) a = done_low _
   advance_low (ReadNext k (i ∷ left) is) a = link_low k i (slice_get left 0) (c.ring_files a) left is
 
@@ -147,29 +147,26 @@ module _ {K P V : Type 0} (m : Instance K P V) (files : Sources) (s : SchemaSum 
   runs_low x l [] k q r = l k q r
   runs_low x l (e ∷ es) k q r = runs_low (advances r.0 e.1) (advance_low r.0 e.1) es k q r.2
 
-  lower : (f : List ℕ) (es : Trace K V) (k : K) (q : CheckPart) → Runs advances (check_starts s.parse f) es (Ask k q) → m.level k < check_level
-  lower f es k q r = runs_low (check_starts s.parse f) (ask_low (s.parse f) (ReadFile f) (parse_low f)) es k q r
+  lower : (f : List ℕ) (es : Trace K V) (k : K) (q : CheckPart) → Runs advances (check_starts s.items f) es (Ask k q) → m.level k < check_level
+  lower f es k q r = runs_low (check_starts s.items f) (ask_low (s.items f) (ReadItems f) (items_low f)) es k q r
 
   -- ---- what right answers say
 
-  abbrev file_at : List ℕ → ParsedFile
-  file_at f = read_file (file_in files f).text
-
-  parsed_is : (f : List ℕ) (a : Answer K V) → Means m (s.parse f) a → s.parsed_read a ≡ file_at f
-  parsed_is f a h = ap s.parsed_read ((t.parse f a).0 h) ∙ s.parsed_back (file_at f)
+  itemed_is : (f : List ℕ) (a : Answer K V) → Means m (s.items f) a → s.items_read a ≡ items_in files f
+  itemed_is f a h = ap s.items_read ((t.items f a).0 h) ∙ s.items_back (items_in files f)
 
   abbrev with_file : List ℕ → Imported
-  with_file h = record { file = h; state = state_of (file_at h) }
+  with_file h = record { file = h; state = state_of (items_in files h) }
 
   states_are : (is : List Import) (es rest : Trace K V) (imported : List Imported) → AsksStates w is es rest imported → Each (λ e. Means m e.0 e.1) es
       → (imported ≡ map with_file (map file_of is)) × Each (λ e. Means m e.0 e.1) rest
   states_are [] es rest imported p told = (p.1, subst (λ (xs : Trace K V). Each (λ e. Means m e.0 e.1) xs) (sym p.0) told)
   states_are (i ∷ is) [] rest imported p told = absurd p
   states_are (i ∷ is) (e ∷ es) rest imported p told =
-      let means : Means m (s.parse i.file) e.1 = subst (λ (k : K). Means m k e.1) p.1 told.0 in
+      let means : Means m (s.items i.file) e.1 = subst (λ (k : K). Means m k e.1) p.1 told.0 in
       let others = states_are is es rest p.0 p.3 told.1 in
-      let made = λ (x : ParsedFile) (more : List Imported). record { file = i.file; state = state_of x } ∷ more in
-      (p.2 ∙ ap (λ (x : ParsedFile). made x p.0) (parsed_is i.file e.1 means) ∙ ap (made (file_at i.file)) others.0, others.1)
+      let made = λ (x : FileItems) (more : List Imported). record { file = i.file; state = state_of x } ∷ more in
+      (p.2 ∙ ap (λ (x : FileItems). made x p.0) (itemed_is i.file e.1 means) ∙ ap (made (items_in files i.file)) others.0, others.1)
 
   -- an answer for the links of an import
   next_step : (x : List ℕ) (is : List Import) (es : Trace K V) (next : Option (List ℕ)) (a : Answer K V) → LinkedIs g s.linked s.linked_value x a
@@ -209,11 +206,11 @@ module _ {K P V : Type 0} (m : Instance K P V) (files : Sources) (s : SchemaSum 
 
   checks_are : (f : List ℕ) (a : Answer K V) → Means m (c.checks f) a → (fs : List Fault) × (a ≡ Value (c.checks_value fs)) × AreFaults files f fs
   checks_are f a h =
-      let r = lower_runs m c.checks c.checks_part c.checks_value check_level (check_starts s.parse) advances c.checks_embeds (omega arith) lower f a h in
+      let r = lower_runs m c.checks c.checks_part c.checks_value check_level (check_starts s.items) advances c.checks_embeds (omega arith) lower f a h in
       let x = r.1 in
       let given = checks_given w f r.0 x r.2 in
       let told = subst (λ (xs : Trace K V). Each (λ e. Means m e.0 e.1) xs) given.10 r.4 in
-      let parsed = parsed_is f given.0 told.0 in
+      let items = itemed_is f given.0 told.0 in
       let imports : s.imports_read given.1 ≡ g f = ap s.imports_read ((t.imports f given.1).0 told.1.0) ∙ s.imports_back (g f) in
       let links = (t.linked f given.2).0 told.1.1.0 in
       let defs : s.defs_read given.3 ≡ defs_at files f = ap s.defs_read ((t.defs f given.3).0 told.1.1.1.0) ∙ s.defs_back (defs_at files f) in
@@ -231,9 +228,12 @@ module _ {K P V : Type 0} (m : Instance K P V) (files : Sources) (s : SchemaSum 
         others_are = (scope.0, scope.2, ap (other_files f) scoped);
         references_are = subst (AreResolved files f) (sym referred) resolved.2;
       } in
-      (x, r.3, (around, are, given.13 ∙ ap (file_faults around) parsed))
+      (x, r.3, (around, are, given.13 ∙ ap (file_faults around) items))
 
   -- ---- the diagnostics
+
+  parsed_is : (f : List ℕ) (a : Answer K V) → Means m (s.parse f) a → s.parsed_read a ≡ read_in files f
+  parsed_is f a h = ap s.parsed_read ((t.parse f a).0 h) ∙ s.parsed_back (read_in files f)
 
   abbrev turns : DiagnosticsPart → Answer K V → Turn K DiagnosticsPart Diagnosed
   turns q a = diagnostics_advances s.parse (c.checked_read a) (s.parsed_read a) q
@@ -251,7 +251,7 @@ module _ {K P V : Type 0} (m : Instance K P V) (files : Sources) (s : SchemaSum 
   starts_below : (f : List ℕ) → IsBelow (diagnostics_starts c.checks f)
   starts_below f k q e =
       let key : c.checks f ≡ k = cc in
-      let seven = c.checks_embeds.level_is f in
+      let eight = c.checks_embeds.level_is f in
       subst (λ (x : K). m.level x < diagnostics_level) key (omega arith)
 
   below : (x : Turn K DiagnosticsPart Diagnosed) → IsBelow x → (es : Trace K V) (k : K) (q : DiagnosticsPart) → Runs turns x es (Ask k q) → m.level k < diagnostics_level

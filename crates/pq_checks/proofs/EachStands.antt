@@ -1,25 +1,27 @@
 -- The tree of a file has the place of each error of the file by the table.
-use Rattle.std.proofs.Common.{◌≡◌, ℕ, Bool, true, false, cond, is_some, List, [], ◌∷◌, ◌++◌, map, take, Option, Some, None, refl, sym, ap, subst, ◌∙◌, inl, inr}
+use Rattle.std.proofs.Common.{◌≡◌, ℕ, Bool, true, false, cond, is_some, List, [], ◌∷◌, ◌++◌, map, take, Option, Some, None, true≢false, refl, sym, ap, subst, ◌∙◌, inl, inr}
 use Rattle.std.specs.Prelude.{◌⊎◌, Contains, codes, not, slice_get}
 use Rattle.std.specs.Str.{is_utf8}
 use Rattle.std.proofs.lemmas.List.Elements.{Contains-append_cases}
 use Rattle.pq_inputs.specs.Sources.{Sources}
+use Rattle.pq_lex.specs.declared.token.Span.{Span}
 use Rattle.pq_syntax.specs.declared.fault.Parsed.{Parsed}
 use Rattle.pq_syntax.specs.declared.fault.Parsed.TheVariants.{Tree, Fault as SyntaxFault}
 use Rattle.pq_syntax.specs.declared.parts.ConstantKind.{ConstantKind}
 use Rattle.pq_syntax.specs.declared.parts.ConstantKind.TheVariants.{Aggregate, Float}
 use Rattle.pq_syntax.specs.declared.parts.Name.{Name}
 use Rattle.pq_syntax.specs.declared.tree.Node.{Node}
-use Rattle.pq_links.specs.Files.{read_in}
+use Rattle.pq_links.specs.Bare.{bare}
+use Rattle.pq_links.specs.Files.{items_of, nodes_in, nodes_of, parsed_items, read_in, tree_nodes}
 use Rattle.pq_links.specs.Place.{place}
 use Rattle.pq_links.specs.declared.files.ParsedFile.{ParsedFile}
 use Rattle.pq_links.specs.declared.files.ParsedFile.TheVariants.{Absent, Present}
 use Rattle.pq_links.specs.declared.places.Part.{Part}
 use Rattle.pq_links.specs.declared.places.Part.TheVariants as part
 use Rattle.pq_links.specs.declared.places.TypePart.{TypePart}
+use Rattle.pq_links.proofs.BareParts.{parts_stay}
 use Rattle.pq_schema.specs.Compile.{resolved_in}
 use Rattle.pq_schema.specs.Definitions.{definitions_of}
-use Rattle.pq_schema.specs.Missing.{nodes_of, tree_nodes}
 use Rattle.pq_schema.specs.References.{references_of}
 use Rattle.pq_schema.specs.ScopeContents.{Scope}
 use Rattle.pq_schema.specs.declared.definitions.Definition.{Definition}
@@ -28,7 +30,7 @@ use Rattle.pq_schema.specs.declared.resolution.Resolution.{Resolution}
 use Rattle.pq_schema.specs.declared.resolution.Resolution.TheVariants as resolutions
 use Rattle.pq_schema.specs.declared.resolved.ResolvedReference.{ResolvedReference}
 use Rattle.pq_schema.specs.declared.scope.FileDefs.{FileDefs}
-use Rattle.pq_checks.specs.Compile.{AreFaults, file_faults, parsed_faults}
+use Rattle.pq_checks.specs.Compile.{AreFaults, file_faults}
 use Rattle.pq_checks.specs.Diagnostics.{Stands}
 use Rattle.pq_checks.specs.EachFault.{IsSaidOf, IsUnread, IsOfLinks, IsOfDefinitions, IsOfMessages, IsOfEnums, IsOfTypes, IsFault}
 use Rattle.pq_checks.specs.Earlier.{IsSaidOfOne}
@@ -149,7 +151,7 @@ resolution_at : (item : ℕ) (p : TypePart) (name : List ℕ) (r : Resolution) �
 resolution_at item p name resolutions.NotFound = one_at item (part.«Type» p) _ _
 resolution_at item p name (resolutions.NotVisible file) = one_at item (part.«Type» p) _ _
 resolution_at item p name resolutions.NotAType = one_at item (part.«Type» p) _ _
-resolution_at item p name (resolutions.«Type» file full_name is_enum of) = when_at _ item (part.«Type» p) _ _
+resolution_at item p name (resolutions.«Type» target) = when_at _ item (part.«Type» p) _ _
 
 module _ (nodes : List Node) (r : ResolvedReference) where
   abbrev AllThere : List Fault → Type 0
@@ -255,13 +257,22 @@ module _ (nodes : List Node) (x : Fault) where
 
 -- ---- the file
 
-text_stands : (p : Parsed) (s : Surroundings) (scope : Scope) (x : Fault) → s.definitions ≡ definitions_of (tree_nodes p)
-    → s.references ≡ map (resolved_in scope) (references_of (tree_nodes p)) → Contains (parsed_faults s p) x → Stands (tree_nodes p) x
-text_stands (Tree nodes) s scope x ds rs h = fault_stands nodes x s scope ds rs ((each_is_fault s nodes x).0 h)
+spanned : (o p : Option Span) (s : Span) → o ≡ Some s → is_some o ≡ is_some p → (t : Span) × (p ≡ Some t)
+spanned o (Some t) s is same = (t, refl)
+spanned o None s is same = absurd (true≢false (ap (λ (x : Option Span). is_some x) (sym is) ∙ same))
+
+-- what the tree without spans has the place of, the tree has the place of
+stays_standing : (nodes : List Node) (x : Fault) → Stands (map bare nodes) x → Stands nodes x
+stays_standing nodes x h = spanned (place (map bare nodes) x.item x.part) (place nodes x.item x.part) h.0 h.1 (parts_stay nodes x.item x.part)
+
+text_stands : (p : Parsed) (s : Surroundings) (scope : Scope) (x : Fault) → s.definitions ≡ definitions_of (nodes_in (parsed_items p))
+    → s.references ≡ map (resolved_in scope) (references_of (nodes_in (parsed_items p))) → Contains (file_faults s (parsed_items p)) x → Stands (tree_nodes p) x
+text_stands (Tree nodes) s scope x ds rs h =
+    stays_standing nodes x (fault_stands (map bare nodes) x s scope ds rs ((each_is_fault s (map bare nodes) x).0 h))
 text_stands (SyntaxFault span code) s scope x ds rs h = absurd (none_said x h)
 
-file_stands : (file : ParsedFile) (s : Surroundings) (scope : Scope) (x : Fault) → s.definitions ≡ definitions_of (nodes_of file)
-    → s.references ≡ map (resolved_in scope) (references_of (nodes_of file)) → Contains (file_faults s file) x → Stands (nodes_of file) x
+file_stands : (file : ParsedFile) (s : Surroundings) (scope : Scope) (x : Fault) → s.definitions ≡ definitions_of (nodes_in (items_of file))
+    → s.references ≡ map (resolved_in scope) (references_of (nodes_in (items_of file))) → Contains (file_faults s (items_of file)) x → Stands (nodes_of file) x
 file_stands Absent s scope x ds rs h = absurd (none_said x h)
 file_stands (Present p lines) s scope x ds rs h = text_stands p s scope x ds rs h
 

@@ -3,7 +3,7 @@
 --
 -- `es` is the questions of a run in order, each with its answer.
 use Rattle.std.specs.Prelude.{ℕ, ◌≡◌, List, [], ◌∷◌, Option, Some, None, unwrap_or}
-use Rattle.pq_links.specs.declared.files.ParsedFile.{ParsedFile}
+use Rattle.pq_links.specs.declared.file_items.FileItems.{FileItems}
 use Rattle.pq_links.specs.declared.links.Import.{Import}
 use Rattle.pq_schema.specs.Contents.{Defs}
 use Rattle.pq_schema.specs.ScopeContents.{Scope}
@@ -16,27 +16,27 @@ use Rattle.pq_checks.specs.declared.surroundings.Imported.{Imported}
 -- `CheckWords K A` is what a sum of queries with the keys `K` and the answers `A` offers the query:
 -- the keys that it asks of a file, and what it reads of an answer
 pub record CheckWords (K A : Type 0) : Type 0 where
-  pub parse : List ℕ → K
+  pub items : List ℕ → K
   pub imports : List ℕ → K
   pub linked : List ℕ → K
   pub defs : List ℕ → K
   pub scope : List ℕ → K
   pub resolved : List ℕ → K
-  pub parsed : A → ParsedFile
+  pub itemed : A → FileItems
   pub imported : A → Option (List Import)
   pub ring : A → Option (List (List ℕ))
   pub defined : A → Defs
   pub scoped : A → Scope
   pub referred : A → List ResolvedReference
 
--- `AsksStates w is es rest imported` is that the first questions are for what the files of the
--- imports `is` are read as, in order, that `rest` is the other questions, and that `imported` is
--- these files, each with the state of its answer
+-- `AsksStates w is es rest imported` is that the first questions are for the trees of the files of
+-- the imports `is` without spans, in order, that `rest` is the other questions, and that `imported`
+-- is these files, each with the state of its answer
 abbrev pub AsksStates : {K A : Type 0} → CheckWords K A → List Import → List (K × A) → List (K × A) → List Imported → Type 0
 AsksStates w [] es rest imported = (rest ≡ es) × (imported ≡ [])
 AsksStates w (i ∷ is) [] rest imported = ⊥
 AsksStates w (i ∷ is) (e ∷ es) rest imported =
-    (more : List Imported) × (e.0 ≡ w.parse i.file) × (imported ≡ record { file = i.file; state = state_of (w.parsed e.1) } ∷ more) × AsksStates w is es rest more
+    (more : List Imported) × (e.0 ≡ w.items i.file) × (imported ≡ record { file = i.file; state = state_of (w.itemed e.1) } ∷ more) × AsksStates w is es rest more
 
 -- `if_ring ring P Q` is `P` if there is a `ring`, and else `Q`
 abbrev pub if_ring : Option (List (List ℕ)) → Type 0 → Type 0 → Type 0
@@ -70,14 +70,14 @@ surroundings_by f imported ring next defs scope references = record {
   references = references;
 }
 
--- `AreChecksBy w f es v` is that the questions are for the parse, the imports, the links, the
--- definitions, the scope and the resolved references of the file `f`, then for the parse of each
--- import, and in a bad file for the links of each import up to the first cycle; and that `v` is the
--- errors of the file by these answers
+-- `AreChecksBy w f es v` is that the questions are for the tree without spans, the imports, the
+-- links, the definitions, the scope and the resolved references of the file `f`, then for the tree
+-- without spans of each import, and in a bad file for the links of each import up to the first
+-- cycle; and that `v` is the errors of the file by these answers
 abbrev pub AreChecksBy : {K A : Type 0} → CheckWords K A → List ℕ → List (K × A) → List Fault → Type 0
 AreChecksBy {K = K} {A = A} w f es v =
     (a b c d s r : A) × (states links : List (K × A)) × (imported : List Imported) × (next : Option (List ℕ))
-    × (es ≡ (w.parse f, a) ∷ (w.imports f, b) ∷ (w.linked f, c) ∷ (w.defs f, d) ∷ (w.scope f, s) ∷ (w.resolved f, r) ∷ states)
+    × (es ≡ (w.items f, a) ∷ (w.imports f, b) ∷ (w.linked f, c) ∷ (w.defs f, d) ∷ (w.scope f, s) ∷ (w.resolved f, r) ∷ states)
     × AsksStates w (unwrap_or (w.imported b) []) states links imported
     × AsksLinks w (w.ring c) (unwrap_or (w.imported b) []) links next
-    × (v ≡ file_faults (surroundings_by f imported (w.ring c) next (w.defined d) (w.scoped s) (w.referred r)) (w.parsed a))
+    × (v ≡ file_faults (surroundings_by f imported (w.ring c) next (w.defined d) (w.scoped s) (w.referred r)) (w.itemed a))

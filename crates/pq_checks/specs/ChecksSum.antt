@@ -25,13 +25,13 @@ use Rattle.pq_checks.specs.declared.diagnostics.DiagnosticsPart.{DiagnosticsPart
 abbrev pub words_of : {K P V : Type 0} {m : Instance K P V} {files : Sources} → SchemaSum m files
     → (Answer K V → List ResolvedReference) → (Answer K V → Option (List (List ℕ))) → CheckWords K (Answer K V)
 words_of s referred ring = record {
-  parse = s.parse;
+  items = s.items;
   imports = s.imports;
   linked = s.linked;
   defs = s.defs;
   scope = s.scope;
   resolved = s.resolved;
-  parsed = s.parsed_read;
+  itemed = s.items_read;
   imported = s.imports_read;
   ring = ring;
   defined = s.defs_read;
@@ -58,7 +58,7 @@ pub record ChecksSum {K P V : Type 0} (m : Instance K P V) (files : Sources) (s 
   pub no_ring : (l : Links) → ring_files (Value (s.linked_value l)) ≡ None
   pub checked_back : (x : List Fault) → checked_read (Value (checks_value x)) ≡ x
   -- the queries
-  pub checks_embeds : Embeds m checks checks_part checks_value check_level (check_starts s.parse) (λ q a. check_advances (words_of s referred_read ring_files) q a)
+  pub checks_embeds : Embeds m checks checks_part checks_value check_level (check_starts s.items) (λ q a. check_advances (words_of s referred_read ring_files) q a)
   pub diagnostics_embeds : Embeds m diagnostics diagnostics_part diagnostics_value diagnostics_level (diagnostics_starts checks) (λ q a. diagnostics_advances s.parse (checked_read a) (s.parsed_read a) q)
 
 -- `ChecksMeans m files s c` is that each answer of the checks and of the diagnostics of a file is

@@ -1,12 +1,10 @@
 -- What the sources say of the errors of a file. No query is named here.
 use Rattle.std.specs.Prelude.{ℕ, ◌≡◌, List, [], map, Option, Some, None}
-use Rattle.pq_inputs.specs.Sources.{Sources, file_in}
-use Rattle.pq_syntax.specs.declared.fault.Parsed.{Parsed}
-use Rattle.pq_syntax.specs.declared.fault.Parsed.TheVariants.{Tree, Fault as SyntaxFault}
-use Rattle.pq_links.specs.Files.{graph_of, read_file}
+use Rattle.pq_inputs.specs.Sources.{Sources}
+use Rattle.pq_links.specs.Files.{graph_of, items_in}
 use Rattle.pq_links.specs.ImportGraph.{Graph, IsGood, IsNext, IsRingOf, imported}
-use Rattle.pq_links.specs.declared.files.ParsedFile.{ParsedFile}
-use Rattle.pq_links.specs.declared.files.ParsedFile.TheVariants.{Absent, Present}
+use Rattle.pq_links.specs.declared.file_items.FileItems.{FileItems}
+use Rattle.pq_links.specs.declared.file_items.FileItems.TheVariants.{Absent, Fault as SyntaxFault, Tree}
 use Rattle.pq_schema.specs.Compile.{IsScope, AreResolved, defs_at}
 use Rattle.pq_schema.specs.ScopeContents.{Scope}
 use Rattle.pq_checks.specs.Faults.{faults}
@@ -17,7 +15,7 @@ use Rattle.pq_checks.specs.declared.fault.Fault.{Fault}
 -- `imported_at files f` lists the files that the file `f` imports, each with its state
 abbrev pub imported_at : Sources → List ℕ → List Imported
 imported_at files f =
-    map (λ (h : List ℕ). record { file = h; state = state_of (read_file (file_in files h).text) }) (imported (graph_of files) f)
+    map (λ (h : List ℕ). record { file = h; state = state_of (items_in files h) }) (imported (graph_of files) f)
 
 -- `IsRingAt g f ring next` is that `ring` and `next` are the ring of imports into which the file
 -- `f` leads and its first bad import, or both `None` if `f` is good
@@ -35,19 +33,14 @@ pub record AreSurroundings (files : Sources) (f : List ℕ) (s : Surroundings) :
   pub others_are : (scope : Scope) × IsScope files f scope × (s.others ≡ other_files f scope)
   pub references_are : AreResolved files f s.references
 
--- `parsed_faults s p` lists the errors of a text with the tree or syntax error `p` and the
--- surroundings `s`. The table has no line for a syntax error: only a tree has errors of it.
-abbrev pub parsed_faults : Surroundings → Parsed → List Fault
-parsed_faults s (Tree nodes) = faults s nodes
-parsed_faults s (SyntaxFault span code) = []
-
--- `file_faults s file` lists the errors of a file that is read as `file`, with the surroundings
--- `s`. A file without a tree has none.
-abbrev pub file_faults : Surroundings → ParsedFile → List Fault
+-- `file_faults s i` lists the errors of a file that is `i` without spans, with the surroundings
+-- `s`. The table has no line for a syntax error: only a tree has errors of it.
+abbrev pub file_faults : Surroundings → FileItems → List Fault
 file_faults s Absent = []
-file_faults s (Present p lines) = parsed_faults s p
+file_faults s SyntaxFault = []
+file_faults s (Tree nodes) = faults s nodes
 
 -- `AreFaults files f fs` is that `fs` lists the errors of the file `f`
 abbrev pub AreFaults : Sources → List ℕ → List Fault → Type 0
 AreFaults files f fs =
-    (s : Surroundings) × AreSurroundings files f s × (fs ≡ file_faults s (read_file (file_in files f).text))
+    (s : Surroundings) × AreSurroundings files f s × (fs ≡ file_faults s (items_in files f))

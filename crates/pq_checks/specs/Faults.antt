@@ -300,8 +300,8 @@ abbrev pub resolution_faults : ℕ → TypePart → List ℕ → Resolution → 
 resolution_faults item p name resolutions.NotFound = at item (part.«Type» p) code.TypeNotFound (codes "type " ++ quoted name ++ codes " is not found") ∷ []
 resolution_faults item p name (resolutions.NotVisible file) = at item (part.«Type» p) code.TypeNotImported (codes "type " ++ quoted name ++ codes " is in " ++ file ++ codes ", which is not imported") ∷ []
 resolution_faults item p name resolutions.NotAType = at item (part.«Type» p) code.NotAType (quoted name ++ codes " is not a type") ∷ []
-resolution_faults item p name (resolutions.«Type» file full_name is_enum of) =
-    when (is_method p && is_enum) (at item (part.«Type» p) code.NotAMessage (quoted name ++ codes " is not a message"))
+resolution_faults item p name (resolutions.«Type» target) =
+    when (is_method p && target.is_enum) (at item (part.«Type» p) code.NotAMessage (quoted name ++ codes " is not a message"))
 
 -- `named_type p s` is the name of the type that the part `p` of the statement `s` is
 abbrev pub named_type : TypePart → Statement → Option Name

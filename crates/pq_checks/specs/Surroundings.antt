@@ -1,10 +1,8 @@
 -- What the checks of a file know beside its tree: its imports' files, its definitions, what its
 -- type references resolve to, and the definitions that it sees.
 use Rattle.std.specs.Prelude.{ℕ, cond, bytes_eq, List, [], ◌∷◌, Option}
-use Rattle.pq_syntax.specs.declared.fault.Parsed.{Parsed}
-use Rattle.pq_syntax.specs.declared.fault.Parsed.TheVariants.{Tree, Fault}
-use Rattle.pq_links.specs.declared.files.ParsedFile.{ParsedFile}
-use Rattle.pq_links.specs.declared.files.ParsedFile.TheVariants.{Absent, Present}
+use Rattle.pq_links.specs.declared.file_items.FileItems.{FileItems}
+use Rattle.pq_links.specs.declared.file_items.FileItems.TheVariants.{Absent, Fault, Tree}
 use Rattle.pq_schema.specs.declared.definitions.Definition.{Definition}
 use Rattle.pq_schema.specs.declared.resolved.ResolvedReference.{ResolvedReference}
 use Rattle.pq_schema.specs.declared.scope.FileDefs.{FileDefs}
@@ -13,15 +11,11 @@ use Rattle.pq_checks.specs.declared.surroundings.FileState.{FileState}
 use Rattle.pq_checks.specs.declared.surroundings.FileState.TheVariants.{Missing, Unreadable, Readable}
 use Rattle.pq_checks.specs.declared.surroundings.Imported.{Imported}
 
--- `parsed_state p` is the state of a file whose text has the tree or error `p`
-abbrev pub parsed_state : Parsed → FileState
-parsed_state (Tree nodes) = Readable
-parsed_state (Fault span code) = Unreadable
-
--- `state_of file` is the state of a file that is read as `file`
-abbrev pub state_of : ParsedFile → FileState
+-- `state_of i` is the state of a file that is `i` without spans
+abbrev pub state_of : FileItems → FileState
 state_of Absent = Missing
-state_of (Present p lines) = parsed_state p
+state_of Fault = Unreadable
+state_of (Tree nodes) = Readable
 
 -- `Surroundings` is what the checks of a file know beside its tree
 pub record Surroundings : Type 0 where

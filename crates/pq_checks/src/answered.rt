@@ -8,7 +8,7 @@ ghost use Rattle.pq_checks.specs.Surroundings.{state_of};
 use crate::fault::Fault;
 use crate::keys::CheckKeys;
 use crate::surroundings::{FileState, state_of};
-use pq_links::{Import, ParsedFile};
+use pq_links::{FileItems, Import, ParsedFile};
 use pq_rules::{Memory, Shared};
 use pq_schema::{Defs, ResolvedReference, Scope};
 use pq_syntax::Items;
@@ -21,9 +21,22 @@ pub(crate) fn file_in<S: CheckKeys>(
 ) -> Result<Shared<ParsedFile>, Memory>
     ensures file { IfOk result (λ p. p ≡ S.parsed answer.now) }
 {
-    match S::read_file(answer) {
+    match S::read_parsed(answer) {
         Some(file) => file.copy(),
         None => Shared::new(alloc, ParsedFile::Absent),
+    }
+}
+
+/// What the answer says that a file is read as, without spans.
+pub(crate) fn items_in<S: CheckKeys>(
+    alloc: Global,
+    answer: &S::Answer,
+) -> Result<Shared<FileItems>, Memory>
+    ensures items { IfOk result (λ i. i ≡ S.itemed answer.now) }
+{
+    match S::read_items(answer) {
+        Some(items) => items.copy(),
+        None => Shared::new(alloc, FileItems::Absent),
     }
 }
 
@@ -89,10 +102,10 @@ pub(crate) fn references_in<S: CheckKeys>(
 
 /// The state of a file that the answer says how to read.
 pub(crate) fn state_in<S: CheckKeys>(answer: &S::Answer) -> FileState
-    ensures state { result ≡ state_of (S.parsed answer.now) }
+    ensures state { result ≡ state_of (S.itemed answer.now) }
 {
-    match S::read_parsed(answer) {
-        Some(file) => state_of(file),
+    match S::read_items(answer) {
+        Some(items) => state_of(items.get()),
         None => FileState::Missing,
     }
 }

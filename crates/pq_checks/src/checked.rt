@@ -1,9 +1,10 @@
 //! The query of a file's checks, generic over the sum of queries in which it is used.
 //!
-//! It asks what the file is read as, its imports, its links, its definitions, its scope and its
-//! resolved references; then what each imported file is read as; and in a bad file the links of
-//! each import up to the first cycle, which names the next file on the way into the ring. The part
-//! holds what was read so far, shared. If an allocation fails, the part comes back as it was.
+//! It asks the tree of the file without spans, its imports, its links, its definitions, its scope
+//! and its resolved references; then the tree of each imported file, without spans; and in a bad
+//! file the links of each import up to the first cycle, which names the next file on the way into
+//! the ring. The part holds what was read so far, shared. If an allocation fails, the part comes
+//! back as it was.
 ghost use Rattle.std.specs.Prelude.{◌≡◌, ℕ, [], IfOk, IfErr, OnOk, OnErr, drop, slice_get, unwrap_or};
 ghost use Rattle.std.specs.Option.{option_copied};
 ghost use Rattle.pq_links.specs.Visibility.{no_links};
@@ -13,14 +14,14 @@ ghost use Rattle.pq_checks.specs.Surroundings.{state_of};
 ghost use Rattle.pq_checks.specs.aux.Gathering.{checked_of};
 ghost use Rattle.pq_checks.specs.aux.Queries.{check_level, link_next, staged, placed, references_turn, with_state, state_follows, link_follows, link_placed, check_starts, check_advances, check_left};
 ghost use Rattle.pq_checks.specs.aux.Falls.{check_falls};
-ghost use Rattle.pq_checks.specs.declared.checked.CheckPart.TheVariants.{ReadFile, ReadImports as ReadImportsPart, ReadLinks, ReadDefs, ReadScope, ReadReferences, ReadState, ReadNext};
+ghost use Rattle.pq_checks.specs.declared.checked.CheckPart.TheVariants.{ReadItems, ReadImports as ReadImportsPart, ReadLinks, ReadDefs, ReadScope, ReadReferences, ReadState, ReadNext};
 
-use crate::answered::{defs_in, file_in, imports_in, references_in, scope_in, state_in};
+use crate::answered::{defs_in, imports_in, items_in, references_in, scope_in, state_in};
 use crate::fault::Fault;
 use crate::gathered::{Known, LinkedFile, States, Waiting, check};
 use crate::keys::CheckKeys;
 use crate::surroundings::{FileState, Imported};
-use pq_links::{Import, ParsedFile};
+use pq_links::{FileItems, Import};
 use pq_rules::{Memory, Query, Shared, Text, Turn};
 use pq_schema::{Defs, ResolvedReference, Scope};
 use pq_syntax::Items;
@@ -30,19 +31,19 @@ use std::marker::PhantomData;
 /// What the rule of a file's checks does with the next answer.
 #[derive(Drop)]
 pub enum CheckPart {
-    /// The answer is what the file is read as.
-    ReadFile(Text),
+    /// The answer is the tree of the file without spans.
+    ReadItems(Text),
     /// The answer is the imports of the file.
-    ReadImports(Text, Shared<ParsedFile>),
+    ReadImports(Text, Shared<FileItems>),
     /// The answer is the links of the file.
-    ReadLinks(Text, Shared<ParsedFile>, Shared<Items<Import>>),
+    ReadLinks(Text, Shared<FileItems>, Shared<Items<Import>>),
     /// The answer is the definitions of the file.
     ReadDefs(LinkedFile),
     /// The answer is the scope of the file.
     ReadScope(LinkedFile, Shared<Defs>),
     /// The answer is the resolved references of the file.
     ReadReferences(LinkedFile, Shared<Defs>, Shared<Scope>),
-    /// The answer is what the file of the first import that is left is read as.
+    /// The answer is the tree of the file of the first import that is left, without spans.
     ReadState(Known, Waiting, States),
     /// The answer is the links of the file of the first import that is left.
     ReadNext(Known, Waiting, States),
@@ -51,7 +52,7 @@ pub enum CheckPart {
 /// Which part comes with a question after those of the file.
 #[derive(Drop)]
 enum Stage {
-    /// The question is what an imported file is read as.
+    /// The question is for the tree of an imported file, without spans.
     ForStates,
     /// The question is for the links of an imported file.
     ForLinks(Waiting),
@@ -70,18 +71,18 @@ impl<S> ChecksQuery<S> {
     }
 }
 
-/// The turn after what the file `file` is read as: the rule asks its imports.
-fn after_file<S: CheckKeys>(
+/// The turn after the tree of the file `file` without spans: the rule asks its imports.
+fn after_items<S: CheckKeys>(
     alloc: Global,
     file: Text,
     answer: &S::Answer,
 ) -> Result<Turn<S::Key, CheckPart, Shared<Items<Fault>>>, CheckPart>
-    ensures turn { IfOk result (λ t. t ≡ Ask (S.imports file) (ReadImportsPart file (S.parsed answer.now))) }
-    ensures back { IfErr result (λ p. p ≡ ReadFile file) }
+    ensures turn { IfOk result (λ t. t ≡ Ask (S.imports file) (ReadImportsPart file (S.itemed answer.now))) }
+    ensures back { IfErr result (λ p. p ≡ ReadItems file) }
 {
-    match (S::imports_key(&file), file_in::<S>(alloc, answer)) {
-        (Ok(key), Ok(parsed)) => Ok(Turn::Ask(key, CheckPart::ReadImports(file, parsed))),
-        _ => Err(CheckPart::ReadFile(file)),
+    match (S::imports_key(&file), items_in::<S>(alloc, answer)) {
+        (Ok(key), Ok(items)) => Ok(Turn::Ask(key, CheckPart::ReadImports(file, items))),
+        _ => Err(CheckPart::ReadItems(file)),
     }
 }
 
@@ -89,15 +90,15 @@ fn after_file<S: CheckKeys>(
 fn after_imports<S: CheckKeys>(
     alloc: Global,
     file: Text,
-    parsed: Shared<ParsedFile>,
+    items: Shared<FileItems>,
     answer: &S::Answer,
 ) -> Result<Turn<S::Key, CheckPart, Shared<Items<Fault>>>, CheckPart>
-    ensures turn { IfOk result (λ t. t ≡ Ask (S.linked file) (ReadLinks file parsed (unwrap_or (S.imported answer.now) []))) }
-    ensures back { IfErr result (λ p. p ≡ ReadImportsPart file parsed) }
+    ensures turn { IfOk result (λ t. t ≡ Ask (S.linked file) (ReadLinks file items (unwrap_or (S.imported answer.now) []))) }
+    ensures back { IfErr result (λ p. p ≡ ReadImportsPart file items) }
 {
     match (S::linked_key(&file), imports_in::<S>(alloc, answer)) {
-        (Ok(key), Ok(imports)) => Ok(Turn::Ask(key, CheckPart::ReadLinks(file, parsed, imports))),
-        _ => Err(CheckPart::ReadImports(file, parsed)),
+        (Ok(key), Ok(imports)) => Ok(Turn::Ask(key, CheckPart::ReadLinks(file, items, imports))),
+        _ => Err(CheckPart::ReadImports(file, items)),
     }
 }
 
@@ -105,24 +106,24 @@ fn after_imports<S: CheckKeys>(
 fn after_links<S: CheckKeys>(
     alloc: Global,
     file: Text,
-    parsed: Shared<ParsedFile>,
+    items: Shared<FileItems>,
     imports: Shared<Items<Import>>,
     answer: &S::Answer,
 ) -> Result<Turn<S::Key, CheckPart, Shared<Items<Fault>>>, CheckPart>
-    ensures turn { IfOk result (λ t. t ≡ Ask (S.defs file) (ReadDefs (record { file = file; parsed = parsed; imports = imports; ring = S.ring answer.now }))) }
-    ensures back { IfErr result (λ p. p ≡ ReadLinks file parsed imports) }
+    ensures turn { IfOk result (λ t. t ≡ Ask (S.defs file) (ReadDefs (record { file = file; items = items; imports = imports; ring = S.ring answer.now }))) }
+    ensures back { IfErr result (λ p. p ≡ ReadLinks file items imports) }
 {
     match (S::defs_key(&file), S::read_ring(alloc, answer)) {
         (Ok(key), Ok(ring)) => {
             let linked = LinkedFile {
                 file,
-                parsed,
+                items,
                 imports,
                 ring,
             };
             Ok(Turn::Ask(key, CheckPart::ReadDefs(linked)))
         }
-        _ => Err(CheckPart::ReadLinks(file, parsed, imports)),
+        _ => Err(CheckPart::ReadLinks(file, items, imports)),
     }
 }
 
@@ -185,10 +186,10 @@ fn staged<S: CheckKeys>(
     next: Option<&Import>,
     imported: &[Imported],
 ) -> Result<Turn<S::Key, Stage, Shared<Items<Fault>>>, Memory>
-    ensures turn { IfOk result (λ t. t ≡ staged S.linked S.parse known.now (option_copied next.entry) imported.now) }
+    ensures turn { IfOk result (λ t. t ≡ staged S.linked S.items known.now (option_copied next.entry) imported.now) }
 {
     match next {
-        Some(import) => Ok(Turn::Ask(S::parse_key(&import.file)?, Stage::ForStates)),
+        Some(import) => Ok(Turn::Ask(S::items_key(&import.file)?, Stage::ForStates)),
         None => link_next::<S>(alloc, known, imported),
     }
 }
@@ -216,7 +217,7 @@ fn first_stage<S: CheckKeys>(
     alloc: Global,
     known: &Known,
 ) -> Result<(Turn<S::Key, Stage, Shared<Items<Fault>>>, Waiting), Memory>
-    ensures turn { IfOk result (λ r. (r.0 ≡ staged S.linked S.parse known.now (slice_get known.now.linked.imports 0) [])
+    ensures turn { IfOk result (λ r. (r.0 ≡ staged S.linked S.items known.now (slice_get known.now.linked.imports 0) [])
         × (r.1 ≡ known.now.linked.imports)) }
 {
     let waiting = Waiting::new(known.linked.imports.copy()?);
@@ -232,7 +233,7 @@ fn after_references<S: CheckKeys>(
     scope: Shared<Scope>,
     answer: &S::Answer,
 ) -> Result<Turn<S::Key, CheckPart, Shared<Items<Fault>>>, CheckPart>
-    ensures turn { IfOk result (λ t. t ≡ references_turn S.linked S.parse linked defs scope (S.referred answer.now)) }
+    ensures turn { IfOk result (λ t. t ≡ references_turn S.linked S.items linked defs scope (S.referred answer.now)) }
     ensures back { IfErr result (λ p. p ≡ ReadReferences linked defs scope) }
 {
     let references = match references_in::<S>(alloc, answer) {
@@ -251,7 +252,7 @@ fn after_references<S: CheckKeys>(
     }
 }
 
-/// The turn, without its part, after what the file of the first import of `waiting` is read as: its
+/// The turn, without its part, after the tree of the file of the first import of `waiting`: its
 /// state is put to those of `imported`.
 fn follow_state<S: CheckKeys>(
     alloc: Global,
@@ -260,8 +261,8 @@ fn follow_state<S: CheckKeys>(
     imported: &mut States,
     answer: &S::Answer,
 ) -> Result<Turn<S::Key, Stage, Shared<Items<Fault>>>, Memory>
-    ensures turn { IfOk result (λ t. t ≡ state_follows S.linked S.parse known.now (slice_get waiting.now 0) (slice_get waiting.now 1) (S.parsed answer.now) imported.old) }
-    ensures read { OnOk result (imported.new ≡ with_state (slice_get waiting.now 0) (S.parsed answer.now) imported.old) }
+    ensures turn { IfOk result (λ t. t ≡ state_follows S.linked S.items known.now (slice_get waiting.now 0) (slice_get waiting.now 1) (S.itemed answer.now) imported.old) }
+    ensures read { OnOk result (imported.new ≡ with_state (slice_get waiting.now 0) (S.itemed answer.now) imported.old) }
     ensures same { OnErr result (imported.new ≡ imported.old) }
 {
     let import = match waiting.first() {
@@ -280,7 +281,7 @@ fn follow_state<S: CheckKeys>(
     }
 }
 
-/// The turn after what the file of the first import that is left is read as.
+/// The turn after the tree of the file of the first import that is left.
 fn after_state<S: CheckKeys>(
     alloc: Global,
     known: Known,
@@ -288,8 +289,8 @@ fn after_state<S: CheckKeys>(
     imported: States,
     answer: &S::Answer,
 ) -> Result<Turn<S::Key, CheckPart, Shared<Items<Fault>>>, CheckPart>
-    ensures turn { IfOk result (λ t. t ≡ placed known (drop 1 waiting) (with_state (slice_get waiting 0) (S.parsed answer.now) imported)
-        (state_follows S.linked S.parse known (slice_get waiting 0) (slice_get waiting 1) (S.parsed answer.now) imported)) }
+    ensures turn { IfOk result (λ t. t ≡ placed known (drop 1 waiting) (with_state (slice_get waiting 0) (S.itemed answer.now) imported)
+        (state_follows S.linked S.items known (slice_get waiting 0) (slice_get waiting 1) (S.itemed answer.now) imported)) }
     ensures back { IfErr result (λ p. p ≡ ReadState known waiting imported) }
 {
     let mut waiting = waiting;
@@ -374,24 +375,24 @@ impl<S: CheckKeys> Query for ChecksQuery<S> {
 
     type AnyAnswer = S::Answer;
 
-    const LEVEL: u8 = 7;
+    const LEVEL: u8 = 8;
 
     ghost LEVEL = { check_level };
 
-    ghost starts = { λ s k. check_starts S.parse k };
+    ghost starts = { λ s k. check_starts S.items k };
 
-    ghost advances = { λ s p a. check_advances (record { parse = S.parse; imports = S.imports; linked = S.linked; defs = S.defs; scope = S.scope; resolved = S.resolved; parsed = S.parsed; imported = S.imported; ring = S.ring; defined = S.defined; scoped = S.scoped; referred = S.referred }) p a };
+    ghost advances = { λ s p a. check_advances (record { items = S.items; imports = S.imports; linked = S.linked; defs = S.defs; scope = S.scope; resolved = S.resolved; itemed = S.itemed; imported = S.imported; ring = S.ring; defined = S.defined; scoped = S.scoped; referred = S.referred }) p a };
 
     ghost lefts = { λ s p. check_left p };
 
-    ghost falls = { λ s p a q r e. check_falls (record { parse = S.parse; imports = S.imports; linked = S.linked; defs = S.defs; scope = S.scope; resolved = S.resolved; parsed = S.parsed; imported = S.imported; ring = S.ring; defined = S.defined; scoped = S.scoped; referred = S.referred }) a p q r e };
+    ghost falls = { λ s p a q r e. check_falls (record { items = S.items; imports = S.imports; linked = S.linked; defs = S.defs; scope = S.scope; resolved = S.resolved; itemed = S.itemed; imported = S.imported; ring = S.ring; defined = S.defined; scoped = S.scoped; referred = S.referred }) a p q r e };
 
     fn start(
         &self,
         _alloc: Global,
         key: &Text,
     ) -> Result<Turn<S::Key, CheckPart, Shared<Items<Fault>>>, Memory> {
-        Ok(Turn::Ask(S::parse_key(key)?, CheckPart::ReadFile(key.copy()?)))
+        Ok(Turn::Ask(S::items_key(key)?, CheckPart::ReadItems(key.copy()?)))
     }
 
     fn advance(
@@ -401,12 +402,12 @@ impl<S: CheckKeys> Query for ChecksQuery<S> {
         answer: &S::Answer,
     ) -> Result<Turn<S::Key, CheckPart, Shared<Items<Fault>>>, CheckPart> {
         match part {
-            CheckPart::ReadFile(file) => after_file::<S>(alloc, file, answer),
-            CheckPart::ReadImports(file, parsed) => {
-                after_imports::<S>(alloc, file, parsed, answer)
+            CheckPart::ReadItems(file) => after_items::<S>(alloc, file, answer),
+            CheckPart::ReadImports(file, items) => {
+                after_imports::<S>(alloc, file, items, answer)
             }
-            CheckPart::ReadLinks(file, parsed, imports) => {
-                after_links::<S>(alloc, file, parsed, imports, answer)
+            CheckPart::ReadLinks(file, items, imports) => {
+                after_links::<S>(alloc, file, items, imports, answer)
             }
             CheckPart::ReadDefs(linked) => after_defs::<S>(alloc, linked, answer),
             CheckPart::ReadScope(linked, defs) => after_scope::<S>(alloc, linked, defs, answer),
@@ -424,7 +425,7 @@ impl<S: CheckKeys> Query for ChecksQuery<S> {
 
     fn left(&self, part: &CheckPart) -> (u32, u64) {
         match part {
-            CheckPart::ReadFile(_) => (7, 0),
+            CheckPart::ReadItems(_) => (7, 0),
             CheckPart::ReadImports(_, _) => (6, 0),
             CheckPart::ReadLinks(_, _, _) => (5, 0),
             CheckPart::ReadDefs(_) => (4, 0),

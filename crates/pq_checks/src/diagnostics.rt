@@ -177,7 +177,7 @@ impl<S: CheckKeys> Query for DiagnosticsQuery<S> {
 
     type AnyAnswer = S::Answer;
 
-    const LEVEL: u8 = 8;
+    const LEVEL: u8 = 9;
 
     ghost LEVEL = { diagnostics_level };
 

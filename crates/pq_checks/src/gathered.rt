@@ -1,7 +1,7 @@
 //! What the rule of a file's checks has gathered, and the errors by it.
 ghost use Rattle.std.specs.Prelude.{◌≡◌, ◌-◌, ◌∷◌, List, [], ◌++◌, None, IfOk, OnOk, OnErr, cond, drop, flat_map, is_some, take, length, slice_get};
 ghost use Rattle.std.specs.Option.{option_copied};
-ghost use Rattle.pq_checks.specs.Compile.{parsed_faults, file_faults};
+ghost use Rattle.pq_checks.specs.Compile.{file_faults};
 ghost use Rattle.pq_checks.specs.Faults.{elsewhere_faults, faults, link_faults, definition_faults, type_faults};
 ghost use Rattle.pq_schema.specs.Others.{other_files};
 ghost use Rattle.pq_checks.specs.aux.Gathering.{surroundings_of, checked_of};
@@ -17,10 +17,10 @@ use crate::reference_lines::push_reference_faults;
 use crate::spots::{Spot, spots};
 use crate::surroundings::Imported;
 use crate::unread_lines::{push_package_faults, push_unread_faults};
-use pq_links::{Import, ParsedFile};
+use pq_links::{FileItems, Import};
 use pq_rules::{Shared, Text};
 use pq_schema::{Defs, ResolvedReference, Scope};
-use pq_syntax::{Items, Node, Parsed};
+use pq_syntax::{Items, Node};
 use std::alloc::Global;
 use std::marker::Model;
 
@@ -29,8 +29,8 @@ use std::marker::Model;
 pub struct LinkedFile {
     /// The name of the file.
     pub file: Text,
-    /// What it is read as.
-    pub parsed: Shared<ParsedFile>,
+    /// What it is read as, without spans.
+    pub items: Shared<FileItems>,
     /// Its imports.
     pub imports: Shared<Items<Import>>,
     /// The ring of a bad file, `None` of a good one.
@@ -265,23 +265,6 @@ fn tree_faults(
     Ok(faults)
 }
 
-/// The errors of a text with the tree or syntax error `parsed`.
-fn text_faults(
-    alloc: Global,
-    known: &Known,
-    imported: &[Imported],
-    next: Option<&Text>,
-    parsed: &Parsed,
-) -> Result<Vec<Fault>, Memory>
-    ensures faults { IfOk result (λ fs. fs.items
-        ≡ parsed_faults (surroundings_of known.now imported.now (option_copied next.entry)) parsed.now) }
-{
-    match parsed {
-        Parsed::Tree(nodes) => tree_faults(alloc, known, imported, next, nodes.as_slice()),
-        Parsed::Fault { .. } => Ok(Vec::new(alloc)),
-    }
-}
-
 /// The errors of the file of `known`, which imports the files `imported`, and the first bad import
 /// of which is `next`.
 fn faults_of(
@@ -291,11 +274,11 @@ fn faults_of(
     next: Option<&Text>,
 ) -> Result<Vec<Fault>, Memory>
     ensures faults { IfOk result (λ fs. fs.items
-        ≡ file_faults (surroundings_of known.now imported.now (option_copied next.entry)) known.now.linked.parsed) }
+        ≡ file_faults (surroundings_of known.now imported.now (option_copied next.entry)) known.now.linked.items) }
 {
-    match known.linked.parsed.get() {
-        ParsedFile::Absent => Ok(Vec::new(alloc)),
-        ParsedFile::Present { parsed, .. } => text_faults(alloc, known, imported, next, parsed),
+    match known.linked.items.get() {
+        FileItems::Tree(file) => tree_faults(alloc, known, imported, next, file.as_slice()),
+        FileItems::Absent | FileItems::Fault => Ok(Vec::new(alloc)),
     }
 }
 

@@ -1,11 +1,9 @@
 //! What a sum of queries offers the queries of this crate.
 ghost use Rattle.std.specs.Prelude.{◌≡◌, ℕ, [], List, Option, IfOk, is_some, option_copied, unwrap_or};
-ghost use Rattle.pq_links.specs.declared.files.ParsedFile.TheVariants.{Absent};
 ghost use Rattle.pq_schema.specs.declared.resolved.ResolvedReference.{ResolvedReference};
 ghost use Rattle.pq_checks.specs.declared.fault.Fault.{Fault as FaultContents};
 
 use crate::fault::Fault;
-use pq_links::ParsedFile;
 use pq_rules::{Memory, Shared, Text};
 use pq_schema::{ResolvedReference, SchemaKeys};
 use pq_syntax::Items;
@@ -36,10 +34,6 @@ pub trait CheckKeys: SchemaKeys {
     /// Makes the key of the checks of `file`.
     fn checks_key(file: &Text) -> Result<Self::Key, Memory>
         ensures key { IfOk result (λ k. k ≡ checks file.now) };
-
-    /// Reads what a file is read as, to be shared; `None` only where that is `Absent`.
-    fn read_file<'a>(answer: &'a Self::Answer) -> Option<&'a Shared<ParsedFile>>
-        ensures parsed { unwrap_or (option_copied result) Absent ≡ Self.parsed answer.now };
 
     /// Reads the resolved references of a file, `None` only where it has none.
     fn read_resolved<'a>(answer: &'a Self::Answer) -> Option<&'a Shared<Items<ResolvedReference>>>

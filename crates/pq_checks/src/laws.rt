@@ -24,8 +24,7 @@ ghost use Rattle.pq_checks.specs.InOrder.{in_order, IsInOrder};
 ghost use Rattle.pq_checks.specs.Surroundings.{Surroundings};
 ghost use Rattle.pq_checks.specs.declared.fault.Fault.{Fault};
 ghost use Rattle.pq_inputs.specs.Sources.{Sources};
-ghost use Rattle.pq_links.specs.Files.{read_in};
-ghost use Rattle.pq_schema.specs.Missing.{nodes_of};
+ghost use Rattle.pq_links.specs.Files.{nodes_of, read_in};
 ghost use Rattle.pq_syntax.specs.declared.fault.Parsed.{Parsed};
 ghost use Rattle.pq_syntax.specs.declared.tree.Node.{Node};
 
@@ -73,9 +72,10 @@ pub fn diagnostics_by_answers<S: CheckKeys>()
     ensures gives { (f : List ℕ) (es : List (S.Key × S.Answer)) (d : Diagnosed) → Runs (λ (q : DiagnosticsPart) (a : S.Answer). diagnostics_advances S.parse (S.checked a) (S.parsed a) q) (diagnostics_starts S.checks f) es (Done d) → AreDiagnosticsBy S.checks S.parse S.checked S.parsed f es d }
 {}
 
-/// The checks of a file ask what it is read as, its imports, its links, its definitions, its scope
-/// and its resolved references, then what each imported file is read as, and in a bad file the
-/// links of each import up to the first cycle. They end in the errors of the file by these answers.
+/// The checks of a file ask its tree without spans, its imports, its links, its definitions, its
+/// scope and its resolved references, then the tree of each imported file without spans, and in a
+/// bad file the links of each import up to the first cycle. They end in the errors of the file by
+/// these answers.
 pub fn checks_by_answers<S: CheckKeys>()
-    ensures gives { (f : List ℕ) (es : List (S.Key × S.Answer)) (v : List Fault) → Runs (λ (q : CheckPart) (a : S.Answer). check_advances (record { parse = S.parse; imports = S.imports; linked = S.linked; defs = S.defs; scope = S.scope; resolved = S.resolved; parsed = S.parsed; imported = S.imported; ring = S.ring; defined = S.defined; scoped = S.scoped; referred = S.referred }) q a) (check_starts S.parse f) es (Done v) → AreChecksBy (record { parse = S.parse; imports = S.imports; linked = S.linked; defs = S.defs; scope = S.scope; resolved = S.resolved; parsed = S.parsed; imported = S.imported; ring = S.ring; defined = S.defined; scoped = S.scoped; referred = S.referred }) f es v }
+    ensures gives { (f : List ℕ) (es : List (S.Key × S.Answer)) (v : List Fault) → Runs (λ (q : CheckPart) (a : S.Answer). check_advances (record { items = S.items; imports = S.imports; linked = S.linked; defs = S.defs; scope = S.scope; resolved = S.resolved; itemed = S.itemed; imported = S.imported; ring = S.ring; defined = S.defined; scoped = S.scoped; referred = S.referred }) q a) (check_starts S.items f) es (Done v) → AreChecksBy (record { items = S.items; imports = S.imports; linked = S.linked; defs = S.defs; scope = S.scope; resolved = S.resolved; itemed = S.itemed; imported = S.imported; ring = S.ring; defined = S.defined; scoped = S.scoped; referred = S.referred }) f es v }
 {}

@@ -74,8 +74,8 @@ fn push_resolution(
             let code = Code::NotAType;
             say_name(alloc, faults, place, code, "", text, " is not a type")
         }
-        Resolution::Type { is_enum, .. } => {
-            let wrong = both(is_method(part), *is_enum);
+        Resolution::Type(target) => {
+            let wrong = both(is_method(part), target.is_enum);
             let code = Code::NotAMessage;
             tell_name(
                 alloc,

@@ -1,10 +1,9 @@
 //! What the checks of a file know of the files that it imports, each with its state.
 ghost use Rattle.std.specs.Prelude.{◌≡◌};
-ghost use Rattle.pq_checks.specs.Surroundings.{parsed_state, state_of};
+ghost use Rattle.pq_checks.specs.Surroundings.{state_of};
 
-use pq_links::ParsedFile;
+use pq_links::FileItems;
 use pq_names::Text;
-use pq_syntax::Parsed;
 
 /// What there is of an imported file.
 #[derive(Clone, Copy, Debug, PartialEq, Eq)]
@@ -26,22 +25,13 @@ pub struct Imported {
     pub state: FileState,
 }
 
-/// The state of a file whose text has the tree or error `parsed`.
-fn parsed_state(parsed: &Parsed) -> FileState
-    ensures state { result ≡ parsed_state parsed.now }
+/// The state of a file that is `items` without spans.
+pub(crate) fn state_of(items: &FileItems) -> FileState
+    ensures state { result ≡ state_of items.now }
 {
-    match parsed {
-        Parsed::Tree(_) => FileState::Readable,
-        Parsed::Fault { .. } => FileState::Unreadable,
-    }
-}
-
-/// The state of a file that is read as `file`.
-pub(crate) fn state_of(file: &ParsedFile) -> FileState
-    ensures state { result ≡ state_of file.now }
-{
-    match file {
-        ParsedFile::Absent => FileState::Missing,
-        ParsedFile::Present { parsed, .. } => parsed_state(parsed),
+    match items {
+        FileItems::Absent => FileState::Missing,
+        FileItems::Fault => FileState::Unreadable,
+        FileItems::Tree(_) => FileState::Readable,
     }
 }

@@ -36,9 +36,9 @@ pub items_given : {K A : Type 0} (parse : List ℕ → K) (parsed : A → Parsed
     → Runs (λ (q : Unit {0}) (a : A). items_advances (parsed a)) (items_starts parse f) es (Done v) → AreItemsBy parse parsed f es v
 items_given parse parsed f es v r = one_read (parse f) (λ a. items_of (parsed a)) es v r
 
-pub imports_given : {K A : Type 0} (parse : List ℕ → K) (parsed : A → ParsedFile) (f : List ℕ) (es : List (K × A)) (v : Option (List Import))
-    → Runs (λ (q : Unit {0}) (a : A). imports_advances (parsed a)) (imports_starts parse f) es (Done v) → AreImportsBy parse parsed f es v
-imports_given parse parsed f es v r = one_read (parse f) (λ a. file_imports (parsed a)) es v r
+pub imports_given : {K A : Type 0} (items : List ℕ → K) (itemed : A → FileItems) (f : List ℕ) (es : List (K × A)) (v : Option (List Import))
+    → Runs (λ (q : Unit {0}) (a : A). imports_advances (itemed a)) (imports_starts items f) es (Done v) → AreImportsBy items itemed f es v
+imports_given items itemed f es v r = one_read (items f) (λ a. file_imports (itemed a)) es v r
 
 module _ {K A : Type 0} (imports linked : List ℕ → K) (read : A → Option (List Import)) (links : A → Links) where
   abbrev pub advances : Linking → A → Turn K Linking Links

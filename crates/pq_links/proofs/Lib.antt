@@ -8,7 +8,6 @@ pub mod Equality
 pub mod GraphLemmas
 pub mod NameKinds
 pub mod Reached
-pub mod FileAnswers
 pub mod PartSpans
 pub mod BareParts
 pub mod LinkedMeaning

@@ -20,10 +20,10 @@ IsParsedBy {A = A} input text f es v = (a : A) × (es ≡ (input f, a) ∷ []) �
 abbrev pub AreItemsBy : {K A : Type 0} → (List ℕ → K) → (A → ParsedFile) → List ℕ → List (K × A) → FileItems → Type 0
 AreItemsBy {A = A} parse parsed f es v = (a : A) × (es ≡ (parse f, a) ∷ []) × (v ≡ items_of (parsed a))
 
--- `AreImportsBy parse parsed f es v` is that the one question is for what the file `f` is read as,
--- and that `v` is the imports of that, or `None` where it is absent
-abbrev pub AreImportsBy : {K A : Type 0} → (List ℕ → K) → (A → ParsedFile) → List ℕ → List (K × A) → Option (List Import) → Type 0
-AreImportsBy {A = A} parse parsed f es v = (a : A) × (es ≡ (parse f, a) ∷ []) × (v ≡ file_imports (parsed a))
+-- `AreImportsBy items itemed f es v` is that the one question is for what the file `f` is without
+-- spans, and that `v` is the imports of that, or `None` where it is absent
+abbrev pub AreImportsBy : {K A : Type 0} → (List ℕ → K) → (A → FileItems) → List ℕ → List (K × A) → Option (List Import) → Type 0
+AreImportsBy {A = A} items itemed f es v = (a : A) × (es ≡ (items f, a) ∷ []) × (v ≡ file_imports (itemed a))
 
 -- `AsksLinks linked links is es pairs` is that the questions are for the links of the files of the
 -- imports `is`, in order, and that `pairs` is these imports, each with the links of its answer

@@ -54,16 +54,12 @@ import_statements nodes = filter_map (λ n. import_of n.statement) nodes
 abbrev pub imports_of : List Node → List Import
 imports_of nodes = each_once same_import (import_statements nodes)
 
--- `parsed_imports p` is the imports of a text with the tree or error `p`: with a syntax error it
--- has none
-abbrev pub parsed_imports : Parsed → List Import
-parsed_imports (Tree nodes) = imports_of nodes
-parsed_imports (Fault span code) = []
-
--- `file_imports f` is the imports of the file that is read as `f`, or `None` if it is absent
-abbrev pub file_imports : ParsedFile → Option (List Import)
-file_imports Absent = None
-file_imports (Present p lines) = Some (parsed_imports p)
+-- `file_imports i` is the imports of a file that is `i` without spans, or `None` if it is absent;
+-- with a syntax error it has none
+abbrev pub file_imports : FileItems → Option (List Import)
+file_imports items.Absent = None
+file_imports items.Fault = Some []
+file_imports (items.Tree nodes) = Some (imports_of nodes)
 
 -- `read_file text` is what a file with `text` is read as, `None` for an absent file
 abbrev pub read_file : Option (List ℕ) → ParsedFile
@@ -73,10 +69,6 @@ read_file (Some text) = Present (parsed text) (lines_of text)
 -- `read_in s f` is what the file `f` of the sources `s` is read as
 abbrev pub read_in : Sources → List ℕ → ParsedFile
 read_in s f = read_file (file_in s f).text
-
--- `graph_of s` is the import graph of the sources `s`
-abbrev pub graph_of : Sources → Graph
-graph_of s f = file_imports (read_in s f)
 
 -- `parsed_items p` is what a text with the tree or error `p` is without spans
 abbrev pub parsed_items : Parsed → FileItems
@@ -97,3 +89,19 @@ abbrev pub nodes_in : FileItems → List Node
 nodes_in items.Absent = []
 nodes_in items.Fault = []
 nodes_in (items.Tree nodes) = nodes
+
+-- `graph_of s` is the import graph of the sources `s`
+abbrev pub graph_of : Sources → Graph
+graph_of s f = file_imports (items_in s f)
+
+-- `tree_nodes p` is the statements of a text with the tree or error `p`: with a syntax error it has
+-- none
+abbrev pub tree_nodes : Parsed → List Node
+tree_nodes (Tree nodes) = nodes
+tree_nodes (Fault span code) = []
+
+-- `nodes_of file` is the statements, with their spans, of a file that is read as `file`; an absent
+-- file has none
+abbrev pub nodes_of : ParsedFile → List Node
+nodes_of Absent = []
+nodes_of (Present p lines) = tree_nodes p

@@ -5,16 +5,16 @@
 ghost use Rattle.std.specs.Prelude.{◌≡◌, Option, Some, None, cond, IfOk, OnOk, option_copied, option_to_list};
 ghost use Rattle.std.specs.Ordering.{eq_by_cmp};
 ghost use Rattle.std.specs.Str.{is_utf8};
-ghost use Rattle.pq_links.specs.Files.{file_imports, imports_of, import_by, import_of, is_public, parsed_imports};
+ghost use Rattle.pq_links.specs.Files.{file_imports, imports_of, import_by, import_of, is_public};
 ghost use Rattle.pq_links.specs.aux.Adding.{add_first, add_firsts};
 ghost use Rattle.pq_links.specs.contracts.links.ImportOrd.TheImpl as import_order;
 
 use crate::Memory;
-use crate::files::ParsedFile;
+use crate::file_items::FileItems;
 use crate::firsts::Firsts;
 use crate::links::Import;
 use pq_rules::{Shared, Text};
-use pq_syntax::{ImportKind, Items, Node, Parsed, Statement};
+use pq_syntax::{ImportKind, Items, Node, Statement};
 use std::alloc::Global;
 
 /// The text of `bytes`, if they are UTF-8.
@@ -87,28 +87,17 @@ fn imports_in(alloc: Global, nodes: &[Node]) -> Result<Items<Import>, Memory>
     Ok(Items::new(imports.into_vec()))
 }
 
-/// The imports of a text with the tree or error `parsed`.
-fn imports_parsed(alloc: Global, parsed: &Parsed) -> Result<Items<Import>, Memory>
-    ensures imports { IfOk result (λ is. is ≡ parsed_imports parsed.now) }
-{
-    match parsed {
-        Parsed::Tree(nodes) => imports_in(alloc, nodes.as_slice()),
-        Parsed::Fault { .. } => Ok(Items::new(Vec::new(alloc))),
-    }
-}
-
-/// The imports of a file that is read as `file`, `None` where it is absent.
+/// The imports of a file that is `items` without spans, `None` where it is absent.
 pub(crate) fn imports_of_file(
     alloc: Global,
-    file: &ParsedFile,
+    items: &FileItems,
 ) -> Result<Option<Shared<Items<Import>>>, Memory>
-    ensures imports { IfOk result (λ is. is ≡ file_imports file.now) }
+    ensures imports { IfOk result (λ is. is ≡ file_imports items.now) }
 {
-    match file {
-        ParsedFile::Present { parsed, .. } => {
-            let imports = imports_parsed(alloc, parsed)?;
-            Ok(Some(Shared::new(alloc, imports)?))
-        }
-        ParsedFile::Absent => Ok(None),
-    }
+    let imports = match items {
+        FileItems::Tree(file) => imports_in(alloc, file.as_slice())?,
+        FileItems::Fault => Items::new(Vec::new(alloc)),
+        FileItems::Absent => return Ok(None),
+    };
+    Ok(Some(Shared::new(alloc, imports)?))
 }

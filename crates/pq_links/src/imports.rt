@@ -3,10 +3,10 @@ ghost use Rattle.std.specs.Prelude.{◌≡◌, ℕ, IfOk, option_copied, unwrap_
 ghost use Rattle.pq_links.specs.Files.{file_imports};
 ghost use Rattle.pq_links.specs.aux.Queries.{imports_level, imports_starts, imports_advances};
 ghost use Rattle.pq_links.specs.aux.Falls.{once_falls};
-ghost use Rattle.pq_links.specs.declared.files.ParsedFile.TheVariants.{Absent};
+ghost use Rattle.pq_links.specs.declared.file_items.FileItems.TheVariants.{Absent};
 
 use crate::Memory;
-use crate::files::ParsedFile;
+use crate::file_items::FileItems;
 use crate::import_list::imports_of_file;
 use crate::keys::LinkKeys;
 use crate::links::Import;
@@ -28,15 +28,15 @@ impl<S> ImportsQuery<S> {
     }
 }
 
-/// The imports of a file that is read as `file`, `None` for an absent one.
+/// The imports of a file that is `items` without spans, `None` for an absent one.
 fn imports_by(
     alloc: Global,
-    file: Option<&ParsedFile>,
+    items: Option<&Shared<FileItems>>,
 ) -> Result<Option<Shared<Items<Import>>>, Memory>
-    ensures imports { IfOk result (λ is. is ≡ file_imports (unwrap_or (option_copied file.entry) Absent)) }
+    ensures imports { IfOk result (λ is. is ≡ file_imports (unwrap_or (option_copied items.entry) Absent)) }
 {
-    match file {
-        Some(file) => imports_of_file(alloc, file),
+    match items {
+        Some(items) => imports_of_file(alloc, items.get()),
         None => Ok(None),
     }
 }
@@ -52,13 +52,13 @@ impl<S: LinkKeys> Query for ImportsQuery<S> {
 
     type AnyAnswer = S::Answer;
 
-    const LEVEL: u8 = 2;
+    const LEVEL: u8 = 3;
 
     ghost LEVEL = { imports_level };
 
-    ghost starts = { λ s k. imports_starts S.parse k };
+    ghost starts = { λ s k. imports_starts S.items k };
 
-    ghost advances = { λ s p a. imports_advances (S.parsed a) };
+    ghost advances = { λ s p a. imports_advances (S.itemed a) };
 
     ghost lefts = { λ s p. (0, 0) };
 
@@ -69,7 +69,7 @@ impl<S: LinkKeys> Query for ImportsQuery<S> {
         _alloc: Global,
         key: &Text,
     ) -> Result<Turn<S::Key, (), Option<Shared<Items<Import>>>>, Memory> {
-        Ok(Turn::Ask(S::parse_key(key)?, ()))
+        Ok(Turn::Ask(S::items_key(key)?, ()))
     }
 
     fn advance(
@@ -78,7 +78,7 @@ impl<S: LinkKeys> Query for ImportsQuery<S> {
         _part: (),
         answer: &S::Answer,
     ) -> Result<Turn<S::Key, (), Option<Shared<Items<Import>>>>, ()> {
-        match imports_by(alloc, S::read_parsed(answer)) {
+        match imports_by(alloc, S::read_items(answer)) {
             Ok(imports) => Ok(Turn::Done(imports)),
             Err(_) => Err(()),
         }

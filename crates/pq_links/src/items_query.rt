@@ -27,11 +27,11 @@ impl<S> ItemsQuery<S> {
 }
 
 /// What a file that is read as `file` is without spans, to be shared; `None` is an absent file.
-fn items_by(alloc: Global, file: Option<&ParsedFile>) -> Result<Shared<FileItems>, Memory>
+fn items_by(alloc: Global, file: Option<&Shared<ParsedFile>>) -> Result<Shared<FileItems>, Memory>
     ensures items { IfOk result (λ i. i ≡ items_of (unwrap_or (option_copied file.entry) Absent)) }
 {
     let items = match file {
-        Some(file) => items_of(alloc, file)?,
+        Some(file) => items_of(alloc, file.get())?,
         None => FileItems::Absent,
     };
     Shared::new(alloc, items)

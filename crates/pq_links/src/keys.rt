@@ -1,12 +1,15 @@
 //! What a sum of queries offers the queries of this crate.
 ghost use Rattle.std.specs.Prelude.{◌≡◌, ℕ, List, Option, IfOk, option_copied, unwrap_or};
 ghost use Rattle.pq_links.specs.Visibility.{no_links};
+ghost use Rattle.pq_links.specs.declared.file_items.FileItems.{FileItems};
+ghost use Rattle.pq_links.specs.declared.file_items.FileItems.TheVariants.{Absent as NoItems};
 ghost use Rattle.pq_links.specs.declared.files.ParsedFile.{ParsedFile};
 ghost use Rattle.pq_links.specs.declared.files.ParsedFile.TheVariants.{Absent};
 ghost use Rattle.pq_links.specs.declared.links.Import.{Import};
 ghost use Rattle.pq_links.specs.declared.links.Links.{Links};
 
 use crate::Memory;
+use crate::file_items::FileItems;
 use crate::files::ParsedFile;
 use crate::links::{Import, Links};
 use pq_rules::{Shared, Text};
@@ -26,6 +29,9 @@ pub trait LinkKeys {
     /// The key of what a file is read as.
     ghost parse: { List ℕ → Self.Key };
 
+    /// The key of what a file is read as, without spans.
+    ghost items: { List ℕ → Self.Key };
+
     /// The key of the imports of a file.
     ghost imports: { List ℕ → Self.Key };
 
@@ -37,6 +43,9 @@ pub trait LinkKeys {
 
     /// What an answer says that a file is read as.
     ghost parsed: { Self.Answer → ParsedFile };
+
+    /// What an answer says that a file is read as, without spans.
+    ghost itemed: { Self.Answer → FileItems };
 
     /// The imports that an answer holds.
     ghost imported: { Self.Answer → Option (List Import) };
@@ -52,6 +61,10 @@ pub trait LinkKeys {
     fn parse_key(file: &Text) -> Result<Self::Key, Memory>
         ensures key { IfOk result (λ k. k ≡ parse file.now) };
 
+    /// Makes the key of what `file` is read as, without spans.
+    fn items_key(file: &Text) -> Result<Self::Key, Memory>
+        ensures key { IfOk result (λ k. k ≡ items file.now) };
+
     /// Makes the key of the imports of `file`.
     fn imports_key(file: &Text) -> Result<Self::Key, Memory>
         ensures key { IfOk result (λ k. k ≡ imports file.now) };
@@ -65,8 +78,12 @@ pub trait LinkKeys {
         ensures text { option_copied result ≡ text answer.now };
 
     /// Reads what a file is read as, `None` only where that is `Absent`.
-    fn read_parsed<'a>(answer: &'a Self::Answer) -> Option<&'a ParsedFile>
+    fn read_parsed<'a>(answer: &'a Self::Answer) -> Option<&'a Shared<ParsedFile>>
         ensures parsed { unwrap_or (option_copied result) Absent ≡ parsed answer.now };
+
+    /// Reads what a file is read as, without spans, `None` only where that is `Absent`.
+    fn read_items<'a>(answer: &'a Self::Answer) -> Option<&'a Shared<FileItems>>
+        ensures items { unwrap_or (option_copied result) NoItems ≡ itemed answer.now };
 
     /// Reads the imports of a file, `None` where it is absent.
     fn read_imports<'a>(answer: &'a Self::Answer) -> Option<&'a Shared<Items<Import>>>

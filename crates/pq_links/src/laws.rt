@@ -34,9 +34,10 @@ pub fn items_by_answers<S: LinkKeys>()
     ensures gives { (f : List ℕ) (es : List (S.Key × S.Answer)) (v : FileItems) → Runs (λ (q : Unit {0}) (a : S.Answer). items_advances (S.parsed a)) (items_starts S.parse f) es (Done v) → AreItemsBy S.parse S.parsed f es v }
 {}
 
-/// The imports of a file ask its parse, and end in the imports of that, `None` where it is absent.
+/// The imports of a file ask its tree without spans, and end in the imports of that, `None` where
+/// the file is absent.
 pub fn imports_by_answers<S: LinkKeys>()
-    ensures gives { (f : List ℕ) (es : List (S.Key × S.Answer)) (v : Option (List Import)) → Runs (λ (q : Unit {0}) (a : S.Answer). imports_advances (S.parsed a)) (imports_starts S.parse f) es (Done v) → AreImportsBy S.parse S.parsed f es v }
+    ensures gives { (f : List ℕ) (es : List (S.Key × S.Answer)) (v : Option (List Import)) → Runs (λ (q : Unit {0}) (a : S.Answer). imports_advances (S.itemed a)) (imports_starts S.items f) es (Done v) → AreImportsBy S.items S.itemed f es v }
 {}
 
 /// The links of a file ask its imports and then the links of each imported file, in order, and end

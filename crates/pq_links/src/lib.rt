@@ -1,5 +1,5 @@
-//! The import graph of proto3 files, as queries: the parse of a file, its imports, and its links,
-//! which are the files that it exports, sees and reaches.
+//! The import graph of proto3 files, as queries: the parse of a file, its tree without spans, its
+//! imports, and its links, which are the files that it exports, sees and reaches.
 //!
 //! The graph is defined in `specs/ImportGraph`, exports, visible and reached files in
 //! `specs/Visibility`, and what a text is read as in `specs/Files`. The four queries know no rule

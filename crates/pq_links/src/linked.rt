@@ -154,7 +154,7 @@ impl<S: LinkKeys> Query for LinkedQuery<S> {
 
     type AnyAnswer = S::Answer;
 
-    const LEVEL: u8 = 3;
+    const LEVEL: u8 = 4;
 
     ghost LEVEL = { linked_level };
 

@@ -9,5 +9,6 @@ pub mod GraphDecided
 pub mod Existence
 pub mod ProtoMeaning
 pub mod Answered
+pub mod ByAnswers
 pub mod OneCompilation
 pub mod RuleMeaning

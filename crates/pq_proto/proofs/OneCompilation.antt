@@ -15,14 +15,14 @@ use Rattle.pq_rules.specs.Value.{Means}
 use Rattle.pq_rules.proofs.OneRead.{makes_once}
 use Rattle.pq_rules.proofs.Rings.{Strict}
 use Rattle.pq_rules.proofs.Uniqueness.{means_one}
-use Rattle.pq_links.specs.Files.{graph_of}
+use Rattle.pq_links.specs.Files.{graph_of, items_in, nodes_of}
 use Rattle.pq_links.specs.ImportGraph.{Graph, file_of, IsBad, IsGood, IsNext, IsRingOf}
+use Rattle.pq_links.specs.declared.file_items.FileItems.{FileItems}
 use Rattle.pq_links.specs.declared.files.ParsedFile.{ParsedFile}
 use Rattle.pq_links.specs.declared.links.Import.{Import}
 use Rattle.pq_links.proofs.GraphLemmas.{ends_or_walks}
 use Rattle.pq_links.proofs.NameKinds.{IfImportsIn}
 use Rattle.pq_schema.specs.Compile.{IsScope, AreResolved}
-use Rattle.pq_schema.specs.Missing.{nodes_of}
 use Rattle.pq_schema.specs.ScopeContents.{Scope}
 use Rattle.pq_schema.specs.SchemaSum.{SchemaMeans}
 use Rattle.pq_schema.specs.declared.definitions.Definition.{Definition}
@@ -44,7 +44,7 @@ use Rattle.pq_checks.specs.declared.surroundings.Imported.{Imported}
 use Rattle.pq_proto.specs.Compile.{Compiles, IsDefinition, IsDescriptor, definition_by, descriptor_by, has_tree, is_failed, offset_at, read_in, symbols_of}
 use Rattle.pq_proto.specs.Definition.{definition_at}
 use Rattle.pq_proto.specs.aux.CheckKinds.{AsksIn, CheckPartIn, check_starts_in, check_advances_in}
-use Rattle.pq_proto.specs.aux.Outputs.{output_level, faults_read, parsed_read, resolved_read, file_turn, tree_turn, descriptor_starts, descriptor_advances, descriptor_left, descriptor_falls, symbols_starts, symbols_advances, references_turn, target_turn, definition_advances, definition_left, definition_falls}
+use Rattle.pq_proto.specs.aux.Outputs.{output_level, faults_read, items_read, parsed_read, resolved_read, bare_turn, tree_turn, descriptor_starts, descriptor_advances, descriptor_left, descriptor_falls, symbols_starts, symbols_advances, references_turn, target_turn, definition_advances, definition_left, definition_falls}
 use Rattle.pq_proto.specs.aux.RuleSet.{check_words, imports_read, ring_read, scope_read}
 use Rattle.pq_proto.specs.declared.key.Place.{Place}
 use Rattle.pq_proto.specs.declared.key.ProtoKey.{ProtoKey}
@@ -163,7 +163,7 @@ module _ (order : ProtoKey → ProtoKey → Ordering) (files : Sources)
 
     faults_one : (f : List ℕ) (fs gs : List Fault) → AreFaults files f fs → AreFaults files f gs → fs ≡ gs
     faults_one f fs gs p q =
-        p.2 ∙ ap (λ (s : Surroundings). file_faults s (read_in files f)) (surroundings_one f p.0 q.0 p.1 q.1) ∙ sym q.2
+        p.2 ∙ ap (λ (s : Surroundings). file_faults s (items_in files f)) (surroundings_one f p.0 q.0 p.1 q.1) ∙ sym q.2
 
     diagnostics_one : (f : List ℕ) (c d : Diagnosed) → AreDiagnostics files f c → AreDiagnostics files f d → c ≡ d
     diagnostics_one f c d p q = p.2 ∙ ap (λ (fs : List Fault). diagnosed fs (read_in files f)) (faults_one f p.0 q.0 p.1 q.1) ∙ sym q.2
@@ -171,8 +171,8 @@ module _ (order : ProtoKey → ProtoKey → Ordering) (files : Sources)
     descriptor_one : (f v w : List ℕ) → IsDescriptor files f v → IsDescriptor files f w → v ≡ w
     descriptor_one f v w p q =
         p.4
-        ∙ ap (λ fs. descriptor_by f fs (read_in files f) p.1) (faults_one f p.0 q.0 p.2 q.2)
-        ∙ ap (λ rs. descriptor_by f q.0 (read_in files f) rs) (resolved_one f p.1 q.1 p.3 q.3)
+        ∙ ap (λ fs. descriptor_by f fs (items_in files f) p.1) (faults_one f p.0 q.0 p.2 q.2)
+        ∙ ap (λ rs. descriptor_by f q.0 (items_in files f) rs) (resolved_one f p.1 q.1 p.3 q.3)
         ∙ sym q.4
 
     definition_one : (f : List ℕ) (place : Place) (v w : Option Location) → IsDefinition files f place v → IsDefinition files f place w → v ≡ w
@@ -182,6 +182,7 @@ module _ (order : ProtoKey → ProtoKey → Ordering) (files : Sources)
     pub compiles_one : (k : ProtoKey) (a b : A) → Compiles files k a → Compiles files k b → a ≡ b
     compiles_one (keys.Input f) a b p q = p ∙ sym q
     compiles_one (keys.Parse f) a b p q = p ∙ sym q
+    compiles_one (keys.Items f) a b p q = p ∙ sym q
     compiles_one (keys.Imports f) a b p q = p ∙ sym q
     compiles_one (keys.Linked f) a b p q = one (keys.Linked f) a b ((t.linked f a).1 p) ((t.linked f b).1 q)
     compiles_one (keys.Defs f) a b p q = p ∙ sym q
@@ -204,6 +205,9 @@ module _ (order : ProtoKey → ProtoKey → Ordering) (files : Sources)
     parse_answer : (f : List ℕ) → Answered (keys.Parse f)
     parse_answer f = (_, (t.parse f _).1 refl)
 
+    items_answer : (f : List ℕ) → Answered (keys.Items f)
+    items_answer f = (_, (t.items f _).1 refl)
+
     imports_answer : (f : List ℕ) → Answered (keys.Imports f)
     imports_answer f = (_, (t.imports f _).1 refl)
 
@@ -225,7 +229,7 @@ module _ (order : ProtoKey → ProtoKey → Ordering) (files : Sources)
 
     asks : AsksIn (HasAnswer i check_level) check_words Any
     asks = record {
-      parse = λ f n. (omega arith, parse_answer f);
+      items = λ f n. (omega arith, items_answer f);
       imports = λ f n. (omega arith, imports_answer f);
       linked = λ f n. (omega arith, linked_answer f);
       defs = λ f n. (omega arith, defs_answer f);
@@ -235,7 +239,7 @@ module _ (order : ProtoKey → ProtoKey → Ordering) (files : Sources)
 
     checks_answer : (f : List ℕ) → Answered (keys.Checks f)
     checks_answer f =
-        has_answer i (λ x. keys.Checks x) (λ q. Checking q) (λ v. values.Checks v) check_level (check_starts (λ x. keys.Parse x)) (λ q a. check_advances check_words q a)
+        has_answer i (λ x. keys.Checks x) (λ q. Checking q) (λ v. values.Checks v) check_level (check_starts (λ x. keys.Items x)) (λ q a. check_advances check_words q a)
         (checks order files order_is one_way).checks_embeds (omega arith) check_left (λ q a k r e. check_falls check_words a q k r e) (CheckPartIn Any)
         (λ x. check_starts_in (HasAnswer i check_level) check_words Any asks x tt)
         (λ q a p. check_advances_in (HasAnswer i check_level) check_words Any asks q a (any_imports (imports_read a)) p) f
@@ -260,18 +264,18 @@ module _ (order : ProtoKey → ProtoKey → Ordering) (files : Sources)
               (symbols_embed order files order_is one_way t u) (λ x. keys.Parse x) (λ x. tt) (λ x a. symbols_of (parsed_read a)) (λ x. refl) (λ x a. refl) (λ x. omega arith) f p.0 p.1,
         )
 
-    file_asks : (f : List ℕ) (failed : Bool) → Asks i output_level (λ (q : DescriptorPart). Unit {0}) (file_turn f failed)
-    file_asks f true = tt
-    file_asks f false = ((omega arith, parse_answer f), tt)
+    bare_asks : (f : List ℕ) (failed : Bool) → Asks i output_level (λ (q : DescriptorPart). Unit {0}) (bare_turn f failed)
+    bare_asks f true = tt
+    bare_asks f false = ((omega arith, items_answer f), tt)
 
-    tree_asks : (f : List ℕ) (file : ParsedFile) (tree : Bool) → Asks i output_level (λ (q : DescriptorPart). Unit {0}) (tree_turn f file tree)
-    tree_asks f file true = ((omega arith, resolved_answer f), tt)
-    tree_asks f file false = tt
+    tree_asks : (f : List ℕ) (items : FileItems) (tree : Bool) → Asks i output_level (λ (q : DescriptorPart). Unit {0}) (tree_turn f items tree)
+    tree_asks f items true = ((omega arith, resolved_answer f), tt)
+    tree_asks f items false = tt
 
     descriptor_asks : (q : DescriptorPart) (a : A) → Asks i output_level (λ (x : DescriptorPart). Unit {0}) (descriptor_advances q a)
-    descriptor_asks (descriptors.ReadChecks f) a = file_asks f (is_failed (faults_read a))
-    descriptor_asks (descriptors.ReadFile f) a = tree_asks f (parsed_read a) (has_tree (parsed_read a))
-    descriptor_asks (descriptors.ReadResolved f file) a = tt
+    descriptor_asks (descriptors.ReadChecks f) a = bare_asks f (is_failed (faults_read a))
+    descriptor_asks (descriptors.ReadItems f) a = tree_asks f (items_read a) (has_tree (items_read a))
+    descriptor_asks (descriptors.ReadResolved f items) a = tt
 
     descriptor_answer : (f : List ℕ) → Answered (keys.Descriptor f)
     descriptor_answer f =
@@ -301,6 +305,7 @@ module _ (order : ProtoKey → ProtoKey → Ordering) (files : Sources)
     pub answered : (k : ProtoKey) → Answered k
     answered (keys.Input f) = input_answer f
     answered (keys.Parse f) = parse_answer f
+    answered (keys.Items f) = items_answer f
     answered (keys.Imports f) = imports_answer f
     answered (keys.Linked f) = linked_answer f
     answered (keys.Defs f) = defs_answer f

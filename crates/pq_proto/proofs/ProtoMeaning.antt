@@ -21,8 +21,9 @@ use Rattle.pq_rules.specs.Embedding.{Runs, Embeds}
 use Rattle.pq_rules.proofs.LowerReads.{lower_runs}
 use Rattle.pq_rules.proofs.OneRead.{once}
 use Rattle.pq_rules.proofs.Rings.{Strict}
+use Rattle.pq_links.specs.Files.{items_in, nodes_in, nodes_of}
+use Rattle.pq_links.specs.declared.file_items.FileItems.{FileItems}
 use Rattle.pq_links.specs.declared.files.ParsedFile.{ParsedFile}
-use Rattle.pq_schema.specs.Missing.{nodes_of}
 use Rattle.pq_schema.specs.SchemaSum.{SchemaSum, SchemaMeans}
 use Rattle.pq_schema.specs.declared.resolved.ResolvedReference.{ResolvedReference}
 use Rattle.pq_checks.specs.ChecksSum.{ChecksSum, ChecksMeans}
@@ -31,8 +32,9 @@ use Rattle.pq_checks.specs.declared.fault.Fault.{Fault}
 use Rattle.pq_proto.specs.Compile.{Compiles, IsDefinition, IsDescriptor, has_tree, is_failed, location_of, offset_at, read_in, symbols_of}
 use Rattle.pq_proto.specs.Definition.{definition_at}
 use Rattle.pq_proto.specs.Descriptor.{descriptor}
-use Rattle.pq_proto.specs.aux.Outputs.{output_level, faults_read, parsed_read, resolved_read, file_turn, tree_turn, descriptor_starts, descriptor_advances, symbols_starts, symbols_advances, definition_starts, references_turn, target_turn, definition_advances}
-use Rattle.pq_proto.specs.aux.RuleSet.{text_read, imports_read, links_read, defs_read, scope_read, ring_read, own_name, proto_level, proto_rules}
+use Rattle.pq_proto.specs.Levels.{level_of}
+use Rattle.pq_proto.specs.aux.Outputs.{output_level, faults_read, items_read, parsed_read, resolved_read, bare_turn, tree_turn, descriptor_starts, descriptor_advances, symbols_starts, symbols_advances, definition_starts, references_turn, target_turn, definition_advances}
+use Rattle.pq_proto.specs.aux.RuleSet.{text_read, imports_read, links_read, defs_read, scope_read, ring_read, own_name, proto_rules}
 use Rattle.pq_proto.specs.declared.key.Place.{Place}
 use Rattle.pq_proto.specs.declared.key.ProtoKey.{ProtoKey}
 use Rattle.pq_proto.specs.declared.key.ProtoKey.TheVariants as keys
@@ -41,7 +43,7 @@ use Rattle.pq_proto.specs.declared.queries.definition.DefinitionPart.TheVariants
 use Rattle.pq_proto.specs.declared.queries.descriptor.DescriptorPart.{DescriptorPart}
 use Rattle.pq_proto.specs.declared.queries.descriptor.DescriptorPart.TheVariants as descriptors
 use Rattle.pq_proto.specs.declared.rules.ProtoPart.{ProtoPart}
-use Rattle.pq_proto.specs.declared.rules.ProtoPart.TheVariants.{Parsing, Importing, LinkingFiles, Defining, Scoping, Resolving, Checking, Diagnosing, Describing, Listing, Locating}
+use Rattle.pq_proto.specs.declared.rules.ProtoPart.TheVariants.{Parsing, Itemizing, Importing, LinkingFiles, Defining, Scoping, Resolving, Checking, Diagnosing, Describing, Listing, Locating}
 use Rattle.pq_proto.specs.declared.definition.TypeItem.{TypeItem}
 use Rattle.pq_proto.specs.declared.value.Location.{Location}
 use Rattle.pq_proto.specs.declared.value.ProtoValue.{ProtoValue}
@@ -67,12 +69,14 @@ module _ (order : ProtoKey → ProtoKey → Ordering) (files : Sources)
   schema = record {
     input = λ f. keys.Input f;
     parse = λ f. keys.Parse f;
+    items = λ f. keys.Items f;
     imports = λ f. keys.Imports f;
     linked = λ f. keys.Linked f;
     defs = λ f. keys.Defs f;
     scope = λ f. keys.Scope f;
     resolved = λ f. keys.Resolved f;
     parse_part = λ q. Parsing;
+    items_part = λ q. Itemizing;
     imports_part = λ q. Importing;
     linked_part = λ q. LinkingFiles q;
     defs_part = λ q. Defining;
@@ -80,6 +84,7 @@ module _ (order : ProtoKey → ProtoKey → Ordering) (files : Sources)
     resolved_part = λ q. Resolving q;
     text_value = λ x. values.Source x;
     parse_value = λ x. values.Parse x;
+    items_value = λ x. values.Items x;
     imports_value = λ x. values.Imports x;
     linked_value = λ x. values.Linked x;
     defs_value = λ x. values.Defs x;
@@ -87,12 +92,14 @@ module _ (order : ProtoKey → ProtoKey → Ordering) (files : Sources)
     resolved_value = λ x. values.Resolved x;
     text_read = text_read;
     parsed_read = parsed_read;
+    items_read = items_read;
     imports_read = imports_read;
     links_read = links_read;
     defs_read = defs_read;
     scope_read = scope_read;
     text_back = λ x. refl;
     parsed_back = λ x. refl;
+    items_back = λ x. refl;
     imports_back = λ x. refl;
     links_back = λ x. refl;
     defs_back = λ x. refl;
@@ -101,6 +108,7 @@ module _ (order : ProtoKey → ProtoKey → Ordering) (files : Sources)
     input_level = λ f. refl;
     input_is = λ f. refl;
     parse_embeds = record { level_is = λ x. refl; start_is = λ x. refl; advance_is = λ q a. refl };
+    items_embeds = record { level_is = λ x. refl; start_is = λ x. refl; advance_is = λ q a. refl };
     imports_embeds = record { level_is = λ x. refl; start_is = λ x. refl; advance_is = λ q a. refl };
     linked_embeds = record { level_is = λ x. refl; start_is = λ x. refl; advance_is = λ q a. refl };
     defs_embeds = record { level_is = λ x. refl; start_is = λ x. refl; advance_is = λ q a. refl };
@@ -152,16 +160,16 @@ module _ (order : ProtoKey → ProtoKey → Ordering) (files : Sources)
 
   -- a query whose turns ask keys of lower levels alone
   abbrev IsLow : {Q W : Type 0} → Turn ProtoKey Q W → Type 0
-  IsLow {Q} {W} t = (k : ProtoKey) (q : Q) → t ≡ Ask k q → proto_level k < output_level
+  IsLow {Q} {W} t = (k : ProtoKey) (q : Q) → t ≡ Ask k q → level_of k < output_level
 
   runs_low : {Q W : Type 0} (advances : Q → A → Turn ProtoKey Q W) → ((q : Q) (a : A) → IsLow (advances q a))
-      → (t : Turn ProtoKey Q W) → IsLow t → (es : Trace ProtoKey ProtoValue) (k : ProtoKey) (q : Q) → Runs advances t es (Ask k q) → proto_level k < output_level
+      → (t : Turn ProtoKey Q W) → IsLow t → (es : Trace ProtoKey ProtoValue) (k : ProtoKey) (q : Q) → Runs advances t es (Ask k q) → level_of k < output_level
   unfolding Runs
   runs_low advances low t l [] k q r = l k q r
   runs_low advances low t l (e ∷ es) k q r = runs_low advances low (advances r.0 e.1) (low r.0 e.1) es k q r.2
 
-  ask_low : {Q W : Type 0} (j : ProtoKey) (p : Q) → proto_level j < output_level → IsLow {W = W} (Ask j p)
-  ask_low j p l k q e = let key : j ≡ k = cc in subst (λ x. proto_level x < output_level) key l
+  ask_low : {Q W : Type 0} (j : ProtoKey) (p : Q) → level_of j < output_level → IsLow {W = W} (Ask j p)
+  ask_low j p l k q e = let key : j ≡ k = cc in subst (λ x. level_of x < output_level) key l
 
   done_low : {Q W : Type 0} (w : W) → IsLow {Q = Q} (Done w)
   done_low w k q e = cc
@@ -169,6 +177,9 @@ module _ (order : ProtoKey → ProtoKey → Ordering) (files : Sources)
   module _ (t : SchemaMeans m files schema) (u : ChecksMeans m files schema checks) where
     parsed_is : (f : List ℕ) (a : A) → Means m (keys.Parse f) a → parsed_read a ≡ read_in files f
     parsed_is f a h = ap parsed_read ((t.parse f a).0 h)
+
+    itemed_is : (f : List ℕ) (a : A) → Means m (keys.Items f) a → items_read a ≡ items_in files f
+    itemed_is f a h = ap items_read ((t.items f a).0 h)
 
     -- ---- symbols
 
@@ -183,8 +194,8 @@ module _ (order : ProtoKey → ProtoKey → Ordering) (files : Sources)
 
     -- ---- descriptors
 
-    abbrev described : List ℕ → ParsedFile → List ResolvedReference → List ℕ
-    described f file rs = compact_text (descriptor rs f (nodes_of file))
+    abbrev described : List ℕ → FileItems → List ResolvedReference → List ℕ
+    described f i rs = compact_text (descriptor rs f (nodes_in i))
 
     -- what is sent, by whether there is a tree and whether an error is severe
     abbrev sent : Bool → Bool → List ℕ → List ℕ
@@ -194,47 +205,47 @@ module _ (order : ProtoKey → ProtoKey → Ordering) (files : Sources)
     none_sent true text = refl
     none_sent false text = refl
 
-    file_low : (f : List ℕ) (failed : Bool) → IsLow (file_turn f failed)
-    file_low f true = done_low (codes "null")
-    file_low f false = ask_low (keys.Parse f) (descriptors.ReadFile f) (omega arith)
+    bare_low : (f : List ℕ) (failed : Bool) → IsLow (bare_turn f failed)
+    bare_low f true = done_low (codes "null")
+    bare_low f false = ask_low (keys.Items f) (descriptors.ReadItems f) (omega arith)
 
-    tree_low : (f : List ℕ) (file : ParsedFile) (tree : Bool) → IsLow (tree_turn f file tree)
-    tree_low f file true = ask_low (keys.Resolved f) (descriptors.ReadResolved f file) (omega arith)
-    tree_low f file false = done_low (codes "null")
+    tree_low : (f : List ℕ) (i : FileItems) (tree : Bool) → IsLow (tree_turn f i tree)
+    tree_low f i true = ask_low (keys.Resolved f) (descriptors.ReadResolved f i) (omega arith)
+    tree_low f i false = done_low (codes "null")
 
     descriptor_low : (q : DescriptorPart) (a : A) → IsLow (descriptor_advances q a)
-    descriptor_low (descriptors.ReadChecks f) a = file_low f (is_failed (faults_read a))
-    descriptor_low (descriptors.ReadFile f) a = tree_low f (parsed_read a) (has_tree (parsed_read a))
-    descriptor_low (descriptors.ReadResolved f file) a = done_low _
+    descriptor_low (descriptors.ReadChecks f) a = bare_low f (is_failed (faults_read a))
+    descriptor_low (descriptors.ReadItems f) a = tree_low f (items_read a) (has_tree (items_read a))
+    descriptor_low (descriptors.ReadResolved f i) a = done_low _
 
-    tree_is : (f : List ℕ) (fs : List Fault) (tree : Bool) → has_tree (read_in files f) ≡ tree → is_failed fs ≡ false → AreFaults files f fs
-        → (es : Trace ProtoKey ProtoValue) (w : List ℕ) → Runs descriptor_advances (tree_turn f (read_in files f) tree) es (Done w)
+    tree_is : (f : List ℕ) (fs : List Fault) (tree : Bool) → has_tree (items_in files f) ≡ tree → is_failed fs ≡ false → AreFaults files f fs
+        → (es : Trace ProtoKey ProtoValue) (w : List ℕ) → Runs descriptor_advances (tree_turn f (items_in files f) tree) es (Done w)
         → Each (λ e. Means m e.0 e.1) es → IsDescriptor files f w
     tree_is f fs true is sound i es w r reads =
-        let file = read_in files f in
-        let o = read_one descriptor_advances (keys.Resolved f) (descriptors.ReadResolved f file) es w r reads in
+        let here = items_in files f in
+        let o = read_one descriptor_advances (keys.Resolved f) (descriptors.ReadResolved f here) es w r reads in
         let rs = (t.resolved f o.0).0 o.2 in
-        let end = ended descriptor_advances (described f file (resolved_read o.0)) o.1 w o.3 in
-        let by : w ≡ described f file rs.0 = end ∙ ap (λ (a : A). described f file (resolved_read a)) rs.1 in
-        (fs, rs.0, i, rs.2, by ∙ sym (ap₂ (λ (b c : Bool). sent b c (described f file rs.0)) is sound))
+        let end = ended descriptor_advances (described f here (resolved_read o.0)) o.1 w o.3 in
+        let by : w ≡ described f here rs.0 = end ∙ ap (λ (a : A). described f here (resolved_read a)) rs.1 in
+        (fs, rs.0, i, rs.2, by ∙ sym (ap₂ (λ (b c : Bool). sent b c (described f here rs.0)) is sound))
     tree_is f fs false is sound i es w r reads =
         let rs = resolved_exist files f in
         let end = ended descriptor_advances (codes "null") es w r in
-        (fs, rs.0, i, rs.1, end ∙ sym (ap₂ (λ (b c : Bool). sent b c (described f (read_in files f) rs.0)) is sound))
+        (fs, rs.0, i, rs.1, end ∙ sym (ap₂ (λ (b c : Bool). sent b c (described f (items_in files f) rs.0)) is sound))
 
     checked_is : (f : List ℕ) (fs : List Fault) (failed : Bool) → is_failed fs ≡ failed → AreFaults files f fs
-        → (es : Trace ProtoKey ProtoValue) (w : List ℕ) → Runs descriptor_advances (file_turn f failed) es (Done w)
+        → (es : Trace ProtoKey ProtoValue) (w : List ℕ) → Runs descriptor_advances (bare_turn f failed) es (Done w)
         → Each (λ e. Means m e.0 e.1) es → IsDescriptor files f w
     checked_is f fs true is i es w r reads =
         let rs = resolved_exist files f in
-        let text = described f (read_in files f) rs.0 in
-        let tree = has_tree (read_in files f) in
+        let text = described f (items_in files f) rs.0 in
+        let tree = has_tree (items_in files f) in
         let end = ended descriptor_advances (codes "null") es w r in
         (fs, rs.0, i, rs.1, end ∙ sym (ap (λ (c : Bool). sent tree c text) is ∙ none_sent tree text))
     checked_is f fs false is i es w r reads =
-        let o = read_one descriptor_advances (keys.Parse f) (descriptors.ReadFile f) es w r reads in
-        let on = subst (λ (p : ParsedFile). Runs descriptor_advances (tree_turn f p (has_tree p)) o.1 (Done w)) (parsed_is f o.0 o.2) o.3 in
-        tree_is f fs (has_tree (read_in files f)) refl is i o.1 w on o.4
+        let o = read_one descriptor_advances (keys.Items f) (descriptors.ReadItems f) es w r reads in
+        let on = subst (λ (p : FileItems). Runs descriptor_advances (tree_turn f p (has_tree p)) o.1 (Done w)) (itemed_is f o.0 o.2) o.3 in
+        tree_is f fs (has_tree (items_in files f)) refl is i o.1 w on o.4
 
     pub descriptor_embeds : Embeds m (λ f. keys.Descriptor f) (λ q. Describing q) (λ v. values.Descriptor v) output_level descriptor_starts descriptor_advances
     descriptor_embeds = record { level_is = λ x. refl; start_is = λ x. refl; advance_is = λ q a. refl }
@@ -245,8 +256,8 @@ module _ (order : ProtoKey → ProtoKey → Ordering) (files : Sources)
         (λ x es k q. runs_low descriptor_advances descriptor_low (descriptor_starts x) (ask_low (keys.Checks x) (descriptors.ReadChecks x) (omega arith)) es k q) f a h in
         let o = read_one descriptor_advances (keys.Checks f) (descriptors.ReadChecks f) r.0 r.1 r.2 r.4 in
         let d = u.checks f o.0 o.2 in
-        let on : Runs descriptor_advances (file_turn f (is_failed d.0)) o.1 (Done r.1) =
-        subst (λ (b : A). Runs descriptor_advances (file_turn f (is_failed (faults_read b))) o.1 (Done r.1)) {y = Value (values.Checks d.0)} d.1 o.3 in
+        let on : Runs descriptor_advances (bare_turn f (is_failed d.0)) o.1 (Done r.1) =
+        subst (λ (b : A). Runs descriptor_advances (bare_turn f (is_failed (faults_read b))) o.1 (Done r.1)) {y = Value (values.Checks d.0)} d.1 o.3 in
         (r.1, r.3, checked_is f d.0 (is_failed d.0) refl d.2 o.1 r.1 on o.4)
 
     -- ---- definitions
@@ -319,6 +330,7 @@ module _ (order : ProtoKey → ProtoKey → Ordering) (files : Sources)
     pub means_compiles : (k : ProtoKey) (a : A) → Means m k a → Compiles files k a
     means_compiles (keys.Input f) a h = (t.input f a).0 h
     means_compiles (keys.Parse f) a h = (t.parse f a).0 h
+    means_compiles (keys.Items f) a h = (t.items f a).0 h
     means_compiles (keys.Imports f) a h = (t.imports f a).0 h
     means_compiles (keys.Linked f) a h = (t.linked f a).0 h
     means_compiles (keys.Defs f) a h = (t.defs f a).0 h

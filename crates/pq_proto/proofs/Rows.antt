@@ -40,7 +40,7 @@ node depth s = record { depth = depth; span = span 0 0; statement = s }
 -- the reference of the item `n` that resolves to the message `full_name` of the item `i`
 abbrev to_message : ℕ → List ℕ → ℕ → ResolvedReference
 to_message n full_name i =
-    record { item = n; part = parts.Type; resolution = resolutions.«Type» (codes "a.proto") full_name false i }
+    record { item = n; part = parts.Type; resolution = resolutions.«Type» (record { file = codes "a.proto"; full_name = full_name; is_enum = false; item = i }) }
 
 abbrev empty : Data
 empty = array no_items
@@ -104,9 +104,9 @@ varied =
 
 abbrev varied_references : List ResolvedReference
 varied_references =
-    record { item = 6; part = parts.Input; resolution = resolutions.«Type» (codes "a.proto") (codes "M") false 7 }
-    ∷ record { item = 6; part = parts.Output; resolution = resolutions.«Type» (codes "a.proto") (codes "M") false 7 }
-    ∷ record { item = 9; part = parts.Type; resolution = resolutions.«Type» (codes "a.proto") (codes "E") true 0 } ∷ []
+    record { item = 6; part = parts.Input; resolution = resolutions.«Type» (record { file = codes "a.proto"; full_name = codes "M"; is_enum = false; item = 7 }) }
+    ∷ record { item = 6; part = parts.Output; resolution = resolutions.«Type» (record { file = codes "a.proto"; full_name = codes "M"; is_enum = false; item = 7 }) }
+    ∷ record { item = 9; part = parts.Type; resolution = resolutions.«Type» (record { file = codes "a.proto"; full_name = codes "E"; is_enum = true; item = 0 }) } ∷ []
 
 pub each_kind : descriptor varied_references (codes "a.proto") varied
     ≡ object (member (codes "enums") (array (item (object (member (codes "fullName") (string (codes "E")) (member (codes "name") (string (codes "E")) (member (codes "options") (array (item (object (member (codes "name") (string (codes "a.(b)")) (member (codes "value") (object (member (codes "kind") (string (codes "integer")) (member (codes "text") (string (codes "5")) no_members))) no_members))) no_items)) (member (codes "reservedNames") (empty) (member (codes "reservedRanges") (array (item (array (item (number (negative (negsuc 2))) (item (number (unsigned 2147483647)) no_items))) no_items)) (member (codes "values") (array (item (object (member (codes "name") (string (codes "A")) (member (codes "number") (number (unsigned 0)) (member (codes "options") (empty) no_members)))) (item (object (member (codes "name") (string (codes "B")) (member (codes "number") (number (negative (negsuc 0))) (member (codes "options") (empty) no_members)))) no_items))) no_members))))))) no_items)) (member (codes "imports") (empty) (member (codes "messages") (array (item (object (member (codes "enums") (empty) (member (codes "fields") (array (item (object (member (codes "label") (number (unsigned 1)) (member (codes "name") (string (codes "e")) (member (codes "number") (number (unsigned 1)) (member (codes "oneof") (string (codes "o")) (member (codes "optional") (boolean false) (member (codes "options") (empty) (member (codes "type") (number (unsigned 14)) (member (codes "typeName") (string (codes ".E")) no_members))))))))) no_items)) (member (codes "fullName") (string (codes "M")) (member (codes "mapEntry") (boolean false) (member (codes "messages") (empty) (member (codes "name") (string (codes "M")) (member (codes "oneofs") (array (item (string (codes "o")) no_items)) (member (codes "options") (empty) (member (codes "reservedNames") (empty) (member (codes "reservedRanges") (empty) no_members))))))))))) no_items)) (member (codes "name") (string (codes "a.proto")) (member (codes "options") (empty) (member (codes "package") (string []) (member (codes "services") (array (item (object (member (codes "fullName") (string (codes "S")) (member (codes "methods") (array (item (object (member (codes "clientStreaming") (boolean true) (member (codes "input") (string (codes ".M")) (member (codes "name") (string (codes "R")) (member (codes "options") (empty) (member (codes "output") (string (codes ".M")) (member (codes "serverStreaming") (boolean false) no_members))))))) no_items)) (member (codes "name") (string (codes "S")) (member (codes "options") (empty) no_members))))) no_items)) no_members)))))))

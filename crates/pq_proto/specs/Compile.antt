@@ -10,15 +10,15 @@ use Rattle.pq_rules.specs.declared.turn.Answer.TheVariants.{Value}
 use Rattle.pq_lex.specs.aux.LineMarks.{place_in, offset_in}
 use Rattle.pq_lex.specs.declared.position.Position.{Position}
 use Rattle.pq_lex.specs.declared.token.Span.{Span}
-use Rattle.pq_syntax.specs.declared.fault.Parsed.{Parsed}
-use Rattle.pq_syntax.specs.declared.fault.Parsed.TheVariants as parsed
-use Rattle.pq_links.specs.Files.{graph_of, read_file}
+pub use Rattle.pq_links.specs.Files.{read_in}
+use Rattle.pq_links.specs.Files.{graph_of, items_in, nodes_in, nodes_of}
 use Rattle.pq_links.specs.LinkedKeys.{LinkedIs}
 use Rattle.pq_links.specs.Place.{place}
 use Rattle.pq_links.specs.declared.places.Part.TheVariants as part
+use Rattle.pq_links.specs.declared.file_items.FileItems.{FileItems}
+use Rattle.pq_links.specs.declared.file_items.FileItems.TheVariants as items
 use Rattle.pq_links.specs.declared.files.ParsedFile.{ParsedFile}
 use Rattle.pq_links.specs.declared.files.ParsedFile.TheVariants.{Absent, Present}
-use Rattle.pq_schema.specs.Missing.{nodes_of}
 use Rattle.pq_schema.specs.Compile.{defs_at, IsScope, AreResolved}
 use Rattle.pq_schema.specs.ScopeContents.{Scope}
 use Rattle.pq_schema.specs.declared.resolved.ResolvedReference.{ResolvedReference}
@@ -41,10 +41,6 @@ use Rattle.pq_proto.specs.declared.value.ProtoValue.{ProtoValue}
 use Rattle.pq_proto.specs.declared.value.ProtoValue.TheVariants as values
 
 -- ---- files and positions
-
--- `read_in files f` is what the file `f` of the sources is read as
-abbrev pub read_in : Sources → List ℕ → ParsedFile
-read_in files f = read_file (file_in files f).text
 
 -- `position_in file offset` is the position of `offset` in a file that is read as `file`; an absent
 -- file has the first position alone
@@ -73,32 +69,28 @@ is_severe Information = false
 abbrev pub is_failed : List Fault → Bool
 is_failed fs = list_any (λ (f : Fault). is_severe (severity f.code)) fs
 
--- `is_tree p` is whether a text that is parsed as `p` has a tree
-abbrev pub is_tree : Parsed → Bool
-is_tree (parsed.Tree nodes) = true
-is_tree (parsed.Fault span code) = false
+-- `has_tree i` is whether a file that is `i` without spans has a tree
+abbrev pub has_tree : FileItems → Bool
+has_tree items.Absent = false
+has_tree items.Fault = false
+has_tree (items.Tree nodes) = true
 
--- `has_tree file` is whether a file that is read as `file` has a tree
-abbrev pub has_tree : ParsedFile → Bool
-has_tree Absent = false
-has_tree (Present p lines) = is_tree p
-
--- `is_sent fs file` is whether a file that is read as `file`, with the errors `fs` by the table, has
+-- `is_sent fs i` is whether a file that is `i` without spans, with the errors `fs` by the table, has
 -- a descriptor: it has a tree, and none of these is of the severity of errors
-abbrev pub is_sent : List Fault → ParsedFile → Bool
-is_sent fs file = has_tree file && not (is_failed fs)
+abbrev pub is_sent : List Fault → FileItems → Bool
+is_sent fs i = has_tree i && not (is_failed fs)
 
--- `descriptor_by f fs file references` is the descriptor of the file `f` as a text, `null` where it
--- has none. `fs` is its errors by the table, `file` what it is read as, and `references` its resolved
+-- `descriptor_by f fs i references` is the descriptor of the file `f` as a text, `null` where it has
+-- none. `fs` is its errors by the table, `i` what it is without spans, and `references` its resolved
 -- references.
-abbrev pub descriptor_by : List ℕ → List Fault → ParsedFile → List ResolvedReference → List ℕ
-descriptor_by f fs file references = cond (is_sent fs file) (compact_text (descriptor references f (nodes_of file))) (codes "null")
+abbrev pub descriptor_by : List ℕ → List Fault → FileItems → List ResolvedReference → List ℕ
+descriptor_by f fs i references = cond (is_sent fs i) (compact_text (descriptor references f (nodes_in i))) (codes "null")
 
 -- `IsDescriptor files f t` is that `t` is the descriptor of the file `f` as a text
 abbrev pub IsDescriptor : Sources → List ℕ → List ℕ → Type 0
 IsDescriptor files f t =
     (fs : List Fault) × (references : List ResolvedReference)
-    × AreFaults files f fs × AreResolved files f references × (t ≡ descriptor_by f fs (read_in files f) references)
+    × AreFaults files f fs × AreResolved files f references × (t ≡ descriptor_by f fs (items_in files f) references)
 
 -- ---- symbols
 
@@ -137,6 +129,7 @@ IsDefinition files f place d =
 abbrev pub Compiles : Sources → ProtoKey → Answer ProtoKey ProtoValue → Type 0
 Compiles files (keys.Input f) a = a ≡ Value (values.Source (file_in files f).text)
 Compiles files (keys.Parse f) a = a ≡ Value (values.Parse (read_in files f))
+Compiles files (keys.Items f) a = a ≡ Value (values.Items (items_in files f))
 Compiles files (keys.Imports f) a = a ≡ Value (values.Imports (graph_of files f))
 Compiles files (keys.Linked f) a = LinkedIs (graph_of files) (λ n. keys.Linked n) (λ l. values.Linked l) f a
 Compiles files (keys.Defs f) a = a ≡ Value (values.Defs (defs_at files f))

@@ -16,7 +16,7 @@ holds (Some s) offset = nat_le s.start offset && nat_le offset s.end
 
 -- `type_item r` is the file and the item of the type that a reference resolves to with `r`
 abbrev pub type_item : Resolution → Option TypeItem
-type_item (resolutions.«Type» file full_name is_enum item) = Some (record { file = file; item = item })
+type_item (resolutions.«Type» target) = Some (record { file = target.file; item = target.item })
 type_item _ = None
 
 -- `definition_at nodes offset references` is the type that the first of the resolved references

@@ -8,4 +8,6 @@ pub mod Descriptor
 pub mod Ranges
 pub mod Symbols
 pub mod Definition
+pub mod Levels
+pub mod Answers
 pub mod aux

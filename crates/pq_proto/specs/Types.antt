@@ -58,8 +58,8 @@ no_type = record { number = message_type; name = None }
 
 -- `type_to r` is the type that a reference resolves to with `r`
 abbrev pub type_to : Resolution → TypeOf
-type_to (resolutions.«Type» file full_name is_enum item) =
-    record { number = cond is_enum enum_type message_type; name = Some (codes "." ++ full_name) }
+type_to (resolutions.«Type» target) =
+    record { number = cond target.is_enum enum_type message_type; name = Some (codes "." ++ target.full_name) }
 type_to _ = no_type
 
 -- `referred references n part` is the type that the part `part` of the item of the number `n`

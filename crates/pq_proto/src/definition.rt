@@ -1,6 +1,6 @@
 //! The definition of what stands at a place of a file.
 ghost use Rattle.std.specs.Prelude.{◌≡◌, IfOk};
-ghost use Rattle.pq_schema.specs.Missing.{nodes_of};
+ghost use Rattle.pq_links.specs.Files.{nodes_of};
 ghost use Rattle.pq_proto.specs.Definition.{definition_at, holds, type_item};
 
 use crate::Memory;
@@ -35,9 +35,9 @@ fn type_item(resolution: &Resolution) -> Result<Option<TypeItem>, Memory>
     ensures { IfOk result (λ t. t ≡ type_item resolution.now) }
 {
     match resolution {
-        Resolution::Type { file, item, .. } => Ok(Some(TypeItem {
-            file: file.copy()?,
-            item: *item,
+        Resolution::Type(target) => Ok(Some(TypeItem {
+            file: target.file.copy()?,
+            item: target.item,
         })),
         Resolution::NotFound | Resolution::NotVisible(_) | Resolution::NotAType => Ok(None),
     }

@@ -2,7 +2,7 @@
 //! offsets.
 ghost use Rattle.std.specs.Prelude.{◌≡◌};
 ghost use Rattle.pq_links.specs.Place.{place};
-ghost use Rattle.pq_schema.specs.Missing.{nodes_of};
+ghost use Rattle.pq_links.specs.Files.{nodes_of};
 ghost use Rattle.pq_proto.specs.Compile.{offset_at, place_at, position_in};
 
 use crate::key::Place;

@@ -43,6 +43,8 @@ pub enum ProtoKey {
     Input(Text),
     /// The tree and the lines of the file.
     Parse(Text),
+    /// The tree of the file without spans.
+    Items(Text),
     /// The imports of the file.
     Imports(Text),
     /// The files that the file sees and reaches.
@@ -53,7 +55,7 @@ pub enum ProtoKey {
     Scope(Text),
     /// The type references of the file, with what they resolve to.
     Resolved(Text),
-    /// The errors of the file, with spans.
+    /// The errors of the file by the table.
     Checks(Text),
     /// The diagnostics of the file.
     Diagnostics(Text),

@@ -32,7 +32,10 @@ pub use printing::printer::Printer;
 pub use printing::ranges::print_range;
 pub use queries::{DefinitionPart, DefinitionQuery, DescriptorPart, DescriptorQuery, SymbolsQuery};
 pub use rules::compilation::compile;
-pub use rules::laws::{equal_keys, one_compilation, proto_values};
+pub use rules::laws::{
+    definition_by_answers, descriptor_by_answers, equal_keys, one_compilation, proto_values,
+    symbols_by_answers,
+};
 pub use rules::{ProtoPart, ProtoRules};
 pub use std::alloc::AllocError as Memory;
 pub use symbols::symbols_text;

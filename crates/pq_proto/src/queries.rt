@@ -6,7 +6,7 @@ mod definition;
 mod descriptor;
 mod symbols;
 
-pub(crate) use answers::{checked_in, parsed_in, resolved_in};
+pub(crate) use answers::{checked_in, items_in, parsed_in, resolved_in};
 pub use definition::{DefinitionPart, DefinitionQuery};
 pub use descriptor::{DescriptorPart, DescriptorQuery};
 pub use symbols::SymbolsQuery;

@@ -18,7 +18,7 @@ use crate::queries::{
 };
 use crate::value::{Location, ProtoValue};
 use pq_checks::{CheckPart, ChecksQuery, DiagnosticsPart, DiagnosticsQuery};
-use pq_links::{ImportsQuery, LinkedQuery, Linking, ParseQuery};
+use pq_links::{ImportsQuery, ItemsQuery, LinkedQuery, Linking, ParseQuery};
 use pq_rules::{Answer, Query, Rules, Sum, Text, Turn, advance_of, start_of};
 use pq_schema::{DefsQuery, ResolvedPart, ResolvedQuery, ScopePart, ScopeQuery};
 use std::alloc::Global;
@@ -28,6 +28,8 @@ use std::alloc::Global;
 pub enum ProtoPart {
     /// The part of the query of parses.
     Parsing,
+    /// The part of the query of trees without spans.
+    Itemizing,
     /// The part of the query of imports.
     Importing,
     /// A part of the query of links.
@@ -99,6 +101,7 @@ impl Rules for ProtoRules {
         match key {
             ProtoKey::Input(_) => 0,
             ProtoKey::Parse(_) => ParseQuery::<ProtoRules>::LEVEL,
+            ProtoKey::Items(_) => ItemsQuery::<ProtoRules>::LEVEL,
             ProtoKey::Imports(_) => ImportsQuery::<ProtoRules>::LEVEL,
             ProtoKey::Linked(_) => LinkedQuery::<ProtoRules>::LEVEL,
             ProtoKey::Defs(_) => DefsQuery::<ProtoRules>::LEVEL,
@@ -134,6 +137,7 @@ impl Rules for ProtoRules {
         match key {
             ProtoKey::Input(_) => Ok(Turn::Done(ProtoValue::Source(None))),
             ProtoKey::Parse(file) => start_of::<Self, _>(alloc, &ParseQuery::<Self>::new(), file),
+            ProtoKey::Items(file) => start_of::<Self, _>(alloc, &ItemsQuery::<Self>::new(), file),
             ProtoKey::Imports(file) => start_of::<Self, _>(
                 alloc,
                 &ImportsQuery::<Self>::new(),
@@ -168,6 +172,9 @@ impl Rules for ProtoRules {
         match part {
             ProtoPart::Parsing => {
                 advance_of::<Self, _>(alloc, &ParseQuery::<Self>::new(), (), answer)
+            }
+            ProtoPart::Itemizing => {
+                advance_of::<Self, _>(alloc, &ItemsQuery::<Self>::new(), (), answer)
             }
             ProtoPart::Importing => {
                 advance_of::<Self, _>(alloc, &ImportsQuery::<Self>::new(), (), answer)
@@ -223,6 +230,7 @@ impl Rules for ProtoRules {
         match key {
             ProtoKey::Input(file) => Ok(ProtoKey::Input(file.copy()?)),
             ProtoKey::Parse(file) => Ok(ProtoKey::Parse(file.copy()?)),
+            ProtoKey::Items(file) => Ok(ProtoKey::Items(file.copy()?)),
             ProtoKey::Imports(file) => Ok(ProtoKey::Imports(file.copy()?)),
             ProtoKey::Linked(file) => Ok(ProtoKey::Linked(file.copy()?)),
             ProtoKey::Defs(file) => Ok(ProtoKey::Defs(file.copy()?)),
@@ -241,6 +249,7 @@ impl Rules for ProtoRules {
             ProtoValue::Source(Some(text)) => Ok(ProtoValue::Source(Some(text.copy()?))),
             ProtoValue::Source(None) => Ok(ProtoValue::Source(None)),
             ProtoValue::Parse(file) => Ok(ProtoValue::Parse(file.copy()?)),
+            ProtoValue::Items(items) => Ok(ProtoValue::Items(items.copy()?)),
             ProtoValue::Imports(Some(imports)) => Ok(ProtoValue::Imports(Some(imports.copy()?))),
             ProtoValue::Imports(None) => Ok(ProtoValue::Imports(None)),
             ProtoValue::Linked(links) => Ok(ProtoValue::Linked(links.copy()?)),

@@ -2,7 +2,7 @@
 
 use crate::key::Place;
 use pq_checks::{Diagnosed, Fault};
-use pq_links::{Import, Links, ParsedFile};
+use pq_links::{FileItems, Import, Links, ParsedFile};
 use pq_names::Text;
 use pq_rules::Shared;
 use pq_schema::{Defs, ResolvedReference, Scope};
@@ -26,6 +26,8 @@ pub enum ProtoValue {
     Source(Option<Text>),
     /// The tree and the lines of a file.
     Parse(Shared<ParsedFile>),
+    /// The tree of a file without spans.
+    Items(Shared<FileItems>),
     /// The imports of a file, `None` if it is absent.
     Imports(Option<Shared<Items<Import>>>),
     /// The links of a file.

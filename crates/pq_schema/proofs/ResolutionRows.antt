@@ -11,14 +11,14 @@ use Rattle.pq_schema.specs.declared.resolution.ResolveFault.{ResolveFault}
 use Rattle.pq_schema.specs.declared.resolution.ResolveFault.TheVariants.{NotFound, NotVisible, NotAType}
 
 abbrev defined : List ℕ → DefinitionKind → Definition
-defined name kind = record { full_name = name; kind = kind; item = 0; span = record { start = 0; end = 0 } }
+defined name kind = record { full_name = name; kind = kind; item = 0 }
 
 abbrev file : List ℕ → List ℕ → List Definition → FileDefs
 file name root ds = record { file = name; defs = record { package_name = root; definitions = ds } }
 
 -- `message file name` is the target of the message `name` of the file `file`
 abbrev message : List ℕ → List ℕ → Result Target ResolveFault
-message file name = Ok (record { file = file; full_name = name; is_enum = false; span = record { start = 0; end = 0 } })
+message file name = Ok (record { file = file; full_name = name; is_enum = false; item = 0 })
 
 -- c.proto: message C; b.proto imports it; a.proto imports b.proto: message M { C x = 1; }
 abbrev a_file : FileDefs
@@ -134,7 +134,7 @@ shadow_decides = refl
 
 -- the package p decides for p.E, an enum
 pub an_enum : resolved (both inner) (codes "p.M") (codes "p.E")
-    ≡ Ok (record { file = codes "i.proto"; full_name = codes "p.E"; is_enum = true; span = record { start = 0; end = 0 } })
+    ≡ Ok (record { file = codes "i.proto"; full_name = codes "p.E"; is_enum = true; item = 0 })
 unfolding defined_in meaning is_package dotted first_part prefixes
 an_enum = refl
 

@@ -31,7 +31,7 @@ use Rattle.pq_schema.specs.declared.scope.FileDefs.{FileDefs}
 -- kind
 -- `N`
 abbrev pub ResolutionIn : (List ℕ → Type 0) → Resolution → Type 0
-ResolutionIn N (resolutions.«Type» file full_name is_enum item) = N file
+ResolutionIn N (resolutions.«Type» target) = N target.file
 ResolutionIn N resolutions.NotFound = Unit {0}
 ResolutionIn N (resolutions.NotVisible file) = N file
 ResolutionIn N resolutions.NotAType = Unit {0}
@@ -155,8 +155,8 @@ module _ (N : List ℕ → Type 0) where
       → (f : List ℕ) → N f → TurnIn KeyIn (ResolvedPartIn N) (ResolvedIn N) (resolved_starts scope f)
   resolved_starts_in KeyIn scope scope_in f n = (scope_in f n, n)
 
-  pub resolved_advances_in : {K : Type 0} (KeyIn : K → Type 0) (parse : List ℕ → K) → ((f : List ℕ) → N f → KeyIn (parse f))
+  pub resolved_advances_in : {K : Type 0} (KeyIn : K → Type 0) (items : List ℕ → K) → ((f : List ℕ) → N f → KeyIn (items f))
       → (s : Scope) (nodes : List Node) (p : ResolvedPart) → ScopeIn N s → ResolvedPartIn N p
-      → TurnIn KeyIn (ResolvedPartIn N) (ResolvedIn N) (resolved_advances parse s nodes p)
-  resolved_advances_in KeyIn parse parse_in s nodes (ReadScope f) a i = (parse_in f i, a)
-  resolved_advances_in KeyIn parse parse_in s nodes (ReadTree read) a i = resolved_by_in read nodes i
+      → TurnIn KeyIn (ResolvedPartIn N) (ResolvedIn N) (resolved_advances items s nodes p)
+  resolved_advances_in KeyIn items items_in s nodes (ReadScope f) a i = (items_in f i, a)
+  resolved_advances_in KeyIn items items_in s nodes (ReadTree read) a i = resolved_by_in read nodes i

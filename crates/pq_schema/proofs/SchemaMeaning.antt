@@ -9,10 +9,11 @@ use Rattle.pq_rules.specs.Value.{Means}
 use Rattle.pq_rules.specs.aux.Runs.{input_means}
 use Rattle.pq_rules.proofs.Characterisation.{means_input}
 use Rattle.pq_rules.proofs.OneRead.{once, makes_once}
-use Rattle.pq_links.specs.Files.{read_file, file_imports, graph_of}
+use Rattle.pq_links.specs.Files.{read_file, items_of, items_in, nodes_in, file_imports, graph_of}
 use Rattle.pq_links.specs.ImportGraph.{IsRingOf}
 use Rattle.pq_links.specs.Visibility.{AreLinks}
-use Rattle.pq_links.specs.aux.Queries.{parse_level, imports_level, linked_level, parse_starts, parse_advances, imports_starts, imports_advances}
+use Rattle.pq_links.specs.aux.Queries.{parse_level, items_level, imports_level, linked_level, parse_starts, parse_advances, items_starts, items_advances, imports_starts, imports_advances}
+use Rattle.pq_links.specs.declared.file_items.FileItems.{FileItems}
 use Rattle.pq_links.specs.declared.files.ParsedFile.{ParsedFile}
 use Rattle.pq_links.specs.declared.links.Links.{Links}
 use Rattle.pq_links.specs.LinkedKeys.{EmbedsLinks, LinkedIs}
@@ -20,7 +21,6 @@ use Rattle.pq_links.proofs.LinkedMeaning.{linked_is}
 use Rattle.pq_links.proofs.LinkedAnswers.{is_linked}
 use Rattle.pq_links.proofs.Reached.{Reaches, all_reached}
 use Rattle.pq_schema.specs.ScopeContents.{Scope}
-use Rattle.pq_schema.specs.Missing.{nodes_of}
 use Rattle.pq_schema.specs.Definitions.{defs_of}
 use Rattle.pq_schema.specs.Compile.{defs_at, with_defs, IsScope, AreResolved}
 use Rattle.pq_schema.specs.Answers.{scope_by}
@@ -66,21 +66,40 @@ module _ {K P V : Type 0} (m : Instance K P V) (files : Sources) (s : SchemaSum 
   parsed_is : (f : List ℕ) (a : Answer K V) → Means m (s.parse f) a → s.parsed_read a ≡ file_at f
   parsed_is f a h = ap s.parsed_read (parse_is f a h) ∙ s.parsed_back (file_at f)
 
-  parse_low : (l : ℕ) → parse_level < l → (f : List ℕ) → m.level (s.parse f) < l
-  parse_low l h f = low parse_level l (s.parse_embeds.level_is f) h
+  parse_low : (f : List ℕ) → m.level (s.parse f) < items_level
+  parse_low f = low parse_level items_level (s.parse_embeds.level_is f) (omega arith)
+
+  -- ---- the same without spans
+  pub items_are : (f : List ℕ) (a : Answer K V) → Means m (s.items f) a → a ≡ Value (s.items_value (items_in files f))
+  items_are f a h =
+      let o = once m s.items s.items_part s.items_value items_level (items_starts s.parse) (λ q b. items_advances (s.parsed_read b)) s.items_embeds
+      s.parse (λ x. tt) (λ x b. items_of (s.parsed_read b)) (λ x. refl) (λ x b. refl) parse_low f a h in
+      o.2 ∙ ap (λ (p : ParsedFile). Value (s.items_value (items_of p))) (parsed_is f o.0 o.1)
+
+  pub are_items : (f : List ℕ) → Means m (s.items f) (Value (s.items_value (items_in files f)))
+  are_items f =
+      let made = makes_once m s.items s.items_part s.items_value items_level (items_starts s.parse) (λ q b. items_advances (s.parsed_read b)) s.items_embeds
+      s.parse (λ x. tt) (λ x b. items_of (s.parsed_read b)) (λ x. refl) (λ x b. refl) parse_low f (Value (s.parse_value (file_at f))) (is_parse f) in
+      subst (λ (p : ParsedFile). Means m (s.items f) (Value (s.items_value (items_of p)))) (s.parsed_back (file_at f)) made
+
+  items_read_is : (f : List ℕ) (a : Answer K V) → Means m (s.items f) a → s.items_read a ≡ items_in files f
+  items_read_is f a h = ap s.items_read (items_are f a h) ∙ s.items_back (items_in files f)
+
+  items_low : (l : ℕ) → items_level < l → (f : List ℕ) → m.level (s.items f) < l
+  items_low l h f = low items_level l (s.items_embeds.level_is f) h
 
   -- ---- the imports of a file
   pub imports_are : (f : List ℕ) (a : Answer K V) → Means m (s.imports f) a → a ≡ Value (s.imports_value (graph_of files f))
   imports_are f a h =
-      let o = once m s.imports s.imports_part s.imports_value imports_level (imports_starts s.parse) (λ q b. imports_advances (s.parsed_read b)) s.imports_embeds
-      s.parse (λ x. tt) (λ x b. file_imports (s.parsed_read b)) (λ x. refl) (λ x b. refl) (parse_low imports_level (omega arith)) f a h in
-      o.2 ∙ ap (λ (p : ParsedFile). Value (s.imports_value (file_imports p))) (parsed_is f o.0 o.1)
+      let o = once m s.imports s.imports_part s.imports_value imports_level (imports_starts s.items) (λ q b. imports_advances (s.items_read b)) s.imports_embeds
+      s.items (λ x. tt) (λ x b. file_imports (s.items_read b)) (λ x. refl) (λ x b. refl) (items_low imports_level (omega arith)) f a h in
+      o.2 ∙ ap (λ (i : FileItems). Value (s.imports_value (file_imports i))) (items_read_is f o.0 o.1)
 
   pub are_imports : (f : List ℕ) → Means m (s.imports f) (Value (s.imports_value (graph_of files f)))
   are_imports f =
-      let made = makes_once m s.imports s.imports_part s.imports_value imports_level (imports_starts s.parse) (λ q b. imports_advances (s.parsed_read b)) s.imports_embeds
-      s.parse (λ x. tt) (λ x b. file_imports (s.parsed_read b)) (λ x. refl) (λ x b. refl) (parse_low imports_level (omega arith)) f (Value (s.parse_value (file_at f))) (is_parse f) in
-      subst (λ (p : ParsedFile). Means m (s.imports f) (Value (s.imports_value (file_imports p)))) (s.parsed_back (file_at f)) made
+      let made = makes_once m s.imports s.imports_part s.imports_value imports_level (imports_starts s.items) (λ q b. imports_advances (s.items_read b)) s.imports_embeds
+      s.items (λ x. tt) (λ x b. file_imports (s.items_read b)) (λ x. refl) (λ x b. refl) (items_low imports_level (omega arith)) f (Value (s.items_value (items_in files f))) (are_items f) in
+      subst (λ (i : FileItems). Means m (s.imports f) (Value (s.imports_value (file_imports i)))) (s.items_back (items_in files f)) made
 
   -- ---- the links of a file
   links : EmbedsLinks m (graph_of files) s.imports s.linked s.linked_part s.linked_value s.imports_read s.links_read linked_level
@@ -113,15 +132,15 @@ module _ {K P V : Type 0} (m : Instance K P V) (files : Sources) (s : SchemaSum 
   -- ---- the definitions of a file
   pub defs_are : (f : List ℕ) (a : Answer K V) → Means m (s.defs f) a → a ≡ Value (s.defs_value (defs_at files f))
   defs_are f a h =
-      let o = once m s.defs s.defs_part s.defs_value defs_level (defs_starts s.parse) (λ q b. defs_advances (nodes_of (s.parsed_read b))) s.defs_embeds
-      s.parse (λ x. tt) (λ x b. defs_of (nodes_of (s.parsed_read b))) (λ x. refl) (λ x b. refl) (parse_low defs_level (omega arith)) f a h in
-      o.2 ∙ ap (λ (p : ParsedFile). Value (s.defs_value (defs_of (nodes_of p)))) (parsed_is f o.0 o.1)
+      let o = once m s.defs s.defs_part s.defs_value defs_level (defs_starts s.items) (λ q b. defs_advances (nodes_in (s.items_read b))) s.defs_embeds
+      s.items (λ x. tt) (λ x b. defs_of (nodes_in (s.items_read b))) (λ x. refl) (λ x b. refl) (items_low defs_level (omega arith)) f a h in
+      o.2 ∙ ap (λ (i : FileItems). Value (s.defs_value (defs_of (nodes_in i)))) (items_read_is f o.0 o.1)
 
   pub are_defs : (f : List ℕ) → Means m (s.defs f) (Value (s.defs_value (defs_at files f)))
   are_defs f =
-      let made = makes_once m s.defs s.defs_part s.defs_value defs_level (defs_starts s.parse) (λ q b. defs_advances (nodes_of (s.parsed_read b))) s.defs_embeds
-      s.parse (λ x. tt) (λ x b. defs_of (nodes_of (s.parsed_read b))) (λ x. refl) (λ x b. refl) (parse_low defs_level (omega arith)) f (Value (s.parse_value (file_at f))) (is_parse f) in
-      subst (λ (p : ParsedFile). Means m (s.defs f) (Value (s.defs_value (defs_of (nodes_of p))))) (s.parsed_back (file_at f)) made
+      let made = makes_once m s.defs s.defs_part s.defs_value defs_level (defs_starts s.items) (λ q b. defs_advances (nodes_in (s.items_read b))) s.defs_embeds
+      s.items (λ x. tt) (λ x b. defs_of (nodes_in (s.items_read b))) (λ x. refl) (λ x b. refl) (items_low defs_level (omega arith)) f (Value (s.items_value (items_in files f))) (are_items f) in
+      subst (λ (i : FileItems). Means m (s.defs f) (Value (s.defs_value (defs_of (nodes_in i))))) (s.items_back (items_in files f)) made
 
   -- ---- the scope of a file
   defs_read_is : (f : List ℕ) (a : Answer K V) → Means m (s.defs f) a → s.defs_read a ≡ defs_at files f
@@ -176,30 +195,30 @@ module _ {K P V : Type 0} (m : Instance K P V) (files : Sources) (s : SchemaSum 
 
   pub resolved_means : (f : List ℕ) (a : Answer K V) → Means m (s.resolved f) a → (rs : List ResolvedReference) × (a ≡ Value (s.resolved_value rs)) × AreResolved files f rs
   resolved_means f a h =
-      let r = resolved_is m s.scope s.parse s.resolved s.resolved_part s.resolved_value s.scope_read (λ b. nodes_of (s.parsed_read b)) resolved_level s.resolved_embeds
-      above_scope (parse_low resolved_level (omega arith)) f a h in
+      let r = resolved_is m s.scope s.items s.resolved s.resolved_part s.resolved_value s.scope_read (λ b. nodes_in (s.items_read b)) resolved_level s.resolved_embeds
+      above_scope (items_low resolved_level (omega arith)) f a h in
       let w = scope_means f r.0 r.2 in
       let scope_at : s.scope_read r.0 ≡ w.0 = ap s.scope_read w.1 ∙ s.scope_back w.0 in
-      let file : s.parsed_read r.1 ≡ file_at f = parsed_is f r.1 r.3 in (
-        resolved_by (s.scope_read r.0) (nodes_of (s.parsed_read r.1)),
+      let file : s.items_read r.1 ≡ items_in files f = items_read_is f r.1 r.3 in (
+        resolved_by (s.scope_read r.0) (nodes_in (s.items_read r.1)),
         r.4,
         (
           w.0,
           w.2,
-          ap (λ (x : Scope). resolved_by x (nodes_of (s.parsed_read r.1))) scope_at
-              ∙ ap (λ (p : ParsedFile). resolved_by w.0 (nodes_of p)) file,
+          ap (λ (x : Scope). resolved_by x (nodes_in (s.items_read r.1))) scope_at
+              ∙ ap (λ (i : FileItems). resolved_by w.0 (nodes_in i)) file,
         ),
       )
 
   pub means_resolved : (f : List ℕ) (rs : List ResolvedReference) → AreResolved files f rs → Means m (s.resolved f) (Value (s.resolved_value rs))
   means_resolved f rs i =
       let b : Answer K V = Value (s.scope_value i.0) in
-      let c : Answer K V = Value (s.parse_value (file_at f)) in
-      let made = is_resolved m s.scope s.parse s.resolved s.resolved_part s.resolved_value s.scope_read (λ x. nodes_of (s.parsed_read x)) resolved_level s.resolved_embeds
-      above_scope (parse_low resolved_level (omega arith)) f b c (means_scope f i.0 i.1) (is_parse f) in
-      let same : resolved_by (s.scope_read b) (nodes_of (s.parsed_read c)) ≡ rs =
-      ap (λ (x : Scope). resolved_by x (nodes_of (s.parsed_read c))) (s.scope_back i.0)
-      ∙ ap (λ (p : ParsedFile). resolved_by i.0 (nodes_of p)) (s.parsed_back (file_at f))
+      let c : Answer K V = Value (s.items_value (items_in files f)) in
+      let made = is_resolved m s.scope s.items s.resolved s.resolved_part s.resolved_value s.scope_read (λ x. nodes_in (s.items_read x)) resolved_level s.resolved_embeds
+      above_scope (items_low resolved_level (omega arith)) f b c (means_scope f i.0 i.1) (are_items f) in
+      let same : resolved_by (s.scope_read b) (nodes_in (s.items_read c)) ≡ rs =
+      ap (λ (x : Scope). resolved_by x (nodes_in (s.items_read c))) (s.scope_back i.0)
+      ∙ ap (λ (x : FileItems). resolved_by i.0 (nodes_in x)) (s.items_back (items_in files f))
       ∙ sym i.2 in
       subst (λ (x : List ResolvedReference). Means m (s.resolved f) (Value (s.resolved_value x))) same made
 
@@ -208,6 +227,7 @@ module _ {K P V : Type 0} (m : Instance K P V) (files : Sources) (s : SchemaSum 
   schema_means = record {
     input = λ f a. (input_is f a, λ e. subst (Means m (s.input f)) (sym e) (is_input f));
     parse = λ f a. (parse_is f a, λ e. subst (Means m (s.parse f)) (sym e) (is_parse f));
+    items = λ f a. (items_are f a, λ e. subst (Means m (s.items f)) (sym e) (are_items f));
     imports = λ f a. (imports_are f a, λ e. subst (Means m (s.imports f)) (sym e) (are_imports f));
     linked = λ f a. (linked_means f a, means_linked f a);
     defs = λ f a. (defs_are f a, λ e. subst (Means m (s.defs f)) (sym e) (are_defs f));

@@ -3,21 +3,21 @@
 --
 -- `es` is the questions of a run in order, each with its answer.
 use Rattle.std.specs.Prelude.{ℕ, ◌≡◌, bytes_eq, List, [], ◌∷◌, map, filter_map, find}
-use Rattle.pq_links.specs.declared.files.ParsedFile.{ParsedFile}
+use Rattle.pq_links.specs.Files.{nodes_in}
+use Rattle.pq_links.specs.declared.file_items.FileItems.{FileItems}
 use Rattle.pq_links.specs.declared.links.Links.{Links}
 use Rattle.pq_schema.specs.Contents.{Defs}
 use Rattle.pq_schema.specs.ScopeContents.{Scope}
-use Rattle.pq_schema.specs.Missing.{nodes_of}
 use Rattle.pq_schema.specs.Definitions.{defs_of}
 use Rattle.pq_schema.specs.References.{references_of}
 use Rattle.pq_schema.specs.Compile.{resolved_in}
 use Rattle.pq_schema.specs.declared.resolved.ResolvedReference.{ResolvedReference}
 use Rattle.pq_schema.specs.declared.scope.FileDefs.{FileDefs}
 
--- `AreDefsBy parse parsed f es v` is that the one question is for what the file `f` is read as, and
--- that `v` is the definitions of that
-abbrev pub AreDefsBy : {K A : Type 0} → (List ℕ → K) → (A → ParsedFile) → List ℕ → List (K × A) → Defs → Type 0
-AreDefsBy {A = A} parse parsed f es v = (a : A) × (es ≡ (parse f, a) ∷ []) × (v ≡ defs_of (nodes_of (parsed a)))
+-- `AreDefsBy items itemed f es v` is that the one question is for what the file `f` is without
+-- spans, and that `v` is the definitions of that
+abbrev pub AreDefsBy : {K A : Type 0} → (List ℕ → K) → (A → FileItems) → List ℕ → List (K × A) → Defs → Type 0
+AreDefsBy {A = A} items itemed f es v = (a : A) × (es ≡ (items f, a) ∷ []) × (v ≡ defs_of (nodes_in (itemed a)))
 
 -- `picked files names` lists the files of `files` with the names `names`, in the order of these
 abbrev pub picked : List FileDefs → List (List ℕ) → List FileDefs
@@ -45,9 +45,9 @@ IsScopeBy linked defs links defined f [] s = ⊥
 IsScopeBy linked defs links defined f (e ∷ es) s =
     (files : List FileDefs) × (e.0 ≡ linked f) × AsksDefs defs defined (links e.1).reach es files × (s ≡ scope_by (links e.1).visible files)
 
--- `AreResolvedBy scope parse scoped parsed f es rs` is that the questions are for the scope of the
--- file `f` and for what it is read as, and that `rs` is its type references, each with what it
--- resolves to in that scope
-abbrev pub AreResolvedBy : {K A : Type 0} → (List ℕ → K) → (List ℕ → K) → (A → Scope) → (A → ParsedFile) → List ℕ → List (K × A) → List ResolvedReference → Type 0
-AreResolvedBy {A = A} scope parse scoped parsed f es rs =
-    (a b : A) × (es ≡ (scope f, a) ∷ (parse f, b) ∷ []) × (rs ≡ map (resolved_in (scoped a)) (references_of (nodes_of (parsed b))))
+-- `AreResolvedBy scope items scoped itemed f es rs` is that the questions are for the scope of the
+-- file `f` and for what it is without spans, and that `rs` is its type references, each with what
+-- it resolves to in that scope
+abbrev pub AreResolvedBy : {K A : Type 0} → (List ℕ → K) → (List ℕ → K) → (A → Scope) → (A → FileItems) → List ℕ → List (K × A) → List ResolvedReference → Type 0
+AreResolvedBy {A = A} scope items scoped itemed f es rs =
+    (a b : A) × (es ≡ (scope f, a) ∷ (items f, b) ∷ []) × (rs ≡ map (resolved_in (scoped a)) (references_of (nodes_in (itemed b))))

@@ -5,14 +5,14 @@ use Rattle.pq_inputs.specs.Sources.{Sources, file_in}
 use Rattle.pq_rules.specs.declared.turn.Answer.{Answer}
 use Rattle.pq_rules.specs.declared.turn.Answer.TheVariants.{Value}
 use Rattle.pq_syntax.specs.declared.tree.Node.{Node}
-use Rattle.pq_links.specs.Files.{graph_of, read_in}
+use Rattle.pq_links.specs.Files.{graph_of, items_in, nodes_in, read_in}
 use Rattle.pq_links.specs.ImportGraph.{IsRingOf}
 use Rattle.pq_links.specs.LinkedKeys.{LinkedIs}
 use Rattle.pq_links.specs.Visibility.{AreLinks}
 use Rattle.pq_links.specs.declared.links.Links.{Links}
 use Rattle.pq_schema.specs.Contents.{Defs}
 use Rattle.pq_schema.specs.ScopeContents.{Scope}
-use Rattle.pq_schema.specs.Missing.{nodes_of, no_scope}
+use Rattle.pq_schema.specs.Missing.{no_scope}
 use Rattle.pq_schema.specs.Definitions.{defs_of}
 use Rattle.pq_schema.specs.References.{references_of}
 use Rattle.pq_schema.specs.declared.references.Reference.{Reference}
@@ -24,9 +24,9 @@ use Rattle.pq_schema.specs.declared.rules.SchemaValue.{SchemaValue}
 use Rattle.pq_schema.specs.declared.rules.SchemaValue.TheVariants as values
 use Rattle.pq_schema.specs.declared.scope.FileDefs.{FileDefs}
 
--- `nodes_at files f` is the statements of the file `f`
+-- `nodes_at files f` is the statements of the file `f`, without spans
 abbrev pub nodes_at : Sources → List ℕ → List Node
-nodes_at files f = nodes_of (read_in files f)
+nodes_at files f = nodes_in (items_in files f)
 
 -- `defs_at files f` is the package and the definitions of the file `f`; a file that is absent or
 -- has a syntax error has neither
@@ -71,6 +71,7 @@ AreResolved files f rs =
 abbrev pub Compiles : Sources → SchemaKey → Answer SchemaKey SchemaValue → Type 0
 Compiles files (keys.Input f) a = a ≡ Value (values.Source (file_in files f).text)
 Compiles files (keys.Parse f) a = a ≡ Value (values.Parse (read_in files f))
+Compiles files (keys.Items f) a = a ≡ Value (values.Items (items_in files f))
 Compiles files (keys.Imports f) a = a ≡ Value (values.Imports (graph_of files f))
 Compiles files (keys.Linked f) a = LinkedIs (graph_of files) (λ n. keys.Linked n) (λ l. values.Linked l) f a
 Compiles files (keys.Defs f) a = a ≡ Value (values.Defs (defs_at files f))

@@ -74,17 +74,15 @@ named kind scope name number = record {
   full_name = qualified scope name.text;
   kind = kind;
   item = number;
-  span = name.span;
 }
 
--- `entry_of scope name number` is the entry message of a map field of the name `name`; its item and
--- its span are the field's
+-- `entry_of scope name number` is the entry message of a map field of the name `name`; its item is
+-- the field's
 abbrev pub entry_of : List ℕ → Name → ℕ → Definition
 entry_of scope name number = record {
   full_name = qualified scope (entry_name name.text);
   kind = kinds.Entry;
   item = number;
-  span = name.span;
 }
 
 -- `defined_by scope number statement` lists what the item of the number `number` defines by

@@ -159,18 +159,20 @@ abbrev pub is_enum : DefinitionKind → Bool
 is_enum Enum = true
 is_enum _ = false
 
+-- `target file d` is the type that the definition `d` of the file `file` defines
+abbrev pub target : List ℕ → Definition → Target
+target file d = record { file = file; full_name = d.full_name; is_enum = is_enum d.kind; item = d.item }
+
 -- `target_of l` is the target or the refusal of the lookup `l`
 abbrev pub target_of : Lookup → Result Target ResolveFault
-target_of (IsType file d) =
-    Ok (record { file = file; full_name = d.full_name; is_enum = is_enum d.kind; span = d.span })
+target_of (IsType file d) = Ok (target file d)
 target_of IsNotFound = Err NotFound
 target_of (IsNotVisible file) = Err (NotVisible file)
 target_of IsNotAType = Err NotAType
 
--- `resolution_of l` is the lookup `l` as the query of a file's references keeps it: a type by its
--- file and item
+-- `resolution_of l` is the lookup `l` as the query of a file's references keeps it
 abbrev pub resolution_of : Lookup → Resolution
-resolution_of (IsType file d) = resolutions.«Type» file d.full_name (is_enum d.kind) d.item
+resolution_of (IsType file d) = resolutions.«Type» (target file d)
 resolution_of IsNotFound = resolutions.NotFound
 resolution_of (IsNotVisible file) = resolutions.NotVisible file
 resolution_of IsNotAType = resolutions.NotAType

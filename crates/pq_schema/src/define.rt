@@ -62,22 +62,20 @@ fn define(
     }
 }
 
-/// Adds the definition of `full_name` by the item `item`, at the span of `name`.
+/// Adds the definition of `full_name` by the item `item`.
 fn put(
     kind: Kind,
     full_name: FullName,
     item: usize,
-    name: &Name,
     out: &mut Vec<Definition>,
 ) -> Result<(), Memory>
     ensures { OnOk result (out.new.items ≡ out.old.items
-        ++ record { full_name = full_name; kind = kind; item = item; span = name.now.span } ∷ []) }
+        ++ record { full_name = full_name; kind = kind; item = item } ∷ []) }
 {
     out.push(Definition {
         full_name,
         kind,
         item,
-        span: name.span,
     })?;
     Ok(())
 }
@@ -94,7 +92,7 @@ fn put_named(
         (out.new.items ≡ out.old.items ++ named kind scope.now name.now item ∷ []) }
 {
     let full_name = scope.full_name(&name.text)?;
-    put(kind, full_name, item, name, out)
+    put(kind, full_name, item, out)
 }
 
 /// Adds the definitions of the map field `name` and of its entries' message.
@@ -112,5 +110,5 @@ fn put_map_field(
     put_named(Kind::Field, scope, item, name, out)?;
     let entry = entry_name(alloc, name.text.as_str())?;
     let full_name = scope.full_name(&entry)?;
-    put(Kind::Entry, full_name, item, name, out)
+    put(Kind::Entry, full_name, item, out)
 }

@@ -1,16 +1,16 @@
 //! The query of a file's definitions, generic over the sum of queries in which it is used.
 ghost use Rattle.std.specs.Prelude.{◌≡◌, ℕ, [], IfOk, option_copied, unwrap_or};
-ghost use Rattle.pq_links.specs.declared.files.ParsedFile.TheVariants.{Absent};
+ghost use Rattle.pq_links.specs.Files.{nodes_in};
+ghost use Rattle.pq_links.specs.declared.file_items.FileItems.TheVariants.{Absent};
 ghost use Rattle.pq_schema.specs.Definitions.{defs_of};
-ghost use Rattle.pq_schema.specs.Missing.{nodes_of};
 ghost use Rattle.pq_schema.specs.aux.Queries.{defs_level, defs_starts, defs_advances};
 ghost use Rattle.pq_schema.specs.aux.Falls.{defs_falls};
 
 use crate::definitions::Defs;
 use crate::keys::SchemaKeys;
-use pq_links::ParsedFile;
+use pq_links::FileItems;
 use pq_rules::{Memory, Query, Shared, Text, Turn};
-use pq_syntax::{Node, Parsed};
+use pq_syntax::Node;
 use std::alloc::Global;
 use std::marker::PhantomData;
 
@@ -27,26 +27,21 @@ impl<S> DefsQuery<S> {
     }
 }
 
-/// The statements of a file that is read as `file`, `None` for an absent one.
-pub(crate) fn statements<'a>(file: Option<&'a ParsedFile>) -> &'a [Node]
-    ensures nodes { result.now ≡ nodes_of (unwrap_or (option_copied file.entry) Absent) }
+/// The statements of a file that is `items` without spans, `None` for an absent one.
+pub(crate) fn statements<'a>(items: Option<&'a Shared<FileItems>>) -> &'a [Node]
+    ensures nodes { result.now ≡ nodes_in (unwrap_or (option_copied items.entry) Absent) }
 {
-    match file {
-        Some(
-            ParsedFile::Present {
-                parsed: Parsed::Tree(nodes),
-                ..
-            },
-        ) => nodes.as_slice(),
-        _ => &[],
+    match items {
+        Some(items) => items.get().nodes(),
+        None => &[],
     }
 }
 
-/// The definitions of a file that is read as `file`, to be shared.
-fn defs_by(alloc: Global, file: Option<&ParsedFile>) -> Result<Shared<Defs>, Memory>
-    ensures defs { IfOk result (λ d. d ≡ defs_of (nodes_of (unwrap_or (option_copied file.entry) Absent))) }
+/// The definitions of a file that is `items` without spans, to be shared.
+fn defs_by(alloc: Global, items: Option<&Shared<FileItems>>) -> Result<Shared<Defs>, Memory>
+    ensures defs { IfOk result (λ d. d ≡ defs_of (nodes_in (unwrap_or (option_copied items.entry) Absent))) }
 {
-    let defs = Defs::of(alloc, statements(file))?;
+    let defs = Defs::of(alloc, statements(items))?;
     Shared::new(alloc, defs)
 }
 
@@ -61,20 +56,20 @@ impl<S: SchemaKeys> Query for DefsQuery<S> {
 
     type AnyAnswer = S::Answer;
 
-    const LEVEL: u8 = 4;
+    const LEVEL: u8 = 5;
 
     ghost LEVEL = { defs_level };
 
-    ghost starts = { λ s k. defs_starts S.parse k };
+    ghost starts = { λ s k. defs_starts S.items k };
 
-    ghost advances = { λ s p a. defs_advances (nodes_of (S.parsed a)) };
+    ghost advances = { λ s p a. defs_advances (nodes_in (S.itemed a)) };
 
     ghost lefts = { λ s p. (0, 0) };
 
-    ghost falls = { λ s p a q r e. defs_falls (nodes_of (S.parsed a)) q r e };
+    ghost falls = { λ s p a q r e. defs_falls (nodes_in (S.itemed a)) q r e };
 
     fn start(&self, _alloc: Global, key: &Text) -> Result<Turn<S::Key, (), Shared<Defs>>, Memory> {
-        Ok(Turn::Ask(S::parse_key(key)?, ()))
+        Ok(Turn::Ask(S::items_key(key)?, ()))
     }
 
     fn advance(
@@ -83,7 +78,7 @@ impl<S: SchemaKeys> Query for DefsQuery<S> {
         _part: (),
         answer: &S::Answer,
     ) -> Result<Turn<S::Key, (), Shared<Defs>>, ()> {
-        match defs_by(alloc, S::read_parsed(answer)) {
+        match defs_by(alloc, S::read_items(answer)) {
             Ok(defs) => Ok(Turn::Done(defs)),
             Err(_) => Err(()),
         }

@@ -18,7 +18,6 @@ use crate::index::{first_named, index_of, repeated};
 use crate::outline::package_of;
 use crate::spelled::Spelled;
 use crate::{Memory, Text};
-use pq_lex::Span;
 use pq_syntax::Node;
 use std::alloc::Global;
 use std::marker::Model;
@@ -53,8 +52,6 @@ pub struct Definition {
     pub kind: DefinitionKind,
     /// The number of its item: the statements of a file count from 0, in text order.
     pub item: usize,
-    /// The span of its name; for an entry that of its field's name.
-    pub span: Span,
 }
 
 /// The package and the definitions of a file.

@@ -8,12 +8,12 @@ ghost use Rattle.pq_schema.specs.aux.Digests.{digested, digest_from};
 use crate::definitions::Definition;
 use crate::spelled::coded;
 
-/// The number `digest` with the name and the place of `definition` after it.
+/// The number `digest` with the name and the item of `definition` after it.
 fn digested(digest: u64, definition: &Definition) -> u64
     ensures digest { result ≡ digested digest definition.now }
 {
     let named = coded(digest, definition.full_name.code());
-    coded(named, definition.span.start as u64)
+    coded(named, definition.item as u64)
 }
 
 /// The number of `definitions`.

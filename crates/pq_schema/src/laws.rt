@@ -11,11 +11,11 @@ ghost use Rattle.pq_rules.specs.Embedding.{Runs};
 ghost use Rattle.pq_rules.specs.Turns.{over};
 ghost use Rattle.pq_rules.specs.Value.{Means};
 ghost use Rattle.pq_schema.specs.aux.Equal.{same_defs};
+ghost use Rattle.pq_links.specs.Files.{nodes_in};
 ghost use Rattle.pq_links.specs.ImportGraph.{Graph, IsBad, IsRingOf};
 ghost use Rattle.pq_schema.specs.Answers.{AreDefsBy, IsScopeBy, AreResolvedBy};
 ghost use Rattle.pq_schema.specs.Compile.{Compiles};
 ghost use Rattle.pq_schema.specs.Contents.{Defs};
-ghost use Rattle.pq_schema.specs.Missing.{nodes_of};
 ghost use Rattle.pq_schema.specs.SchemaSum.{SchemaSum, SchemaMeans};
 ghost use Rattle.pq_schema.specs.ScopeContents.{Scope};
 ghost use Rattle.pq_schema.specs.aux.Queries.{defs_starts, defs_advances, scope_starts, scope_advances, resolved_starts, resolved_advances};
@@ -36,9 +36,9 @@ pub fn equal_defs()
     ensures same_are_equal { (a b : Defs) → a ≡ b → same_defs a b ≡ true }
 {}
 
-/// The definitions of a file ask for what it is read as, and end in the definitions of that.
+/// The definitions of a file ask for its tree without spans, and end in the definitions of that.
 pub fn defs_by_answers<S: SchemaKeys>()
-    ensures gives { (f : List ℕ) (es : List (S.Key × S.Answer)) (v : Defs) → Runs (λ (q : Unit {0}) (a : S.Answer). defs_advances (nodes_of (S.parsed a))) (defs_starts S.parse f) es (Done v) → AreDefsBy S.parse S.parsed f es v }
+    ensures gives { (f : List ℕ) (es : List (S.Key × S.Answer)) (v : Defs) → Runs (λ (q : Unit {0}) (a : S.Answer). defs_advances (nodes_in (S.itemed a))) (defs_starts S.items f) es (Done v) → AreDefsBy S.items S.itemed f es v }
 {}
 
 /// The scope of a file asks its links and then the definitions of each file that these reach, in
@@ -47,10 +47,10 @@ pub fn scope_by_answers<S: SchemaKeys>()
     ensures gives { (f : List ℕ) (es : List (S.Key × S.Answer)) (s : Scope) → Runs (λ (q : ScopePart) (a : S.Answer). scope_advances S.defs (S.links a) (S.defined a) q) (scope_starts S.linked f) es (Done s) → IsScopeBy S.linked S.defs S.links S.defined f es s }
 {}
 
-/// The resolved references of a file ask its scope and what it is read as, and end in its type
+/// The resolved references of a file ask its scope and its tree without spans, and end in its type
 /// references, each with what it resolves to in that scope.
 pub fn resolved_by_answers<S: SchemaKeys>()
-    ensures gives { (f : List ℕ) (es : List (S.Key × S.Answer)) (rs : List ResolvedReference) → Runs (λ (q : ResolvedPart) (a : S.Answer). resolved_advances S.parse (S.scoped a) (nodes_of (S.parsed a)) q) (resolved_starts S.scope f) es (Done rs) → AreResolvedBy S.scope S.parse S.scoped S.parsed f es rs }
+    ensures gives { (f : List ℕ) (es : List (S.Key × S.Answer)) (rs : List ResolvedReference) → Runs (λ (q : ResolvedPart) (a : S.Answer). resolved_advances S.items (S.scoped a) (nodes_in (S.itemed a)) q) (resolved_starts S.scope f) es (Done rs) → AreResolvedBy S.scope S.items S.scoped S.itemed f es rs }
 {}
 
 /// A file that leads into a ring of imports, and so has an empty scope, is bad: walks of every
@@ -59,7 +59,7 @@ pub fn rings_are_bad()
     ensures bad { (g : Graph) (f : List ℕ) (ring : List (List ℕ)) → IsRingOf g f ring → IsBad g f }
 {}
 
-/// In every rule set that embeds the six queries, at all sources, the answers of their keys are
+/// In every rule set that embeds the seven queries, at all sources, the answers of their keys are
 /// exactly what the files compile to.
 pub fn schema_in_rules<R: Rules>(_rules: &R)
     ensures means { (files : Sources) (s : SchemaSum (over R.Key.cmp (R.machine _rules.now) files) files) → SchemaMeans (over R.Key.cmp (R.machine _rules.now) files) files s }

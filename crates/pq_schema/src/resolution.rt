@@ -1,8 +1,7 @@
 //! What a name resolves to.
 ghost use Rattle.std.specs.Prelude.{◌≡◌, ◌⊎◌, IfOk};
-ghost use Rattle.pq_schema.specs.Resolution.{is_enum, resolved, resolution_of, target_of};
+ghost use Rattle.pq_schema.specs.Resolution.{is_enum, resolved, resolution_of, target};
 ghost use Rattle.pq_schema.specs.aux.Hits.{lookup_at};
-ghost use Rattle.pq_schema.specs.Resolution.Lookup.{IsType};
 ghost use Rattle.pq_schema.specs.declared.resolution.ResolveFault.TheVariants.{Memory as OutOfMemory};
 
 use crate::definitions::DefinitionKind;
@@ -11,7 +10,6 @@ use crate::lookup::Lookup;
 use crate::named::Place;
 use crate::scope::Scope;
 use crate::search::{Outcome, look_up, near_scopes};
-use pq_lex::Span;
 use pq_names::{Memory, Text};
 use std::alloc::{AllocError, Global};
 
@@ -24,8 +22,8 @@ pub struct Target {
     pub full_name: FullName,
     /// Whether it is an enum; else it is a message.
     pub is_enum: bool,
-    /// The span of its name, in its file.
-    pub span: Span,
+    /// The number of the item that defines it, in its file.
+    pub item: usize,
 }
 
 /// Why a name resolves to no type.
@@ -41,16 +39,11 @@ pub enum ResolveFault {
     Memory,
 }
 
-/// What a type reference resolves to, without spans.
+/// What a type reference resolves to.
 #[derive(Drop, PartialEq, Eq)]
 pub enum Resolution {
-    /// The item `item` of the file `file` defines the type.
-    Type {
-        file: Text,
-        full_name: FullName,
-        is_enum: bool,
-        item: usize,
-    },
+    /// A type.
+    Type(Target),
     /// As `ResolveFault::NotFound`.
     NotFound,
     /// As `ResolveFault::NotVisible`.
@@ -95,14 +88,14 @@ pub fn resolve(
 
 /// The type that the definition at `place` defines.
 fn target_at(place: Place<'_>) -> Result<Target, Memory>
-    ensures is { IfOk result (λ t. Ok t ≡ target_of (IsType place.entry.file.now place.entry.definition.now)) }
+    ensures is { IfOk result (λ t. t ≡ target place.entry.file.now place.entry.definition.now) }
 {
     let definition = place.definition;
     Ok(Target {
         file: place.file.copy()?,
         full_name: definition.full_name.copy()?,
         is_enum: is_enum(definition.kind),
-        span: definition.span,
+        item: definition.item,
     })
 }
 
@@ -113,17 +106,12 @@ fn is_enum(kind: DefinitionKind) -> bool
     matches!(kind, DefinitionKind::Enum)
 }
 
-/// What a name resolves to where the search ends in `outcome`, without spans.
+/// What a name resolves to where the search ends in `outcome`.
 pub(crate) fn resolution_at(outcome: Outcome<'_>) -> Result<Resolution, Memory>
     ensures resolution { IfOk result (λ r. r ≡ resolution_of (lookup_at outcome.entry)) }
 {
     match outcome {
-        Outcome::Type(place) => Ok(Resolution::Type {
-            file: place.file.copy()?,
-            full_name: place.definition.full_name.copy()?,
-            is_enum: is_enum(place.definition.kind),
-            item: place.definition.item,
-        }),
+        Outcome::Type(place) => Ok(Resolution::Type(target_at(place)?)),
         Outcome::NotFound => Ok(Resolution::NotFound),
         Outcome::NotVisible(file) => Ok(Resolution::NotVisible(file.copy()?)),
         Outcome::NotAType => Ok(Resolution::NotAType),

@@ -1,8 +1,8 @@
 //! The query of a file's resolved references, generic over the sum of queries in which it is used.
 ghost use Rattle.std.specs.Prelude.{◌≡◌, ◌⊎◌, ◌≤◌, ◌++◌, ◌∷◌, false, get_or, length, map, drop, IfOk, option_copied, unwrap_or};
 ghost use Rattle.pq_rules.specs.declared.turn.Turn.TheVariants.{Ask};
-ghost use Rattle.pq_links.specs.declared.files.ParsedFile.TheVariants.{Absent};
-ghost use Rattle.pq_schema.specs.Missing.{nodes_of};
+ghost use Rattle.pq_links.specs.Files.{nodes_in};
+ghost use Rattle.pq_links.specs.declared.file_items.FileItems.TheVariants.{Absent};
 ghost use Rattle.pq_schema.specs.Compile.{resolved_in};
 ghost use Rattle.pq_schema.specs.Resolution.{lookup_by, scopes};
 ghost use Rattle.pq_schema.specs.aux.Grouping.{AreNear};
@@ -26,7 +26,7 @@ use crate::resolution::{Resolution, resolution_at};
 use crate::scope::Scope;
 use crate::search::{Hit, find, near_scopes, outcome_of};
 use crate::spots::spots_of;
-use pq_links::{ParsedFile, TypePart};
+use pq_links::{FileItems, TypePart};
 use pq_rules::{Memory, Query, Shared, Text, Turn};
 use pq_syntax::Items;
 use std::alloc::Global;
@@ -48,7 +48,7 @@ pub struct ResolvedReference {
 pub enum ResolvedPart {
     /// The answer is the scope of the file.
     ReadScope(Text),
-    /// The answer is what the file is read as. The field is its scope.
+    /// The answer is the file's tree without spans. The field is its scope.
     ReadTree(Shared<Scope>),
 }
 
@@ -305,16 +305,16 @@ fn resolve_each(
     Ok(Items::new(resolved))
 }
 
-/// The resolved references of a file with the scope `scope` that is read as `file`.
+/// The resolved references of a file with the scope `scope` that is `items` without spans.
 fn resolve_file(
     alloc: Global,
     scope: &Scope,
-    file: Option<&ParsedFile>,
+    items: Option<&Shared<FileItems>>,
 ) -> Result<Shared<Items<ResolvedReference>>, Memory>
-    ensures resolved { IfOk result (λ rs. rs ≡ resolved_by scope.now (nodes_of (unwrap_or (option_copied file.entry) Absent))) }
+    ensures resolved { IfOk result (λ rs. rs ≡ resolved_by scope.now (nodes_in (unwrap_or (option_copied items.entry) Absent))) }
 {
-    let found = references_in(alloc, statements(file))?;
-    let root = package_of(alloc, statements(file))?;
+    let found = references_in(alloc, statements(items))?;
+    let root = package_of(alloc, statements(items))?;
     let resolved = resolve_each(alloc, scope, root.as_str(), found.as_slice())?;
     Shared::new(alloc, resolved)
 }
@@ -329,16 +329,16 @@ fn scope_in<S: SchemaKeys>(alloc: Global, answer: &S::Answer) -> Result<Shared<S
     }
 }
 
-/// The turn after the scope of `file`: the rule asks for what the file is read as.
+/// The turn after the scope of `file`: the rule asks for its tree without spans.
 fn ask_tree<S: SchemaKeys>(
     alloc: Global,
     file: &Text,
     answer: &S::Answer,
 ) -> Result<Turn<S::Key, ResolvedPart, Shared<Items<ResolvedReference>>>, Memory>
-    ensures turn { IfOk result (λ t. t ≡ Ask (S.parse file.now) (ReadTree (S.scoped answer.now))) }
+    ensures turn { IfOk result (λ t. t ≡ Ask (S.items file.now) (ReadTree (S.scoped answer.now))) }
 {
     let scope = scope_in::<S>(alloc, answer)?;
-    Ok(Turn::Ask(S::parse_key(file)?, ResolvedPart::ReadTree(scope)))
+    Ok(Turn::Ask(S::items_key(file)?, ResolvedPart::ReadTree(scope)))
 }
 
 impl<S: SchemaKeys> Query for ResolvedQuery<S> {
@@ -352,17 +352,17 @@ impl<S: SchemaKeys> Query for ResolvedQuery<S> {
 
     type AnyAnswer = S::Answer;
 
-    const LEVEL: u8 = 6;
+    const LEVEL: u8 = 7;
 
     ghost LEVEL = { resolved_level };
 
     ghost starts = { λ s k. resolved_starts S.scope k };
 
-    ghost advances = { λ s p a. resolved_advances S.parse (S.scoped a) (nodes_of (S.parsed a)) p };
+    ghost advances = { λ s p a. resolved_advances S.items (S.scoped a) (nodes_in (S.itemed a)) p };
 
     ghost lefts = { λ s p. resolved_left p };
 
-    ghost falls = { λ s p a q r e. resolved_falls S.parse (S.scoped a) (nodes_of (S.parsed a)) p q r e };
+    ghost falls = { λ s p a q r e. resolved_falls S.items (S.scoped a) (nodes_in (S.itemed a)) p q r e };
 
     fn start(
         &self,
@@ -386,7 +386,7 @@ impl<S: SchemaKeys> Query for ResolvedQuery<S> {
             ResolvedPart::ReadTree(scope) => match resolve_file(
                 alloc,
                 scope.get(),
-                S::read_parsed(answer),
+                S::read_items(answer),
             ) {
                 Ok(resolved) => Ok(Turn::Done(resolved)),
                 Err(_) => Err(ResolvedPart::ReadTree(scope)),

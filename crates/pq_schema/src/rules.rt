@@ -2,7 +2,7 @@
 //!
 //! `embedded` says how the parts and values of each query are parts and values of the rule set.
 ghost use Rattle.std.specs.Prelude.{◌≡◌, Option, None, IfOk, option_copied, unwrap_or};
-ghost use Rattle.pq_schema.specs.aux.RuleSet.{text_read, parsed_read, imports_read, links_read, defs_read, scope_read};
+ghost use Rattle.pq_schema.specs.aux.RuleSet.{text_read, parsed_read, items_read, imports_read, links_read, defs_read, scope_read};
 
 mod embedded;
 
@@ -13,7 +13,8 @@ use crate::resolved::{ResolvedPart, ResolvedQuery, ResolvedReference};
 use crate::scope::Scope;
 use crate::scopes::{ScopePart, ScopeQuery};
 use pq_links::{
-    Import, ImportsQuery, LinkKeys, LinkedQuery, Linking, Links, ParseQuery, ParsedFile,
+    FileItems, Import, ImportsQuery, ItemsQuery, LinkKeys, LinkedQuery, Linking, Links, ParseQuery,
+    ParsedFile,
 };
 use pq_rules::{Answer, Memory, Query, Rules, Shared, Sum, Text, Turn, advance_of, start_of};
 use pq_syntax::Items;
@@ -26,6 +27,8 @@ pub enum SchemaKey {
     Input(Text),
     /// What the file is read as.
     Parse(Text),
+    /// The same without spans.
+    Items(Text),
     /// The imports of the file.
     Imports(Text),
     /// The links of the file.
@@ -45,6 +48,8 @@ pub enum SchemaValue {
     Source(Option<Text>),
     /// What a file is read as.
     Parse(Shared<ParsedFile>),
+    /// The same without spans.
+    Items(Shared<FileItems>),
     /// The imports of a file, `None` where it is absent.
     Imports(Option<Shared<Items<Import>>>),
     /// The links of a file.
@@ -62,6 +67,8 @@ pub enum SchemaValue {
 pub enum SchemaPart {
     /// The part of the query of parses.
     Parsing,
+    /// The part of the query of trees without spans.
+    Itemizing,
     /// The part of the query of imports.
     Importing,
     /// A part of the query of links.
@@ -87,7 +94,7 @@ impl Sum for SchemaRules {
 }
 
 impl LinkKeys for SchemaRules {
-    ghost use Rattle.pq_schema.specs.declared.rules.SchemaKey.TheVariants.{Input, Parse, Imports, Linked};
+    ghost use Rattle.pq_schema.specs.declared.rules.SchemaKey.TheVariants.{Input, Parse, Items as ItemsKey, Imports, Linked};
 
     type Key = SchemaKey;
 
@@ -97,6 +104,8 @@ impl LinkKeys for SchemaRules {
 
     ghost parse = { λ f. Parse f };
 
+    ghost items = { λ f. ItemsKey f };
+
     ghost imports = { λ f. Imports f };
 
     ghost linked = { λ f. Linked f };
@@ -104,6 +113,8 @@ impl LinkKeys for SchemaRules {
     ghost text = { text_read };
 
     ghost parsed = { parsed_read };
+
+    ghost itemed = { items_read };
 
     ghost imported = { imports_read };
 
@@ -115,6 +126,10 @@ impl LinkKeys for SchemaRules {
 
     fn parse_key(file: &Text) -> Result<SchemaKey, Memory> {
         Ok(SchemaKey::Parse(file.copy()?))
+    }
+
+    fn items_key(file: &Text) -> Result<SchemaKey, Memory> {
+        Ok(SchemaKey::Items(file.copy()?))
     }
 
     fn imports_key(file: &Text) -> Result<SchemaKey, Memory> {
@@ -132,9 +147,18 @@ impl LinkKeys for SchemaRules {
         }
     }
 
-    fn read_parsed<'a>(answer: &'a Answer<SchemaKey, SchemaValue>) -> Option<&'a ParsedFile> {
+    fn read_parsed<'a>(
+        answer: &'a Answer<SchemaKey, SchemaValue>,
+    ) -> Option<&'a Shared<ParsedFile>> {
         match answer {
-            Answer::Value(SchemaValue::Parse(file)) => Some(file.get()),
+            Answer::Value(SchemaValue::Parse(file)) => Some(file),
+            _ => None,
+        }
+    }
+
+    fn read_items<'a>(answer: &'a Answer<SchemaKey, SchemaValue>) -> Option<&'a Shared<FileItems>> {
+        match answer {
+            Answer::Value(SchemaValue::Items(items)) => Some(items),
             _ => None,
         }
     }
@@ -215,6 +239,7 @@ impl Rules for SchemaRules {
         match key {
             SchemaKey::Input(_) => 0,
             SchemaKey::Parse(_) => ParseQuery::<SchemaRules>::LEVEL,
+            SchemaKey::Items(_) => ItemsQuery::<SchemaRules>::LEVEL,
             SchemaKey::Imports(_) => ImportsQuery::<SchemaRules>::LEVEL,
             SchemaKey::Linked(_) => LinkedQuery::<SchemaRules>::LEVEL,
             SchemaKey::Defs(_) => DefsQuery::<SchemaRules>::LEVEL,
@@ -247,6 +272,9 @@ impl Rules for SchemaRules {
             SchemaKey::Parse(file) => {
                 start_of::<Self, _>(alloc, &ParseQuery::<Self>::new(), file)
             }
+            SchemaKey::Items(file) => {
+                start_of::<Self, _>(alloc, &ItemsQuery::<Self>::new(), file)
+            }
             SchemaKey::Imports(file) => {
                 start_of::<Self, _>(alloc, &ImportsQuery::<Self>::new(), file)
             }
@@ -273,6 +301,9 @@ impl Rules for SchemaRules {
             SchemaPart::Parsing => {
                 advance_of::<Self, _>(alloc, &ParseQuery::<Self>::new(), (), answer)
             }
+            SchemaPart::Itemizing => {
+                advance_of::<Self, _>(alloc, &ItemsQuery::<Self>::new(), (), answer)
+            }
             SchemaPart::Importing => {
                 advance_of::<Self, _>(alloc, &ImportsQuery::<Self>::new(), (), answer)
             }
@@ -294,6 +325,7 @@ impl Rules for SchemaRules {
     fn left(&self, part: &SchemaPart) -> (u32, u64) {
         match part {
             SchemaPart::Parsing => ParseQuery::<SchemaRules>::new().left(&()),
+            SchemaPart::Itemizing => ItemsQuery::<SchemaRules>::new().left(&()),
             SchemaPart::Importing => ImportsQuery::<SchemaRules>::new().left(&()),
             SchemaPart::LinkingFiles(part) => LinkedQuery::<SchemaRules>::new().left(part),
             SchemaPart::Defining => DefsQuery::<SchemaRules>::new().left(&()),
@@ -306,6 +338,7 @@ impl Rules for SchemaRules {
         match key {
             SchemaKey::Input(name) => Ok(SchemaKey::Input(name.copy()?)),
             SchemaKey::Parse(name) => Ok(SchemaKey::Parse(name.copy()?)),
+            SchemaKey::Items(name) => Ok(SchemaKey::Items(name.copy()?)),
             SchemaKey::Imports(name) => Ok(SchemaKey::Imports(name.copy()?)),
             SchemaKey::Linked(name) => Ok(SchemaKey::Linked(name.copy()?)),
             SchemaKey::Defs(name) => Ok(SchemaKey::Defs(name.copy()?)),
@@ -319,6 +352,7 @@ impl Rules for SchemaRules {
             SchemaValue::Source(Some(text)) => Ok(SchemaValue::Source(Some(text.copy()?))),
             SchemaValue::Source(None) => Ok(SchemaValue::Source(None)),
             SchemaValue::Parse(file) => Ok(SchemaValue::Parse(file.copy()?)),
+            SchemaValue::Items(items) => Ok(SchemaValue::Items(items.copy()?)),
             SchemaValue::Imports(Some(imports)) => Ok(SchemaValue::Imports(Some(imports.copy()?))),
             SchemaValue::Imports(None) => Ok(SchemaValue::Imports(None)),
             SchemaValue::Linked(links) => Ok(SchemaValue::Linked(links.copy()?)),

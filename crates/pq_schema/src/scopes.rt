@@ -139,7 +139,7 @@ impl<S: SchemaKeys> Query for ScopeQuery<S> {
 
     type AnyAnswer = S::Answer;
 
-    const LEVEL: u8 = 5;
+    const LEVEL: u8 = 6;
 
     ghost LEVEL = { scope_level };
 

@@ -3,16 +3,18 @@
 //! A script has a line for each event. `DURABILITY NAME: TEXT` sets a file to the syntax line and
 //! then `TEXT`, `DURABILITY NAME= TEXT` to `TEXT` alone, and `DURABILITY NAME` makes it absent.
 //! `QUERY NAME` demands a key, `Definition NAME LINE:CHARACTER` at a place. Each demand is compared
-//! with `compile`. ` => CODES` may follow a demand of diagnostics, and ` | CARRIED`, with
-//! `KEY REVISION WHY;` for each rule that the demand carries.
+//! with `compile`. ` => DIAGNOSTICS` may follow a demand of diagnostics, each as
+//! `CODE LINE:FIRST-END`, and ` | CARRIED`, with `KEY REVISION WHY;` for each rule that the demand
+//! carries.
 
 use crate::checks::{check_row_count, check_text, check_that, text_of};
 use crate::keys::{add_key, key_in};
 use crate::sets::{SYNTAX_LINE, whole_text};
 use pq_checks::Diagnostic;
 use pq_inputs::{Durability, Inputs};
+use pq_links::ParsedFile;
 use pq_memo::{Carried, Demanded, Engine, Why};
-use pq_proto::{ProtoKey, ProtoRules, ProtoValue, compile};
+use pq_proto::{ProtoKey, ProtoRules, ProtoValue, compile, position_in};
 use pq_rules::{Answer, Memory, same_answer};
 use std::alloc::Global;
 use std::process::Abort;
@@ -118,22 +120,30 @@ fn add_start(page: &mut Page, start: &Carried<ProtoKey>) {
     page.add(";");
 }
 
-/// Writes the codes of `diagnostics`, each with a blank after it.
-fn add_codes(page: &mut Page, diagnostics: &[Diagnostic]) {
-    for diagnostic in diagnostics {
-        page.add(diagnostic.code.as_str());
-        page.add(" ");
-    }
+/// Writes `diagnostic`, in one line of `file`, as `CODE LINE:FIRST-END ` in UTF-16 columns.
+fn add_diagnostic(page: &mut Page, file: &ParsedFile, diagnostic: &Diagnostic) {
+    let start = position_in(file, diagnostic.start);
+    page.add(diagnostic.code.as_str());
+    page.add(" ");
+    page.number(start.line);
+    page.add(":");
+    page.number(start.character);
+    page.add("-");
+    page.number(position_in(file, diagnostic.end).character);
+    page.add(" ");
 }
 
-/// Writes the codes of an answer, none of one that is not of diagnostics.
+/// Writes the diagnostics of an answer, none of one of another query.
 fn add_answer(page: &mut Page, answer: &Answer<ProtoKey, ProtoValue>) {
     if let Answer::Value(ProtoValue::Diagnostics(diagnosed)) = answer {
-        add_codes(page, diagnosed.get().diagnostics.as_slice());
+        let diagnosed = diagnosed.get();
+        for diagnostic in diagnosed.diagnostics.as_slice() {
+            add_diagnostic(page, diagnosed.file.get(), diagnostic);
+        }
     }
 }
 
-/// Writes the codes of an answer and the rules that were started for it, as `CODES | CARRIED`.
+/// Writes an answer and the rules that were started for it, as `DIAGNOSTICS | CARRIED`.
 fn add_demanded(page: &mut Page, demanded: &Demanded<ProtoKey, ProtoValue>) {
     add_answer(page, demanded.answer.get());
     page.add("| ");
@@ -176,13 +186,13 @@ fn is_empty(found: Result<Demanded<ProtoKey, ProtoValue>, Memory>) -> bool {
     }
 }
 
-/// Checks that `found`, which is `CODES | CARRIED`, is `want`, or that its codes are.
+/// Checks that `found`, which is `DIAGNOSTICS | CARRIED`, is `want`, or that its diagnostics are.
 fn check_shown(rt: &impl Abort, found: &str, want: &str, line: &str) {
-    let codes = found.split('|').next().unwrap_or("").trim();
+    let diagnostics = found.split('|').next().unwrap_or("").trim();
     if want.contains("|") {
         check_text(rt, found.trim(), want, line);
     } else {
-        check_text(rt, codes, want, line);
+        check_text(rt, diagnostics, want, line);
     }
 }
 
@@ -247,6 +257,64 @@ fn comments_and_equal_texts(rt: HostRuntime) {
     );
 }
 
+// A line before a message moves its statements. The tree without spans stays, and so does all that
+// is made of it: only diagnostics look for the places again.
+#[test]
+fn moved_statements(rt: HostRuntime) {
+    check_rows(
+        &rt,
+        6,
+        "\
+        low a.proto: message M { int32 x = 0; }|\n\
+        Diagnostics a.proto => P120 1:22-23\n\
+        Descriptor a.proto => \n\
+        low a.proto: // note|message M { int32 x = 0; }|\n\
+        Descriptor a.proto => | Parse a.proto 2 Input a.proto;Items a.proto 2 Parse a.proto;\n\
+        Diagnostics a.proto => P120 2:22-23 | Diagnostics a.proto 2 Parse a.proto;\n\
+        ",
+    );
+}
+
+// A comment in an imported file starts its parse and its tree without spans, and no rule of the
+// importer. A definition at a place is looked up in the tree as it is then.
+#[test]
+fn moved_imports(rt: HostRuntime) {
+    check_rows(
+        &rt,
+        11,
+        "\
+        low a.proto: message A {}|\n\
+        low b.proto: import \"a.proto\"; message B { A x = 1; }|\n\
+        Diagnostics b.proto => \n\
+        Descriptor b.proto => \n\
+        Symbols b.proto => \n\
+        Definition b.proto 1:30 => \n\
+        low a.proto: // note|message A {}|\n\
+        Diagnostics b.proto => | Parse a.proto 3 Input a.proto;Items a.proto 3 Parse a.proto;\n\
+        Descriptor b.proto => |\n\
+        Symbols b.proto => |\n\
+        Definition b.proto 1:30 => | Definition b.proto 3 Parse a.proto;\n\
+        ",
+    );
+}
+
+// A syntax error that moves changes neither what a file is without spans nor its checks.
+#[test]
+fn moved_errors(rt: HostRuntime) {
+    check_rows(
+        &rt,
+        6,
+        "\
+        low a.proto: import 1;|\n\
+        low b.proto: import \"a.proto\";|\n\
+        Diagnostics b.proto => P104 1:7-16\n\
+        Diagnostics a.proto => P012 1:7-8\n\
+        low a.proto: // note|import 1;|\n\
+        Diagnostics a.proto => P012 2:7-8 | Parse a.proto 3 Input a.proto;Items a.proto 3 Parse a.proto;Diagnostics a.proto 3 Parse a.proto;\n\
+        ",
+    );
+}
+
 // A durability that is lowered and a text that is emptied count like each other edit.
 #[test]
 fn lowered_durability(rt: HostRuntime) {
@@ -257,7 +325,7 @@ fn lowered_durability(rt: HostRuntime) {
         high lib.proto: \n\
         Diagnostics lib.proto => \n\
         low lib.proto= \n\
-        Diagnostics lib.proto => P010\n\
+        Diagnostics lib.proto => P010 0:0-0\n\
         low lib.proto: \n\
         Diagnostics lib.proto => \n\
         ",
@@ -274,16 +342,16 @@ fn import_ring(rt: HostRuntime) {
         low b.proto: import \"a.proto\";\n\
         low c.proto: import \"a.proto\";\n\
         low a.proto: import \"b.proto\";\n\
-        Diagnostics c.proto => P105\n\
-        Diagnostics b.proto => P105\n\
+        Diagnostics c.proto => P105 1:7-16\n\
+        Diagnostics b.proto => P105 1:7-16\n\
         low b.proto: \n\
         Diagnostics a.proto => \n\
         Diagnostics b.proto => \n\
         Diagnostics c.proto => \n\
         low b.proto: import \"a.proto\";\n\
-        Diagnostics c.proto => P105\n\
-        Diagnostics b.proto => P105\n\
-        Diagnostics a.proto => P105\n\
+        Diagnostics c.proto => P105 1:7-16\n\
+        Diagnostics b.proto => P105 1:7-16\n\
+        Diagnostics a.proto => P105 1:7-16\n\
         ",
     );
 }

@@ -4,7 +4,7 @@
 use crate::checks::{check_page, check_row_count, check_that, split_row};
 use crate::sets::inputs_of;
 use pq_inputs::Inputs;
-use pq_links::ParsedFile;
+use pq_links::{FileItems, ParsedFile};
 use pq_proto::{Place, ProtoKey, ProtoValue, compile};
 use pq_rules::{Answer, Text};
 use pq_syntax::Parsed;
@@ -16,6 +16,7 @@ fn key_of(query: &str, name: Text, place: Place) -> ProtoKey {
     match query {
         "Input" => ProtoKey::Input(name),
         "Parse" => ProtoKey::Parse(name),
+        "Items" => ProtoKey::Items(name),
         "Imports" => ProtoKey::Imports(name),
         "Linked" => ProtoKey::Linked(name),
         "Defs" => ProtoKey::Defs(name),
@@ -51,6 +52,7 @@ fn query_and_file(key: &ProtoKey) -> (&'static str, &str) {
     match key {
         ProtoKey::Input(name) => ("Input", name.as_str()),
         ProtoKey::Parse(name) => ("Parse", name.as_str()),
+        ProtoKey::Items(name) => ("Items", name.as_str()),
         ProtoKey::Imports(name) => ("Imports", name.as_str()),
         ProtoKey::Linked(name) => ("Linked", name.as_str()),
         ProtoKey::Defs(name) => ("Defs", name.as_str()),
@@ -94,12 +96,22 @@ fn add_file(page: &mut Page, file: &ParsedFile) {
     }
 }
 
+/// Writes what a file is read as, without spans.
+fn add_items(page: &mut Page, items: &FileItems) {
+    match items {
+        FileItems::Absent => page.add("absent"),
+        FileItems::Fault => page.add("an error"),
+        FileItems::Tree(file) => add_count(page, file.as_slice().len(), " statements"),
+    }
+}
+
 /// Writes a value: how long its list is, or its text.
 fn add_value(page: &mut Page, value: &ProtoValue) {
     match value {
         ProtoValue::Source(None) | ProtoValue::Imports(None) => add_count(page, 0, " absent"),
         ProtoValue::Source(Some(text)) => add_count(page, text.as_str().len(), " bytes"),
         ProtoValue::Parse(file) => add_file(page, file.get()),
+        ProtoValue::Items(items) => add_items(page, items.get()),
         ProtoValue::Imports(Some(imports)) => {
             add_count(page, imports.get().as_slice().len(), " imports");
         }
@@ -162,6 +174,9 @@ Input gone => 0 absent
 Parse a => 6 statements
 Parse bad => an error
 Parse gone => absent
+Items a => 6 statements
+Items bad => an error
+Items gone => absent
 Imports a => 1 imports
 Imports bad => 0 imports
 Imports gone => 0 absent
@@ -190,7 +205,7 @@ Definition a => 0 locations"#;
 // The list of a file's imports has a name once. P103, P110 and P122 are the errors of `a`.
 #[test]
 fn each_key(rt: HostRuntime) {
-    check_row_count(&rt, 29, ANSWERS);
+    check_row_count(&rt, 32, ANSWERS);
     let inputs = inputs_of(&rt, FILES);
     for row in ANSWERS.lines() {
         check_row(&rt, &inputs, row);
@@ -205,15 +220,15 @@ fn check_less(rt: &(impl Abort + AllocGlobal), line: &str, later: &str) {
 }
 
 const IN_ORDER: &str = "\
-    Input b < Input é\nInput é < Parse a\nParse b < Imports a\nImports b < Linked a\n\
-    Linked b < Defs a\nDefs b < Scope a\nScope b < Resolved a\nResolved b < Checks a\n\
+    Input b < Input é\nInput é < Parse a\nParse b < Items a\nItems b < Imports a\n\
+    Imports b < Linked a\nLinked b < Defs a\nDefs b < Scope a\nScope b < Resolved a\nResolved b < Checks a\n\
     Checks b < Diagnostics a\nDiagnostics b < Descriptor a\nDescriptor b < Symbols a\n\
     Symbols a < Symbols a\u{1}\nSymbols a\u{1} < Symbols b\nSymbols b < Definition a";
 
 // Queries come first, then the bytes of names.
 #[test]
 fn orders_of_keys(rt: HostRuntime) {
-    check_row_count(&rt, 14, IN_ORDER);
+    check_row_count(&rt, 15, IN_ORDER);
     for row in IN_ORDER.lines() {
         let (line, later) = split_row(&rt, row, " < ");
         check_less(&rt, line, later);

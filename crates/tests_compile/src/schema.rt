@@ -37,6 +37,7 @@ fn inputs_of(rt: &(impl Abort + AllocGlobal), files: &str) -> Inputs {
 fn key_of(query: &str, name: Text) -> SchemaKey {
     match query {
         "Parse" => SchemaKey::Parse(name),
+        "Items" => SchemaKey::Items(name),
         "Imports" => SchemaKey::Imports(name),
         "Linked" => SchemaKey::Linked(name),
         "Defs" => SchemaKey::Defs(name),

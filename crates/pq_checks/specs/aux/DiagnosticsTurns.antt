@@ -21,7 +21,7 @@ listed_at nodes f = cons_option (diagnostic_at nodes f) []
 
 -- `diagnostics_level` is the level of the query's keys
 abbrev pub diagnostics_level : ℕ
-diagnostics_level = 8
+diagnostics_level = 9
 
 -- `diagnostics_starts checks f` is the first turn of the diagnostics of the file `f`: it asks for
 -- the errors

@@ -8,7 +8,7 @@ use Rattle.pq_links.specs.declared.links.Import.{Import}
 use Rattle.pq_checks.specs.Answers.{CheckWords}
 use Rattle.pq_checks.specs.aux.Queries.{link_next, staged, placed, with_state, link_follows, link_placed, check_advances, check_left}
 use Rattle.pq_checks.specs.declared.checked.CheckPart.{CheckPart}
-use Rattle.pq_checks.specs.declared.checked.CheckPart.TheVariants.{ReadFile, ReadImports, ReadLinks, ReadDefs, ReadScope, ReadReferences, ReadState, ReadNext}
+use Rattle.pq_checks.specs.declared.checked.CheckPart.TheVariants.{ReadItems, ReadImports, ReadLinks, ReadDefs, ReadScope, ReadReferences, ReadState, ReadNext}
 use Rattle.pq_checks.specs.declared.gathered.Known.{Known}
 use Rattle.pq_checks.specs.declared.surroundings.Imported.{Imported}
 
@@ -23,12 +23,12 @@ link_next_falls linked k (Some ring) (Some i) left imported n q r low e =
 link_next_falls linked k (Some ring) None left imported n q r low e = cc
 link_next_falls linked k None first left imported n q r low e = cc
 
-staged_falls : {K : Type 0} (linked parse : List ℕ → K) (k : Known) (next : Option Import) (left : List Import) (imported : List Imported)
+staged_falls : {K : Type 0} (linked items : List ℕ → K) (k : Known) (next : Option Import) (left : List Import) (imported : List Imported)
     (n : ℕ × ℕ) (q : K) (r : CheckPart) → IsLower (1, length left) n → IsLower (0, length k.linked.imports) n
-    → placed k left imported (staged linked parse k next imported) ≡ Ask q r → IsLower (check_left r) n
-staged_falls linked parse k (Some i) left imported n q r low lower e =
+    → placed k left imported (staged linked items k next imported) ≡ Ask q r → IsLower (check_left r) n
+staged_falls linked items k (Some i) left imported n q r low lower e =
     let part : r ≡ ReadState k left imported = cc in left_at n r _ part low
-staged_falls linked parse k None left imported n q r low lower e =
+staged_falls linked items k None left imported n q r low lower e =
     link_next_falls linked k k.linked.ring (slice_get k.linked.imports 0) left imported n q r lower e
 
 link_falls : {K : Type 0} (linked : List ℕ → K) (k : Known) (i : Import) (second : Option Import) (ring : Option (List (List ℕ))) (left : List Import) (imported : List Imported)
@@ -41,19 +41,19 @@ link_falls linked k i None None left imported n q r low e = cc
 
 pub check_falls : {K A : Type 0} (w : CheckWords K A) (a : A) (p : CheckPart) (q : K) (r : CheckPart)
     → check_advances w p a ≡ Ask q r → IsLower (check_left r) (check_left p)
-check_falls w a (ReadFile f) q r e = let part : r ≡ ReadImports f (w.parsed a) = cc in left_at (7, 0) r _ part (inl (omega arith))
+check_falls w a (ReadItems f) q r e = let part : r ≡ ReadImports f (w.itemed a) = cc in left_at (7, 0) r _ part (inl (omega arith))
 check_falls w a (ReadImports f p) q r e =
     let part : r ≡ ReadLinks f p (unwrap_or (w.imported a) []) = cc in left_at (6, 0) r _ part (inl (omega arith))
 check_falls w a (ReadLinks f p is) q r e =
-    let part : r ≡ ReadDefs (record { file = f; parsed = p; imports = is; ring = w.ring a }) = cc in left_at (5, 0) r _ part (inl (omega arith))
+    let part : r ≡ ReadDefs (record { file = f; items = p; imports = is; ring = w.ring a }) = cc in left_at (5, 0) r _ part (inl (omega arith))
 check_falls w a (ReadDefs l) q r e = let part : r ≡ ReadScope l (w.defined a) = cc in left_at (4, 0) r _ part (inl (omega arith))
 check_falls w a (ReadScope l d) q r e = let part : r ≡ ReadReferences l d (w.scoped a) = cc in left_at (3, 0) r _ part (inl (omega arith))
 check_falls w a (ReadReferences l d s) q r e =
-    staged_falls w.linked w.parse (record { linked = l; defs = d; scope = s; references = w.referred a }) (slice_get l.imports 0) l.imports [] (2, 0) q r
+    staged_falls w.linked w.items (record { linked = l; defs = d; scope = s; references = w.referred a }) (slice_get l.imports 0) l.imports [] (2, 0) q r
     (inl (omega arith)) (inl (omega arith)) e
 check_falls w a (ReadState k [] imported) q r e = cc
 check_falls w a (ReadState k (i ∷ is) imported) q r e =
-    staged_falls w.linked w.parse k (slice_get is 0) is (with_state (Some i) (w.parsed a) imported) (1, length (i ∷ is)) q r
+    staged_falls w.linked w.items k (slice_get is 0) is (with_state (Some i) (w.itemed a) imported) (1, length (i ∷ is)) q r
     (inr (refl, omega arith)) (inl (omega arith)) e
 check_falls w a (ReadNext k [] imported) q r e = cc
 check_falls w a (ReadNext k (i ∷ is) imported) q r e =

@@ -21,4 +21,4 @@ surroundings_of k imported next = record {
 
 -- `checked_of k imported next` lists the errors of that file
 abbrev pub checked_of : Known → List Imported → Option (List ℕ) → List Fault
-checked_of k imported next = file_faults (surroundings_of k imported next) k.linked.parsed
+checked_of k imported next = file_faults (surroundings_of k imported next) k.linked.items

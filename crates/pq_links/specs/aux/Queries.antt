@@ -21,10 +21,10 @@ abbrev pub items_level : ℕ
 items_level = 2
 
 abbrev pub imports_level : ℕ
-imports_level = 2
+imports_level = 3
 
 abbrev pub linked_level : ℕ
-linked_level = 3
+linked_level = 4
 
 -- `parse_starts input f` is the first turn of the parse of the file `f`: it asks for the text
 abbrev pub parse_starts : {K : Type 0} → (List ℕ → K) → List ℕ → Turn K (Unit {0}) ParsedFile
@@ -43,13 +43,15 @@ items_starts parse f = Ask (parse f) tt
 abbrev pub items_advances : {K : Type 0} → ParsedFile → Turn K (Unit {0}) FileItems
 items_advances file = Done (items_of file)
 
--- `imports_starts parse f` is the first turn of the imports of the file `f`: it asks for the parse
+-- `imports_starts items f` is the first turn of the imports of the file `f`: it asks for the tree
+-- without spans
 abbrev pub imports_starts : {K : Type 0} → (List ℕ → K) → List ℕ → Turn K (Unit {0}) (Option (List Import))
-imports_starts parse f = Ask (parse f) tt
+imports_starts items f = Ask (items f) tt
 
--- `imports_advances file` is the turn after that: it is done with the imports of `file`
-abbrev pub imports_advances : {K : Type 0} → ParsedFile → Turn K (Unit {0}) (Option (List Import))
-imports_advances file = Done (file_imports file)
+-- `imports_advances items` is the turn after that: it is done with the imports of a file that is
+-- `items`
+abbrev pub imports_advances : {K : Type 0} → FileItems → Turn K (Unit {0}) (Option (List Import))
+imports_advances items = Done (file_imports items)
 
 -- `join_next linked f left pairs` is the turn of the links of the file `f` that asks the links of
 -- the first import of `left`. Without one it is done with the links by `pairs`.

@@ -8,7 +8,7 @@ use Rattle.pq_links.proofs.NameKinds.{ImportsIn, IfImportsIn}
 use Rattle.pq_checks.specs.Answers.{CheckWords}
 use Rattle.pq_checks.specs.aux.Queries.{link_next, staged, placed, with_state, link_follows, link_placed, check_starts, check_advances}
 use Rattle.pq_checks.specs.declared.checked.CheckPart.{CheckPart}
-use Rattle.pq_checks.specs.declared.checked.CheckPart.TheVariants.{ReadFile, ReadImports, ReadLinks, ReadDefs, ReadScope, ReadReferences, ReadState, ReadNext}
+use Rattle.pq_checks.specs.declared.checked.CheckPart.TheVariants.{ReadItems, ReadImports, ReadLinks, ReadDefs, ReadScope, ReadReferences, ReadState, ReadNext}
 use Rattle.pq_checks.specs.declared.gathered.Known.{Known}
 use Rattle.pq_checks.specs.declared.gathered.LinkedFile.{LinkedFile}
 use Rattle.pq_checks.specs.declared.fault.Fault.{Fault}
@@ -26,7 +26,7 @@ WaitingIn N k left = ImportsIn N k.linked.imports × ImportsIn N left
 -- `CheckPartIn N part` is that the names that the rule asks after the part `part` are of the kind
 -- `N`
 abbrev pub CheckPartIn : (List ℕ → Type 0) → CheckPart → Type 0
-CheckPartIn N (ReadFile f) = N f
+CheckPartIn N (ReadItems f) = N f
 CheckPartIn N (ReadImports f p) = N f
 CheckPartIn N (ReadLinks f p is) = N f × ImportsIn N is
 CheckPartIn N (ReadDefs l) = LinkedFileIn N l
@@ -50,7 +50,7 @@ all_in N (Some is) i = i
 
 -- `AsksIn KeyIn w N` is that each key that `w` offers for a name of the kind `N` is in `KeyIn`
 pub record AsksIn {K A : Type 0} (KeyIn : K → Type 0) (w : CheckWords K A) (N : List ℕ → Type 0) : Type 0 where
-  pub parse : (f : List ℕ) → N f → KeyIn (w.parse f)
+  pub items : (f : List ℕ) → N f → KeyIn (w.items f)
   pub imports : (f : List ℕ) → N f → KeyIn (w.imports f)
   pub linked : (f : List ℕ) → N f → KeyIn (w.linked f)
   pub defs : (f : List ℕ) → N f → KeyIn (w.defs f)
@@ -69,8 +69,8 @@ module _ {K A : Type 0} (KeyIn : K → Type 0) (w : CheckWords K A) (N : List �
   link_next_in k None first left imported n a = tt
 
   staged_in : (k : Known) (next : Option Import) (left : List Import) (imported : List Imported)
-      → FirstIn N next → WaitingIn N k left → TurnIn KeyIn (CheckPartIn N) CheckedIn (placed k left imported (staged w.linked w.parse k next imported))
-  staged_in k (Some i) left imported n a = (asks.parse i.file n, a)
+      → FirstIn N next → WaitingIn N k left → TurnIn KeyIn (CheckPartIn N) CheckedIn (placed k left imported (staged w.linked w.items k next imported))
+  staged_in k (Some i) left imported n a = (asks.items i.file n, a)
   staged_in k None left imported n a =
       link_next_in k k.linked.ring (slice_get k.linked.imports 0) left imported (first_in N k.linked.imports a.0) a.0
 
@@ -81,12 +81,12 @@ module _ {K A : Type 0} (KeyIn : K → Type 0) (w : CheckWords K A) (N : List �
   link_in k i None None left imported n a = tt
 
   -- the query of checks asks keys of the kind, with answers of the kind
-  pub check_starts_in : (f : List ℕ) → N f → TurnIn KeyIn (CheckPartIn N) CheckedIn (check_starts w.parse f)
-  check_starts_in f n = (asks.parse f n, n)
+  pub check_starts_in : (f : List ℕ) → N f → TurnIn KeyIn (CheckPartIn N) CheckedIn (check_starts w.items f)
+  check_starts_in f n = (asks.items f n, n)
 
   pub check_advances_in : (p : CheckPart) (a : A) → IfImportsIn N (w.imported a) → CheckPartIn N p
       → TurnIn KeyIn (CheckPartIn N) CheckedIn (check_advances w p a)
-  check_advances_in (ReadFile f) a is i = (asks.imports f i, i)
+  check_advances_in (ReadItems f) a is i = (asks.imports f i, i)
   check_advances_in (ReadImports f p) a is i = (asks.linked f i, (i, all_in N (w.imported a) is))
   check_advances_in (ReadLinks f p left) a is i = (asks.defs f i.0, i)
   check_advances_in (ReadDefs l) a is i = (asks.scope l.file i.0, i)
@@ -96,7 +96,7 @@ module _ {K A : Type 0} (KeyIn : K → Type 0) (w : CheckWords K A) (N : List �
       (first_in N l.imports i.1) (i.1, i.1)
   check_advances_in (ReadState k [] imported) a is i = tt
   check_advances_in (ReadState k (x ∷ xs) imported) a is i =
-      staged_in k (slice_get xs 0) xs (with_state (Some x) (w.parsed a) imported) (first_in N xs i.1.1) (i.0, i.1.1)
+      staged_in k (slice_get xs 0) xs (with_state (Some x) (w.itemed a) imported) (first_in N xs i.1.1) (i.0, i.1.1)
   check_advances_in (ReadNext k [] imported) a is i = tt
   check_advances_in (ReadNext k (x ∷ xs) imported) a is i =
       link_in k x (slice_get xs 0) (w.ring a) xs imported (first_in N xs i.1.1) (i.0, i.1.1)

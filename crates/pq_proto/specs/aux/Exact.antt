@@ -4,11 +4,13 @@ use Rattle.std.proofs.Common.{◌≡◌, IsTrue}
 use Rattle.std.specs.Cmp.{unsigned_Decides, booleans_Decides}
 use Rattle.std.specs.Cmp.Lexicographic.{pointwise_decides, bytes_decides}
 use Rattle.pq_syntax.proofs.Equality.{Told, no_field, one_field, fields, of_struct, no_variant, variants, of_enum, of_bare, option}
-use Rattle.pq_links.proofs.Equality.{parsed_file, file_imports, file_links}
+use Rattle.pq_links.proofs.Equality.{parsed_file, file_items, file_imports, file_links}
 use Rattle.pq_schema.specs.aux.SameContents.{contents}
 use Rattle.pq_schema.specs.aux.SameScopes.{lists}
 use Rattle.pq_links.specs.contracts.places.TypePart as type_part_type
 use Rattle.pq_links.specs.contracts.places.TypePartPartialEq.TheImpl as type_part_eq
+use Rattle.pq_schema.specs.contracts.resolution.Target as target_type
+use Rattle.pq_schema.specs.contracts.resolution.TargetPartialEq.TheImpl as target_eq
 use Rattle.pq_schema.specs.contracts.resolution.Resolution as resolution_type
 use Rattle.pq_schema.specs.contracts.resolution.ResolutionPartialEq.TheImpl as resolution_eq
 use Rattle.pq_schema.specs.contracts.resolved.ResolvedReference as reference_type
@@ -34,10 +36,15 @@ use Rattle.pq_proto.specs.declared.value.ProtoValue.{ProtoValue}
 type_part : Told type_part_eq.ghosts.eq
 type_part = of_bare type_part_type.the_type tt
 
+one_target : Told target_eq.ghosts.eq
+one_target =
+    of_struct target_type.struct target_type.the_propositions
+    (fields bytes_decides (fields bytes_decides (fields booleans_Decides (one_field unsigned_Decides))))
+
 one_resolution : Told resolution_eq.ghosts.eq
 one_resolution =
     of_enum resolution_type.enum
-    (variants (fields bytes_decides (fields bytes_decides (fields booleans_Decides (one_field unsigned_Decides))))
+    (variants (one_field one_target)
     (variants no_field
     (variants (one_field bytes_decides)
     (variants no_field no_variant))))
@@ -88,6 +95,7 @@ values =
     of_enum value_type.enum
     (variants (one_field (option bytes_decides))
     (variants (one_field parsed_file)
+    (variants (one_field file_items)
     (variants (one_field file_imports)
     (variants (one_field file_links)
     (variants (one_field contents)
@@ -97,7 +105,7 @@ values =
     (variants (one_field diagnosed)
     (variants (one_field bytes_decides)
     (variants (one_field bytes_decides)
-    (variants (one_field (option location)) no_variant))))))))))))
+    (variants (one_field (option location)) no_variant)))))))))))))
 
 pub value_exact : (a b : ProtoValue) → IsTrue (value_eq.ghosts.eq a b) → a ≡ b
 value_exact a b e = (values a b).0 e

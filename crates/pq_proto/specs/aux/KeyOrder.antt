@@ -58,11 +58,11 @@ place_exact a b e =
     ap (λ l. place_at l a.character) (exact_unsigned a.line b.line (then_left p q e)) ∙ ap (λ c. place_at b.line c) (exact_unsigned a.character b.character (then_right p q e))
 
 abbrev key_orders : Each Ordering key.enum.parts
-key_orders = (λ x y. slice_cmp nat_cmp x.0 y.0, (λ x y. slice_cmp nat_cmp x.0 y.0, (λ x y. slice_cmp nat_cmp x.0 y.0, (λ x y. slice_cmp nat_cmp x.0 y.0, (λ x y. slice_cmp nat_cmp x.0 y.0, (λ x y. slice_cmp nat_cmp x.0 y.0, (λ x y. slice_cmp nat_cmp x.0 y.0, (λ x y. slice_cmp nat_cmp x.0 y.0, (λ x y. slice_cmp nat_cmp x.0 y.0, (λ x y. slice_cmp nat_cmp x.0 y.0, (λ x y. slice_cmp nat_cmp x.0 y.0, (λ x y. ordering_then (slice_cmp nat_cmp x.0 y.0) (places.ghosts.cmp x.1.0 y.1.0), tt))))))))))))
+key_orders = (λ x y. slice_cmp nat_cmp x.0 y.0, (λ x y. slice_cmp nat_cmp x.0 y.0, (λ x y. slice_cmp nat_cmp x.0 y.0, (λ x y. slice_cmp nat_cmp x.0 y.0, (λ x y. slice_cmp nat_cmp x.0 y.0, (λ x y. slice_cmp nat_cmp x.0 y.0, (λ x y. slice_cmp nat_cmp x.0 y.0, (λ x y. slice_cmp nat_cmp x.0 y.0, (λ x y. slice_cmp nat_cmp x.0 y.0, (λ x y. slice_cmp nat_cmp x.0 y.0, (λ x y. slice_cmp nat_cmp x.0 y.0, (λ x y. slice_cmp nat_cmp x.0 y.0, (λ x y. ordering_then (slice_cmp nat_cmp x.0 y.0) (places.ghosts.cmp x.1.0 y.1.0), tt)))))))))))))
 
 key_parts : Exacts key.enum.parts key_orders
 unfolding Exacts
-key_parts = (λ x y e. ap (λ t. (t, tt)) (exact_bytes x.0 y.0 e), (λ x y e. ap (λ t. (t, tt)) (exact_bytes x.0 y.0 e), (λ x y e. ap (λ t. (t, tt)) (exact_bytes x.0 y.0 e), (λ x y e. ap (λ t. (t, tt)) (exact_bytes x.0 y.0 e), (λ x y e. ap (λ t. (t, tt)) (exact_bytes x.0 y.0 e), (λ x y e. ap (λ t. (t, tt)) (exact_bytes x.0 y.0 e), (λ x y e. ap (λ t. (t, tt)) (exact_bytes x.0 y.0 e), (λ x y e. ap (λ t. (t, tt)) (exact_bytes x.0 y.0 e), (λ x y e. ap (λ t. (t, tt)) (exact_bytes x.0 y.0 e), (λ x y e. ap (λ t. (t, tt)) (exact_bytes x.0 y.0 e), (λ x y e. ap (λ t. (t, tt)) (exact_bytes x.0 y.0 e), (λ x y e. ap (λ t. (t, x.1)) (exact_bytes x.0 y.0 (then_left (slice_cmp nat_cmp x.0 y.0) (places.ghosts.cmp x.1.0 y.1.0) e)) ∙ ap (λ p. (y.0, (p, tt))) (place_exact x.1.0 y.1.0 (then_right (slice_cmp nat_cmp x.0 y.0) (places.ghosts.cmp x.1.0 y.1.0) e)), tt))))))))))))
+key_parts = (λ x y e. ap (λ t. (t, tt)) (exact_bytes x.0 y.0 e), (λ x y e. ap (λ t. (t, tt)) (exact_bytes x.0 y.0 e), (λ x y e. ap (λ t. (t, tt)) (exact_bytes x.0 y.0 e), (λ x y e. ap (λ t. (t, tt)) (exact_bytes x.0 y.0 e), (λ x y e. ap (λ t. (t, tt)) (exact_bytes x.0 y.0 e), (λ x y e. ap (λ t. (t, tt)) (exact_bytes x.0 y.0 e), (λ x y e. ap (λ t. (t, tt)) (exact_bytes x.0 y.0 e), (λ x y e. ap (λ t. (t, tt)) (exact_bytes x.0 y.0 e), (λ x y e. ap (λ t. (t, tt)) (exact_bytes x.0 y.0 e), (λ x y e. ap (λ t. (t, tt)) (exact_bytes x.0 y.0 e), (λ x y e. ap (λ t. (t, tt)) (exact_bytes x.0 y.0 e), (λ x y e. ap (λ t. (t, tt)) (exact_bytes x.0 y.0 e), (λ x y e. ap (λ t. (t, x.1)) (exact_bytes x.0 y.0 (then_left (slice_cmp nat_cmp x.0 y.0) (places.ghosts.cmp x.1.0 y.1.0) e)) ∙ ap (λ p. (y.0, (p, tt))) (place_exact x.1.0 y.1.0 (then_right (slice_cmp nat_cmp x.0 y.0) (places.ghosts.cmp x.1.0 y.1.0) e)), tt)))))))))))))
 
 pub key_exact : (a b : ProtoKey) → order.ghosts.cmp a b ≡ Equal → a ≡ b
 key_exact a b e = values_one key.enum a b (exact_choice key.enum.parts key_orders key_parts (key.enum.as_values a) (key.enum.as_values b) e)

@@ -7,13 +7,11 @@ use Rattle.serde_json.specs.Written.{compact_text}
 use Rattle.pq_rules.specs.declared.turn.Turn.{Turn}
 use Rattle.pq_rules.specs.declared.turn.Turn.TheVariants.{Ask, Done}
 use Rattle.pq_rules.specs.declared.turn.Answer.{Answer}
-use Rattle.pq_rules.specs.declared.turn.Answer.TheVariants.{Value}
 use Rattle.pq_rules.specs.Turns.{IsLower}
+use Rattle.pq_links.specs.Files.{nodes_in, nodes_of}
+use Rattle.pq_links.specs.declared.file_items.FileItems.{FileItems}
 use Rattle.pq_links.specs.declared.files.ParsedFile.{ParsedFile}
-use Rattle.pq_links.specs.declared.files.ParsedFile.TheVariants.{Absent}
-use Rattle.pq_schema.specs.Missing.{nodes_of}
-use Rattle.pq_schema.specs.declared.resolved.ResolvedReference.{ResolvedReference}
-use Rattle.pq_checks.specs.declared.fault.Fault.{Fault}
+pub use Rattle.pq_proto.specs.Answers.{faults_read, items_read, parsed_read, resolved_read}
 use Rattle.pq_proto.specs.Compile.{has_tree, is_failed, symbols_of, offset_at, location_of}
 use Rattle.pq_proto.specs.Definition.{definition_at}
 use Rattle.pq_proto.specs.Descriptor.{descriptor}
@@ -27,28 +25,10 @@ use Rattle.pq_proto.specs.declared.queries.descriptor.DescriptorPart.TheVariants
 use Rattle.pq_proto.specs.declared.definition.TypeItem.{TypeItem}
 use Rattle.pq_proto.specs.declared.value.Location.{Location}
 use Rattle.pq_proto.specs.declared.value.ProtoValue.{ProtoValue}
-use Rattle.pq_proto.specs.declared.value.ProtoValue.TheVariants as values
 
 -- `output_level` is the level of the keys of the three queries
 abbrev pub output_level : ℕ
-output_level = 9
-
--- ---- what is read of an answer
-
--- `parsed_read a` is what the answer `a` says that a file is read as
-abbrev pub parsed_read : Answer ProtoKey ProtoValue → ParsedFile
-parsed_read (Value (values.Parse file)) = file
-parsed_read _ = Absent
-
--- `resolved_read a` is the resolved references that the answer `a` holds
-abbrev pub resolved_read : Answer ProtoKey ProtoValue → List ResolvedReference
-resolved_read (Value (values.Resolved references)) = references
-resolved_read _ = []
-
--- `faults_read a` is the errors of a file that the answer `a` holds
-abbrev pub faults_read : Answer ProtoKey ProtoValue → List Fault
-faults_read (Value (values.Checks faults)) = faults
-faults_read _ = []
+output_level = 10
 
 -- ---- descriptors
 
@@ -57,29 +37,29 @@ faults_read _ = []
 abbrev pub descriptor_starts : List ℕ → Turn ProtoKey DescriptorPart (List ℕ)
 descriptor_starts f = Ask (keys.Checks f) (descriptors.ReadChecks f)
 
--- `file_turn f failed` is the turn after the errors of the file `f`: if none is of the severity of
--- errors, it asks what the file is read as
-abbrev pub file_turn : List ℕ → Bool → Turn ProtoKey DescriptorPart (List ℕ)
-file_turn f true = Done (codes "null")
-file_turn f false = Ask (keys.Parse f) (descriptors.ReadFile f)
+-- `bare_turn f failed` is the turn after the errors of the file `f`: if none is of the severity of
+-- errors, it asks for the tree without spans
+abbrev pub bare_turn : List ℕ → Bool → Turn ProtoKey DescriptorPart (List ℕ)
+bare_turn f true = Done (codes "null")
+bare_turn f false = Ask (keys.Items f) (descriptors.ReadItems f)
 
--- `tree_turn f file tree` is the turn after the file `f` was read as `file`, which is a `tree` or not:
--- it asks for the resolved references of a tree
-abbrev pub tree_turn : List ℕ → ParsedFile → Bool → Turn ProtoKey DescriptorPart (List ℕ)
-tree_turn f file true = Ask (keys.Resolved f) (descriptors.ReadResolved f file)
-tree_turn f file false = Done (codes "null")
+-- `tree_turn f i tree` is the turn after the answer that the file `f` is `i` without spans, which is
+-- a `tree` or not: it asks for the resolved references of a tree
+abbrev pub tree_turn : List ℕ → FileItems → Bool → Turn ProtoKey DescriptorPart (List ℕ)
+tree_turn f i true = Ask (keys.Resolved f) (descriptors.ReadResolved f i)
+tree_turn f i false = Done (codes "null")
 
 -- `descriptor_advances part a` is the turn after the answer `a` at `part`
 abbrev pub descriptor_advances : DescriptorPart → Answer ProtoKey ProtoValue → Turn ProtoKey DescriptorPart (List ℕ)
-descriptor_advances (descriptors.ReadChecks f) a = file_turn f (is_failed (faults_read a))
-descriptor_advances (descriptors.ReadFile f) a = tree_turn f (parsed_read a) (has_tree (parsed_read a))
-descriptor_advances (descriptors.ReadResolved f file) a = Done (compact_text (descriptor (resolved_read a) f (nodes_of file)))
+descriptor_advances (descriptors.ReadChecks f) a = bare_turn f (is_failed (faults_read a))
+descriptor_advances (descriptors.ReadItems f) a = tree_turn f (items_read a) (has_tree (items_read a))
+descriptor_advances (descriptors.ReadResolved f i) a = Done (compact_text (descriptor (resolved_read a) f (nodes_in i)))
 
 -- `descriptor_left part` is what is left to ask at `part`
 abbrev pub descriptor_left : DescriptorPart → ℕ × ℕ
 descriptor_left (descriptors.ReadChecks f) = (2, 0)
-descriptor_left (descriptors.ReadFile f) = (1, 0)
-descriptor_left (descriptors.ReadResolved f file) = (0, 0)
+descriptor_left (descriptors.ReadItems f) = (1, 0)
+descriptor_left (descriptors.ReadResolved f i) = (0, 0)
 
 -- ---- symbols
 
@@ -124,23 +104,23 @@ definition_left (definitions.ReadTarget t) = (0, 0)
 
 -- ---- each further question lowers what is left
 
-file_falls : (f : List ℕ) (failed : Bool) (q : ProtoKey) (r : DescriptorPart) → file_turn f failed ≡ Ask q r → IsLower (descriptor_left r) (2, 0)
-file_falls f true q r e = cc
-file_falls f false q r e =
-    let part : r ≡ descriptors.ReadFile f = cc in
+bare_falls : (f : List ℕ) (failed : Bool) (q : ProtoKey) (r : DescriptorPart) → bare_turn f failed ≡ Ask q r → IsLower (descriptor_left r) (2, 0)
+bare_falls f true q r e = cc
+bare_falls f false q r e =
+    let part : r ≡ descriptors.ReadItems f = cc in
     subst (λ (x : DescriptorPart). IsLower (descriptor_left x) (2, 0)) (sym part) (inl (omega arith))
 
-tree_falls : (f : List ℕ) (file : ParsedFile) (tree : Bool) (q : ProtoKey) (r : DescriptorPart) → tree_turn f file tree ≡ Ask q r → IsLower (descriptor_left r) (1, 0)
-tree_falls f file true q r e =
-    let part : r ≡ descriptors.ReadResolved f file = cc in
+tree_falls : (f : List ℕ) (i : FileItems) (tree : Bool) (q : ProtoKey) (r : DescriptorPart) → tree_turn f i tree ≡ Ask q r → IsLower (descriptor_left r) (1, 0)
+tree_falls f i true q r e =
+    let part : r ≡ descriptors.ReadResolved f i = cc in
     subst (λ (x : DescriptorPart). IsLower (descriptor_left x) (1, 0)) (sym part) (inl (omega arith))
-tree_falls f file false q r e = cc
+tree_falls f i false q r e = cc
 
 pub descriptor_falls : (p : DescriptorPart) (a : Answer ProtoKey ProtoValue) (q : ProtoKey) (r : DescriptorPart)
     → descriptor_advances p a ≡ Ask q r → IsLower (descriptor_left r) (descriptor_left p)
-descriptor_falls (descriptors.ReadChecks f) a q r e = file_falls f (is_failed (faults_read a)) q r e
-descriptor_falls (descriptors.ReadFile f) a q r e = tree_falls f (parsed_read a) (has_tree (parsed_read a)) q r e
-descriptor_falls (descriptors.ReadResolved f file) a q r e = cc
+descriptor_falls (descriptors.ReadChecks f) a q r e = bare_falls f (is_failed (faults_read a)) q r e
+descriptor_falls (descriptors.ReadItems f) a q r e = tree_falls f (items_read a) (has_tree (items_read a)) q r e
+descriptor_falls (descriptors.ReadResolved f i) a q r e = cc
 
 pub symbols_falls : (a : Answer ProtoKey ProtoValue) (q : ProtoKey) (r : Unit {0}) → symbols_advances a ≡ Ask q r → IsLower (0, 0) (0, 0)
 symbols_falls a q r e = cc

@@ -20,13 +20,13 @@ use Rattle.pq_rules.proofs.Embedded.{embedded_asks}
 use Rattle.pq_rules.proofs.Preserved.{TurnIn, AnswerIn, Preserves, asked_in, embedded_in}
 use Rattle.pq_rules.specs.aux.Lists.{in_append_left, in_append_right}
 use Rattle.pq_links.specs.ImportGraph.{file_of}
-use Rattle.pq_links.specs.Files.{read_file, file_imports}
+use Rattle.pq_links.specs.Files.{read_file, file_imports, items_of, nodes_in, nodes_of}
 use Rattle.pq_links.specs.aux.Queries.{linked_starts, linked_advances, linked_left}
 use Rattle.pq_links.specs.aux.Falls.{linked_falls}
+use Rattle.pq_links.specs.declared.file_items.FileItems.{FileItems}
 use Rattle.pq_links.specs.declared.files.ParsedFile.{ParsedFile}
 use Rattle.pq_links.specs.declared.links.Import.{Import}
 use Rattle.pq_links.proofs.NameKinds.{IfImportsIn, LinksIn, LinkingIn, no_links_in, linked_starts_in, linked_advances_in}
-use Rattle.pq_schema.specs.Missing.{nodes_of}
 use Rattle.pq_schema.specs.aux.Queries.{scope_starts, scope_advances, scope_left, resolved_starts, resolved_advances, resolved_left}
 use Rattle.pq_schema.specs.aux.Falls.{scope_falls, resolved_falls}
 use Rattle.pq_schema.specs.aux.NameKinds.{ScopeIn, ScopePartIn, scope_starts_in, scope_advances_in}
@@ -47,8 +47,9 @@ use Rattle.pq_links.specs.declared.places.Part.TheVariants as part
 use Rattle.pq_proto.specs.Compile.{has_tree, is_failed, offset_at}
 use Rattle.pq_proto.specs.Definition.{definition_at, type_item, holds}
 use Rattle.pq_proto.specs.aux.CheckKinds.{AsksIn, CheckPartIn, check_starts_in, check_advances_in}
-use Rattle.pq_proto.specs.aux.Outputs.{faults_read, parsed_read, resolved_read, file_turn, tree_turn, descriptor_advances, descriptor_left, descriptor_falls, references_turn, target_turn, definition_advances, definition_left, definition_falls}
-use Rattle.pq_proto.specs.aux.RuleSet.{text_read, imports_read, links_read, defs_read, scope_read, check_words, proto_level, proto_file, proto_start, proto_advance, proto_left, proto_rules, descriptor_turn, definition_turn, own_name, keys_of, proto_reach}
+use Rattle.pq_proto.specs.Levels.{level_of}
+use Rattle.pq_proto.specs.aux.Outputs.{faults_read, items_read, parsed_read, resolved_read, bare_turn, tree_turn, descriptor_advances, descriptor_left, descriptor_falls, references_turn, target_turn, definition_advances, definition_left, definition_falls}
+use Rattle.pq_proto.specs.aux.RuleSet.{text_read, imports_read, links_read, defs_read, scope_read, check_words, proto_file, proto_start, proto_advance, proto_left, proto_rules, descriptor_turn, definition_turn, own_name, keys_of, proto_reach}
 use Rattle.pq_proto.specs.declared.key.ProtoKey.{ProtoKey}
 use Rattle.pq_proto.specs.declared.key.ProtoKey.TheVariants as keys
 use Rattle.pq_proto.specs.declared.queries.definition.DefinitionPart.{DefinitionPart}
@@ -56,12 +57,12 @@ use Rattle.pq_proto.specs.declared.queries.definition.DefinitionPart.TheVariants
 use Rattle.pq_proto.specs.declared.queries.descriptor.DescriptorPart.{DescriptorPart}
 use Rattle.pq_proto.specs.declared.queries.descriptor.DescriptorPart.TheVariants as descriptors
 use Rattle.pq_proto.specs.declared.rules.ProtoPart.{ProtoPart}
-use Rattle.pq_proto.specs.declared.rules.ProtoPart.TheVariants.{Parsing, Importing, LinkingFiles, Defining, Scoping, Resolving, Checking, Diagnosing, Describing, Listing, Locating}
+use Rattle.pq_proto.specs.declared.rules.ProtoPart.TheVariants.{Parsing, Itemizing, Importing, LinkingFiles, Defining, Scoping, Resolving, Checking, Diagnosing, Describing, Listing, Locating}
 use Rattle.pq_proto.specs.declared.definition.TypeItem.{TypeItem}
 use Rattle.pq_proto.specs.declared.value.ProtoValue.{ProtoValue}
 use Rattle.pq_proto.specs.declared.value.ProtoValue.TheVariants as values
 
-pub proto_inputs : (k : ProtoKey) → (proto_level k ≡ 0) ↔ IsSome (proto_file k)
+pub proto_inputs : (k : ProtoKey) → (level_of k ≡ 0) ↔ IsSome (proto_file k)
 proto_inputs (keys.Input f) = (λ e. refl, λ e. refl)
 proto_inputs k = (λ e. cc, λ e. cc)
 
@@ -83,8 +84,8 @@ proto_falls (Scoping p) a q r e =
     part_falls (λ x. Scoping x) (λ v. values.Scope v) scope_left (scope_advances (λ n. keys.Defs n) (links_read a) (defs_read a) p) (scope_left p)
     (λ x. refl) (scope_falls (λ n. keys.Defs n) (links_read a) (defs_read a) p) q r e
 proto_falls (Resolving p) a q r e =
-    part_falls (λ x. Resolving x) (λ v. values.Resolved v) resolved_left (resolved_advances (λ n. keys.Parse n) (scope_read a) (nodes_of (parsed_read a)) p) (resolved_left p)
-    (λ x. refl) (resolved_falls (λ n. keys.Parse n) (scope_read a) (nodes_of (parsed_read a)) p) q r e
+    part_falls (λ x. Resolving x) (λ v. values.Resolved v) resolved_left (resolved_advances (λ n. keys.Items n) (scope_read a) (nodes_in (items_read a)) p) (resolved_left p)
+    (λ x. refl) (resolved_falls (λ n. keys.Items n) (scope_read a) (nodes_in (items_read a)) p) q r e
 proto_falls (Checking p) a q r e =
     part_falls (λ x. Checking x) (λ v. values.Checks v) check_left (check_advances check_words p a) (check_left p)
     (λ x. refl) (check_falls check_words a p) q r e
@@ -98,26 +99,28 @@ proto_falls (Locating p) a q r e =
     part_falls (λ x. Locating x) (λ v. values.Definition v) definition_left (definition_advances p a) (definition_left p)
     (λ x. refl) (definition_falls p a) q r e
 proto_falls Parsing a q r e = cc
+proto_falls Itemizing a q r e = cc
 proto_falls Importing a q r e = cc
 proto_falls Defining a q r e = cc
 proto_falls Listing a q r e = cc
 
 -- ---- the keys of names
-in_keys : (k : ProtoKey) (ns : List (List ℕ)) → proto_level k ≤ 8 → In (own_name k) ns → In k (keys_of ns)
+in_keys : (k : ProtoKey) (ns : List (List ℕ)) → level_of k ≤ 9 → In (own_name k) ns → In k (keys_of ns)
 in_keys k [] low i = i
 in_keys (keys.Input f) (n ∷ ns) low (inl e) = inl (ap (λ x. keys.Input x) e)
 in_keys (keys.Parse f) (n ∷ ns) low (inl e) = inr (inl (ap (λ x. keys.Parse x) e))
-in_keys (keys.Imports f) (n ∷ ns) low (inl e) = inr (inr (inl (ap (λ x. keys.Imports x) e)))
-in_keys (keys.Linked f) (n ∷ ns) low (inl e) = inr (inr (inr (inl (ap (λ x. keys.Linked x) e))))
-in_keys (keys.Defs f) (n ∷ ns) low (inl e) = inr (inr (inr (inr (inl (ap (λ x. keys.Defs x) e)))))
-in_keys (keys.Scope f) (n ∷ ns) low (inl e) = inr (inr (inr (inr (inr (inl (ap (λ x. keys.Scope x) e))))))
-in_keys (keys.Resolved f) (n ∷ ns) low (inl e) = inr (inr (inr (inr (inr (inr (inl (ap (λ x. keys.Resolved x) e)))))))
-in_keys (keys.Checks f) (n ∷ ns) low (inl e) = inr (inr (inr (inr (inr (inr (inr (inl (ap (λ x. keys.Checks x) e))))))))
-in_keys (keys.Diagnostics f) (n ∷ ns) low (inl e) = inr (inr (inr (inr (inr (inr (inr (inr (inl (ap (λ x. keys.Diagnostics x) e)))))))))
-in_keys (keys.Descriptor f) (n ∷ ns) low (inl e) = let h : 9 ≤ 8 = low in absurd (omega arith)
-in_keys (keys.Symbols f) (n ∷ ns) low (inl e) = let h : 9 ≤ 8 = low in absurd (omega arith)
-in_keys (keys.Definition f place) (n ∷ ns) low (inl e) = let h : 9 ≤ 8 = low in absurd (omega arith)
-in_keys k (n ∷ ns) low (inr i) = inr (inr (inr (inr (inr (inr (inr (inr (inr (in_keys k ns low i)))))))))
+in_keys (keys.Items f) (n ∷ ns) low (inl e) = inr (inr (inl (ap (λ x. keys.Items x) e)))
+in_keys (keys.Imports f) (n ∷ ns) low (inl e) = inr (inr (inr (inl (ap (λ x. keys.Imports x) e))))
+in_keys (keys.Linked f) (n ∷ ns) low (inl e) = inr (inr (inr (inr (inl (ap (λ x. keys.Linked x) e)))))
+in_keys (keys.Defs f) (n ∷ ns) low (inl e) = inr (inr (inr (inr (inr (inl (ap (λ x. keys.Defs x) e))))))
+in_keys (keys.Scope f) (n ∷ ns) low (inl e) = inr (inr (inr (inr (inr (inr (inl (ap (λ x. keys.Scope x) e)))))))
+in_keys (keys.Resolved f) (n ∷ ns) low (inl e) = inr (inr (inr (inr (inr (inr (inr (inl (ap (λ x. keys.Resolved x) e))))))))
+in_keys (keys.Checks f) (n ∷ ns) low (inl e) = inr (inr (inr (inr (inr (inr (inr (inr (inl (ap (λ x. keys.Checks x) e)))))))))
+in_keys (keys.Diagnostics f) (n ∷ ns) low (inl e) = inr (inr (inr (inr (inr (inr (inr (inr (inr (inl (ap (λ x. keys.Diagnostics x) e))))))))))
+in_keys (keys.Descriptor f) (n ∷ ns) low (inl e) = let h : 10 ≤ 9 = low in absurd (omega arith)
+in_keys (keys.Symbols f) (n ∷ ns) low (inl e) = let h : 10 ≤ 9 = low in absurd (omega arith)
+in_keys (keys.Definition f place) (n ∷ ns) low (inl e) = let h : 10 ≤ 9 = low in absurd (omega arith)
+in_keys k (n ∷ ns) low (inr i) = inr (inr (inr (inr (inr (inr (inr (inr (inr (inr (in_keys k ns low i))))))))))
 
 keys_in : (k : ProtoKey) (ns : List (List ℕ)) → In k (keys_of ns) → In (own_name k) ns
 keys_in k [] i = i
@@ -130,7 +133,8 @@ keys_in k (n ∷ ns) (inr (inr (inr (inr (inr (inl e)))))) = inl (ap own_name e)
 keys_in k (n ∷ ns) (inr (inr (inr (inr (inr (inr (inl e))))))) = inl (ap own_name e)
 keys_in k (n ∷ ns) (inr (inr (inr (inr (inr (inr (inr (inl e)))))))) = inl (ap own_name e)
 keys_in k (n ∷ ns) (inr (inr (inr (inr (inr (inr (inr (inr (inl e))))))))) = inl (ap own_name e)
-keys_in k (n ∷ ns) (inr (inr (inr (inr (inr (inr (inr (inr (inr i))))))))) = inr (keys_in k ns i)
+keys_in k (n ∷ ns) (inr (inr (inr (inr (inr (inr (inr (inr (inr (inl e)))))))))) = inl (ap own_name e)
+keys_in k (n ∷ ns) (inr (inr (inr (inr (inr (inr (inr (inr (inr (inr (i))))))))))) = inr (keys_in k ns i)
 
 -- ---- kinds of keys, parts and values: of the names `ns`, up to the level `l`, and of the key `root`
 -- or of a level that is asked
@@ -139,7 +143,7 @@ abbrev Named : List (List ℕ) → List ℕ → Type 0
 Named ns n = In n ns
 
 abbrev KeyIn : List (List ℕ) → ℕ → ProtoKey → ProtoKey → Type 0
-KeyIn ns l root k = In (own_name k) ns × (proto_level k ≤ l) × ((k ≡ root) ⊎ (proto_level k ≤ 8))
+KeyIn ns l root k = In (own_name k) ns × (level_of k ≤ l) × ((k ≡ root) ⊎ (level_of k ≤ 9))
 
 abbrev DiagnosticsPartIn : List (List ℕ) → DiagnosticsPart → Type 0
 DiagnosticsPartIn ns (diagnostics.ReadChecks f) = In f ns
@@ -147,8 +151,8 @@ DiagnosticsPartIn ns (diagnostics.ReadFile faults) = Unit {0}
 
 abbrev DescriptorPartIn : List (List ℕ) → DescriptorPart → Type 0
 DescriptorPartIn ns (descriptors.ReadChecks f) = In f ns
-DescriptorPartIn ns (descriptors.ReadFile f) = In f ns
-DescriptorPartIn ns (descriptors.ReadResolved f file) = Unit {0}
+DescriptorPartIn ns (descriptors.ReadItems f) = In f ns
+DescriptorPartIn ns (descriptors.ReadResolved f i) = Unit {0}
 
 abbrev DefinitionPartIn : List (List ℕ) → DefinitionPart → Type 0
 DefinitionPartIn ns (definitions.ReadFile f place) = In f ns
@@ -156,18 +160,19 @@ DefinitionPartIn ns (definitions.ReadResolved offset file) = Unit {0}
 DefinitionPartIn ns (definitions.ReadTarget t) = Unit {0}
 
 abbrev PartIn : List (List ℕ) → ℕ → ProtoPart → Type 0
-PartIn ns l (LinkingFiles q) = (3 ≤ l) × LinkingIn (Named ns) q
-PartIn ns l (Scoping q) = (5 ≤ l) × ScopePartIn (Named ns) q
-PartIn ns l (Resolving q) = (6 ≤ l) × ResolvedPartIn (Named ns) q
-PartIn ns l (Checking q) = (7 ≤ l) × CheckPartIn (Named ns) q
-PartIn ns l (Diagnosing q) = (8 ≤ l) × DiagnosticsPartIn ns q
-PartIn ns l (Describing q) = (9 ≤ l) × DescriptorPartIn ns q
-PartIn ns l (Locating q) = (9 ≤ l) × DefinitionPartIn ns q
+PartIn ns l (LinkingFiles q) = (4 ≤ l) × LinkingIn (Named ns) q
+PartIn ns l (Scoping q) = (6 ≤ l) × ScopePartIn (Named ns) q
+PartIn ns l (Resolving q) = (7 ≤ l) × ResolvedPartIn (Named ns) q
+PartIn ns l (Checking q) = (8 ≤ l) × CheckPartIn (Named ns) q
+PartIn ns l (Diagnosing q) = (9 ≤ l) × DiagnosticsPartIn ns q
+PartIn ns l (Describing q) = (10 ≤ l) × DescriptorPartIn ns q
+PartIn ns l (Locating q) = (10 ≤ l) × DefinitionPartIn ns q
 PartIn ns l _ = Unit {0}
 
 abbrev ValueIn : List (List ℕ) → ProtoValue → Type 0
-ValueIn ns (values.Source text) = IfImportsIn (Named ns) (file_imports (read_file text))
-ValueIn ns (values.Parse file) = IfImportsIn (Named ns) (file_imports file)
+ValueIn ns (values.Source text) = IfImportsIn (Named ns) (file_imports (items_of (read_file text)))
+ValueIn ns (values.Parse file) = IfImportsIn (Named ns) (file_imports (items_of file))
+ValueIn ns (values.Items items) = IfImportsIn (Named ns) (file_imports items)
 ValueIn ns (values.Imports is) = IfImportsIn (Named ns) is
 ValueIn ns (values.Linked links) = LinksIn (Named ns) links
 ValueIn ns (values.Scope scope) = ScopeIn (Named ns) scope
@@ -176,15 +181,20 @@ ValueIn ns _ = Unit {0}
 
 -- ---- what is read of an answer of the kind
 
-text_in : (ns : List (List ℕ)) (a : Answer ProtoKey ProtoValue) → AnswerIn (ValueIn ns) a → IfImportsIn (Named ns) (file_imports (read_file (text_read a)))
+text_in : (ns : List (List ℕ)) (a : Answer ProtoKey ProtoValue) → AnswerIn (ValueIn ns) a → IfImportsIn (Named ns) (file_imports (items_of (read_file (text_read a))))
 text_in ns (Value (values.Source text)) i = i
 text_in ns (Value v) i = tt
 text_in ns (Cycle ring) i = tt
 
-parsed_in : (ns : List (List ℕ)) (a : Answer ProtoKey ProtoValue) → AnswerIn (ValueIn ns) a → IfImportsIn (Named ns) (file_imports (parsed_read a))
+parsed_in : (ns : List (List ℕ)) (a : Answer ProtoKey ProtoValue) → AnswerIn (ValueIn ns) a → IfImportsIn (Named ns) (file_imports (items_of (parsed_read a)))
 parsed_in ns (Value (values.Parse file)) i = i
 parsed_in ns (Value v) i = tt
 parsed_in ns (Cycle ring) i = tt
+
+items_in : (ns : List (List ℕ)) (a : Answer ProtoKey ProtoValue) → AnswerIn (ValueIn ns) a → IfImportsIn (Named ns) (file_imports (items_read a))
+items_in ns (Value (values.Items items)) i = i
+items_in ns (Value v) i = tt
+items_in ns (Cycle ring) i = tt
 
 imports_in : (ns : List (List ℕ)) (a : Answer ProtoKey ProtoValue) → AnswerIn (ValueIn ns) a → IfImportsIn (Named ns) (imports_read a)
 imports_in ns (Value (values.Imports is)) i = i
@@ -232,7 +242,7 @@ TargetIn ns (Some t) = In t.file ns
 
 item_in : (ns : List (List ℕ)) (r : Resolution) → ResolutionIn (Named ns) r → TargetIn ns (type_item r)
 unfolding TargetIn
-item_in ns (resolutions.«Type» file full_name is_enum item) i = i
+item_in ns (resolutions.«Type» target) i = i
 item_in ns r i = tt
 
 either_in : (ns : List (List ℕ)) (b : Bool) (x y : Option TypeItem) → TargetIn ns x → TargetIn ns y → TargetIn ns (cond b x y)
@@ -261,16 +271,16 @@ module _ (order : ProtoKey → ProtoKey → Ordering) (files : Sources) where
     PIn = PartIn ns l
 
     -- a key of a level that is asked
-    asks : (k : ProtoKey) → In (own_name k) ns → proto_level k ≤ l → proto_level k ≤ 8 → KIn k
+    asks : (k : ProtoKey) → In (own_name k) ns → level_of k ≤ l → level_of k ≤ 9 → KIn k
     asks k i low asked = (i, low, inr asked)
 
-    inputs_in : (k : ProtoKey) → proto_level k ≡ 0 → ValueIn ns (m.input k)
-    inputs_in (keys.Input f) at = mentioned_in ns (file_imports (read_file (file_in files f).text)) (λ w i. mentions w (file_mentions files f w i))
+    inputs_in : (k : ProtoKey) → level_of k ≡ 0 → ValueIn ns (m.input k)
+    inputs_in (keys.Input f) at = mentioned_in ns (file_imports (items_of (read_file (file_in files f).text))) (λ w i. mentions w (file_mentions files f w i))
     inputs_in k at = cc
 
-    checks_ask : 7 ≤ l → AsksIn KIn check_words N
+    checks_ask : 8 ≤ l → AsksIn KIn check_words N
     checks_ask h = record {
-      parse = λ f i. asks (keys.Parse f) i (omega arith) (omega arith);
+      items = λ f i. asks (keys.Items f) i (omega arith) (omega arith);
       imports = λ f i. asks (keys.Imports f) i (omega arith) (omega arith);
       linked = λ f i. asks (keys.Linked f) i (omega arith) (omega arith);
       defs = λ f i. asks (keys.Defs f) i (omega arith) (omega arith);
@@ -281,48 +291,49 @@ module _ (order : ProtoKey → ProtoKey → Ordering) (files : Sources) where
     starts_in : (k : ProtoKey) → KIn k → TurnIn KIn PIn (ValueIn ns) (proto_start k)
     starts_in (keys.Input f) i = tt
     starts_in (keys.Parse f) i = let h : 1 ≤ l = i.1 in (asks (keys.Input f) i.0 (omega arith) (omega arith), tt)
-    starts_in (keys.Imports f) i = let h : 2 ≤ l = i.1 in (asks (keys.Parse f) i.0 (omega arith) (omega arith), tt)
+    starts_in (keys.Items f) i = let h : 2 ≤ l = i.1 in (asks (keys.Parse f) i.0 (omega arith) (omega arith), tt)
+    starts_in (keys.Imports f) i = let h : 3 ≤ l = i.1 in (asks (keys.Items f) i.0 (omega arith) (omega arith), tt)
     starts_in (keys.Linked f) i =
-        let h : 3 ≤ l = i.1 in
+        let h : 4 ≤ l = i.1 in
         embedded_in KIn (LinkingIn N) (LinksIn N) PIn (ValueIn ns) (λ q. LinkingFiles q) (λ v. values.Linked v)
         (λ q j. (h, j)) (λ v j. j) (linked_starts (λ n. keys.Imports n) f)
         (linked_starts_in KIn N (λ n. keys.Imports n) (λ n. keys.Linked n) (λ x j. asks (keys.Imports x) j (omega arith) (omega arith))
         (λ x j. asks (keys.Linked x) j h (omega arith)) f i.0)
-    starts_in (keys.Defs f) i = let h : 4 ≤ l = i.1 in (asks (keys.Parse f) i.0 (omega arith) (omega arith), tt)
+    starts_in (keys.Defs f) i = let h : 5 ≤ l = i.1 in (asks (keys.Items f) i.0 (omega arith) (omega arith), tt)
     starts_in (keys.Scope f) i =
-        let h : 5 ≤ l = i.1 in
+        let h : 6 ≤ l = i.1 in
         embedded_in KIn (ScopePartIn N) (ScopeIn N) PIn (ValueIn ns) (λ q. Scoping q) (λ v. values.Scope v)
         (λ q j. (h, j)) (λ v j. j) (scope_starts (λ n. keys.Linked n) f)
         (scope_starts_in KIn N (λ n. keys.Linked n) (λ n. keys.Defs n) (λ x j. asks (keys.Linked x) j (omega arith) (omega arith))
         (λ x j. asks (keys.Defs x) j (omega arith) (omega arith)) f i.0)
     starts_in (keys.Resolved f) i =
-        let h : 6 ≤ l = i.1 in
+        let h : 7 ≤ l = i.1 in
         embedded_in KIn (ResolvedPartIn N) (ResolvedIn N) PIn (ValueIn ns) (λ q. Resolving q) (λ v. values.Resolved v)
         (λ q j. (h, j)) (λ v j. j) (resolved_starts (λ n. keys.Scope n) f)
         (resolved_starts_in N KIn (λ n. keys.Scope n) (λ x j. asks (keys.Scope x) j (omega arith) (omega arith)) f i.0)
     starts_in (keys.Checks f) i =
-        let h : 7 ≤ l = i.1 in
+        let h : 8 ≤ l = i.1 in
         embedded_in KIn (CheckPartIn N) (λ (fs : List Fault). Unit {0}) PIn (ValueIn ns) (λ q. Checking q) (λ v. values.Checks v)
-        (λ q j. (h, j)) (λ v j. j) (check_starts (λ n. keys.Parse n) f)
+        (λ q j. (h, j)) (λ v j. j) (check_starts (λ n. keys.Items n) f)
         (check_starts_in KIn check_words N (checks_ask h) f i.0)
-    starts_in (keys.Diagnostics f) i = let h : 8 ≤ l = i.1 in (asks (keys.Checks f) i.0 (omega arith) (omega arith), (h, i.0))
-    starts_in (keys.Descriptor f) i = let h : 9 ≤ l = i.1 in (asks (keys.Checks f) i.0 (omega arith) (omega arith), (h, i.0))
-    starts_in (keys.Symbols f) i = let h : 9 ≤ l = i.1 in (asks (keys.Parse f) i.0 (omega arith) (omega arith), tt)
-    starts_in (keys.Definition f place) i = let h : 9 ≤ l = i.1 in (asks (keys.Parse f) i.0 (omega arith) (omega arith), (h, i.0))
+    starts_in (keys.Diagnostics f) i = let h : 9 ≤ l = i.1 in (asks (keys.Checks f) i.0 (omega arith) (omega arith), (h, i.0))
+    starts_in (keys.Descriptor f) i = let h : 10 ≤ l = i.1 in (asks (keys.Checks f) i.0 (omega arith) (omega arith), (h, i.0))
+    starts_in (keys.Symbols f) i = let h : 10 ≤ l = i.1 in (asks (keys.Parse f) i.0 (omega arith) (omega arith), tt)
+    starts_in (keys.Definition f place) i = let h : 10 ≤ l = i.1 in (asks (keys.Parse f) i.0 (omega arith) (omega arith), (h, i.0))
 
-    describes : (f : List ℕ) (failed : Bool) → 9 ≤ l → In f ns → TurnIn KIn PIn (ValueIn ns) (descriptor_turn (file_turn f failed))
+    describes : (f : List ℕ) (failed : Bool) → 10 ≤ l → In f ns → TurnIn KIn PIn (ValueIn ns) (descriptor_turn (bare_turn f failed))
     describes f true h i = tt
-    describes f false h i = (asks (keys.Parse f) i (omega arith) (omega arith), (h, i))
+    describes f false h i = (asks (keys.Items f) i (omega arith) (omega arith), (h, i))
 
-    trees : (f : List ℕ) (file : ParsedFile) (tree : Bool) → 9 ≤ l → In f ns → TurnIn KIn PIn (ValueIn ns) (descriptor_turn (tree_turn f file tree))
-    trees f file true h i = (asks (keys.Resolved f) i (omega arith) (omega arith), (h, tt))
-    trees f file false h i = tt
+    trees : (f : List ℕ) (items : FileItems) (tree : Bool) → 10 ≤ l → In f ns → TurnIn KIn PIn (ValueIn ns) (descriptor_turn (tree_turn f items tree))
+    trees f items true h i = (asks (keys.Resolved f) i (omega arith) (omega arith), (h, tt))
+    trees f items false h i = tt
 
-    locates : (f : List ℕ) (file : ParsedFile) (offset : Option ℕ) → 9 ≤ l → In f ns → TurnIn KIn PIn (ValueIn ns) (definition_turn (references_turn f file offset))
+    locates : (f : List ℕ) (file : ParsedFile) (offset : Option ℕ) → 10 ≤ l → In f ns → TurnIn KIn PIn (ValueIn ns) (definition_turn (references_turn f file offset))
     locates f file (Some offset) h i = (asks (keys.Resolved f) i (omega arith) (omega arith), (h, tt))
     locates f file None h i = tt
 
-    targets : (t : Option TypeItem) → 9 ≤ l → TargetIn ns t → TurnIn KIn PIn (ValueIn ns) (definition_turn (target_turn t))
+    targets : (t : Option TypeItem) → 10 ≤ l → TargetIn ns t → TurnIn KIn PIn (ValueIn ns) (definition_turn (target_turn t))
     unfolding TargetIn
     targets (Some t) h i = (asks (keys.Parse t.file) i (omega arith) (omega arith), (h, tt))
     targets None h i = tt
@@ -330,35 +341,36 @@ module _ (order : ProtoKey → ProtoKey → Ordering) (files : Sources) where
     advances_in : (p : ProtoPart) (a : Answer ProtoKey ProtoValue) → PIn p → AnswerIn (ValueIn ns) a
         → TurnIn KIn PIn (ValueIn ns) (proto_advance p a)
     advances_in Parsing a i j = text_in ns a j
-    advances_in Importing a i j = parsed_in ns a j
+    advances_in Itemizing a i j = parsed_in ns a j
+    advances_in Importing a i j = items_in ns a j
     advances_in (LinkingFiles p) a i j =
-        let h : 3 ≤ l = i.0 in
+        let h : 4 ≤ l = i.0 in
         embedded_in KIn (LinkingIn N) (LinksIn N) PIn (ValueIn ns) (λ q. LinkingFiles q) (λ v. values.Linked v)
         (λ q x. (h, x)) (λ v x. x) (linked_advances (λ n. keys.Linked n) (imports_read a) (links_read a) p)
         (linked_advances_in KIn N (λ n. keys.Imports n) (λ n. keys.Linked n) (λ x y. asks (keys.Imports x) y (omega arith) (omega arith))
         (λ x y. asks (keys.Linked x) y h (omega arith)) (imports_read a) (links_read a) p (imports_in ns a j) (links_in ns a j) i.1)
     advances_in Defining a i j = tt
     advances_in (Scoping p) a i j =
-        let h : 5 ≤ l = i.0 in
+        let h : 6 ≤ l = i.0 in
         embedded_in KIn (ScopePartIn N) (ScopeIn N) PIn (ValueIn ns) (λ q. Scoping q) (λ v. values.Scope v)
         (λ q x. (h, x)) (λ v x. x) (scope_advances (λ n. keys.Defs n) (links_read a) (defs_read a) p)
         (scope_advances_in KIn N (λ n. keys.Linked n) (λ n. keys.Defs n) (λ x y. asks (keys.Linked x) y (omega arith) (omega arith))
         (λ x y. asks (keys.Defs x) y (omega arith) (omega arith)) (links_read a) (defs_read a) p (links_in ns a j) i.1)
     advances_in (Resolving p) a i j =
-        let h : 6 ≤ l = i.0 in
-        embedded_in KIn (ResolvedPartIn N) (ResolvedIn N) PIn (ValueIn ns) (λ q. Resolving q) (λ v. values.Resolved v)
-        (λ q x. (h, x)) (λ v x. x) (resolved_advances (λ n. keys.Parse n) (scope_read a) (nodes_of (parsed_read a)) p)
-        (resolved_advances_in N KIn (λ n. keys.Parse n) (λ x y. asks (keys.Parse x) y (omega arith) (omega arith))
-        (scope_read a) (nodes_of (parsed_read a)) p (scope_in ns a j) i.1)
-    advances_in (Checking p) a i j =
         let h : 7 ≤ l = i.0 in
+        embedded_in KIn (ResolvedPartIn N) (ResolvedIn N) PIn (ValueIn ns) (λ q. Resolving q) (λ v. values.Resolved v)
+        (λ q x. (h, x)) (λ v x. x) (resolved_advances (λ n. keys.Items n) (scope_read a) (nodes_in (items_read a)) p)
+        (resolved_advances_in N KIn (λ n. keys.Items n) (λ x y. asks (keys.Items x) y (omega arith) (omega arith))
+        (scope_read a) (nodes_in (items_read a)) p (scope_in ns a j) i.1)
+    advances_in (Checking p) a i j =
+        let h : 8 ≤ l = i.0 in
         embedded_in KIn (CheckPartIn N) (λ (fs : List Fault). Unit {0}) PIn (ValueIn ns) (λ q. Checking q) (λ v. values.Checks v)
         (λ q x. (h, x)) (λ v x. x) (check_advances check_words p a)
         (check_advances_in KIn check_words N (checks_ask h) p a (imports_in ns a j) i.1)
-    advances_in (Diagnosing (diagnostics.ReadChecks f)) a i j = let h : 8 ≤ l = i.0 in (asks (keys.Parse f) i.1 (omega arith) (omega arith), (h, tt))
+    advances_in (Diagnosing (diagnostics.ReadChecks f)) a i j = let h : 9 ≤ l = i.0 in (asks (keys.Parse f) i.1 (omega arith) (omega arith), (h, tt))
     advances_in (Diagnosing (diagnostics.ReadFile faults)) a i j = tt
     advances_in (Describing (descriptors.ReadChecks f)) a i j = describes f (is_failed (faults_read a)) i.0 i.1
-    advances_in (Describing (descriptors.ReadFile f)) a i j = trees f (parsed_read a) (has_tree (parsed_read a)) i.0 i.1
+    advances_in (Describing (descriptors.ReadItems f)) a i j = trees f (items_read a) (has_tree (items_read a)) i.0 i.1
     advances_in (Describing (descriptors.ReadResolved f file)) a i j = tt
     advances_in Listing a i j = tt
     advances_in (Locating (definitions.ReadFile f place)) a i j = locates f (parsed_read a) (offset_at (parsed_read a) place) i.0 i.1
@@ -369,10 +381,10 @@ module _ (order : ProtoKey → ProtoKey → Ordering) (files : Sources) where
     preserves : Preserves m KIn PIn (ValueIn ns)
     preserves = record { inputs = λ k at i. inputs_in k at; starts = starts_in; advances = advances_in }
 
-  no_higher : (k q : ProtoKey) (p : ProtoPart) → ComesTo m k (Ask q p) → proto_level q ≤ proto_level k
+  no_higher : (k q : ProtoKey) (p : ProtoPart) → ComesTo m k (Ask q p) → level_of q ≤ level_of k
   no_higher k q p c =
       let ns : List (List ℕ) = own_name k ∷ all_mentioned files in
-      let l = proto_level k in
+      let l = level_of k in
       (asked_in m (KeyIn ns l k) (PartIn ns l) (ValueIn ns) (preserves ns l k (λ w i. inr i)) k q p (inl refl, omega arith, inl refl) c).1
 
   -- the name of a key that is reached
@@ -383,7 +395,7 @@ module _ (order : ProtoKey → ProtoKey → Ordering) (files : Sources) where
   stays : (k x q : ProtoKey) (p : ProtoPart) → In x (proto_reach files k) → ComesTo m x (Ask q p) → In q (proto_reach files k)
   stays k x q p i c =
       let ns : List (List ℕ) = own_name k ∷ all_mentioned files in
-      let l = proto_level x in
+      let l = level_of x in
       let a = asked_in m (KeyIn ns l x) (PartIn ns l) (ValueIn ns) (preserves ns l x (λ w j. inr j)) x q p (reach_name k x i, omega arith, inl refl) c in
       elim a.2 [
         | inl e ↦ subst (λ (y : ProtoKey). In y (proto_reach files k)) (sym e) i

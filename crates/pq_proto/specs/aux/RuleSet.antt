@@ -9,33 +9,36 @@ use Rattle.pq_rules.specs.declared.turn.Answer.TheVariants.{Value, Cycle}
 use Rattle.pq_rules.specs.Turns.{Machine}
 use Rattle.pq_rules.specs.Embedding.{embedded}
 use Rattle.pq_links.specs.Visibility.{no_links}
-use Rattle.pq_links.specs.aux.Queries.{parse_level, imports_level, linked_level, parse_starts, parse_advances, imports_starts, imports_advances, linked_starts, linked_advances, linked_left}
+use Rattle.pq_links.specs.aux.Queries.{parse_starts, parse_advances, items_starts, items_advances, imports_starts, imports_advances, linked_starts, linked_advances, linked_left}
+use Rattle.pq_links.specs.Files.{nodes_in}
+use Rattle.pq_links.specs.declared.file_items.FileItems.{FileItems}
 use Rattle.pq_links.specs.declared.files.ParsedFile.{ParsedFile}
 use Rattle.pq_links.specs.declared.linked.Linking.{Linking}
 use Rattle.pq_links.specs.declared.links.Import.{Import}
 use Rattle.pq_links.specs.declared.links.Links.{Links}
 use Rattle.pq_schema.specs.Contents.{Defs}
 use Rattle.pq_schema.specs.ScopeContents.{Scope}
-use Rattle.pq_schema.specs.Missing.{nodes_of, no_defs, no_scope}
-use Rattle.pq_schema.specs.aux.Queries.{defs_level, scope_level, resolved_level, defs_starts, defs_advances, scope_starts, scope_advances, scope_left, resolved_starts, resolved_advances, resolved_left}
+use Rattle.pq_schema.specs.Missing.{no_defs, no_scope}
+use Rattle.pq_schema.specs.aux.Queries.{defs_starts, defs_advances, scope_starts, scope_advances, scope_left, resolved_starts, resolved_advances, resolved_left}
 use Rattle.pq_schema.specs.aux.RuleSet.{all_mentioned}
 use Rattle.pq_schema.specs.declared.resolved.ResolvedReference.{ResolvedReference}
 use Rattle.pq_schema.specs.declared.resolved.ResolvedPart.{ResolvedPart}
 use Rattle.pq_schema.specs.declared.scopes.ScopePart.{ScopePart}
 use Rattle.pq_checks.specs.Answers.{CheckWords}
-use Rattle.pq_checks.specs.aux.DiagnosticsTurns.{diagnostics_level, diagnostics_starts, diagnostics_advances, diagnostics_left}
-use Rattle.pq_checks.specs.aux.Queries.{check_level, check_starts, check_advances, check_left}
+use Rattle.pq_checks.specs.aux.DiagnosticsTurns.{diagnostics_starts, diagnostics_advances, diagnostics_left}
+use Rattle.pq_checks.specs.aux.Queries.{check_starts, check_advances, check_left}
 use Rattle.pq_checks.specs.declared.checked.CheckPart.{CheckPart}
 use Rattle.pq_checks.specs.declared.diagnostic.Diagnosed.{Diagnosed}
 use Rattle.pq_checks.specs.declared.diagnostics.DiagnosticsPart.{DiagnosticsPart}
 use Rattle.pq_checks.specs.declared.fault.Fault.{Fault}
-use Rattle.pq_proto.specs.aux.Outputs.{output_level, faults_read, parsed_read, resolved_read, descriptor_starts, descriptor_advances, descriptor_left, symbols_starts, symbols_advances, definition_starts, definition_advances, definition_left}
+use Rattle.pq_proto.specs.Levels.{level_of}
+use Rattle.pq_proto.specs.aux.Outputs.{faults_read, items_read, parsed_read, resolved_read, descriptor_starts, descriptor_advances, descriptor_left, symbols_starts, symbols_advances, definition_starts, definition_advances, definition_left}
 use Rattle.pq_proto.specs.declared.key.ProtoKey.{ProtoKey}
 use Rattle.pq_proto.specs.declared.key.ProtoKey.TheVariants as keys
 use Rattle.pq_proto.specs.declared.queries.definition.DefinitionPart.{DefinitionPart}
 use Rattle.pq_proto.specs.declared.queries.descriptor.DescriptorPart.{DescriptorPart}
 use Rattle.pq_proto.specs.declared.rules.ProtoPart.{ProtoPart}
-use Rattle.pq_proto.specs.declared.rules.ProtoPart.TheVariants.{Parsing, Importing, LinkingFiles, Defining, Scoping, Resolving, Checking, Diagnosing, Describing, Listing, Locating}
+use Rattle.pq_proto.specs.declared.rules.ProtoPart.TheVariants.{Parsing, Itemizing, Importing, LinkingFiles, Defining, Scoping, Resolving, Checking, Diagnosing, Describing, Listing, Locating}
 use Rattle.pq_proto.specs.declared.value.Location.{Location}
 use Rattle.pq_proto.specs.declared.value.ProtoValue.{ProtoValue}
 use Rattle.pq_proto.specs.declared.value.ProtoValue.TheVariants as values
@@ -44,6 +47,7 @@ use Rattle.pq_proto.specs.declared.value.ProtoValue.TheVariants as values
 abbrev pub own_name : ProtoKey → List ℕ
 own_name (keys.Input f) = f
 own_name (keys.Parse f) = f
+own_name (keys.Items f) = f
 own_name (keys.Imports f) = f
 own_name (keys.Linked f) = f
 own_name (keys.Defs f) = f
@@ -55,7 +59,7 @@ own_name (keys.Descriptor f) = f
 own_name (keys.Symbols f) = f
 own_name (keys.Definition f place) = f
 
--- ---- what is read of an answer, beside `parsed_read` and `resolved_read`
+-- ---- what is read of an answer, beside what `Outputs` reads
 
 -- `text_read`, `imports_read`, `links_read`, `defs_read` and `scope_read` are what the
 -- answer holds; one of another kind reads as that of an absent file
@@ -87,13 +91,13 @@ ring_read (Cycle ring) = Some (map own_name ring)
 -- `check_words` is what the rule set offers the query of checks
 abbrev pub check_words : CheckWords ProtoKey (Answer ProtoKey ProtoValue)
 check_words = record {
-  parse = λ f. keys.Parse f;
+  items = λ f. keys.Items f;
   imports = λ f. keys.Imports f;
   linked = λ f. keys.Linked f;
   defs = λ f. keys.Defs f;
   scope = λ f. keys.Scope f;
   resolved = λ f. keys.Resolved f;
-  parsed = parsed_read;
+  itemed = items_read;
   imported = imports_read;
   ring = ring_read;
   defined = defs_read;
@@ -103,30 +107,18 @@ check_words = record {
 
 -- ---- the turns
 
--- `proto_level k` is the level of the key `k`
-abbrev pub proto_level : ProtoKey → ℕ
-proto_level (keys.Input f) = 0
-proto_level (keys.Parse f) = parse_level
-proto_level (keys.Imports f) = imports_level
-proto_level (keys.Linked f) = linked_level
-proto_level (keys.Defs f) = defs_level
-proto_level (keys.Scope f) = scope_level
-proto_level (keys.Resolved f) = resolved_level
-proto_level (keys.Checks f) = check_level
-proto_level (keys.Diagnostics f) = diagnostics_level
-proto_level (keys.Descriptor f) = output_level
-proto_level (keys.Symbols f) = output_level
-proto_level (keys.Definition f place) = output_level
-
 -- `proto_file k` is the file of the input key `k`
 abbrev pub proto_file : ProtoKey → Option (List ℕ)
 proto_file (keys.Input f) = Some f
 proto_file _ = None
 
--- `parse_turn t` is the turn `t` of the query of parses as a turn of the rule set; the next ten are
--- those of the other queries
+-- `parse_turn t` is the turn `t` of the query of parses as a turn of the rule set; the next eleven
+-- are those of the other queries
 abbrev pub parse_turn : Turn ProtoKey (Unit {0}) ParsedFile → Turn ProtoKey ProtoPart ProtoValue
 parse_turn = embedded (λ q. Parsing) (λ v. values.Parse v)
+
+abbrev pub items_turn : Turn ProtoKey (Unit {0}) FileItems → Turn ProtoKey ProtoPart ProtoValue
+items_turn = embedded (λ q. Itemizing) (λ v. values.Items v)
 
 abbrev pub imports_turn : Turn ProtoKey (Unit {0}) (Option (List Import)) → Turn ProtoKey ProtoPart ProtoValue
 imports_turn = embedded (λ q. Importing) (λ v. values.Imports v)
@@ -163,12 +155,13 @@ definition_turn = embedded (λ q. Locating q) (λ v. values.Definition v)
 abbrev pub proto_start : ProtoKey → Turn ProtoKey ProtoPart ProtoValue
 proto_start (keys.Input f) = Done (values.Source None)
 proto_start (keys.Parse f) = parse_turn (parse_starts (λ n. keys.Input n) f)
-proto_start (keys.Imports f) = imports_turn (imports_starts (λ n. keys.Parse n) f)
+proto_start (keys.Items f) = items_turn (items_starts (λ n. keys.Parse n) f)
+proto_start (keys.Imports f) = imports_turn (imports_starts (λ n. keys.Items n) f)
 proto_start (keys.Linked f) = linked_turn (linked_starts (λ n. keys.Imports n) f)
-proto_start (keys.Defs f) = defs_turn (defs_starts (λ n. keys.Parse n) f)
+proto_start (keys.Defs f) = defs_turn (defs_starts (λ n. keys.Items n) f)
 proto_start (keys.Scope f) = scope_turn (scope_starts (λ n. keys.Linked n) f)
 proto_start (keys.Resolved f) = resolved_turn (resolved_starts (λ n. keys.Scope n) f)
-proto_start (keys.Checks f) = checks_turn (check_starts (λ n. keys.Parse n) f)
+proto_start (keys.Checks f) = checks_turn (check_starts (λ n. keys.Items n) f)
 proto_start (keys.Diagnostics f) = diagnostics_turn (diagnostics_starts (λ n. keys.Checks n) f)
 proto_start (keys.Descriptor f) = descriptor_turn (descriptor_starts f)
 proto_start (keys.Symbols f) = symbols_turn (symbols_starts f)
@@ -177,11 +170,12 @@ proto_start (keys.Definition f place) = definition_turn (definition_starts f pla
 -- `proto_advance part a` is the turn that follows `part` by the answer `a`
 abbrev pub proto_advance : ProtoPart → Answer ProtoKey ProtoValue → Turn ProtoKey ProtoPart ProtoValue
 proto_advance Parsing a = parse_turn (parse_advances (text_read a))
-proto_advance Importing a = imports_turn (imports_advances (parsed_read a))
+proto_advance Itemizing a = items_turn (items_advances (parsed_read a))
+proto_advance Importing a = imports_turn (imports_advances (items_read a))
 proto_advance (LinkingFiles q) a = linked_turn (linked_advances (λ n. keys.Linked n) (imports_read a) (links_read a) q)
-proto_advance Defining a = defs_turn (defs_advances (nodes_of (parsed_read a)))
+proto_advance Defining a = defs_turn (defs_advances (nodes_in (items_read a)))
 proto_advance (Scoping q) a = scope_turn (scope_advances (λ n. keys.Defs n) (links_read a) (defs_read a) q)
-proto_advance (Resolving q) a = resolved_turn (resolved_advances (λ n. keys.Parse n) (scope_read a) (nodes_of (parsed_read a)) q)
+proto_advance (Resolving q) a = resolved_turn (resolved_advances (λ n. keys.Items n) (scope_read a) (nodes_in (items_read a)) q)
 proto_advance (Checking q) a = checks_turn (check_advances check_words q a)
 proto_advance (Diagnosing q) a = diagnostics_turn (diagnostics_advances (λ n. keys.Parse n) (faults_read a) (parsed_read a) q)
 proto_advance (Describing q) a = descriptor_turn (descriptor_advances q a)
@@ -202,7 +196,7 @@ proto_left _ = (0, 0)
 -- `proto_rules` is the rule set
 abbrev pub proto_rules : Machine ProtoKey ProtoPart ProtoValue
 proto_rules = record {
-  level = proto_level;
+  level = level_of;
   file = proto_file;
   text = λ text. values.Source text;
   start = proto_start;
@@ -218,6 +212,7 @@ keys_of [] = []
 keys_of (n ∷ ns) =
     keys.Input n
     ∷ keys.Parse n
+    ∷ keys.Items n
     ∷ keys.Imports n
     ∷ keys.Linked n
     ∷ keys.Defs n

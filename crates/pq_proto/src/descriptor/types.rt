@@ -83,11 +83,7 @@ fn type_to(alloc: Global, resolution: &Resolution) -> Result<TypeName, Memory>
     ensures { IfOk result (λ t. type_of t ≡ type_to resolution.now) }
 {
     match resolution {
-        Resolution::Type {
-            full_name,
-            is_enum,
-            ..
-        } => named_type(alloc, full_name, *is_enum),
+        Resolution::Type(target) => named_type(alloc, &target.full_name, target.is_enum),
         Resolution::NotFound | Resolution::NotVisible(_) | Resolution::NotAType => Ok(no_type()),
     }
 }

@@ -1,13 +1,14 @@
 //! What is read of an answer of the rule set. An answer of another kind reads as that of an absent
 //! file.
 ghost use Rattle.std.specs.Prelude.{◌≡◌, [], option_copied, unwrap_or};
+ghost use Rattle.pq_links.specs.declared.file_items.FileItems.TheVariants.{Absent as NoItems};
 ghost use Rattle.pq_links.specs.declared.files.ParsedFile.TheVariants.{Absent};
-ghost use Rattle.pq_proto.specs.aux.Outputs.{faults_read, parsed_read, resolved_read};
+ghost use Rattle.pq_proto.specs.aux.Outputs.{faults_read, items_read, parsed_read, resolved_read};
 
 use crate::key::ProtoKey;
 use crate::value::ProtoValue;
 use pq_checks::Fault;
-use pq_links::ParsedFile;
+use pq_links::{FileItems, ParsedFile};
 use pq_rules::{Answer, Shared};
 use pq_schema::ResolvedReference;
 use pq_syntax::Items;
@@ -20,6 +21,18 @@ pub(crate) fn parsed_in<'a>(
 {
     match answer {
         Answer::Value(ProtoValue::Parse(file)) => Some(file),
+        _ => None,
+    }
+}
+
+/// What `answer` says that a file is read as, without spans.
+pub(crate) fn items_in<'a>(
+    answer: &'a Answer<ProtoKey, ProtoValue>,
+) -> Option<&'a Shared<FileItems>>
+    ensures items { unwrap_or (option_copied result) NoItems ≡ items_read answer.now }
+{
+    match answer {
+        Answer::Value(ProtoValue::Items(items)) => Some(items),
         _ => None,
     }
 }

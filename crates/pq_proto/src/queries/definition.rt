@@ -1,6 +1,6 @@
 //! The query of the definition of what is at a place of a file.
 ghost use Rattle.std.specs.Prelude.{◌≡◌, IfOk};
-ghost use Rattle.pq_schema.specs.Missing.{nodes_of};
+ghost use Rattle.pq_links.specs.Files.{nodes_of};
 ghost use Rattle.pq_proto.specs.Compile.{location_of, offset_at};
 ghost use Rattle.pq_proto.specs.Definition.{definition_at};
 ghost use Rattle.pq_proto.specs.aux.Outputs.{definition_advances, definition_falls, definition_left, definition_starts, output_level, parsed_read, references_turn, resolved_read, target_turn};
@@ -108,7 +108,7 @@ impl Query for DefinitionQuery {
 
     type AnyAnswer = Answer<ProtoKey, ProtoValue>;
 
-    const LEVEL: u8 = 9;
+    const LEVEL: u8 = 10;
 
     ghost LEVEL = { output_level };
 

@@ -2,19 +2,17 @@
 ghost use Rattle.std.specs.Prelude.{◌≡◌, IfOk};
 ghost use Rattle.pq_checks.specs.Codes.{severity};
 ghost use Rattle.pq_proto.specs.Compile.{has_tree, is_failed, is_severe};
-ghost use Rattle.pq_proto.specs.aux.Outputs.{descriptor_advances, descriptor_falls, descriptor_left, descriptor_starts, faults_read, file_turn, output_level, parsed_read, tree_turn};
+ghost use Rattle.pq_proto.specs.aux.Outputs.{descriptor_advances, descriptor_falls, descriptor_left, descriptor_starts, faults_read, items_read, bare_turn, output_level, tree_turn};
 
 use crate::Memory;
 use crate::descriptor::descriptor_text;
-use crate::files::statements;
 use crate::key::ProtoKey;
-use crate::queries::answers::{faults_in, parsed_in, references_in};
+use crate::queries::answers::{faults_in, items_in, references_in};
 use crate::value::ProtoValue;
 use pq_checks::{Code, Fault, Severity};
-use pq_links::ParsedFile;
+use pq_links::FileItems;
 use pq_names::Text;
 use pq_rules::{Answer, Query, Shared, Turn};
-use pq_syntax::Parsed;
 use std::alloc::Global;
 
 /// What the rule of a file's descriptor does with the next answer.
@@ -22,11 +20,11 @@ use std::alloc::Global;
 pub enum DescriptorPart {
     /// The answer is the errors of the file by the table. The field is its name.
     ReadChecks(Text),
-    /// The answer is what the file is read as. The field is its name.
-    ReadFile(Text),
-    /// The answer is the resolved references of the file. The fields are its name and what it is
-    /// read as.
-    ReadResolved(Text, Shared<ParsedFile>),
+    /// The answer is the tree of the file without spans. The field is its name.
+    ReadItems(Text),
+    /// The answer is the resolved references of the file. The fields are its name and its tree
+    /// without spans.
+    ReadResolved(Text, Shared<FileItems>),
 }
 
 /// The descriptor of a file as a text. It is `null` for a file without a tree, and for one with an
@@ -51,14 +49,11 @@ fn is_failed(faults: &[Fault]) -> bool
     faults.iter().any(|fault| is_severe(fault.code))
 }
 
-/// Whether a file that is read as `file` has a tree.
-fn has_tree(file: &ParsedFile) -> bool
-    ensures tree { result ≡ has_tree file.now }
+/// Whether a file that is `items` without spans has a tree.
+fn has_tree(items: &FileItems) -> bool
+    ensures tree { result ≡ has_tree items.now }
 {
-    match file {
-        ParsedFile::Present { parsed, .. } => matches!(parsed, Parsed::Tree(_)),
-        ParsedFile::Absent => false,
-    }
+    matches!(items, FileItems::Tree(_))
 }
 
 /// The turn after the errors of the file `file`.
@@ -67,44 +62,44 @@ fn after_checks(
     file: &Text,
     answer: &Answer<ProtoKey, ProtoValue>,
 ) -> Result<Turn<ProtoKey, DescriptorPart, Text>, Memory>
-    ensures turn { IfOk result (λ t. t ≡ file_turn file.now (is_failed (faults_read answer.now))) }
+    ensures turn { IfOk result (λ t. t ≡ bare_turn file.now (is_failed (faults_read answer.now))) }
 {
     if is_failed(faults_in(answer)) {
         return Ok(Turn::Done(Text::new(alloc, "null")?));
     }
     Ok(Turn::Ask(
-        ProtoKey::Parse(file.copy()?),
-        DescriptorPart::ReadFile(file.copy()?),
+        ProtoKey::Items(file.copy()?),
+        DescriptorPart::ReadItems(file.copy()?),
     ))
 }
 
-/// The turn after the file `file` was read as `parsed`.
-fn after_parsed(
+/// The turn after the answer that the file `file` is `items` without spans.
+fn after_tree(
     alloc: Global,
     file: &Text,
-    parsed: &Shared<ParsedFile>,
+    items: &Shared<FileItems>,
 ) -> Result<Turn<ProtoKey, DescriptorPart, Text>, Memory>
-    ensures turn { IfOk result (λ t. t ≡ tree_turn file.now parsed.now (has_tree parsed.now)) }
+    ensures turn { IfOk result (λ t. t ≡ tree_turn file.now items.now (has_tree items.now)) }
 {
-    if !has_tree(parsed.get()) {
+    if !has_tree(items.get()) {
         return Ok(Turn::Done(Text::new(alloc, "null")?));
     }
     Ok(Turn::Ask(
         ProtoKey::Resolved(file.copy()?),
-        DescriptorPart::ReadResolved(file.copy()?, parsed.copy()?),
+        DescriptorPart::ReadResolved(file.copy()?, items.copy()?),
     ))
 }
 
-/// The turn after what the file `file` is read as.
-fn after_file(
+/// The turn after the tree of the file `file` without spans.
+fn after_items(
     alloc: Global,
     file: &Text,
     answer: &Answer<ProtoKey, ProtoValue>,
 ) -> Result<Turn<ProtoKey, DescriptorPart, Text>, Memory>
-    ensures turn { IfOk result (λ t. t ≡ tree_turn file.now (parsed_read answer.now) (has_tree (parsed_read answer.now))) }
+    ensures turn { IfOk result (λ t. t ≡ tree_turn file.now (items_read answer.now) (has_tree (items_read answer.now))) }
 {
-    match parsed_in(answer) {
-        Some(parsed) => after_parsed(alloc, file, parsed),
+    match items_in(answer) {
+        Some(items) => after_tree(alloc, file, items),
         None => Ok(Turn::Done(Text::new(alloc, "null")?)),
     }
 }
@@ -120,7 +115,7 @@ impl Query for DescriptorQuery {
 
     type AnyAnswer = Answer<ProtoKey, ProtoValue>;
 
-    const LEVEL: u8 = 9;
+    const LEVEL: u8 = 10;
 
     ghost LEVEL = { output_level };
 
@@ -154,19 +149,19 @@ impl Query for DescriptorQuery {
                 Ok(turn) => Ok(turn),
                 Err(_) => Err(DescriptorPart::ReadChecks(file)),
             },
-            DescriptorPart::ReadFile(file) => match after_file(alloc, &file, answer) {
+            DescriptorPart::ReadItems(file) => match after_items(alloc, &file, answer) {
                 Ok(turn) => Ok(turn),
-                Err(_) => Err(DescriptorPart::ReadFile(file)),
+                Err(_) => Err(DescriptorPart::ReadItems(file)),
             },
-            DescriptorPart::ReadResolved(file, parsed) => {
+            DescriptorPart::ReadResolved(file, items) => {
                 match descriptor_text(
                     alloc,
                     file.as_str(),
-                    statements(parsed.get()),
+                    items.get().nodes(),
                     references_in(answer),
                 ) {
                     Ok(text) => Ok(Turn::Done(text)),
-                    Err(_) => Err(DescriptorPart::ReadResolved(file, parsed)),
+                    Err(_) => Err(DescriptorPart::ReadResolved(file, items)),
                 }
             }
         }
@@ -175,7 +170,7 @@ impl Query for DescriptorQuery {
     fn left(&self, part: &DescriptorPart) -> (u32, u64) {
         match part {
             DescriptorPart::ReadChecks(_) => (2, 0),
-            DescriptorPart::ReadFile(_) => (1, 0),
+            DescriptorPart::ReadItems(_) => (1, 0),
             DescriptorPart::ReadResolved(_, _) => (0, 0),
         }
     }

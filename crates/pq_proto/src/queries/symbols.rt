@@ -39,7 +39,7 @@ impl Query for SymbolsQuery {
 
     type AnyAnswer = Answer<ProtoKey, ProtoValue>;
 
-    const LEVEL: u8 = 9;
+    const LEVEL: u8 = 10;
 
     ghost LEVEL = { output_level };
 

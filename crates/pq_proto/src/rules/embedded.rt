@@ -1,5 +1,5 @@
 //! The queries of the rule set, as parts of it.
-ghost use Rattle.pq_proto.specs.declared.rules.ProtoPart.TheVariants.{Parsing, Importing, LinkingFiles, Defining, Scoping, Resolving, Checking, Diagnosing, Describing, Listing, Locating};
+ghost use Rattle.pq_proto.specs.declared.rules.ProtoPart.TheVariants.{Parsing, Itemizing, Importing, LinkingFiles, Defining, Scoping, Resolving, Checking, Diagnosing, Describing, Listing, Locating};
 ghost use Rattle.pq_proto.specs.declared.value.ProtoValue.TheVariants as values;
 
 use crate::key::ProtoKey;
@@ -12,7 +12,8 @@ use pq_checks::{
     CheckKeys, CheckPart, ChecksQuery, Diagnosed, DiagnosticsPart, DiagnosticsQuery, Fault,
 };
 use pq_links::{
-    Import, ImportsQuery, LinkKeys, LinkedQuery, Linking, Links, ParseQuery, ParsedFile,
+    FileItems, Import, ImportsQuery, ItemsQuery, LinkKeys, LinkedQuery, Linking, Links, ParseQuery,
+    ParsedFile,
 };
 use pq_names::Text;
 use pq_rules::{Answer, EmbeddedIn, Shared};
@@ -34,6 +35,21 @@ impl<S: LinkKeys<Key = ProtoKey, Answer = Answer<ProtoKey, ProtoValue>>> Embedde
 
     fn value(value: Shared<ParsedFile>) -> ProtoValue {
         ProtoValue::Parse(value)
+    }
+}
+
+impl<S: LinkKeys<Key = ProtoKey, Answer = Answer<ProtoKey, ProtoValue>>> EmbeddedIn<ProtoRules>
+    for ItemsQuery<S> {
+    ghost as_part = { λ q. Itemizing };
+
+    ghost as_value = { λ v. values.Items v };
+
+    fn part(_part: ()) -> ProtoPart {
+        ProtoPart::Itemizing
+    }
+
+    fn value(value: Shared<FileItems>) -> ProtoValue {
+        ProtoValue::Items(value)
     }
 }
 

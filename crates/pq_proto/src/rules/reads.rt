@@ -5,11 +5,11 @@ ghost use Rattle.pq_proto.specs.aux.RuleSet.{own_name};
 
 use crate::Memory;
 use crate::key::ProtoKey;
-use crate::queries::{checked_in, parsed_in, resolved_in};
+use crate::queries::{checked_in, items_in, parsed_in, resolved_in};
 use crate::rules::ProtoRules;
 use crate::value::ProtoValue;
 use pq_checks::{CheckKeys, Fault};
-use pq_links::{Import, LinkKeys, Links, ParsedFile};
+use pq_links::{FileItems, Import, LinkKeys, Links, ParsedFile};
 use pq_names::Text;
 use pq_rules::{Answer, Shared};
 use pq_schema::{Defs, ResolvedReference, SchemaKeys, Scope};
@@ -23,6 +23,7 @@ fn file_of(key: &ProtoKey) -> &Text
     match key {
         ProtoKey::Input(file) => file,
         ProtoKey::Parse(file) => file,
+        ProtoKey::Items(file) => file,
         ProtoKey::Imports(file) => file,
         ProtoKey::Linked(file) => file,
         ProtoKey::Defs(file) => file,
@@ -49,7 +50,7 @@ fn files_of(alloc: Global, keys: &[ProtoKey]) -> Result<Vec<Text>, Memory>
 
 impl LinkKeys for ProtoRules {
     ghost use Rattle.pq_proto.specs.declared.key.ProtoKey.TheVariants as keys;
-    ghost use Rattle.pq_proto.specs.aux.Outputs.{parsed_read};
+    ghost use Rattle.pq_proto.specs.aux.Outputs.{items_read, parsed_read};
     ghost use Rattle.pq_proto.specs.aux.RuleSet.{text_read, imports_read, links_read};
 
     type Key = ProtoKey;
@@ -60,6 +61,8 @@ impl LinkKeys for ProtoRules {
 
     ghost parse = { λ f. keys.Parse f };
 
+    ghost items = { λ f. keys.Items f };
+
     ghost imports = { λ f. keys.Imports f };
 
     ghost linked = { λ f. keys.Linked f };
@@ -67,6 +70,8 @@ impl LinkKeys for ProtoRules {
     ghost text = { text_read };
 
     ghost parsed = { parsed_read };
+
+    ghost itemed = { items_read };
 
     ghost imported = { imports_read };
 
@@ -78,6 +83,10 @@ impl LinkKeys for ProtoRules {
 
     fn parse_key(file: &Text) -> Result<ProtoKey, Memory> {
         Ok(ProtoKey::Parse(file.copy()?))
+    }
+
+    fn items_key(file: &Text) -> Result<ProtoKey, Memory> {
+        Ok(ProtoKey::Items(file.copy()?))
     }
 
     fn imports_key(file: &Text) -> Result<ProtoKey, Memory> {
@@ -95,11 +104,12 @@ impl LinkKeys for ProtoRules {
         }
     }
 
-    fn read_parsed<'a>(answer: &'a Answer<ProtoKey, ProtoValue>) -> Option<&'a ParsedFile> {
-        match answer {
-            Answer::Value(ProtoValue::Parse(file)) => Some(file.get()),
-            _ => None,
-        }
+    fn read_parsed<'a>(answer: &'a Answer<ProtoKey, ProtoValue>) -> Option<&'a Shared<ParsedFile>> {
+        parsed_in(answer)
+    }
+
+    fn read_items<'a>(answer: &'a Answer<ProtoKey, ProtoValue>) -> Option<&'a Shared<FileItems>> {
+        items_in(answer)
     }
 
     fn read_imports<'a>(
@@ -175,10 +185,6 @@ impl CheckKeys for ProtoRules {
 
     fn checks_key(file: &Text) -> Result<ProtoKey, Memory> {
         Ok(ProtoKey::Checks(file.copy()?))
-    }
-
-    fn read_file<'a>(answer: &'a Answer<ProtoKey, ProtoValue>) -> Option<&'a Shared<ParsedFile>> {
-        parsed_in(answer)
     }
 
     fn read_resolved<'a>(

@@ -3,9 +3,9 @@ use Rattle.std.specs.Prelude.{ℕ, List, [], ◌∷◌}
 use Rattle.pq_schema.specs.aux.NameCodes.{coded, code_of}
 use Rattle.pq_schema.specs.declared.definitions.Definition.{Definition}
 
--- `digested n definition` is the number `n` with the name and the place of `definition` after it
+-- `digested n definition` is the number `n` with the name and the item of `definition` after it
 abbrev pub digested : ℕ → Definition → ℕ
-digested n definition = coded (coded n (code_of definition.full_name)) definition.span.start
+digested n definition = coded (coded n (code_of definition.full_name)) definition.item
 
 -- `digest_from n definitions` is the number `n` with `definitions` after it
 unfoldable pub digest_from : ℕ → List Definition → ℕ

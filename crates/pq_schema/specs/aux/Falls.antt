@@ -30,8 +30,8 @@ scope_falls defs links read (Collect (visible, ([], files))) q r e = cc
 scope_falls defs links read (Collect (visible, (x ∷ xs, files))) q r e =
     next_falls defs visible xs (files ++ record { file = x; defs = read } ∷ []) (0, length (x ∷ xs)) q r (inr (refl, omega arith)) e
 
-pub resolved_falls : {K : Type 0} (parse : List ℕ → K) (scope : Scope) (nodes : List Node) (p : ResolvedPart) (q : K) (r : ResolvedPart)
-    → resolved_advances parse scope nodes p ≡ Ask q r → IsLower (resolved_left r) (resolved_left p)
-resolved_falls parse scope nodes (ReadScope f) q r e =
+pub resolved_falls : {K : Type 0} (items : List ℕ → K) (scope : Scope) (nodes : List Node) (p : ResolvedPart) (q : K) (r : ResolvedPart)
+    → resolved_advances items scope nodes p ≡ Ask q r → IsLower (resolved_left r) (resolved_left p)
+resolved_falls items scope nodes (ReadScope f) q r e =
     let part : r ≡ ReadTree scope = cc in subst (λ (p : ResolvedPart). IsLower (resolved_left p) (1, 0)) (sym part) (inl (omega arith))
-resolved_falls parse scope nodes (ReadTree read) q r e = cc
+resolved_falls items scope nodes (ReadTree read) q r e = cc

@@ -20,17 +20,18 @@ use Rattle.pq_schema.specs.declared.scopes.ScopePart.TheVariants.{ReadLinks, Col
 
 -- `defs_level`, `scope_level` and `resolved_level` are the levels of the queries' keys
 abbrev pub defs_level : ℕ
-defs_level = 4
+defs_level = 5
 
 abbrev pub scope_level : ℕ
-scope_level = 5
+scope_level = 6
 
 abbrev pub resolved_level : ℕ
-resolved_level = 6
+resolved_level = 7
 
--- `defs_starts parse f` is the first turn of the definitions of the file `f`: it asks for the parse
+-- `defs_starts items f` is the first turn of the definitions of the file `f`: it asks for the tree
+-- without spans
 abbrev pub defs_starts : {K : Type 0} → (List ℕ → K) → List ℕ → Turn K (Unit {0}) Defs
-defs_starts parse f = Ask (parse f) tt
+defs_starts items f = Ask (items f) tt
 
 -- `defs_advances nodes` is the turn after that: it is done with the definitions of the statements
 -- `nodes`
@@ -70,11 +71,11 @@ resolved_starts scope f = Ask (scope f) (ReadScope f)
 abbrev pub resolved_by : Scope → List Node → List ResolvedReference
 resolved_by scope nodes = map (resolved_in scope) (references_of nodes)
 
--- `resolved_advances parse scope nodes part` is the turn after an answer, read as `scope` and as
+-- `resolved_advances items scope nodes part` is the turn after an answer, read as `scope` and as
 -- the statements `nodes`
 abbrev pub resolved_advances : {K : Type 0} → (List ℕ → K) → Scope → List Node → ResolvedPart → Turn K ResolvedPart (List ResolvedReference)
-resolved_advances parse scope nodes (ReadScope f) = Ask (parse f) (ReadTree scope)
-resolved_advances parse scope nodes (ReadTree read) = Done (resolved_by read nodes)
+resolved_advances items scope nodes (ReadScope f) = Ask (items f) (ReadTree scope)
+resolved_advances items scope nodes (ReadTree read) = Done (resolved_by read nodes)
 
 -- `resolved_left part` is what is left to ask at `part`
 abbrev pub resolved_left : ResolvedPart → ℕ × ℕ

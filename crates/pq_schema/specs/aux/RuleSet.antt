@@ -10,8 +10,10 @@ use Rattle.pq_rules.specs.Turns.{Machine}
 use Rattle.pq_rules.specs.Embedding.{embedded}
 use Rattle.pq_links.specs.ImportGraph.{file_of}
 use Rattle.pq_links.specs.Visibility.{no_links}
-use Rattle.pq_links.specs.Files.{read_file, file_imports}
-use Rattle.pq_links.specs.aux.Queries.{parse_level, imports_level, linked_level, parse_starts, parse_advances, imports_starts, imports_advances, linked_starts, linked_advances, linked_left}
+use Rattle.pq_links.specs.Files.{read_file, file_imports, items_of, nodes_in}
+use Rattle.pq_links.specs.aux.Queries.{parse_level, items_level, imports_level, linked_level, parse_starts, parse_advances, items_starts, items_advances, imports_starts, imports_advances, linked_starts, linked_advances, linked_left}
+use Rattle.pq_links.specs.declared.file_items.FileItems.{FileItems}
+use Rattle.pq_links.specs.declared.file_items.FileItems.TheVariants.{Absent as NoItems}
 use Rattle.pq_links.specs.declared.files.ParsedFile.{ParsedFile}
 use Rattle.pq_links.specs.declared.files.ParsedFile.TheVariants.{Absent}
 use Rattle.pq_links.specs.declared.linked.Linking.{Linking}
@@ -19,20 +21,20 @@ use Rattle.pq_links.specs.declared.links.Import.{Import}
 use Rattle.pq_links.specs.declared.links.Links.{Links}
 use Rattle.pq_schema.specs.Contents.{Defs as DefsContents}
 use Rattle.pq_schema.specs.ScopeContents.{Scope as ScopeContents}
-use Rattle.pq_schema.specs.Missing.{nodes_of, no_defs, no_scope}
+use Rattle.pq_schema.specs.Missing.{no_defs, no_scope}
 use Rattle.pq_schema.specs.aux.Queries.{defs_level, scope_level, resolved_level, defs_starts, defs_advances, scope_starts, scope_advances, scope_left, resolved_starts, resolved_advances, resolved_left}
 use Rattle.pq_schema.specs.declared.resolved.ResolvedReference.{ResolvedReference}
 use Rattle.pq_schema.specs.declared.resolved.ResolvedPart.{ResolvedPart}
 use Rattle.pq_schema.specs.declared.rules.SchemaKey.{SchemaKey}
-use Rattle.pq_schema.specs.declared.rules.SchemaKey.TheVariants.{Input, Parse, Imports, Linked, Defs, Scope, Resolved}
+use Rattle.pq_schema.specs.declared.rules.SchemaKey.TheVariants.{Input, Parse, Items, Imports, Linked, Defs, Scope, Resolved}
 use Rattle.pq_schema.specs.declared.rules.SchemaPart.{SchemaPart}
-use Rattle.pq_schema.specs.declared.rules.SchemaPart.TheVariants.{Parsing, Importing, LinkingFiles, Defining, Scoping, Resolving}
+use Rattle.pq_schema.specs.declared.rules.SchemaPart.TheVariants.{Parsing, Itemizing, Importing, LinkingFiles, Defining, Scoping, Resolving}
 use Rattle.pq_schema.specs.declared.rules.SchemaValue.{SchemaValue}
 use Rattle.pq_schema.specs.declared.rules.SchemaValue.TheVariants as values
 use Rattle.pq_schema.specs.declared.scopes.ScopePart.{ScopePart}
 
--- `text_read`, `parsed_read`, `imports_read`, `links_read`, `defs_read` and `scope_read` are what
--- is read of an answer
+-- `text_read`, `parsed_read`, `items_read`, `imports_read`, `links_read`, `defs_read` and
+-- `scope_read` are what is read of an answer
 abbrev pub text_read : Answer SchemaKey SchemaValue → Option (List ℕ)
 text_read (Value (values.Source text)) = text
 text_read _ = None
@@ -40,6 +42,10 @@ text_read _ = None
 abbrev pub parsed_read : Answer SchemaKey SchemaValue → ParsedFile
 parsed_read (Value (values.Parse file)) = file
 parsed_read _ = Absent
+
+abbrev pub items_read : Answer SchemaKey SchemaValue → FileItems
+items_read (Value (values.Items items)) = items
+items_read _ = NoItems
 
 abbrev pub imports_read : Answer SchemaKey SchemaValue → Option (List Import)
 imports_read (Value (values.Imports is)) = is
@@ -61,6 +67,7 @@ scope_read _ = no_scope
 abbrev pub schema_level : SchemaKey → ℕ
 schema_level (Input f) = 0
 schema_level (Parse f) = parse_level
+schema_level (Items f) = items_level
 schema_level (Imports f) = imports_level
 schema_level (Linked f) = linked_level
 schema_level (Defs f) = defs_level
@@ -71,16 +78,20 @@ schema_level (Resolved f) = resolved_level
 abbrev pub schema_file : SchemaKey → Option (List ℕ)
 schema_file (Input f) = Some f
 schema_file (Parse f) = None
+schema_file (Items f) = None
 schema_file (Imports f) = None
 schema_file (Linked f) = None
 schema_file (Defs f) = None
 schema_file (Scope f) = None
 schema_file (Resolved f) = None
 
--- `parse_turn t` is the turn `t` of the query of parses as a turn of the rule set; the next five
+-- `parse_turn t` is the turn `t` of the query of parses as a turn of the rule set; the next six
 -- are those of the other queries
 abbrev pub parse_turn : Turn SchemaKey (Unit {0}) ParsedFile → Turn SchemaKey SchemaPart SchemaValue
 parse_turn = embedded (λ q. Parsing) (λ v. values.Parse v)
+
+abbrev pub items_turn : Turn SchemaKey (Unit {0}) FileItems → Turn SchemaKey SchemaPart SchemaValue
+items_turn = embedded (λ q. Itemizing) (λ v. values.Items v)
 
 abbrev pub imports_turn : Turn SchemaKey (Unit {0}) (Option (List Import)) → Turn SchemaKey SchemaPart SchemaValue
 imports_turn = embedded (λ q. Importing) (λ v. values.Imports v)
@@ -102,24 +113,27 @@ resolved_turn = embedded (λ q. Resolving q) (λ v. values.Resolved v)
 abbrev pub schema_start : SchemaKey → Turn SchemaKey SchemaPart SchemaValue
 schema_start (Input f) = Done (values.Source None)
 schema_start (Parse f) = parse_turn (parse_starts (λ n. Input n) f)
-schema_start (Imports f) = imports_turn (imports_starts (λ n. Parse n) f)
+schema_start (Items f) = items_turn (items_starts (λ n. Parse n) f)
+schema_start (Imports f) = imports_turn (imports_starts (λ n. Items n) f)
 schema_start (Linked f) = linked_turn (linked_starts (λ n. Imports n) f)
-schema_start (Defs f) = defs_turn (defs_starts (λ n. Parse n) f)
+schema_start (Defs f) = defs_turn (defs_starts (λ n. Items n) f)
 schema_start (Scope f) = scope_turn (scope_starts (λ n. Linked n) f)
 schema_start (Resolved f) = resolved_turn (resolved_starts (λ n. Scope n) f)
 
 -- `schema_advance part a` is the turn that follows `part` by the answer `a`
 abbrev pub schema_advance : SchemaPart → Answer SchemaKey SchemaValue → Turn SchemaKey SchemaPart SchemaValue
 schema_advance Parsing a = parse_turn (parse_advances (text_read a))
-schema_advance Importing a = imports_turn (imports_advances (parsed_read a))
+schema_advance Itemizing a = items_turn (items_advances (parsed_read a))
+schema_advance Importing a = imports_turn (imports_advances (items_read a))
 schema_advance (LinkingFiles q) a = linked_turn (linked_advances (λ n. Linked n) (imports_read a) (links_read a) q)
-schema_advance Defining a = defs_turn (defs_advances (nodes_of (parsed_read a)))
+schema_advance Defining a = defs_turn (defs_advances (nodes_in (items_read a)))
 schema_advance (Scoping q) a = scope_turn (scope_advances (λ n. Defs n) (links_read a) (defs_read a) q)
-schema_advance (Resolving q) a = resolved_turn (resolved_advances (λ n. Parse n) (scope_read a) (nodes_of (parsed_read a)) q)
+schema_advance (Resolving q) a = resolved_turn (resolved_advances (λ n. Items n) (scope_read a) (nodes_in (items_read a)) q)
 
 -- `schema_left part` is what is left to ask at `part`
 abbrev pub schema_left : SchemaPart → ℕ × ℕ
 schema_left Parsing = (0, 0)
+schema_left Itemizing = (0, 0)
 schema_left Importing = (0, 0)
 schema_left (LinkingFiles q) = linked_left q
 schema_left Defining = (0, 0)
@@ -141,6 +155,7 @@ schema_rules = record {
 abbrev pub own_name : SchemaKey → List ℕ
 own_name (Input f) = f
 own_name (Parse f) = f
+own_name (Items f) = f
 own_name (Imports f) = f
 own_name (Linked f) = f
 own_name (Defs f) = f
@@ -149,7 +164,7 @@ own_name (Resolved f) = f
 
 -- `mentioned text` is the names of the files that a file with `text` imports
 abbrev pub mentioned : Option (List ℕ) → List (List ℕ)
-mentioned text = map file_of (unwrap_or (file_imports (read_file text)) [])
+mentioned text = map file_of (unwrap_or (file_imports (items_of (read_file text))) [])
 
 -- `all_mentioned files` is the names of the files that any file imports
 abbrev pub all_mentioned : Sources → List (List ℕ)
@@ -159,7 +174,7 @@ all_mentioned (e ∷ es) = mentioned e.1.text ++ all_mentioned es
 -- `keys_of ns` is the keys of the files `ns`
 abbrev pub keys_of : List (List ℕ) → List SchemaKey
 keys_of [] = []
-keys_of (n ∷ ns) = Input n ∷ Parse n ∷ Imports n ∷ Linked n ∷ Defs n ∷ Scope n ∷ Resolved n ∷ keys_of ns
+keys_of (n ∷ ns) = Input n ∷ Parse n ∷ Items n ∷ Imports n ∷ Linked n ∷ Defs n ∷ Scope n ∷ Resolved n ∷ keys_of ns
 
 -- `schema_reach files k` is the keys that the evaluation of `k` may ask: those of its file and of
 -- the files that any file imports

@@ -4,7 +4,7 @@ use Rattle.std.proofs.Common.{◌≡◌, ℕ, Bool, true, false, ◌&&◌, List,
 use Rattle.std.specs.Cmp.{IsPartialEquivalence, IsEquivalence, decided, partial_equiv_from_equiv, unsigned_Decides, first_so, second_so}
 use Rattle.std.specs.Str.{bytes_eq}
 use Rattle.std.specs.Cmp.Lexicographic.{pointwise, pointwise_decides, bytes_decides}
-use Rattle.pq_syntax.proofs.Equality.{Told, fields, one_field, of_struct, of_bare, span}
+use Rattle.pq_syntax.proofs.Equality.{Told, fields, one_field, of_struct, of_bare}
 use Rattle.pq_schema.specs.Contents.{Defs}
 use Rattle.pq_schema.specs.contracts.definitions.DefinitionKind as kind_type
 use Rattle.pq_schema.specs.contracts.definitions.DefinitionKindPartialEq.TheImpl as of_kind
@@ -23,7 +23,7 @@ kind = of_bare kind_type.the_type tt
 definition : Told of_definition.ghosts.eq
 definition =
     of_struct definition_type.struct definition_type.the_propositions
-    (fields bytes_decides (fields kind (fields unsigned_Decides (one_field span))))
+    (fields bytes_decides (fields kind (one_field unsigned_Decides)))
 
 and_is : (a b : Bool) → a ≡ true → b ≡ true → (a && b) ≡ true
 and_is true b e f = f

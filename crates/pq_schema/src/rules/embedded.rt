@@ -1,5 +1,5 @@
 //! The queries of the rule set, as parts of it.
-ghost use Rattle.pq_schema.specs.declared.rules.SchemaPart.TheVariants.{Parsing, Importing, LinkingFiles, Defining, Scoping, Resolving};
+ghost use Rattle.pq_schema.specs.declared.rules.SchemaPart.TheVariants.{Parsing, Itemizing, Importing, LinkingFiles, Defining, Scoping, Resolving};
 ghost use Rattle.pq_schema.specs.declared.rules.SchemaValue.TheVariants as values;
 
 use crate::defined::DefsQuery;
@@ -10,7 +10,8 @@ use crate::rules::{SchemaKey, SchemaPart, SchemaRules, SchemaValue};
 use crate::scope::Scope;
 use crate::scopes::{ScopePart, ScopeQuery};
 use pq_links::{
-    Import, ImportsQuery, LinkKeys, LinkedQuery, Linking, Links, ParseQuery, ParsedFile,
+    FileItems, Import, ImportsQuery, ItemsQuery, LinkKeys, LinkedQuery, Linking, Links, ParseQuery,
+    ParsedFile,
 };
 use pq_rules::{Answer, EmbeddedIn, Shared};
 use pq_syntax::Items;
@@ -27,6 +28,21 @@ impl<S: LinkKeys<Key = SchemaKey, Answer = Answer<SchemaKey, SchemaValue>>> Embe
 
     fn value(value: Shared<ParsedFile>) -> SchemaValue {
         SchemaValue::Parse(value)
+    }
+}
+
+impl<S: LinkKeys<Key = SchemaKey, Answer = Answer<SchemaKey, SchemaValue>>> EmbeddedIn<SchemaRules>
+    for ItemsQuery<S> {
+    ghost as_part = { λ q. Itemizing };
+
+    ghost as_value = { λ v. values.Items v };
+
+    fn part(_part: ()) -> SchemaPart {
+        SchemaPart::Itemizing
+    }
+
+    fn value(value: Shared<FileItems>) -> SchemaValue {
+        SchemaValue::Items(value)
     }
 }
 

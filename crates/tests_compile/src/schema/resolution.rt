@@ -23,13 +23,13 @@ fn imports_and_names(rt: HostRuntime) {
         a M A => NotFound\n\
         a M x => NotAType\n\
         a M D => NotFound\n\
-        a M M => a M message 35-36\n\
-        a - M => a M message 35-36\n\
+        a M M => a M message 1\n\
+        a - M => a M message 1\n\
         a - x => NotFound\n\
         a - .M.x => NotAType\n\
-        d - C => c C message 24-25\n\
-        d anywhere.at.all E => c E enum 32-33\n\
-        f - C => c C message 24-25\n\
+        d - C => c C message 0\n\
+        d anywhere.at.all E => c E enum 1\n\
+        f - C => c C message 0\n\
         f - D => NotFound\n\
         self M M => NotFound\n\
         gone - C => NotFound\n\
@@ -54,12 +54,12 @@ fn packages(rt: HostRuntime) {
         15,
         "\
         a a.foo.M foo.Bar => NotFound\n\
-        a a.foo.M .foo.Bar => b foo.Bar message 36-39\n\
+        a a.foo.M .foo.Bar => b foo.Bar message 1\n\
         a a.foo.M Bar => NotFound\n\
-        a - foo.Bar => b foo.Bar message 36-39\n\
-        a a.foo.M foo.M => a a.foo.M message 49-50\n\
-        a a.foo.M M => a a.foo.M message 49-50\n\
-        a a.foo.M a.foo.M => a a.foo.M message 49-50\n\
+        a - foo.Bar => b foo.Bar message 1\n\
+        a a.foo.M foo.M => a a.foo.M message 2\n\
+        a a.foo.M M => a a.foo.M message 2\n\
+        a a.foo.M a.foo.M => a a.foo.M message 2\n\
         a a.foo.M foo => NotAType\n\
         a a.foo.M a => NotAType\n\
         a a.foo.M .a.foo => NotAType\n\
@@ -90,18 +90,18 @@ fn equal_names(rt: HostRuntime) {
         "\
         a - M.x => NotAType\n\
         a M x => NotAType\n\
-        a M x.T => d M.x.T message 36-37\n\
-        b - M.x.T => d M.x.T message 36-37\n\
-        b - M => c M message 24-25\n\
-        b - M.y => c M.y message 44-45\n\
-        b - N.x => c N.x message 78-79\n\
-        e - M => f M message 24-25\n\
-        e M x => f M.x message 34-35\n\
-        e - M.X => f M.X message 45-46\n\
-        e - M.y => c M.y message 44-45\n\
+        a M x.T => d M.x.T message 1\n\
+        b - M.x.T => d M.x.T message 1\n\
+        b - M => c M message 0\n\
+        b - M.y => c M.y message 2\n\
+        b - N.x => c N.x message 6\n\
+        e - M => f M message 0\n\
+        e M x => f M.x message 1\n\
+        e - M.X => f M.X message 2\n\
+        e - M.y => c M.y message 2\n\
         e - N => NotAType\n\
         e - N.x => NotFound\n\
-        e - .N.x => c N.x message 78-79\n\
+        e - .N.x => c N.x message 6\n\
         e - x => NotAType\n\
         ",
     );
@@ -118,22 +118,22 @@ fn scopes(rt: HostRuntime) {
         ",
         16,
         "\
-        a M A => a M.A message 56-57\n\
-        a M.A A => a M.A message 56-57\n\
-        a M.A A.B => a M.A.B message 66-67\n\
+        a M A => a M.A message 3\n\
+        a M.A A => a M.A message 3\n\
+        a M.A A.B => a M.A.B message 4\n\
         a M A.C => NotFound\n\
-        a - A.C => a A.C message 34-35\n\
-        a M .A.C => a A.C message 34-35\n\
-        a M M => a M message 46-47\n\
-        a M M.A.B => a M.A.B message 66-67\n\
+        a - A.C => a A.C message 1\n\
+        a M .A.C => a A.C message 1\n\
+        a M M => a M message 2\n\
+        a M M.A.B => a M.A.B message 4\n\
         a M V => NotAType\n\
         a M E.V => NotFound\n\
-        a M E => a M.E enum 85-86\n\
+        a M E => a M.E enum 6\n\
         a M o.f => NotFound\n\
         a M f => NotAType\n\
-        b M.p.S C => b M.p.C message 77-78\n\
+        b M.p.S C => b M.p.C message 4\n\
         b M.p.S S.C => NotAType\n\
-        b M.p.S A => a M.A message 56-57\n\
+        b M.p.S A => a M.A message 3\n\
         ",
     );
 }
@@ -152,11 +152,11 @@ fn map_entries(rt: HostRuntime) {
         a M FooBarEntry => NotAType\n\
         a M FooBarEntry.N => NotFound\n\
         a - M.FooBarEntry => NotAType\n\
-        b M FooBarEntry => b FooBarEntry message 35-46\n\
-        b M FooBarEntry.N => b FooBarEntry.N message 55-56\n\
-        b O FooBarEntry.N => b FooBarEntry.N message 55-56\n\
+        b M FooBarEntry => b FooBarEntry message 1\n\
+        b M FooBarEntry.N => b FooBarEntry.N message 2\n\
+        b O FooBarEntry.N => b FooBarEntry.N message 2\n\
         a - .M.FooBarEntry.key => NotFound\n\
-        Defs a =>  | M message 0 24-25; M.foo_bar field 1 39-46; M.FooBarEntry entry 1 39-46; M.N message 2 57-58;\n\
+        Defs a =>  | M message 0; M.foo_bar field 1; M.FooBarEntry entry 1; M.N message 2;\n\
         Resolved a => 1 type a M.N message 2;\n\
         Resolved b => 4 type b FooBarEntry message 1;5 type a M.N message 2;\n\
         ",
@@ -175,8 +175,8 @@ fn definitions(rt: HostRuntime) {
         ",
         4,
         "\
-        Defs a => p | p.E enum 2 41-42; p.A value 3 43-44; p.M message 4 56-57; p.M.o oneof 5 64-65; p.M.x field 6 72-73; p.M.F enum 7 82-83; p.M.B value 8 84-85; p.M._1a field 9 105-108; p.M.1AEntry entry 9 105-108; p.M.a_1b field 10 127-131; p.M.A1bEntry entry 10 127-131; p.S service 11 143-144; p.S.R method 13 160-161;\n\
-        Defs b =>  | FOO__bar message 1 35-43; FOO__bar.FOO__bar field 2 60-68; FOO__bar.FOOBarEntry entry 2 60-68; FOO__bar._ field 3 87-88; FOO__bar.Entry entry 3 87-88; FOO__bar.x message 4 99-100;\n\
+        Defs a => p | p.E enum 2; p.A value 3; p.M message 4; p.M.o oneof 5; p.M.x field 6; p.M.F enum 7; p.M.B value 8; p.M._1a field 9; p.M.1AEntry entry 9; p.M.a_1b field 10; p.M.A1bEntry entry 10; p.S service 11; p.S.R method 13;\n\
+        Defs b =>  | FOO__bar message 1; FOO__bar.FOO__bar field 2; FOO__bar.FOOBarEntry entry 2; FOO__bar._ field 3; FOO__bar.Entry entry 3; FOO__bar.x message 4;\n\
         Defs c =>  |\n\
         Resolved b => \n\
         ",

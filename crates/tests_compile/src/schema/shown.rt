@@ -1,5 +1,5 @@
 //! Answers as text.
-use pq_links::{Import, Links, ParsedFile, TypePart};
+use pq_links::{FileItems, Import, Links, ParsedFile, TypePart};
 use pq_rules::{Answer, Ring, Text};
 use pq_schema::{
     Definition, DefinitionKind, Defs, FileDefs, FullName, Resolution, ResolveFault,
@@ -75,14 +75,12 @@ fn add_full_name(page: &mut Page, full_name: &FullName) {
     }
 }
 
-/// Writes a definition as ` NAME KIND ITEM SPAN;`.
+/// Writes a definition as ` NAME KIND ITEM;`.
 fn add_definition(page: &mut Page, definition: &Definition) {
     page.add(" ");
     add_full_name(page, &definition.full_name);
     page.add(definition_word(definition.kind));
     page.number(definition.item);
-    page.add(" ");
-    page.span(definition.span);
     page.add(";");
 }
 
@@ -105,6 +103,18 @@ fn add_file(page: &mut Page, file: &ParsedFile) {
     match file {
         ParsedFile::Absent => page.add("absent"),
         ParsedFile::Present { parsed, lines: _ } => add_parsed(page, parsed),
+    }
+}
+
+/// Writes what a file is read as, without spans.
+fn add_items(page: &mut Page, items: &FileItems) {
+    match items {
+        FileItems::Absent => page.add("absent"),
+        FileItems::Fault => page.add("fault"),
+        FileItems::Tree(file) => {
+            page.number(file.as_slice().len());
+            page.add(" statements");
+        }
     }
 }
 
@@ -138,26 +148,19 @@ fn kind_word(is_enum: bool) -> &'static str {
     if is_enum { " enum " } else { " message " }
 }
 
-/// Writes a type as `FILE NAME KIND `.
-fn add_type(page: &mut Page, file: &str, full_name: &FullName, is_enum: bool) {
-    page.add(file);
+/// Writes a type as `FILE NAME KIND ITEM`.
+fn add_found(page: &mut Page, target: &Target) {
+    page.add(target.file.as_str());
     page.add(" ");
-    add_full_name(page, full_name);
-    page.add(kind_word(is_enum));
+    add_full_name(page, &target.full_name);
+    page.add(kind_word(target.is_enum));
+    page.number(target.item);
 }
 
-/// Writes what a reference resolves to, a type as `FILE NAME KIND ITEM`.
+/// Writes what a reference resolves to.
 fn add_resolution(page: &mut Page, resolution: &Resolution) {
     match resolution {
-        Resolution::Type {
-            file,
-            full_name,
-            is_enum,
-            item,
-        } => {
-            add_type(page, file.as_str(), full_name, *is_enum);
-            page.number(*item);
-        }
+        Resolution::Type(target) => add_found(page, target),
         Resolution::NotFound => page.add("NotFound"),
         Resolution::NotVisible(file) => {
             page.add("NotVisible ");
@@ -191,6 +194,7 @@ fn add_value(page: &mut Page, value: &SchemaValue) {
     match value {
         SchemaValue::Source(_) => page.add("a text"),
         SchemaValue::Parse(file) => add_file(page, file.get()),
+        SchemaValue::Items(items) => add_items(page, items.get()),
         SchemaValue::Imports(None) => page.add("absent"),
         SchemaValue::Imports(Some(imports)) => add_imports(page, imports.get().as_slice()),
         SchemaValue::Linked(links) => add_links(page, links.get()),
@@ -206,17 +210,6 @@ pub(super) fn add_answer(page: &mut Page, answer: &Answer<SchemaKey, SchemaValue
         Answer::Value(value) => add_value(page, value),
         Answer::Cycle(ring) => add_ring(page, ring),
     }
-}
-
-/// Writes a target as `FILE NAME KIND SPAN`.
-fn add_found(page: &mut Page, target: &Target) {
-    add_type(
-        page,
-        target.file.as_str(),
-        &target.full_name,
-        target.is_enum,
-    );
-    page.span(target.span);
 }
 
 /// Writes why a name has no target.

@@ -4,13 +4,13 @@ use Rattle.pq_checks.proofs.laws.checks_by_answers.Goals as goal
 pub returns : goal.returns
 returns g c = record {
   gives = checks_given (record {
-    parse = g.S.LinkKeys.parse;
+    items = g.S.LinkKeys.items;
     imports = g.S.LinkKeys.imports;
     linked = g.S.LinkKeys.linked;
     defs = g.S.SchemaKeys.defs;
     scope = g.S.SchemaKeys.scope;
     resolved = g.S.CheckKeys.resolved;
-    parsed = g.S.LinkKeys.parsed;
+    itemed = g.S.LinkKeys.itemed;
     imported = g.S.LinkKeys.imported;
     ring = g.S.CheckKeys.ring;
     defined = g.S.SchemaKeys.defined;

@@ -2,7 +2,7 @@ use Rattle.std.proofs.Common.{sym, ap, ◌∙◌}
 use Rattle.std.specs.Prelude.{Option}
 use Rattle.std.proofs.lemmas.Result.{IfOk-weaker}
 use Rattle.pq_lex.specs.declared.token.Span.{Span}
-use Rattle.pq_schema.specs.Missing.{nodes_of}
+use Rattle.pq_links.specs.Files.{nodes_of}
 use Rattle.pq_proto.specs.Definition.{holds}
 use Rattle.pq_proto.proofs.ReferenceSteps.{definition_here, definition_later, definition_none}
 use Rattle.pq_proto.proofs.definition.definition_at.Goals as goal

@@ -1,5 +1,5 @@
 use Rattle.std.proofs.Common.{◌≡◌, drop}
-use Rattle.pq_schema.specs.Missing.{nodes_of}
+use Rattle.pq_links.specs.Files.{nodes_of}
 use Rattle.pq_proto.specs.Definition.{definition_at}
 use Rattle.pq_proto.proofs.definition.definition_at.Given as goal
 
