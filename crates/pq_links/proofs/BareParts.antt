@@ -1,5 +1,5 @@
 -- Leaving spans out of a tree keeps which items have which parts.
-use Rattle.std.proofs.Common.{◌≡◌, ℕ, Bool, List, map, Option, Some, None, refl, sym, ap, ◌∙◌}
+use Rattle.std.proofs.Common.{◌≡◌, ℕ, List, map, Option, Some, None, refl, sym, ap, ◌∙◌}
 use Rattle.std.specs.Prelude.{slice_get, is_some, option_and_then}
 use Rattle.std.specs.Option.{option_map}
 use Rattle.std.proofs.lemmas.Option.{slice_get-map}
@@ -9,7 +9,7 @@ use Rattle.pq_syntax.specs.declared.tree.Node.{Node}
 use Rattle.pq_syntax.specs.declared.tree.Statement.{Statement}
 use Rattle.pq_syntax.specs.declared.tree.Statement.TheVariants.{Import, Package, Option as OptionStatement, Message, Field, MapField, Oneof, ReservedNumbers, ReservedNames, Enum, Value, Service, Method, Extend}
 use Rattle.pq_links.specs.Bare.{bare, bare_statement, bare_setting, bare_range}
-use Rattle.pq_links.specs.Place.{name_span, number_span, type_span, settings_of, ranges_of, constant_span, range_span, span_at, place}
+use Rattle.pq_links.specs.Place.{name_span, number_span, type_span, settings_of, ranges_of, span_at, place}
 use Rattle.pq_links.specs.declared.places.Part.{Part}
 use Rattle.pq_links.specs.declared.places.Part.TheVariants as part
 use Rattle.pq_links.specs.declared.places.TypePart.{TypePart}

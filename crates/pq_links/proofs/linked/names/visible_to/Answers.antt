@@ -1,4 +1,4 @@
-use Rattle.std.proofs.Common.{[], ◌∷◌, ◌++◌, refl, ap, ◌∙◌}
+use Rattle.std.proofs.Common.{◌∷◌, ◌++◌, refl, ap, ◌∙◌}
 use Rattle.pq_links.specs.Visibility.{shown}
 use Rattle.pq_links.specs.aux.Adding.{add_firsts, same_name}
 use Rattle.pq_links.specs.declared.links.Import.{Import}
