@@ -15,6 +15,7 @@ import messages
 WIDTH = 3
 RECORDS = 10
 COMMENT = "\n// Of no weight for what the files say.\n"
+HUB = "hub.proto"
 COUNTS = (100, 1_000)
 # The server takes 65,536 revisions: three times as many rounds and all opens have to stay below.
 MOST_ROUNDS = 20_000
@@ -55,26 +56,34 @@ def leaf(count):
     return count - 1
 
 
-def edited(asked_for, edit):
+def edited(asked_for, edit, texts=(message(0), message(1))):
     """One file is edited, its own messages change, and the diagnostics of one are asked for."""
-    return lambda count: (asked_for(count), name(edit(count)), [text(edit(count), count, message(i)) for i in range(2)])
+    return lambda count: (name(asked_for(count)), name(edit(count)), [text(edit(count), count, more) for more in texts])
 
 
 def hub_edited(*more):
-    return lambda count: (root(count), "hub.proto", [hub(text) for text in more])
+    return lambda count: (name(root(count)), HUB, [hub(text) for text in more])
+
+
+def hub_moved(asked_for):
+    """A line is put before everything in the hub, and taken away again."""
+    return lambda count: (asked_for(count), HUB, [COMMENT + hub(), hub()])
 
 
 # Each has a title, and then for a count of files the file that is asked for, the file that is edited, and the texts that it
 # is given in turns.
 LEAF, EDITED = "a leaf after its edit", "the root after its edit"
-CASES = [("a leaf, nothing changed", lambda count: (leaf(count), None, [])),
-         ("the root, nothing changed", lambda count: (root(count), None, [])),
+CASES = [("a leaf, nothing changed", lambda count: (name(leaf(count)), None, [])),
+         ("the root, nothing changed", lambda count: (name(root(count)), None, [])),
          (LEAF, edited(leaf, leaf)),
          (EDITED, edited(root, root)),
          ("a leaf after the root's edit", edited(leaf, root)),
          ("the root after a leaf's edit", edited(root, leaf)),
          ("the root after a comment's edit in the hub", hub_edited(COMMENT, "")),
-         ("the root after a message's edit in the hub", hub_edited(message(0), message(1)))]
+         ("the root after a message's edit in the hub", hub_edited(message(0), message(1))),
+         ("a leaf after a comment in it", edited(leaf, leaf, (COMMENT, ""))),
+         ("a leaf after a line before the hub's text", hub_moved(lambda count: name(leaf(count)))),
+         ("the hub after a line before its text", hub_moved(lambda count: HUB))]
 
 
 class Side:
@@ -83,9 +92,8 @@ class Side:
     def __init__(self, program, folder, case, count):
         self.program = program
         self.path = os.path.join(folder, "set%d" % count)
-        asked_for, self.name, self.texts = case(count)
-        self.asked_for = name(asked_for)
-        self.opens = messages.FIRST + messages.opened("hub.proto", hub()) + b"".join(
+        self.asked_for, self.name, self.texts = case(count)
+        self.opens = messages.FIRST + messages.opened(HUB, hub()) + b"".join(
             messages.opened(name(n), text(n, count)) for n in range(count)) + messages.diagnosed("all", self.asked_for)
 
     def round(self, i):
