@@ -10,5 +10,6 @@ pub mod Existence
 pub mod ProtoMeaning
 pub mod Answered
 pub mod ByAnswers
+pub mod KeyNumbers
 pub mod OneCompilation
 pub mod RuleMeaning

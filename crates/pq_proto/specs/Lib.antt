@@ -9,5 +9,6 @@ pub mod Ranges
 pub mod Symbols
 pub mod Definition
 pub mod Levels
+pub mod Keys
 pub mod Answers
 pub mod aux

@@ -57,7 +57,7 @@ place_exact a b e =
     let p = nat_cmp a.line b.line in let q = nat_cmp a.character b.character in
     ap (λ l. place_at l a.character) (exact_unsigned a.line b.line (then_left p q e)) ∙ ap (λ c. place_at b.line c) (exact_unsigned a.character b.character (then_right p q e))
 
-abbrev key_orders : Each Ordering key.enum.parts
+abbrev pub key_orders : Each Ordering key.enum.parts
 key_orders = (λ x y. slice_cmp nat_cmp x.0 y.0, (λ x y. slice_cmp nat_cmp x.0 y.0, (λ x y. slice_cmp nat_cmp x.0 y.0, (λ x y. slice_cmp nat_cmp x.0 y.0, (λ x y. slice_cmp nat_cmp x.0 y.0, (λ x y. slice_cmp nat_cmp x.0 y.0, (λ x y. slice_cmp nat_cmp x.0 y.0, (λ x y. slice_cmp nat_cmp x.0 y.0, (λ x y. slice_cmp nat_cmp x.0 y.0, (λ x y. slice_cmp nat_cmp x.0 y.0, (λ x y. slice_cmp nat_cmp x.0 y.0, (λ x y. slice_cmp nat_cmp x.0 y.0, (λ x y. ordering_then (slice_cmp nat_cmp x.0 y.0) (places.ghosts.cmp x.1.0 y.1.0), tt)))))))))))))
 
 key_parts : Exacts key.enum.parts key_orders

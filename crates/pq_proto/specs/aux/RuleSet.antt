@@ -31,6 +31,7 @@ use Rattle.pq_checks.specs.declared.checked.CheckPart.{CheckPart}
 use Rattle.pq_checks.specs.declared.diagnostic.Diagnosed.{Diagnosed}
 use Rattle.pq_checks.specs.declared.diagnostics.DiagnosticsPart.{DiagnosticsPart}
 use Rattle.pq_checks.specs.declared.fault.Fault.{Fault}
+pub use Rattle.pq_proto.specs.Keys.{own_name}
 use Rattle.pq_proto.specs.Levels.{level_of}
 use Rattle.pq_proto.specs.aux.Outputs.{faults_read, items_read, parsed_read, resolved_read, descriptor_starts, descriptor_advances, descriptor_left, symbols_starts, symbols_advances, definition_starts, definition_advances, definition_left}
 use Rattle.pq_proto.specs.declared.key.ProtoKey.{ProtoKey}
@@ -42,22 +43,6 @@ use Rattle.pq_proto.specs.declared.rules.ProtoPart.TheVariants.{Parsing, Itemizi
 use Rattle.pq_proto.specs.declared.value.Location.{Location}
 use Rattle.pq_proto.specs.declared.value.ProtoValue.{ProtoValue}
 use Rattle.pq_proto.specs.declared.value.ProtoValue.TheVariants as values
-
--- `own_name k` is the file of the key `k`
-abbrev pub own_name : ProtoKey → List ℕ
-own_name (keys.Input f) = f
-own_name (keys.Parse f) = f
-own_name (keys.Items f) = f
-own_name (keys.Imports f) = f
-own_name (keys.Linked f) = f
-own_name (keys.Defs f) = f
-own_name (keys.Scope f) = f
-own_name (keys.Resolved f) = f
-own_name (keys.Checks f) = f
-own_name (keys.Diagnostics f) = f
-own_name (keys.Descriptor f) = f
-own_name (keys.Symbols f) = f
-own_name (keys.Definition f place) = f
 
 -- ---- what is read of an answer, beside what `Outputs` reads
 

@@ -14,6 +14,7 @@ ghost use Rattle.pq_rules.specs.Turns.{over};
 ghost use Rattle.pq_rules.specs.Value.{Means};
 ghost use Rattle.pq_proto.specs.Answers.{AreSymbolsBy, IsDefinitionBy, IsDescriptorBy, Reads};
 ghost use Rattle.pq_proto.specs.Compile.{Compiles};
+ghost use Rattle.pq_proto.specs.Keys.{key_cmp};
 ghost use Rattle.pq_proto.specs.aux.Outputs.{definition_advances, definition_starts, descriptor_advances, descriptor_starts, symbols_advances, symbols_starts};
 ghost use Rattle.pq_proto.specs.aux.RuleSet.{proto_rules};
 ghost use Rattle.pq_proto.specs.contracts.key.ProtoKeyOrd.TheImpl as key_order;
@@ -38,6 +39,12 @@ pub fn one_compilation()
 /// Keys of which neither comes before the other are the same key.
 pub fn equal_keys()
     ensures { (a b : KeyContents) → key_order.ghosts.cmp a b ≡ Equal → a ≡ b }
+{}
+
+/// Keys are ordered by the numbers of their queries, then by the bytes of their files' names, then by
+/// their places.
+pub fn keys_in_order()
+    ensures { (a b : KeyContents) → key_order.ghosts.cmp a b ≡ key_cmp a b }
 {}
 
 /// The descriptor of a file asks its errors by the table; unless one is severe, its tree without
