@@ -12,6 +12,7 @@ pub mod CoreOpening
 pub mod CoreAccepting
 pub mod CoreRunning
 pub mod Keeping
+pub mod Truthful
 pub mod Shutting
 pub mod Slots
 pub mod Writes

@@ -1,8 +1,10 @@
+pub mod Points
 pub mod Replies
 pub mod Changes
 pub mod Works
 pub mod Ledger
 pub mod RightReply
+pub mod Truth
 pub mod Outboxes
 pub mod Moves
 pub mod Kept

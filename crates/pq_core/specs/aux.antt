@@ -1,6 +1,7 @@
 -- Auxiliary: nothing below this module has to be believed (used by proofs and invariants only).
 pub mod Rooms
 pub mod Tasks
+pub mod Pictures
 pub mod Stands
 pub mod Rising
 pub mod Changes

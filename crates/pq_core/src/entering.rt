@@ -12,7 +12,7 @@ ghost use Rattle.pq_core.specs.aux.Runs.{AreStale, Enters, FramesKept, HasAdvanc
 
 use crate::fault::Memory;
 use crate::frames::{Frames, Top, Went};
-use crate::work::Work;
+use crate::job::Job;
 use pq_claims::{Claim, Claims, RunId};
 use pq_inputs::Inputs;
 use pq_memo::{Frame, Memos, Stage};
@@ -41,7 +41,7 @@ impl<R: Rules> Frames<R> {
         id: RunId,
         claims: &mut Claims<R>,
         next: R::Key,
-    ) -> Result<Went<Work<R>, R::Key>, Memory>
+    ) -> Result<Went<Job<R>, R::Key>, Memory>
         requires claimed { (hold_of claims.old id).keys ≡ frame_keys self.old.stack }
         requires awake { (hold_of claims.old id).wait ≡ None }
         ensures entered { Enters R.Key.cmp claims.new id next result self.old.stack self.new.stack self.new.top }
@@ -82,7 +82,7 @@ impl<R: Rules> Frames<R> {
         inputs: &Inputs,
         frame: Frame<R::Key, R::Part>,
         next: R::Key,
-    ) -> Result<Went<Work<R>, R::Key>, Memory>
+    ) -> Result<Went<Job<R>, R::Key>, Memory>
         requires below { KeptBelow R.Key.cmp (R.machine memos.now.rules) inputs.now (memo_at R.Key.cmp memos.now.places) self.old.stack frame.key }
         requires awaits { Awaits R.Key.cmp (R.machine memos.now.rules) inputs.now.history inputs.now.revision (HasIn (memo_at R.Key.cmp memos.now.places)) frame.key frame.stage next }
         requires needed { IsUpToDate (R.machine memos.now.rules) inputs.now.revision (HasIn (memo_at R.Key.cmp memos.now.places)) next → ⊥ }

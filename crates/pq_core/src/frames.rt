@@ -20,7 +20,7 @@ ghost use Rattle.pq_core.specs.aux.Runs.{AreStale, FramesKept, HandedOut, HasAdv
 ghost use Rattle.pq_core.specs.declared.frames.Top.TheVariants.{Empty};
 
 use crate::fault::Memory;
-use crate::work::{Done, Task, Work};
+use crate::job::{Job, Made, Task};
 use pq_claims::{Claims, RunId, claims_are_sound};
 use pq_inputs::Inputs;
 use pq_memo::{Frame, Memos, Stack, Stage, Step, Unpublished, Why, turns_are_right};
@@ -147,7 +147,7 @@ impl<R: Rules> Frames<R> {
         key: R::Key,
         copy: R::Key,
         why: Why<R::Key>,
-    ) -> Work<R>
+    ) -> Job<R>
         requires kept { KeptOver R.Key.cmp (R.machine memos.now.rules) inputs.now memos.now.places }
         requires below { KeptBelow R.Key.cmp (R.machine memos.now.rules) inputs.now (memo_at R.Key.cmp memos.now.places) self.old.stack key }
         requires copied { copy ≡ key }
@@ -159,7 +159,7 @@ impl<R: Rules> Frames<R> {
         let _latest = inputs.now();
         turns_are_right(memos);
         let reads = Vec::new(alloc);
-        let work = Work::new(
+        let work = Job::new(
             *memos.rules(),
             id,
             inputs,
@@ -184,7 +184,7 @@ impl<R: Rules> Frames<R> {
         part: R::Part,
         answer: Shared<Answer<R::Key, R::Value>>,
         reads: Vec<R::Key>,
-    ) -> Work<R>
+    ) -> Job<R>
         requires below { KeptBelow R.Key.cmp (R.machine memos.now.rules) inputs.now (memo_at R.Key.cmp memos.now.places) self.old.stack key }
         requires copied { copy ≡ key }
         requires came { Came R.Key.cmp (R.machine memos.now.rules) inputs.now.history inputs.now.revision (HasIn (memo_at R.Key.cmp memos.now.places)) key ((R.machine memos.now.rules).advance part answer) reads.items }
@@ -195,7 +195,7 @@ impl<R: Rules> Frames<R> {
     {
         let _latest = inputs.now();
         let task = Task::Advance(part, answer);
-        let work = Work::new(*memos.rules(), id, inputs, copy, None, task, &reads);
+        let work = Job::new(*memos.rules(), id, inputs, copy, None, task, &reads);
         self.top = Top::Away(Pending { key, reads });
         work
     }
@@ -211,7 +211,7 @@ impl<R: Rules> Frames<R> {
         inputs: &Inputs,
         frame: Frame<R::Key, R::Part>,
         copy: R::Key,
-    ) -> Result<Went<Work<R>, R::Key>, Memory>
+    ) -> Result<Went<Job<R>, R::Key>, Memory>
         requires kept { KeptOver R.Key.cmp (R.machine memos.old.rules) inputs.now memos.old.places }
         requires below { KeptBelow R.Key.cmp (R.machine memos.old.rules) inputs.now (memo_at R.Key.cmp memos.old.places) self.old.stack frame.key }
         requires stale { AreStale (R.machine memos.old.rules) inputs.now.revision (memo_at R.Key.cmp memos.old.places) (frame_keys self.old.stack ++ frame.key ∷ []) }
@@ -263,7 +263,7 @@ impl<R: Rules> Frames<R> {
         claims: &mut Claims<R>,
         inputs: &Inputs,
         frame: Frame<R::Key, R::Part>,
-    ) -> Result<Went<Work<R>, R::Key>, Memory>
+    ) -> Result<Went<Job<R>, R::Key>, Memory>
         requires kept { KeptOver R.Key.cmp (R.machine memos.old.rules) inputs.now memos.old.places }
         requires below { KeptBelow R.Key.cmp (R.machine memos.old.rules) inputs.now (memo_at R.Key.cmp memos.old.places) self.old.stack frame.key }
         requires can { CanGoOn R.Key.cmp (R.machine memos.old.rules) inputs.now (memo_at R.Key.cmp memos.old.places) frame }
@@ -301,8 +301,8 @@ impl<R: Rules> Frames<R> {
         claims: &mut Claims<R>,
         inputs: &Inputs,
         pending: Pending<R::Key>,
-        done: Done<R>,
-    ) -> Result<(), Done<R>>
+        done: Made<R>,
+    ) -> Result<(), Made<R>>
         requires kept { KeptOver R.Key.cmp (R.machine memos.old.rules) inputs.now memos.old.places }
         requires below { KeptBelow R.Key.cmp (R.machine memos.old.rules) inputs.now (memo_at R.Key.cmp memos.old.places) self.old.stack pending.key }
         requires can { CanTake R.Key.cmp (R.machine memos.old.rules) inputs.now (memo_at R.Key.cmp memos.old.places) pending }
@@ -327,7 +327,7 @@ impl<R: Rules> Frames<R> {
         ensures refused { OnErr result (out_at self.new.top ≡ Some (out_of done)) }
     {
         let _latest = inputs.now();
-        let Done {
+        let Made {
             rules,
             run,
             started,
@@ -355,7 +355,7 @@ impl<R: Rules> Frames<R> {
                 }
                 Err(pending) => {
                     self.top = Top::Away(pending);
-                    Err(Done {
+                    Err(Made {
                         rules,
                         run,
                         started,

@@ -15,8 +15,8 @@ ghost use Rattle.pq_core.specs.declared.request.Want.TheVariants.{Demand};
 
 use crate::fault::Memory;
 use crate::frames::{Frames, Pending, Top, Went};
+use crate::job::{Job, Made};
 use crate::request::{Request, Want};
-use crate::work::{Done, Work};
 use pq_claims::{Claim, Claims, RunId};
 use pq_inputs::{Inputs, Revision};
 use pq_memo::{Frame, Memos, Stage};
@@ -59,7 +59,7 @@ impl<R: Rules> Model for Run<R> {
 }
 
 /// Whether `done` is of the key of `pending`, after as many reads.
-fn is_work_of<R: Rules>(rules: &R, pending: &Pending<R::Key>, done: &Done<R>) -> bool
+fn is_work_of<R: Rules>(rules: &R, pending: &Pending<R::Key>, done: &Made<R>) -> bool
     ensures { IsTrue result ↔ ((pending.now.key ≡ done.now.key) × (length pending.now.reads.items ≡ length done.now.front)) }
 {
     let count = pending.reads.as_slice().len();
@@ -98,7 +98,7 @@ impl<R: Rules> Run<R> {
     }
 
     /// Whether `done` is the result of the work of this run, whose number is `id`, that is out.
-    pub(crate) fn fits(&self, rules: &R, id: RunId, done: &Done<R>) -> bool
+    pub(crate) fn fits(&self, rules: &R, id: RunId, done: &Made<R>) -> bool
         ensures { IsTrue result ↔ ((done.now.run ≡ id) × (done.now.started ≡ self.now.started) × (out_at self.now.top ≡ Some (out_of done.now))) }
     {
         if done.run != id || done.started != self.started {
@@ -148,7 +148,7 @@ impl<R: Rules> Run<R> {
         claims: &mut Claims<R>,
         inputs: &Inputs,
         frame: Frame<R::Key, R::Part>,
-    ) -> Result<Looked<Work<R>, R::Key, Shared<Answer<R::Key, R::Value>>>, Memory>
+    ) -> Result<Looked<Job<R>, R::Key, Shared<Answer<R::Key, R::Value>>>, Memory>
         requires kept { KeptOver R.Key.cmp (R.machine memos.old.rules) inputs.now memos.old.places }
         requires frames_kept { FramesKept R.Key.cmp (R.machine memos.old.rules) inputs.now (memo_at R.Key.cmp memos.old.places) self.old.stack (At frame) }
         requires claimed { (hold_of claims.old id).keys ≡ run_keys self.old.stack (At frame) }
@@ -186,7 +186,7 @@ impl<R: Rules> Run<R> {
         memos: &mut Memos<R>,
         claims: &mut Claims<R>,
         inputs: &Inputs,
-    ) -> Result<Looked<Work<R>, R::Key, Shared<Answer<R::Key, R::Value>>>, Memory>
+    ) -> Result<Looked<Job<R>, R::Key, Shared<Answer<R::Key, R::Value>>>, Memory>
         requires demand { IsDemand self.old.request.want }
         requires empty { (self.old.stack ≡ []) × (self.old.top ≡ Empty) }
         requires kept { KeptOver R.Key.cmp (R.machine memos.old.rules) inputs.now memos.old.places }
@@ -227,7 +227,7 @@ impl<R: Rules> Run<R> {
         memos: &mut Memos<R>,
         claims: &mut Claims<R>,
         inputs: &Inputs,
-    ) -> Result<Looked<Work<R>, R::Key, Shared<Answer<R::Key, R::Value>>>, Memory>
+    ) -> Result<Looked<Job<R>, R::Key, Shared<Answer<R::Key, R::Value>>>, Memory>
         requires demand { IsDemand self.old.request.want }
         requires idle { out_at self.old.top ≡ None }
         requires current { self.old.started ≡ inputs.now.revision }
@@ -264,8 +264,8 @@ impl<R: Rules> Run<R> {
         memos: &mut Memos<R>,
         claims: &mut Claims<R>,
         inputs: &Inputs,
-        done: Done<R>,
-    ) -> Result<(), Done<R>>
+        done: Made<R>,
+    ) -> Result<(), Made<R>>
         requires out { out_at self.old.top ≡ Some (out_of done) }
         requires rules { done.rules ≡ memos.old.rules }
         requires files { done.files ≡ inputs.now.files }

@@ -10,6 +10,7 @@ use Rattle.pq_core.proofs.cores.Core.new.Goals as goal
 pub invariant_of-result : goal.invariant_of-result
 invariant_of-result g c =
     record {
+      stamped = c.requires;
       kept = record { memos = λ k memo h. absurd (none_some memo (sym (c.new.ensures.empty k) ∙ h)) };
       lanes_above = c.new-2.ensures.above 0;
       runs_above = c.new-4.ensures.above 0;
@@ -22,12 +23,12 @@ invariant_of-result g c =
       runs = no_runs _ _ _ _ _ _ (λ r. ap (λ (h : Hold g.row.R-Key.Denot). h.keys) (c.new-5.ensures.empty r)) c.new-4.ensures.none;
       ledger = (
         unused c.args.inputs,
-        new_stands g.R.Key.Ord.cmp (g.R.Rules.machine c.new.result.rules) g.O.Outbox.puts _ c.now-latest.ensures.counted c.now-latest.ensures.last
+        new_stands g.R.Key.Ord.cmp (g.R.Rules.machine c.new.result.rules) g.M.Stamp.point g.O.Outbox.puts _ c.now-latest.ensures.counted c.now-latest.ensures.last
             c.new-2.ensures.none c.new-4.ensures.none refl refl refl,
       );
     }
 
 pub returns-clause-stands : goal.returns-clause-stands
 returns-clause-stands g c =
-    new_stands g.R.Key.Ord.cmp (g.R.Rules.machine c.args.rules) g.O.Outbox.puts _ c.now-latest.ensures.counted c.now-latest.ensures.last
+    new_stands g.R.Key.Ord.cmp (g.R.Rules.machine c.args.rules) g.M.Stamp.point g.O.Outbox.puts _ c.now-latest.ensures.counted c.now-latest.ensures.last
     c.new-2.ensures.none c.new-4.ensures.none refl refl refl
