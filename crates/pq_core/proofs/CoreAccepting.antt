@@ -66,7 +66,7 @@ module _ {K P V M O : Type 0} (order : K → K → Ordering) (m : Machine K P V)
       below n f = grind (arith, f)
 
   there_of : (f : Fields K (LaneView K V M O)) (c n revision : ℕ) (request : Request K) (want : Want K)
-      → EntryStands f c n (new_entry {V = V} c n request revision) (first_place c n request revision want)
+      → EntryStands f c n (new_entry {V = V} {M = M} c n request revision) (first_place c n request revision want)
   there_of f c n revision request (Demand key) = tt
   there_of f c n revision request (Fixed text) = tt
 
@@ -154,7 +154,7 @@ module _ {K P V M O : Type 0} (order : K → K → Ordering) (m : Machine K P V)
 
 -- the window of who may post is not full
 pub not_full : {K P V M O : Type 0} (b : Held K P V M O) (c : ℕ) (lane : LaneView K V M O) → MayPost b c → found b.lanes c ≡ Some lane → length lane.owed < window
-not_full b c lane h here = below (length lane.owed) (λ full. h.2 (inl (subst (λ (y : LaneView _ _ _). window ≤ length y.owed) (sym (some_one h.0 lane (sym h.1 ∙ here))) full)))
+not_full b c lane h here = below (length lane.owed) (λ full. h.2 (inl (subst (λ (y : LaneView _ _ _ _). window ≤ length y.owed) (sym (some_one h.0 lane (sym h.1 ∙ here))) full)))
   where
     below : (n : ℕ) → (window ≤ n → ⊥) → n < window
     below n f = grind (arith, f)

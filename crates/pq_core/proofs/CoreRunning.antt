@@ -50,7 +50,7 @@ pub record RunHere {K P V M O : Type 0} (l : Ledger K V M O) (r : ℕ) (run : Ru
   pub same : seen_of run ≡ at_seen at
 
 -- `lane_reply run revision outcome` is the reply of `outcome` to the request of `run`
-abbrev pub lane_reply : {K P V : Type 0} → RunView K P → ℕ → Outcome K V M → ReplyView K V M
+abbrev pub lane_reply : {K P V M : Type 0} → RunView K P → ℕ → Outcome K V M → ReplyView K V M
 lane_reply run revision outcome = record { client = run.client; number = run.number; request = run.request; revision = revision; outcome = outcome }
 
 -- `cancelled_as started seen` is the outcome of a run that was stopped

@@ -107,7 +107,7 @@ module _ {K V M L O : Type 0} (AsLane : L → Client K V M O → Type 0) (means 
   -- a request is accepted
   pub accept_stands : (f g : Fields K L) (l m : Ledger K V M O) (c n : ℕ) (client : Client K V M O) (lane : L) (request : Request K) → Stands AsLane means puts f l
       → IsOpen l c client → n ≡ length client.entries → LaneSet f g c (Some lane) → SameCounts f g → ((r : ℕ) → g.runs r ≡ f.runs r) → g.started ≡ f.started
-      → EntryStands g c n (new_entry {V = V} c n request l.inputs.revision) (first_place c n request l.inputs.revision request.want)
+      → EntryStands g c n (new_entry {V = V} {M = M} c n request l.inputs.revision) (first_place c n request l.inputs.revision request.want)
       → AsLane lane (with_new client (new_entry c n request l.inputs.revision))
       → m ≡ with_client l c (with_new client (new_entry c n request l.inputs.revision)) → Kept means puts m → Stands AsLane means puts g m
   accept_stands f g l m c n client lane request s is_open number set counts runs started there as_lane e kept =
