@@ -15,9 +15,8 @@ invariant_of-lane g c =
 pub returns-in-Nothing : goal.returns-in-Nothing
 returns-in-Nothing g c =
     let w = c.in-Nothing.ensures {u = tt} in
-    rw (← c.lane.view_is)
-    (
+    rw (← c.lane.view_is) (
       w.0,
       ap (λ (xs : List (Owed g.row.R-Key.Denot g.row.R-Value.Denot g.row.M.Denot)). record { outbox = c.let_out.new.outbox; put = c.lane.inside.put; owed = xs; refused = c.lane.inside.refused }) w.1
-      ∙ ap (λ (o : g.row.O.Denot). record { outbox = o; put = c.lane.inside.put; owed = c.lane.inside.owed.items; refused = c.lane.inside.refused }) w.2,
+          ∙ ap (λ (o : g.row.O.Denot). record { outbox = o; put = c.lane.inside.put; owed = c.lane.inside.owed.items; refused = c.lane.inside.refused }) w.2,
     )
