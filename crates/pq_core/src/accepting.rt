@@ -5,6 +5,7 @@ ghost use Rattle.pq_core.specs.Kept.{IsDemand};
 ghost use Rattle.pq_core.specs.Ledger.{Ledger};
 ghost use Rattle.pq_core.specs.Moves.{Reaches, Accepts, Edits, inputs_after};
 ghost use Rattle.pq_core.specs.Cores.{StandsFor};
+ghost use Rattle.pq_core.specs.Starts.{IsCountedFor, Log};
 ghost use Rattle.pq_core.specs.aux.Rising.{found};
 ghost use Rattle.pq_core.specs.aux.Changes.{IsSameMap};
 ghost use Rattle.pq_core.specs.aux.Lanes.{LaneView};
@@ -86,6 +87,7 @@ impl<R: Rules, O: Outbox<R::Key, R::Value> + Drop> Core<R, O> {
         ensures back { IfErr result (λ refused. refused.request ≡ request) }
         ensures moved { (l : Ledger R.Key R.Value O) → StandsFor R.Key.cmp (R.machine self.old.rules) O.puts self.old l
             → Reaches (Accepts O.puts client request result) l (StandsFor R.Key.cmp (R.machine self.old.rules) O.puts self.new) }
+        ensures counted { (log : Log R.Key) → IsCountedFor R.Key.cmp (R.machine self.old.rules) self.old log → IsCountedFor R.Key.cmp (R.machine self.old.rules) self.new log }
     {
         if let Some(fault) = self.accept_refusal(client.number()) {
             return Err(AcceptRefused { fault, request });
@@ -138,6 +140,7 @@ impl<R: Rules, O: Outbox<R::Key, R::Value> + Drop> Core<R, O> {
         ensures back { IfErr result (λ refused. refused.change ≡ change) }
         ensures moved { (l : Ledger R.Key R.Value O) → StandsFor R.Key.cmp (R.machine self.old.rules) O.puts self.old l
             → Reaches (Edits client change result) l (StandsFor R.Key.cmp (R.machine self.old.rules) O.puts self.new) }
+        ensures counted { (log : Log R.Key) → IsCountedFor R.Key.cmp (R.machine self.old.rules) self.old log → IsCountedFor R.Key.cmp (R.machine self.old.rules) self.new log }
     {
         if let Some(fault) = self.edit_refusal(client.number()) {
             return Err(EditRefused { fault, change });
