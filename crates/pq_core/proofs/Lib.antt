@@ -30,3 +30,7 @@ pub mod RingLeaving
 pub mod CoreReleasing
 pub mod CoreResting
 pub mod CoreStarting
+pub mod Counting
+pub mod RulesBegun
+pub mod CoreCounting
+pub mod RingBegun

@@ -9,4 +9,5 @@ pub mod Outboxes
 pub mod Moves
 pub mod Kept
 pub mod Cores
+pub mod Starts
 pub mod aux

@@ -8,6 +8,7 @@ pub mod Changes
 pub mod Lanes
 pub mod Runs
 pub mod Rings
+pub mod Begun
 pub mod Accepting
 pub mod Queue
 pub mod Resting

@@ -6,6 +6,7 @@ ghost use Rattle.pq_core.specs.Points.{point_now};
 ghost use Rattle.pq_core.specs.Ledger.{Ledger};
 ghost use Rattle.pq_core.specs.Moves.{Reaches, Accepts, Edits, changed, inputs_after};
 ghost use Rattle.pq_core.specs.Cores.{StandsFor};
+ghost use Rattle.pq_core.specs.Starts.{IsCountedFor, Log};
 ghost use Rattle.pq_core.specs.aux.Rising.{found};
 ghost use Rattle.pq_core.specs.aux.Changes.{IsSameMap};
 ghost use Rattle.pq_core.specs.aux.Lanes.{LaneView};
@@ -88,6 +89,7 @@ impl<R: Rules, M: Stamp, O: Outbox<R, M> + Drop> Core<R, M, O> {
         ensures back { IfErr result (λ refused. refused.request ≡ request) }
         ensures moved { (l : Ledger R.Key R.Value M O) → StandsFor R.Key.cmp (R.machine self.old.rules) M.point O.puts self.old l
             → Reaches (Accepts O.puts client request result) l (StandsFor R.Key.cmp (R.machine self.old.rules) M.point O.puts self.new) }
+        ensures counted { (log : Log R.Key) → IsCountedFor R.Key.cmp (R.machine self.old.rules) self.old log → IsCountedFor R.Key.cmp (R.machine self.old.rules) self.new log }
     {
         if let Some(fault) = self.accept_refusal(client.number()) {
             return Err(AcceptRefused { fault, request });
@@ -147,6 +149,7 @@ impl<R: Rules, M: Stamp, O: Outbox<R, M> + Drop> Core<R, M, O> {
         ensures back { IfErr result (λ refused. refused.change ≡ change) }
         ensures moved { (l : Ledger R.Key R.Value M O) → StandsFor R.Key.cmp (R.machine self.old.rules) M.point O.puts self.old l
             → Reaches (Edits client change result) l (StandsFor R.Key.cmp (R.machine self.old.rules) M.point O.puts self.new) }
+        ensures counted { (log : Log R.Key) → IsCountedFor R.Key.cmp (R.machine self.old.rules) self.old log → IsCountedFor R.Key.cmp (R.machine self.old.rules) self.new log }
     {
         if let Some(fault) = self.edit_refusal(client.number()) {
             return Err(EditRefused { fault, change });

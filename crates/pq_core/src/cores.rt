@@ -18,6 +18,7 @@ ghost use Rattle.pq_memo.specs.Table.{memo_at};
 ghost use Rattle.pq_core.specs.Points.{point_now};
 ghost use Rattle.pq_core.specs.Ledger.{unused};
 ghost use Rattle.pq_core.specs.Cores.{StandsFor};
+ghost use Rattle.pq_core.specs.Starts.{IsCountedFor, no_log};
 
 use crate::lane::Lane;
 use crate::outbox::Outbox;
@@ -66,6 +67,7 @@ impl<R: Rules, M: Stamp, O: Outbox<R, M> + Drop> Core<R, M, O> {
         ensures inputs { result.inputs ≡ inputs }
         ensures empty { (key : R.Key) → memo_at R.Key.cmp result.places key ≡ None }
         ensures stands { StandsFor R.Key.cmp (R.machine rules) M.point O.puts result (unused inputs) }
+        ensures counted { IsCountedFor R.Key.cmp (R.machine rules) result no_log }
     {
         let _latest = inputs.now();
         Core {

@@ -8,6 +8,8 @@ ghost use Rattle.pq_memo.specs.Look.{IsUpToDate};
 ghost use Rattle.pq_memo.specs.Table.{memo_at, HasIn};
 ghost use Rattle.pq_memo.specs.Frames.{Awaits, frame_keys};
 ghost use Rattle.pq_claims.specs.Claims.{hold_of};
+ghost use Rattle.pq_core.specs.aux.Begun.{HandsNothing, IsBegun};
+ghost use Rattle.pq_core.specs.declared.frames.Top.TheVariants.{At};
 ghost use Rattle.pq_core.specs.aux.Runs.{AreStale, Enters, FramesKept, HasAdvanced, HoldsBelow, IsLowered, KeptBelow, OthersHold, WaitStands, out_at, run_keys};
 
 use crate::fault::Memory;
@@ -96,6 +98,8 @@ impl<R: Rules> Frames<R> {
         ensures waits { WaitStands R.Key.cmp (R.machine memos.now.rules) inputs.now (memo_at R.Key.cmp memos.now.places) claims.new id self.new.top }
         ensures went { IfOk result (λ w. HasAdvanced R.Key.cmp (R.machine memos.now.rules) memos.now.rules inputs.now (memo_at R.Key.cmp memos.now.places) claims.new id self.new.top w) }
         ensures idle { out_at self.new.top ≡ None }
+        ensures begun { (k : R.Key) → IsBegun self.old.stack (At frame) k → IsBegun self.new.stack self.new.top k }
+        ensures none { IfOk result (λ w. HandsNothing w) }
     {
         match self.stack.put(alloc, memos.rules(), frame) {
             Ok(()) => self.enter(alloc, id, claims, next),

@@ -17,7 +17,9 @@ ghost use Rattle.pq_memo.specs.Steps.{IsWhy};
 ghost use Rattle.pq_claims.specs.Claims.{hold_of};
 ghost use Rattle.pq_core.specs.Moves.{out_of};
 ghost use Rattle.pq_core.specs.aux.Runs.{AreStale, FramesKept, HandedOut, HasAdvanced, IsLowered, KeptBelow, CanGoOn, CanTake, OthersHold, Renewed, WaitStands, OthersUnwritten, out_at, run_keys};
-ghost use Rattle.pq_core.specs.declared.frames.Top.TheVariants.{Empty};
+ghost use Rattle.pq_core.specs.aux.Begun.{AdvancesFirst, KeepsBegun};
+ghost use Rattle.pq_core.specs.declared.frames.Pending.{Pending};
+ghost use Rattle.pq_core.specs.declared.frames.Top.TheVariants.{Empty, At, Away};
 
 use crate::fault::Memory;
 use crate::job::{Job, Made, Task};
@@ -155,6 +157,8 @@ impl<R: Rules> Frames<R> {
         ensures keys { run_keys self.new.stack self.new.top ≡ frame_keys self.old.stack ++ key ∷ [] }
         ensures frames_kept { FramesKept R.Key.cmp (R.machine memos.now.rules) inputs.now (memo_at R.Key.cmp memos.now.places) self.new.stack self.new.top }
         ensures handed { HandedOut (R.machine memos.now.rules) memos.now.rules inputs.now (memo_at R.Key.cmp memos.now.places) id self.new.top result }
+        ensures stack { self.new.stack ≡ self.old.stack }
+        ensures away { (p : Pending R.Key) × (self.new.top ≡ Away p) × (p.key ≡ key) }
     {
         let _latest = inputs.now();
         turns_are_right(memos);
@@ -192,6 +196,9 @@ impl<R: Rules> Frames<R> {
         ensures keys { run_keys self.new.stack self.new.top ≡ frame_keys self.old.stack ++ key ∷ [] }
         ensures frames_kept { FramesKept R.Key.cmp (R.machine memos.now.rules) inputs.now (memo_at R.Key.cmp memos.now.places) self.new.stack self.new.top }
         ensures handed { HandedOut (R.machine memos.now.rules) memos.now.rules inputs.now (memo_at R.Key.cmp memos.now.places) id self.new.top result }
+        ensures stack { self.new.stack ≡ self.old.stack }
+        ensures away { (p : Pending R.Key) × (self.new.top ≡ Away p) × (p.key ≡ key) }
+        ensures going { result.why ≡ None }
     {
         let _latest = inputs.now();
         let task = Task::Advance(part, answer);
@@ -230,6 +237,8 @@ impl<R: Rules> Frames<R> {
         ensures written { OthersUnwritten claims.old id (memo_at R.Key.cmp memos.old.places) (memo_at R.Key.cmp memos.new.places) }
         ensures advanced { IfOk result (λ w. HasAdvanced R.Key.cmp (R.machine memos.old.rules) memos.old.rules inputs.now (memo_at R.Key.cmp memos.old.places) claims.new id self.new.top w) }
         ensures refused { OnErr result (out_at self.new.top ≡ None) }
+        ensures begun { KeepsBegun (R.machine memos.old.rules) inputs.now.revision (memo_at R.Key.cmp memos.new.places) self.old.stack (At frame) self.new.stack self.new.top }
+        ensures first { IfOk result (λ w. AdvancesFirst self.old.stack (At frame) w) }
     {
         match memos.step(alloc, frame, inputs) {
             Ok(Step::Finished) => {
@@ -280,6 +289,8 @@ impl<R: Rules> Frames<R> {
         ensures written { OthersUnwritten claims.old id (memo_at R.Key.cmp memos.old.places) (memo_at R.Key.cmp memos.new.places) }
         ensures advanced { IfOk result (λ w. HasAdvanced R.Key.cmp (R.machine memos.old.rules) memos.old.rules inputs.now (memo_at R.Key.cmp memos.old.places) claims.new id self.new.top w) }
         ensures refused { OnErr result (out_at self.new.top ≡ None) }
+        ensures begun { KeepsBegun (R.machine memos.old.rules) inputs.now.revision (memo_at R.Key.cmp memos.new.places) self.old.stack (At frame) self.new.stack self.new.top }
+        ensures first { IfOk result (λ w. AdvancesFirst self.old.stack (At frame) w) }
     {
         claims.end_wait(id);
         match memos.rules().copy_key(alloc, &frame.key) {
@@ -325,6 +336,7 @@ impl<R: Rules> Frames<R> {
         ensures taken { OnOk result (out_at self.new.top ≡ None) }
         ensures back { IfErr result (λ d. d ≡ done) }
         ensures refused { OnErr result (out_at self.new.top ≡ Some (out_of done)) }
+        ensures begun { KeepsBegun (R.machine memos.old.rules) inputs.now.revision (memo_at R.Key.cmp memos.new.places) self.old.stack (Away pending) self.new.stack self.new.top }
     {
         let _latest = inputs.now();
         let Made {

@@ -1,7 +1,7 @@
 //! Laws of the ledger, each as the contract of a function that does nothing.
 //!
 //! They are what holds of every ledger that is reached, whatever the calls answer.
-ghost use Rattle.std.specs.Prelude.{◌≡◌, ℕ, [], Bool, Option, Result};
+ghost use Rattle.std.specs.Prelude.{◌≡◌, ◌≤◌, ◌+◌, ℕ, [], Bool, Option, Result};
 ghost use Rattle.std.specs.declared.alloc.AllocError.{AllocError};
 ghost use Rattle.pq_core.specs.Changes.{ChangeView};
 ghost use Rattle.pq_core.specs.Works.{DoneView, WorkView};
@@ -10,6 +10,7 @@ ghost use Rattle.pq_core.specs.Moves.{Opens, Accepts, Edits, Starts, Looks, Give
 ghost use Rattle.pq_core.specs.RightReply.{answer_by};
 ghost use Rattle.pq_core.specs.Kept.{Kept};
 ghost use Rattle.pq_core.specs.Cores.{StandsFor};
+ghost use Rattle.pq_core.specs.Starts.{IsCountedFor, Log, count};
 ghost use Rattle.pq_memo.specs.Sound.{Sound};
 ghost use Rattle.pq_memo.specs.Look.{IsUpToDate};
 ghost use Rattle.pq_memo.specs.Table.{memo_at, HasIn};
@@ -79,3 +80,10 @@ pub fn runs_hold_their_keys<R: Rules, M: Stamp, O: Outbox<R, M>>(core: &Core<R, 
 {
     claims_are_sound(&core.claims);
 }
+
+/// In one revision a key's rule is started at most once, and once more for each run that was stopped
+/// or starved while it held the key. It holds of the log of every list of calls: the empty log is
+/// counted for a new core, and each call keeps that.
+pub fn starts_are_counted<R: Rules, M: Stamp, O: Outbox<R, M>>(core: &Core<R, M, O>)
+    ensures { (log : Log R.Key) → IsCountedFor R.Key.cmp (R.machine core.now.rules) core.now log → (revision : ℕ) (key : R.Key) → count R.Key.cmp revision key log.starts ≤ count R.Key.cmp revision key log.lost + 1 }
+{}

@@ -8,7 +8,8 @@
 //! Definitions: `specs/Ledger` (the world: clients, requests and their places), `specs/Moves` (one
 //! relation for each call), `specs/Points` (a revision and its sources), `specs/RightReply` (when a
 //! reply is right), `specs/Truth` (when it is so at its stamp), `specs/Outboxes`, `specs/Kept` (what
-//! holds of each ledger that is reached), `specs/Works` (work that is out).
+//! holds of each ledger that is reached), `specs/Works` (work that is out), `specs/Starts` (how often
+//! a rule is started).
 //! Modules: `ids`, `label` and `request` (what clients post), `stamp` (of a revision), `outcome` and
 //! `reply`, `fault` (why a call is refused), `moves` (what runs and releases come to), `outbox` (where
 //! replies go), `work` and `job` (a rule that is to be carried out, with a stamp and without), `cores`
@@ -52,7 +53,9 @@ pub use fault::{
 };
 pub use ids::{ClientId, Number};
 pub use label::Label;
-pub use laws::{closed_for_good, core_is_sound, moves_keep, runs_hold_their_keys};
+pub use laws::{
+    closed_for_good, core_is_sound, moves_keep, runs_hold_their_keys, starts_are_counted,
+};
 pub use limits::{MAX_CLIENTS, WINDOW};
 pub use list_outbox::ListOutbox;
 pub use moves::{Move, Released};

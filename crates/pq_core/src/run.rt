@@ -10,6 +10,7 @@ ghost use Rattle.pq_claims.specs.Claims.{hold_of};
 ghost use Rattle.pq_core.specs.Kept.{IsDemand};
 ghost use Rattle.pq_core.specs.Moves.{out_of};
 ghost use Rattle.pq_core.specs.aux.Runs.{AreStale, FramesKept, HasLooked, IsAnswer, IsSameRun, IsStale, OthersHold, Renewed, RunKept, WaitStands, OthersUnwritten, out_at, run_keys};
+ghost use Rattle.pq_core.specs.aux.Begun.{KeepsBegun, LooksFirst};
 ghost use Rattle.pq_core.specs.declared.frames.Top.TheVariants.{Empty, At};
 ghost use Rattle.pq_core.specs.declared.request.Want.TheVariants.{Demand};
 
@@ -165,6 +166,8 @@ impl<R: Rules> Run<R> {
         ensures written { OthersUnwritten claims.old id (memo_at R.Key.cmp memos.old.places) (memo_at R.Key.cmp memos.new.places) }
         ensures looked { IfOk result (λ l. HasLooked R.Key.cmp (R.machine memos.old.rules) memos.old.rules inputs.now (memo_at R.Key.cmp memos.old.places) claims.new id self.old.request self.new.top l) }
         ensures refused { OnErr result (out_at self.new.top ≡ None) }
+        ensures begun { KeepsBegun (R.machine memos.old.rules) inputs.now.revision (memo_at R.Key.cmp memos.new.places) self.old.stack (At frame) self.new.stack self.new.top }
+        ensures first { IfOk result (λ l. LooksFirst self.old.stack (At frame) l) }
     {
         match self
             .frames
@@ -203,6 +206,8 @@ impl<R: Rules> Run<R> {
         ensures written { OthersUnwritten claims.old id (memo_at R.Key.cmp memos.old.places) (memo_at R.Key.cmp memos.new.places) }
         ensures looked { IfOk result (λ l. HasLooked R.Key.cmp (R.machine memos.old.rules) memos.old.rules inputs.now (memo_at R.Key.cmp memos.old.places) claims.new id self.old.request self.new.top l) }
         ensures refused { OnErr result (out_at self.new.top ≡ None) }
+        ensures begun { KeepsBegun (R.machine memos.old.rules) inputs.now.revision (memo_at R.Key.cmp memos.new.places) self.old.stack self.old.top self.new.stack self.new.top }
+        ensures first { IfOk result (λ l. LooksFirst self.old.stack self.old.top l) }
     {
         if let Some(answer) = self.answer(alloc, memos, inputs)? {
             return Ok(Looked::Answered(answer));
@@ -247,6 +252,8 @@ impl<R: Rules> Run<R> {
         ensures written { OthersUnwritten claims.old id (memo_at R.Key.cmp memos.old.places) (memo_at R.Key.cmp memos.new.places) }
         ensures looked { IfOk result (λ l. HasLooked R.Key.cmp (R.machine memos.old.rules) memos.old.rules inputs.now (memo_at R.Key.cmp memos.old.places) claims.new id self.old.request self.new.top l) }
         ensures refused { OnErr result (out_at self.new.top ≡ None) }
+        ensures begun { KeepsBegun (R.machine memos.old.rules) inputs.now.revision (memo_at R.Key.cmp memos.new.places) self.old.stack self.old.top self.new.stack self.new.top }
+        ensures first { IfOk result (λ l. LooksFirst self.old.stack self.old.top l) }
     {
         match replace(&mut self.frames.top, Top::Empty) {
             Top::At(frame) => self.advance(alloc, id, memos, claims, inputs, frame),
@@ -288,6 +295,7 @@ impl<R: Rules> Run<R> {
         ensures taken { OnOk result (out_at self.new.top ≡ None) }
         ensures back { IfErr result (λ d. d ≡ done) }
         ensures refused { OnErr result (out_at self.new.top ≡ Some (out_of done)) }
+        ensures begun { KeepsBegun (R.machine memos.old.rules) inputs.now.revision (memo_at R.Key.cmp memos.new.places) self.old.stack self.old.top self.new.stack self.new.top }
     {
         match replace(&mut self.frames.top, Top::Empty) {
             Top::Away(pending) => self

@@ -9,6 +9,7 @@ ghost use Rattle.pq_core.specs.Replies.{IsFair};
 ghost use Rattle.pq_core.specs.Ledger.{Ledger};
 ghost use Rattle.pq_core.specs.Moves.{Reaches, Looks, Gives, Starves, IsMade, IsRequestOf};
 ghost use Rattle.pq_core.specs.Cores.{StandsFor, HandsOut, HasCause, NamesHolder};
+ghost use Rattle.pq_core.specs.Starts.{IsCountedFor, Log, log_moved, log_starved};
 ghost use Rattle.pq_core.specs.aux.Rising.{found, IsAbove};
 ghost use Rattle.pq_core.specs.aux.Changes.{IsSetAt, IsSameMap};
 ghost use Rattle.pq_core.specs.aux.Lanes.{LaneView, with_owed};
@@ -120,6 +121,7 @@ impl<R: Rules, M: Stamp, O: Outbox<R, M> + Drop> Core<R, M, O> {
         ensures handed { IfOk result (HandsOut self.old run) }
         ensures holder { IfOk result (NamesHolder self.new.claims run) }
         ensures cause { IfOk result (HasCause R.Key.cmp (R.machine self.old.rules) self.old) }
+        ensures counted { (log : Log R.Key) → IsCountedFor R.Key.cmp (R.machine self.old.rules) self.old log → IsCountedFor R.Key.cmp (R.machine self.old.rules) self.new (log_moved self.old run result log) }
     {
         look_is_right(&self.memos);
         claims_are_sound(&self.claims);
@@ -211,6 +213,7 @@ impl<R: Rules, M: Stamp, O: Outbox<R, M> + Drop> Core<R, M, O> {
         ensures back { IfErr result (λ refused. refused.done ≡ done) }
         ensures moved { (l : Ledger R.Key R.Value M O) → StandsFor R.Key.cmp (R.machine self.old.rules) M.point O.puts self.old l
             → Reaches (Gives run done result) l (StandsFor R.Key.cmp (R.machine self.old.rules) M.point O.puts self.new) }
+        ensures counted { (log : Log R.Key) → IsCountedFor R.Key.cmp (R.machine self.old.rules) self.old log → IsCountedFor R.Key.cmp (R.machine self.old.rules) self.new (log_moved self.old run result log) }
     {
         claims_are_sound(&self.claims);
         let who = run;
@@ -266,6 +269,7 @@ impl<R: Rules, M: Stamp, O: Outbox<R, M> + Drop> Core<R, M, O> {
         ensures places { self.new.places ≡ self.old.places }
         ensures moved { (l : Ledger R.Key R.Value M O) → StandsFor R.Key.cmp (R.machine self.old.rules) M.point O.puts self.old l
             → Reaches (Starves run result) l (StandsFor R.Key.cmp (R.machine self.old.rules) M.point O.puts self.new) }
+        ensures counted { (log : Log R.Key) → IsCountedFor R.Key.cmp (R.machine self.old.rules) self.old log → IsCountedFor R.Key.cmp (R.machine self.old.rules) self.new (log_starved self.old run result log) }
     {
         let now = self.inputs.now();
         match self.runs.take(run.number()) {

@@ -5,6 +5,9 @@ use Rattle.pq_core.proofs.RunsKept.{same_runs}
 use Rattle.pq_core.proofs.CoreOpening.{unmoved}
 use Rattle.pq_core.proofs.CoreAccepting.{accept_refusal_so, may_post, accept_moved, queue_room, not_full, false_true}
 use Rattle.pq_core.proofs.Queued.{queue_same, queue_pushed, queue_fixed}
+use Rattle.pq_rules.proofs.Weight.{Exact}
+use Rattle.pq_memo.specs.Table.{memo_at}
+use Rattle.pq_core.proofs.CoreCounting.{same_counted}
 use Rattle.pq_core.proofs.cores.Core.accept.Goals as goal
 
 pub returns-in-Some-clause-moved : goal.returns-in-Some-clause-moved
@@ -200,3 +203,27 @@ returns-in-Err-clause-moved g c =
           })
           s,
     ))
+
+pub returns-in-Some-clause-counted : goal.returns-in-Some-clause-counted
+returns-in-Some-clause-counted g c =
+    rw (← c.self.view_is) (λ log x. x)
+
+pub returns-then-is_err-clause-counted : goal.returns-then-is_err-clause-counted
+returns-then-is_err-clause-counted g c =
+    let exact : Exact g.R.Key.Ord.cmp = record { total = g.met.R.Key.Ord.total; exact = (g.met.R.Rules.lawful c.self.inside.memos.rules []).exact } in
+    rw (← c.self.view_is) (λ log x. same_counted g.R.Key.Ord.cmp exact (g.R.Rules.machine c.self.inside.memos.rules) c.self.inside.inputs log (memo_at g.R.Key.Ord.cmp c.self.inside.memos.places) c.self.inside.runs.items c.make_room.new.runs.items c.make_room.ensures.runs.found x)
+
+pub returns-then-waits-clause-counted : goal.returns-then-waits-clause-counted
+returns-then-waits-clause-counted g c =
+    let exact : Exact g.R.Key.Ord.cmp = record { total = g.met.R.Key.Ord.total; exact = (g.met.R.Rules.lawful c.self.inside.memos.rules []).exact } in
+    rw (← c.self.view_is) (λ log x. same_counted g.R.Key.Ord.cmp exact (g.R.Rules.machine c.self.inside.memos.rules) c.self.inside.inputs log (memo_at g.R.Key.Ord.cmp c.self.inside.memos.places) c.self.inside.runs.items c.make_room.new.runs.items c.make_room.ensures.runs.found x)
+
+pub returns-in-Ok-clause-counted : goal.returns-in-Ok-clause-counted
+returns-in-Ok-clause-counted g c =
+    let exact : Exact g.R.Key.Ord.cmp = record { total = g.met.R.Key.Ord.total; exact = (g.met.R.Rules.lawful c.self.inside.memos.rules []).exact } in
+    rw (← c.self.view_is) (λ log x. same_counted g.R.Key.Ord.cmp exact (g.R.Rules.machine c.self.inside.memos.rules) c.self.inside.inputs log (memo_at g.R.Key.Ord.cmp c.self.inside.memos.places) c.self.inside.runs.items c.make_room.new.runs.items c.make_room.ensures.runs.found x)
+
+pub returns-in-Err-clause-counted : goal.returns-in-Err-clause-counted
+returns-in-Err-clause-counted g c =
+    let exact : Exact g.R.Key.Ord.cmp = record { total = g.met.R.Key.Ord.total; exact = (g.met.R.Rules.lawful c.self.inside.memos.rules []).exact } in
+    rw (← c.self.view_is) (λ log x. same_counted g.R.Key.Ord.cmp exact (g.R.Rules.machine c.self.inside.memos.rules) c.self.inside.inputs log (memo_at g.R.Key.Ord.cmp c.self.inside.memos.places) c.self.inside.runs.items c.make_room.new.runs.items c.make_room.ensures.runs.found x)

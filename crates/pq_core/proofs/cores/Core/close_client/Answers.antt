@@ -70,3 +70,11 @@ returns-in-None-clause-moved g c =
     (λ l s. close_none g.R.Key.Ord.cmp (g.R.Rules.machine c.self.inside.memos.rules) g.M.Stamp.point g.O.Outbox.puts _ _ c.number-seat.result l
     (sym c.in-None.ensures.value) c.take.ensures.found
     (record { inputs = refl; clients = refl; runs = refl; started = refl }) refl s))
+
+pub returns-in-Some-clause-counted : goal.returns-in-Some-clause-counted
+returns-in-Some-clause-counted g c =
+    rw (← c.self.view_is) (λ log x. x)
+
+pub returns-in-None-clause-counted : goal.returns-in-None-clause-counted
+returns-in-None-clause-counted g c =
+    rw (← c.self.view_is) (λ log x. x)

@@ -1,4 +1,4 @@
-use Rattle.std.proofs.Common.{◌≡◌, refl, sym, ◌∙◌, subst, ap, Some}
+use Rattle.std.proofs.Common.{◌≡◌, refl, sym, ◌∙◌, subst, ap, Some, []}
 use Rattle.std.specs.Option.{option_map}
 use Rattle.std.specs.Prelude.{string_bytes}
 use Rattle.pq_core.specs.Changes.{ChangeView}
@@ -11,6 +11,9 @@ use Rattle.pq_core.specs.aux.Lanes.{LaneView}
 use Rattle.pq_core.proofs.RunsKept.{edited_runs}
 use Rattle.pq_core.proofs.CoreOpening.{unmoved}
 use Rattle.pq_core.proofs.CoreAccepting.{edit_refusal_so, edit_moved, edit_refused, run_past, table_is}
+use Rattle.pq_rules.proofs.Weight.{Exact}
+use Rattle.pq_memo.specs.Table.{memo_at}
+use Rattle.pq_core.proofs.CoreCounting.{edited_counted}
 use Rattle.pq_core.proofs.cores.Core.edit.Goals as goal
 
 pub returns-in-Some-clause-moved : goal.returns-in-Some-clause-moved
@@ -90,3 +93,18 @@ returns-in-Err-clause-moved g c =
           })
           s,
     )))
+
+pub returns-in-Some-clause-counted : goal.returns-in-Some-clause-counted
+returns-in-Some-clause-counted g c =
+    rw (← c.self.view_is) (λ log x. x)
+
+pub returns-in-Ok-clause-counted : goal.returns-in-Ok-clause-counted
+returns-in-Ok-clause-counted g c =
+    let exact : Exact g.R.Key.Ord.cmp = record { total = g.met.R.Key.Ord.total; exact = (g.met.R.Rules.lawful c.self.inside.memos.rules []).exact } in
+    let told = c.in-Ok.ensures {u = tt} in
+    rw (← c.self.view_is) (λ log x. edited_counted g.R.Key.Ord.cmp exact (g.R.Rules.machine c.self.inside.memos.rules) c.self.inside.inputs log c.set.new.self (memo_at g.R.Key.Ord.cmp c.self.inside.memos.places) c.self.inside.runs.items c.self.inside.runs.items (told.revision.1 ∙ told.revision.0) x)
+
+pub returns-in-Err-clause-counted : goal.returns-in-Err-clause-counted
+returns-in-Err-clause-counted g c =
+    let told = c.in-Err.ensures {u = tt} in
+    rw (← c.self.view_is) (rw told.refused (λ log x. x))

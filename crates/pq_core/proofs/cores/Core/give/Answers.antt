@@ -1,4 +1,4 @@
-use Rattle.std.proofs.Common.{◌≡◌, ◌≤◌, length, Some, refl, sym, ◌∙◌, subst, arith}
+use Rattle.std.proofs.Common.{◌≡◌, ◌≤◌, length, Some, refl, sym, ◌∙◌, subst, arith, [], inl}
 use Rattle.pq_memo.specs.Table.{memo_at}
 use Rattle.pq_core.specs.Cores.{CoreView, held}
 use Rattle.pq_core.specs.Works.{DoneView}
@@ -10,7 +10,9 @@ use Rattle.pq_core.proofs.Changing.{none_taken, set_back}
 use Rattle.pq_core.proofs.CoreOpening.{unmoved}
 use Rattle.pq_core.proofs.CoreAccepting.{false_true, run_past}
 use Rattle.pq_core.proofs.CoreRunning.{end_queue, run_here, no_run, run_within, current, stop_moved, back_moved, not_fitting, give_stopped, give_moved, give_refused}
-use Rattle.pq_core.proofs.Renewed.{renewed_none_lost, same_none_lost}
+use Rattle.pq_core.proofs.Renewed.{renewed_same, renewed_none_lost, same_none_lost}
+use Rattle.pq_rules.proofs.Weight.{Exact}
+use Rattle.pq_core.proofs.CoreCounting.{lost_counted, same_counted, stepped_counted}
 use Rattle.pq_core.proofs.cores.Core.give.Goals as goal
 
 pub invariant_of-self : goal.invariant_of-self
@@ -280,3 +282,41 @@ give-given-requires-clause-waits g c =
     let here = sym (rw c.number-id.ensures at (c.in-Some.ensures {u = tt}).value) in
     w.runs.waits c.args.run c.in-Some.taken here
     ((current g.R.Key.Ord.cmp (g.R.Rules.machine c.self.inside.memos.rules) g.M.Stamp.point g.O.Outbox.puts (held (record { rules = c.self.inside.memos.rules; places = c.self.inside.memos.places; inputs = c.self.inside.inputs; lanes = c.self.inside.lanes; opened = c.self.inside.opened; clients = c.self.inside.clients; waiting = c.self.inside.waiting.items; runs = c.self.inside.runs; started = c.self.inside.started; claims = c.self.inside.claims })) w.ledger.0 c.args.run c.in-Some.taken w.ledger.1 (run_here g.R.Key.Ord.cmp (g.R.Rules.machine c.self.inside.memos.rules) g.M.Stamp.point g.O.Outbox.puts (held (record { rules = c.self.inside.memos.rules; places = c.self.inside.memos.places; inputs = c.self.inside.inputs; lanes = c.self.inside.lanes; opened = c.self.inside.opened; clients = c.self.inside.clients; waiting = c.self.inside.waiting.items; runs = c.self.inside.runs; started = c.self.inside.started; claims = c.self.inside.claims })) w.ledger.0 c.args.run c.in-Some.taken w.ledger.1 here) (λ o. false_true (sym c.if-is_overtaken.false ∙ c.is_overtaken.ensures.1 (rw c.now-now.ensures.now o)))).1)
+
+pub returns-in-None-clause-counted : goal.returns-in-None-clause-counted
+returns-in-None-clause-counted g c =
+    let exact : Exact g.R.Key.Ord.cmp = record { total = g.met.R.Key.Ord.total; exact = (g.met.R.Rules.lawful c.self.inside.memos.rules []).exact } in
+    let nothing = sym (rw c.number-id.ensures at (c.in-None.ensures {u = tt}).value) in
+    let same = none_taken c.self.inside.runs c.take.new.self c.args.run nothing (rw c.number-id.ensures at c.take.ensures.found) c.take.ensures.above c.take.ensures.room in
+    rw (← c.self.view_is) (λ log x. same_counted g.R.Key.Ord.cmp exact (g.R.Rules.machine c.self.inside.memos.rules) c.self.inside.inputs log (memo_at g.R.Key.Ord.cmp c.self.inside.memos.places) c.self.inside.runs.items c.take.new.self.items same.found x)
+
+pub returns-then-is_overtaken-clause-counted : goal.returns-then-is_overtaken-clause-counted
+returns-then-is_overtaken-clause-counted g c =
+    let exact : Exact g.R.Key.Ord.cmp = record { total = g.met.R.Key.Ord.total; exact = (g.met.R.Rules.lawful c.self.inside.memos.rules []).exact } in
+    let here = sym (rw c.number-id.ensures at (c.in-Some.ensures {u = tt}).value) in
+    let runs = rw c.number-id.ensures at c.take.ensures.found in
+    rw (← c.self.view_is) (λ log x. lost_counted g.R.Key.Ord.cmp exact (g.R.Rules.machine c.self.inside.memos.rules) c.self.inside.inputs log (memo_at g.R.Key.Ord.cmp c.self.inside.memos.places) (memo_at g.R.Key.Ord.cmp c.self.inside.memos.places) c.self.inside.runs.items c.take.new.self.items c.args.run c.in-Some.taken here c.self.inside.claims c.self.invariant.runs.claimed (renewed_same (g.R.Rules.machine c.self.inside.memos.rules) c.self.inside.inputs.revision (memo_at g.R.Key.Ord.cmp c.self.inside.memos.places) (memo_at g.R.Key.Ord.cmp c.self.inside.memos.places) (λ q. refl)) runs x)
+
+pub returns-then-not-fits-clause-counted : goal.returns-then-not-fits-clause-counted
+returns-then-not-fits-clause-counted g c =
+    let exact : Exact g.R.Key.Ord.cmp = record { total = g.met.R.Key.Ord.total; exact = (g.met.R.Rules.lawful c.self.inside.memos.rules []).exact } in
+    let here = sym (rw c.number-id.ensures at (c.in-Some.ensures {u = tt}).value) in
+    let set = set_back c.self.inside.runs c.take.new.self c.put_back.new.self c.args.run c.in-Some.taken (rw c.number-id.ensures at c.take.ensures.found) c.take.ensures.above
+    (rw c.in-Some.is at c.take.ensures.more_room) (rw c.number-id.ensures at c.put_back.ensures.found) c.put_back.ensures.room c.put_back.ensures.above in
+    rw (← c.self.view_is) (λ log x. stepped_counted g.R.Key.Ord.cmp exact (g.R.Rules.machine c.self.inside.memos.rules) c.self.inside.inputs log (memo_at g.R.Key.Ord.cmp c.self.inside.memos.places) (memo_at g.R.Key.Ord.cmp c.self.inside.memos.places) c.self.inside.runs.items c.put_back.new.self.items c.args.run c.in-Some.taken here c.in-Some.taken (renewed_same (g.R.Rules.machine c.self.inside.memos.rules) c.self.inside.inputs.revision (memo_at g.R.Key.Ord.cmp c.self.inside.memos.places) (memo_at g.R.Key.Ord.cmp c.self.inside.memos.places) (λ q. refl)) set.found (record { client = refl; number = refl; request = refl; started = refl }) (λ k b. inl b) x)
+
+pub returns-in-Ok-clause-counted : goal.returns-in-Ok-clause-counted
+returns-in-Ok-clause-counted g c =
+    let exact : Exact g.R.Key.Ord.cmp = record { total = g.met.R.Key.Ord.total; exact = (g.met.R.Rules.lawful c.self.inside.memos.rules []).exact } in
+    let here = sym (rw c.number-id.ensures at (c.in-Some.ensures {u = tt}).value) in
+    let set = set_back c.self.inside.runs c.take.new.self c.put_back-in-Ok.new.self c.args.run c.give-given.new.self (rw c.number-id.ensures at c.take.ensures.found) c.take.ensures.above
+    (rw c.in-Some.is at c.take.ensures.more_room) (rw c.number-id.ensures at c.put_back-in-Ok.ensures.found) c.put_back-in-Ok.ensures.room c.put_back-in-Ok.ensures.above in
+    rw (← c.self.view_is) (λ log x. stepped_counted g.R.Key.Ord.cmp exact (g.R.Rules.machine c.self.inside.memos.rules) c.self.inside.inputs log (memo_at g.R.Key.Ord.cmp c.self.inside.memos.places) (memo_at g.R.Key.Ord.cmp c.give-given.new.memos.places) c.self.inside.runs.items c.put_back-in-Ok.new.self.items c.args.run c.in-Some.taken here c.give-given.new.self c.give-given.ensures.renewed set.found c.give-given.ensures.same c.give-given.ensures.begun x)
+
+pub returns-in-Err-clause-counted : goal.returns-in-Err-clause-counted
+returns-in-Err-clause-counted g c =
+    let exact : Exact g.R.Key.Ord.cmp = record { total = g.met.R.Key.Ord.total; exact = (g.met.R.Rules.lawful c.self.inside.memos.rules []).exact } in
+    let here = sym (rw c.number-id.ensures at (c.in-Some.ensures {u = tt}).value) in
+    let set = set_back c.self.inside.runs c.take.new.self c.put_back-in-Err.new.self c.args.run c.give-given.new.self (rw c.number-id.ensures at c.take.ensures.found) c.take.ensures.above
+    (rw c.in-Some.is at c.take.ensures.more_room) (rw c.number-id.ensures at c.put_back-in-Err.ensures.found) c.put_back-in-Err.ensures.room c.put_back-in-Err.ensures.above in
+    rw (← c.self.view_is) (λ log x. stepped_counted g.R.Key.Ord.cmp exact (g.R.Rules.machine c.self.inside.memos.rules) c.self.inside.inputs log (memo_at g.R.Key.Ord.cmp c.self.inside.memos.places) (memo_at g.R.Key.Ord.cmp c.give-given.new.memos.places) c.self.inside.runs.items c.put_back-in-Err.new.self.items c.args.run c.in-Some.taken here c.give-given.new.self c.give-given.ensures.renewed set.found c.give-given.ensures.same c.give-given.ensures.begun x)

@@ -1,4 +1,4 @@
-use Rattle.std.proofs.Common.{◌≡◌, ℕ, ◌≤◌, ◌<◌, ◌+◌, List, length, Some, refl, sym, ◌∙◌, ap, subst, inl, inr, arith}
+use Rattle.std.proofs.Common.{◌≡◌, ℕ, ◌≤◌, ◌<◌, ◌+◌, List, length, Some, refl, sym, ◌∙◌, ap, subst, inl, inr, arith, []}
 use Rattle.pq_inputs.specs.Sources.{Sources}
 use Rattle.pq_rules.specs.Relations.{In}
 use Rattle.pq_memo.specs.Table.{memo_at, HasIn}
@@ -15,6 +15,10 @@ use Rattle.pq_core.proofs.CoreOpening.{unmoved}
 use Rattle.pq_core.proofs.CoreAccepting.{false_true, run_past}
 use Rattle.pq_core.proofs.CoreRunning.{end_queue, run_here, no_run, run_within, run_demands, current, stop_moved, back_moved, seen_moved, none_of, goes_on, look_blocked, carry_moved, answer_moved, why_cause, why_then, ended_as, look_held}
 use Rattle.pq_core.proofs.Renewed.{renewed_none_lost, renewed_then, same_none_lost}
+use Rattle.pq_rules.proofs.Weight.{Exact}
+use Rattle.pq_core.specs.Moves.{out_of}
+use Rattle.pq_core.proofs.CoreCounting.{answered_counted, carried_counted, lost_counted, ring_counted, same_counted, stepped_counted}
+use Rattle.pq_core.proofs.Renewed.{renewed_same}
 use Rattle.pq_core.proofs.cores.Core.look.Goals as goal
 
 pub invariant_of-self : goal.invariant_of-self
@@ -602,3 +606,90 @@ new-requires g c =
     ∙ (c.self.invariant.stamped
     ∙ (ap (λ (r : ℕ). record { revision = r; files = c.self.inside.inputs.files }) (sym told.started)
     ∙ ap (λ (x : Sources). record { revision = c.in-Carry.work.done.started; files = x }) (sym told.files)))
+
+pub returns-in-None-clause-counted : goal.returns-in-None-clause-counted
+returns-in-None-clause-counted g c =
+    let exact : Exact g.R.Key.Ord.cmp = record { total = g.met.R.Key.Ord.total; exact = (g.met.R.Rules.lawful c.self.inside.memos.rules []).exact } in
+    let nothing = sym (rw c.number-id.ensures at (c.in-None.ensures {u = tt}).value) in
+    let same = none_taken c.self.inside.runs c.take.new.self c.args.run nothing (rw c.number-id.ensures at c.take.ensures.found) c.take.ensures.above c.take.ensures.room in
+    rw (← c.self.view_is) (λ log x. same_counted g.R.Key.Ord.cmp exact (g.R.Rules.machine c.self.inside.memos.rules) c.self.inside.inputs log (memo_at g.R.Key.Ord.cmp c.self.inside.memos.places) c.self.inside.runs.items c.take.new.self.items same.found x)
+
+pub returns-then-is_overtaken-clause-counted : goal.returns-then-is_overtaken-clause-counted
+returns-then-is_overtaken-clause-counted g c =
+    let exact : Exact g.R.Key.Ord.cmp = record { total = g.met.R.Key.Ord.total; exact = (g.met.R.Rules.lawful c.self.inside.memos.rules []).exact } in
+    let here = sym (rw c.number-id.ensures at (c.in-Some.ensures {u = tt}).value) in
+    let runs = rw c.number-id.ensures at c.take.ensures.found in
+    rw (← c.self.view_is) (λ log x. lost_counted g.R.Key.Ord.cmp exact (g.R.Rules.machine c.self.inside.memos.rules) c.self.inside.inputs log (memo_at g.R.Key.Ord.cmp c.self.inside.memos.places) (memo_at g.R.Key.Ord.cmp c.self.inside.memos.places) c.self.inside.runs.items c.take.new.self.items c.args.run c.in-Some.taken here c.self.inside.claims c.self.invariant.runs.claimed (renewed_same (g.R.Rules.machine c.self.inside.memos.rules) c.self.inside.inputs.revision (memo_at g.R.Key.Ord.cmp c.self.inside.memos.places) (memo_at g.R.Key.Ord.cmp c.self.inside.memos.places) (λ q. refl)) runs x)
+
+pub returns-then-is_out-clause-counted : goal.returns-then-is_out-clause-counted
+returns-then-is_out-clause-counted g c =
+    let exact : Exact g.R.Key.Ord.cmp = record { total = g.met.R.Key.Ord.total; exact = (g.met.R.Rules.lawful c.self.inside.memos.rules []).exact } in
+    let here = sym (rw c.number-id.ensures at (c.in-Some.ensures {u = tt}).value) in
+    let set = set_back c.self.inside.runs c.take.new.self c.put_back.new.self c.args.run c.in-Some.taken (rw c.number-id.ensures at c.take.ensures.found) c.take.ensures.above
+    (rw c.in-Some.is at c.take.ensures.more_room) (rw c.number-id.ensures at c.put_back.ensures.found) c.put_back.ensures.room c.put_back.ensures.above in
+    rw (← c.self.view_is) (λ log x. stepped_counted g.R.Key.Ord.cmp exact (g.R.Rules.machine c.self.inside.memos.rules) c.self.inside.inputs log (memo_at g.R.Key.Ord.cmp c.self.inside.memos.places) (memo_at g.R.Key.Ord.cmp c.self.inside.memos.places) c.self.inside.runs.items c.put_back.new.self.items c.args.run c.in-Some.taken here c.in-Some.taken (renewed_same (g.R.Rules.machine c.self.inside.memos.rules) c.self.inside.inputs.revision (memo_at g.R.Key.Ord.cmp c.self.inside.memos.places) (memo_at g.R.Key.Ord.cmp c.self.inside.memos.places) (λ q. refl)) set.found (record { client = refl; number = refl; request = refl; started = refl }) (λ k b. inl b) x)
+
+pub returns-in-Stepped-clause-counted : goal.returns-in-Stepped-clause-counted
+returns-in-Stepped-clause-counted g c =
+    let exact : Exact g.R.Key.Ord.cmp = record { total = g.met.R.Key.Ord.total; exact = (g.met.R.Rules.lawful c.self.inside.memos.rules []).exact } in
+    let here = sym (rw c.number-id.ensures at (c.in-Some.ensures {u = tt}).value) in
+    let set = set_back c.self.inside.runs c.take.new.self c.put_back-in-Stepped.new.self c.args.run c.look-looked.new.self (rw c.number-id.ensures at c.take.ensures.found) c.take.ensures.above
+    (rw c.in-Some.is at c.take.ensures.more_room) (rw c.number-id.ensures at c.put_back-in-Stepped.ensures.found) c.put_back-in-Stepped.ensures.room c.put_back-in-Stepped.ensures.above in
+    rw (← c.self.view_is) (λ log x. stepped_counted g.R.Key.Ord.cmp exact (g.R.Rules.machine c.self.inside.memos.rules) c.self.inside.inputs log (memo_at g.R.Key.Ord.cmp c.self.inside.memos.places) (memo_at g.R.Key.Ord.cmp c.look-looked.new.memos.places) c.self.inside.runs.items c.put_back-in-Stepped.new.self.items c.args.run c.in-Some.taken here c.look-looked.new.self c.look-looked.ensures.renewed set.found c.look-looked.ensures.same c.look-looked.ensures.begun x)
+
+pub returns-in-Blocked-clause-counted : goal.returns-in-Blocked-clause-counted
+returns-in-Blocked-clause-counted g c =
+    let exact : Exact g.R.Key.Ord.cmp = record { total = g.met.R.Key.Ord.total; exact = (g.met.R.Rules.lawful c.self.inside.memos.rules []).exact } in
+    let here = sym (rw c.number-id.ensures at (c.in-Some.ensures {u = tt}).value) in
+    let set = set_back c.self.inside.runs c.take.new.self c.put_back-in-Blocked.new.self c.args.run c.look-looked.new.self (rw c.number-id.ensures at c.take.ensures.found) c.take.ensures.above
+    (rw c.in-Some.is at c.take.ensures.more_room) (rw c.number-id.ensures at c.put_back-in-Blocked.ensures.found) c.put_back-in-Blocked.ensures.room c.put_back-in-Blocked.ensures.above in
+    rw (← c.self.view_is) (λ log x. stepped_counted g.R.Key.Ord.cmp exact (g.R.Rules.machine c.self.inside.memos.rules) c.self.inside.inputs log (memo_at g.R.Key.Ord.cmp c.self.inside.memos.places) (memo_at g.R.Key.Ord.cmp c.look-looked.new.memos.places) c.self.inside.runs.items c.put_back-in-Blocked.new.self.items c.args.run c.in-Some.taken here c.look-looked.new.self c.look-looked.ensures.renewed set.found c.look-looked.ensures.same c.look-looked.ensures.begun x)
+
+pub returns-in-Err-clause-counted : goal.returns-in-Err-clause-counted
+returns-in-Err-clause-counted g c =
+    let exact : Exact g.R.Key.Ord.cmp = record { total = g.met.R.Key.Ord.total; exact = (g.met.R.Rules.lawful c.self.inside.memos.rules []).exact } in
+    let here = sym (rw c.number-id.ensures at (c.in-Some.ensures {u = tt}).value) in
+    let set = set_back c.self.inside.runs c.take.new.self c.put_back-in-Err.new.self c.args.run c.look-looked.new.self (rw c.number-id.ensures at c.take.ensures.found) c.take.ensures.above
+    (rw c.in-Some.is at c.take.ensures.more_room) (rw c.number-id.ensures at c.put_back-in-Err.ensures.found) c.put_back-in-Err.ensures.room c.put_back-in-Err.ensures.above in
+    rw (← c.self.view_is) (λ log x. stepped_counted g.R.Key.Ord.cmp exact (g.R.Rules.machine c.self.inside.memos.rules) c.self.inside.inputs log (memo_at g.R.Key.Ord.cmp c.self.inside.memos.places) (memo_at g.R.Key.Ord.cmp c.look-looked.new.memos.places) c.self.inside.runs.items c.put_back-in-Err.new.self.items c.args.run c.in-Some.taken here c.look-looked.new.self c.look-looked.ensures.renewed set.found c.look-looked.ensures.same c.look-looked.ensures.begun x)
+
+pub returns-in-Carry-clause-counted : goal.returns-in-Carry-clause-counted
+returns-in-Carry-clause-counted g c =
+    let exact : Exact g.R.Key.Ord.cmp = record { total = g.met.R.Key.Ord.total; exact = (g.met.R.Rules.lawful c.self.inside.memos.rules []).exact } in
+    let here = sym (rw c.number-id.ensures at (c.in-Some.ensures {u = tt}).value) in
+    let set = set_back c.self.inside.runs c.take.new.self c.put_back-in-Carry.new.self c.args.run c.look-looked.new.self (rw c.number-id.ensures at c.take.ensures.found) c.take.ensures.above
+    (rw c.in-Some.is at c.take.ensures.more_room) (rw c.number-id.ensures at c.put_back-in-Carry.ensures.found) c.put_back-in-Carry.ensures.room c.put_back-in-Carry.ensures.above in
+    let began = (current g.R.Key.Ord.cmp (g.R.Rules.machine c.self.inside.memos.rules) g.M.Stamp.point g.O.Outbox.puts (held (record { rules = c.self.inside.memos.rules; places = c.self.inside.memos.places; inputs = c.self.inside.inputs; lanes = c.self.inside.lanes; opened = c.self.inside.opened; clients = c.self.inside.clients; waiting = c.self.inside.waiting.items; runs = c.self.inside.runs; started = c.self.inside.started; claims = c.self.inside.claims })) c.self.invariant.ledger.0 c.args.run c.in-Some.taken c.self.invariant.ledger.1
+    (run_here g.R.Key.Ord.cmp (g.R.Rules.machine c.self.inside.memos.rules) g.M.Stamp.point g.O.Outbox.puts (held (record { rules = c.self.inside.memos.rules; places = c.self.inside.memos.places; inputs = c.self.inside.inputs; lanes = c.self.inside.lanes; opened = c.self.inside.opened; clients = c.self.inside.clients; waiting = c.self.inside.waiting.items; runs = c.self.inside.runs; started = c.self.inside.started; claims = c.self.inside.claims })) c.self.invariant.ledger.0 c.args.run c.in-Some.taken c.self.invariant.ledger.1 here) (λ o. false_true (sym c.if-is_overtaken.false ∙ c.is_overtaken.ensures.1 (rw c.now-now.ensures.now o)))).1 in
+    let handed = rw c.in-Carry.is at (c.in-Ok.ensures {u = tt}).looked in
+    let first = rw c.in-Carry.is at (c.in-Ok.ensures {u = tt}).first in
+    rw (← c.self.view_is) (λ log x. carried_counted g.R.Key.Ord.cmp exact (g.R.Rules.machine c.self.inside.memos.rules) c.self.inside.inputs log (memo_at g.R.Key.Ord.cmp c.self.inside.memos.places) (memo_at g.R.Key.Ord.cmp c.look-looked.new.memos.places) c.self.inside.runs.items c.put_back-in-Carry.new.self.items c.args.run c.in-Some.taken here c.look-looked.new.self c.look-looked.ensures.renewed set.found c.look-looked.ensures.same c.look-looked.ensures.begun
+    c.self.inside.claims c.look-looked.new.claims began c.claims_are_sound-in-Some.ensures.sound c.self.invariant.runs.claimed c.look-looked.ensures.others c.look-looked.ensures.claimed c.look-looked.ensures.stale (out_of c.in-Carry.work.done) c.in-Carry.work.why handed.out first x)
+
+pub returns-in-Answered-clause-counted : goal.returns-in-Answered-clause-counted
+returns-in-Answered-clause-counted g c =
+    let exact : Exact g.R.Key.Ord.cmp = record { total = g.met.R.Key.Ord.total; exact = (g.met.R.Rules.lawful c.self.inside.memos.rules []).exact } in
+    let here = sym (rw c.number-id.ensures at (c.in-Some.ensures {u = tt}).value) in
+    let runs = rw c.number-id.ensures at c.take.ensures.found in
+    let none = rw c.in-Answered.is at (c.in-Ok.ensures {u = tt}).first in
+    rw (← c.self.view_is) (λ log x. answered_counted g.R.Key.Ord.cmp exact (g.R.Rules.machine c.self.inside.memos.rules) c.self.inside.inputs log (memo_at g.R.Key.Ord.cmp c.self.inside.memos.places) (memo_at g.R.Key.Ord.cmp c.look-looked.new.memos.places) c.self.inside.runs.items c.take.new.self.items c.args.run c.in-Some.taken here c.look-looked.ensures.renewed runs none x)
+
+pub returns-in-Ok-close_ring-clause-counted : goal.returns-in-Ok-close_ring-clause-counted
+returns-in-Ok-close_ring-clause-counted g c =
+    let exact : Exact g.R.Key.Ord.cmp = record { total = g.met.R.Key.Ord.total; exact = (g.met.R.Rules.lawful c.self.inside.memos.rules []).exact } in
+    let here = sym (rw c.number-id.ensures at (c.in-Some.ensures {u = tt}).value) in
+    let set = set_back c.self.inside.runs c.take.new.self c.put_back-in-Ring.new.self c.args.run c.look-looked.new.self (rw c.number-id.ensures at c.take.ensures.found) c.take.ensures.above
+    (rw c.in-Some.is at c.take.ensures.more_room) (rw c.number-id.ensures at c.put_back-in-Ring.ensures.found) c.put_back-in-Ring.ensures.room c.put_back-in-Ring.ensures.above in
+    let again = rw c.look-looked.ensures.rules at c.close_ring.ensures.renewed in
+    let begun = rw c.look-looked.ensures.rules at c.close_ring.ensures.begun in
+    rw (← c.self.view_is) (λ log x. ring_counted g.R.Key.Ord.cmp exact (g.R.Rules.machine c.self.inside.memos.rules) c.self.inside.inputs log (memo_at g.R.Key.Ord.cmp c.self.inside.memos.places) (memo_at g.R.Key.Ord.cmp c.look-looked.new.memos.places) c.self.inside.runs.items c.put_back-in-Ring.new.self.items c.args.run c.in-Some.taken here (memo_at g.R.Key.Ord.cmp c.close_ring.new.memos.places) c.close_ring.new.runs.items c.look-looked.new.self c.look-looked.ensures.renewed set.found c.look-looked.ensures.same c.look-looked.ensures.begun again begun x)
+
+pub returns-in-Err-close_ring-clause-counted : goal.returns-in-Err-close_ring-clause-counted
+returns-in-Err-close_ring-clause-counted g c =
+    let exact : Exact g.R.Key.Ord.cmp = record { total = g.met.R.Key.Ord.total; exact = (g.met.R.Rules.lawful c.self.inside.memos.rules []).exact } in
+    let here = sym (rw c.number-id.ensures at (c.in-Some.ensures {u = tt}).value) in
+    let set = set_back c.self.inside.runs c.take.new.self c.put_back-in-Ring.new.self c.args.run c.look-looked.new.self (rw c.number-id.ensures at c.take.ensures.found) c.take.ensures.above
+    (rw c.in-Some.is at c.take.ensures.more_room) (rw c.number-id.ensures at c.put_back-in-Ring.ensures.found) c.put_back-in-Ring.ensures.room c.put_back-in-Ring.ensures.above in
+    let again = rw c.look-looked.ensures.rules at c.close_ring.ensures.renewed in
+    let begun = rw c.look-looked.ensures.rules at c.close_ring.ensures.begun in
+    rw (← c.self.view_is) (λ log x. ring_counted g.R.Key.Ord.cmp exact (g.R.Rules.machine c.self.inside.memos.rules) c.self.inside.inputs log (memo_at g.R.Key.Ord.cmp c.self.inside.memos.places) (memo_at g.R.Key.Ord.cmp c.look-looked.new.memos.places) c.self.inside.runs.items c.put_back-in-Ring.new.self.items c.args.run c.in-Some.taken here (memo_at g.R.Key.Ord.cmp c.close_ring.new.memos.places) c.close_ring.new.runs.items c.look-looked.new.self c.look-looked.ensures.renewed set.found c.look-looked.ensures.same c.look-looked.ensures.begun again begun x)

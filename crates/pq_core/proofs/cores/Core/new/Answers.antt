@@ -5,6 +5,7 @@ use Rattle.pq_core.proofs.Lists.{none_some}
 use Rattle.pq_core.proofs.Queued.{once_none}
 use Rattle.pq_core.proofs.CoreOpening.{new_stands}
 use Rattle.pq_core.specs.Ledger.{unused}
+use Rattle.pq_core.proofs.CoreCounting.{none_counted}
 use Rattle.pq_core.proofs.cores.Core.new.Goals as goal
 
 pub invariant_of-result : goal.invariant_of-result
@@ -32,3 +33,7 @@ pub returns-clause-stands : goal.returns-clause-stands
 returns-clause-stands g c =
     new_stands g.R.Key.Ord.cmp (g.R.Rules.machine c.args.rules) g.M.Stamp.point g.O.Outbox.puts _ c.now-latest.ensures.counted c.now-latest.ensures.last
     c.new-2.ensures.none c.new-4.ensures.none refl refl refl
+
+pub returns-clause-counted : goal.returns-clause-counted
+returns-clause-counted g c =
+    none_counted g.R.Key.Ord.cmp c.args.inputs.revision _

@@ -75,3 +75,11 @@ returns-clause-moved g c =
     (pushed_at _ _ _ c.self.inside.clients c.new.result c.reserve.ensures.same c.push_reserved.ensures.found)
     refl refl refl refl refl
     (rw c.new.ensures (new_lane g.O.Outbox.puts c.args.outbox c.requires)) c.requires (omega arith) s))
+
+pub returns-then-is_err-clause-counted : goal.returns-then-is_err-clause-counted
+returns-then-is_err-clause-counted g c =
+    rw (← c.self.view_is) (λ log x. x)
+
+pub returns-clause-counted : goal.returns-clause-counted
+returns-clause-counted g c =
+    rw (← c.self.view_is) (λ log x. x)

@@ -49,3 +49,7 @@ returns-clause-moved g c =
     (λ lane h. let x = c.release_in.ensures.«open» lane h in (x.0, x.1, x.2.found))
     (λ h. let x = c.release_in.ensures.closed h in (x.0, x.1.found))
     (record { inputs = refl; clients = refl; runs = refl; started = refl }) refl s))
+
+pub returns-clause-counted : goal.returns-clause-counted
+returns-clause-counted g c =
+    rw (← c.self.view_is) (λ log x. x)

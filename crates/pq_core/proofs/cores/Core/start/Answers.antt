@@ -1,4 +1,4 @@
-use Rattle.std.proofs.Common.{◌≡◌, ◌≤◌, ◌+◌, ℕ, List, ◌∷◌, length, refl, ap, inl, arith}
+use Rattle.std.proofs.Common.{◌≡◌, ◌≤◌, ◌+◌, ℕ, List, ◌∷◌, length, refl, ap, inl, arith, []}
 use Rattle.pq_core.specs.Cores.{held}
 use Rattle.pq_core.proofs.Slots.{found_above}
 use Rattle.pq_core.proofs.RunsKept.{started_runs}
@@ -7,6 +7,9 @@ use Rattle.pq_core.proofs.Queued.{queue_started}
 use Rattle.pq_core.proofs.CoreResting.{no_length}
 use Rattle.pq_core.proofs.CoreAccepting.{run_past}
 use Rattle.pq_core.proofs.CoreStarting.{seen_of, start_none, start_moved}
+use Rattle.pq_rules.proofs.Weight.{Exact}
+use Rattle.pq_memo.specs.Table.{memo_at}
+use Rattle.pq_core.proofs.CoreCounting.{begun_counted}
 use Rattle.pq_core.proofs.cores.Core.start.Goals as goal
 
 pub start_in-request-requires : goal.start_in-request-requires
@@ -61,3 +64,12 @@ returns-in-None-clause-moved g c =
     let none = rw (no_length c.self.inside.waiting.items (omega arith)) at c.self.invariant.queue in
     rw (← c.self.view_is)
     (λ l s. start_none g.R.Key.Ord.cmp (g.R.Rules.machine c.self.inside.memos.rules) g.M.Stamp.point g.O.Outbox.puts _ l none s)
+
+pub returns-in-Some-clause-counted : goal.returns-in-Some-clause-counted
+returns-in-Some-clause-counted g c =
+    let exact : Exact g.R.Key.Ord.cmp = record { total = g.met.R.Key.Ord.total; exact = (g.met.R.Rules.lawful c.self.inside.memos.rules []).exact } in
+    rw (← c.self.view_is) (λ log x. begun_counted g.R.Key.Ord.cmp exact (g.R.Rules.machine c.self.inside.memos.rules) c.self.inside.inputs log (memo_at g.R.Key.Ord.cmp c.self.inside.memos.places) c.self.inside.runs.items c.push_reserved.new.self.items c.self.inside.started c.new-made.result c.push_reserved.ensures.found (found_above c.self.inside.started _ c.self.invariant.runs_above) x)
+
+pub returns-in-None-clause-counted : goal.returns-in-None-clause-counted
+returns-in-None-clause-counted g c =
+    rw (← c.self.view_is) (λ log x. x)

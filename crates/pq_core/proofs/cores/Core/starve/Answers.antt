@@ -1,4 +1,4 @@
-use Rattle.std.proofs.Common.{◌≤◌, true, length, refl, sym, arith}
+use Rattle.std.proofs.Common.{◌≤◌, true, length, refl, sym, arith, []}
 use Rattle.pq_core.specs.RightReply.{answer_by}
 use Rattle.pq_core.specs.Cores.{held}
 use Rattle.pq_core.specs.Moves.{Starves, ended}
@@ -8,6 +8,10 @@ use Rattle.pq_core.proofs.Changing.{none_taken}
 use Rattle.pq_core.proofs.Keeping.{kept_starves}
 use Rattle.pq_core.proofs.CoreOpening.{unmoved}
 use Rattle.pq_core.proofs.CoreRunning.{end_queue, run_here, no_run, run_within, end_moved}
+use Rattle.pq_rules.proofs.Weight.{Exact}
+use Rattle.pq_memo.specs.Table.{memo_at}
+use Rattle.pq_core.proofs.CoreCounting.{lost_counted, same_counted}
+use Rattle.pq_core.proofs.Renewed.{renewed_same}
 use Rattle.pq_core.proofs.cores.Core.starve.Goals as goal
 
 pub end_run-requires-clause-within : goal.end_run-requires-clause-within
@@ -99,3 +103,17 @@ returns-in-None-clause-moved g c =
         started = refl;
       }) s,
     ))
+
+pub returns-in-Some-clause-counted : goal.returns-in-Some-clause-counted
+returns-in-Some-clause-counted g c =
+    let exact : Exact g.R.Key.Ord.cmp = record { total = g.met.R.Key.Ord.total; exact = (g.met.R.Rules.lawful c.self.inside.memos.rules []).exact } in
+    let here = sym (rw c.number.ensures at (c.in-Some.ensures {u = tt}).value) in
+    let runs = rw c.number.ensures at c.take.ensures.found in
+    rw (← c.self.view_is) (λ log x. lost_counted g.R.Key.Ord.cmp exact (g.R.Rules.machine c.self.inside.memos.rules) c.self.inside.inputs log (memo_at g.R.Key.Ord.cmp c.self.inside.memos.places) (memo_at g.R.Key.Ord.cmp c.self.inside.memos.places) c.self.inside.runs.items c.take.new.self.items c.args.run c.in-Some.taken here c.self.inside.claims c.self.invariant.runs.claimed (renewed_same (g.R.Rules.machine c.self.inside.memos.rules) c.self.inside.inputs.revision (memo_at g.R.Key.Ord.cmp c.self.inside.memos.places) (memo_at g.R.Key.Ord.cmp c.self.inside.memos.places) (λ q. refl)) runs x)
+
+pub returns-in-None-clause-counted : goal.returns-in-None-clause-counted
+returns-in-None-clause-counted g c =
+    let exact : Exact g.R.Key.Ord.cmp = record { total = g.met.R.Key.Ord.total; exact = (g.met.R.Rules.lawful c.self.inside.memos.rules []).exact } in
+    let nothing = sym (rw c.number.ensures at (c.in-None.ensures {u = tt}).value) in
+    let same = none_taken c.self.inside.runs c.take.new.self c.args.run nothing (rw c.number.ensures at c.take.ensures.found) c.take.ensures.above c.take.ensures.room in
+    rw (← c.self.view_is) (λ log x. same_counted g.R.Key.Ord.cmp exact (g.R.Rules.machine c.self.inside.memos.rules) c.self.inside.inputs log (memo_at g.R.Key.Ord.cmp c.self.inside.memos.places) c.self.inside.runs.items c.take.new.self.items same.found x)
