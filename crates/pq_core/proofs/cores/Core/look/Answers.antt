@@ -629,6 +629,14 @@ returns-then-is_out-clause-counted g c =
     (rw c.in-Some.is at c.take.ensures.more_room) (rw c.number-id.ensures at c.put_back.ensures.found) c.put_back.ensures.room c.put_back.ensures.above in
     rw (← c.self.view_is) (λ log x. stepped_counted g.R.Key.Ord.cmp exact (g.R.Rules.machine c.self.inside.memos.rules) c.self.inside.inputs log (memo_at g.R.Key.Ord.cmp c.self.inside.memos.places) (memo_at g.R.Key.Ord.cmp c.self.inside.memos.places) c.self.inside.runs.items c.put_back.new.self.items c.args.run c.in-Some.taken here c.in-Some.taken (renewed_same (g.R.Rules.machine c.self.inside.memos.rules) c.self.inside.inputs.revision (memo_at g.R.Key.Ord.cmp c.self.inside.memos.places) (memo_at g.R.Key.Ord.cmp c.self.inside.memos.places) (λ q. refl)) set.found (record { client = refl; number = refl; request = refl; started = refl }) (λ k b. inl b) x)
 
+pub returns-in-None-ok-clause-counted : goal.returns-in-None-ok-clause-counted
+returns-in-None-ok-clause-counted g c =
+    let exact : Exact g.R.Key.Ord.cmp = record { total = g.met.R.Key.Ord.total; exact = (g.met.R.Rules.lawful c.self.inside.memos.rules []).exact } in
+    let here = sym (rw c.number-id.ensures at (c.in-Some.ensures {u = tt}).value) in
+    let set = set_back c.self.inside.runs c.take.new.self c.put_back-in-None-ok.new.self c.args.run c.in-Some.taken (rw c.number-id.ensures at c.take.ensures.found) c.take.ensures.above
+    (rw c.in-Some.is at c.take.ensures.more_room) (rw c.number-id.ensures at c.put_back-in-None-ok.ensures.found) c.put_back-in-None-ok.ensures.room c.put_back-in-None-ok.ensures.above in
+    rw (← c.self.view_is) (λ log x. stepped_counted g.R.Key.Ord.cmp exact (g.R.Rules.machine c.self.inside.memos.rules) c.self.inside.inputs log (memo_at g.R.Key.Ord.cmp c.self.inside.memos.places) (memo_at g.R.Key.Ord.cmp c.self.inside.memos.places) c.self.inside.runs.items c.put_back-in-None-ok.new.self.items c.args.run c.in-Some.taken here c.in-Some.taken (renewed_same (g.R.Rules.machine c.self.inside.memos.rules) c.self.inside.inputs.revision (memo_at g.R.Key.Ord.cmp c.self.inside.memos.places) (memo_at g.R.Key.Ord.cmp c.self.inside.memos.places) (λ q. refl)) set.found (record { client = refl; number = refl; request = refl; started = refl }) (λ k b. inl b) x)
+
 pub returns-in-Stepped-clause-counted : goal.returns-in-Stepped-clause-counted
 returns-in-Stepped-clause-counted g c =
     let exact : Exact g.R.Key.Ord.cmp = record { total = g.met.R.Key.Ord.total; exact = (g.met.R.Rules.lawful c.self.inside.memos.rules []).exact } in
@@ -663,8 +671,8 @@ returns-in-Carry-clause-counted g c =
     (run_here g.R.Key.Ord.cmp (g.R.Rules.machine c.self.inside.memos.rules) g.M.Stamp.point g.O.Outbox.puts (held (record { rules = c.self.inside.memos.rules; places = c.self.inside.memos.places; inputs = c.self.inside.inputs; lanes = c.self.inside.lanes; opened = c.self.inside.opened; clients = c.self.inside.clients; waiting = c.self.inside.waiting.items; runs = c.self.inside.runs; started = c.self.inside.started; claims = c.self.inside.claims })) c.self.invariant.ledger.0 c.args.run c.in-Some.taken c.self.invariant.ledger.1 here) (λ o. false_true (sym c.if-is_overtaken.false ∙ c.is_overtaken.ensures.1 (rw c.now-now.ensures.now o)))).1 in
     let handed = rw c.in-Carry.is at (c.in-Ok.ensures {u = tt}).looked in
     let first = rw c.in-Carry.is at (c.in-Ok.ensures {u = tt}).first in
-    rw (← c.self.view_is) (λ log x. carried_counted g.R.Key.Ord.cmp exact (g.R.Rules.machine c.self.inside.memos.rules) c.self.inside.inputs log (memo_at g.R.Key.Ord.cmp c.self.inside.memos.places) (memo_at g.R.Key.Ord.cmp c.look-looked.new.memos.places) c.self.inside.runs.items c.put_back-in-Carry.new.self.items c.args.run c.in-Some.taken here c.look-looked.new.self c.look-looked.ensures.renewed set.found c.look-looked.ensures.same c.look-looked.ensures.begun
-    c.self.inside.claims c.look-looked.new.claims began c.claims_are_sound-in-Some.ensures.sound c.self.invariant.runs.claimed c.look-looked.ensures.others c.look-looked.ensures.claimed c.look-looked.ensures.stale (out_of c.in-Carry.work.done) c.in-Carry.work.why handed.out first x)
+    rw (← c.self.view_is) (rw c.new.ensures (λ log x. carried_counted g.R.Key.Ord.cmp exact (g.R.Rules.machine c.self.inside.memos.rules) c.self.inside.inputs log (memo_at g.R.Key.Ord.cmp c.self.inside.memos.places) (memo_at g.R.Key.Ord.cmp c.look-looked.new.memos.places) c.self.inside.runs.items c.put_back-in-Carry.new.self.items c.args.run c.in-Some.taken here c.look-looked.new.self c.look-looked.ensures.renewed set.found c.look-looked.ensures.same c.look-looked.ensures.begun
+    c.self.inside.claims c.look-looked.new.claims began c.claims_are_sound-in-Some.ensures.sound c.self.invariant.runs.claimed c.look-looked.ensures.others c.look-looked.ensures.claimed c.look-looked.ensures.stale (out_of c.in-Carry.work.done) c.in-Carry.work.why handed.out first x))
 
 pub returns-in-Answered-clause-counted : goal.returns-in-Answered-clause-counted
 returns-in-Answered-clause-counted g c =
