@@ -85,9 +85,9 @@ pub fn play<R: Rules>(
 ) -> Result<Played<R::Key, R::Value>, Memory>
     ensures { IfOk result (λ played. (w : World R.Key R.Value) × LeadsTo room R.Key.cmp (R.machine rules) rules events.now beginning w × (played ≡ played_of w)) }
 {
-    let inputs = Inputs::new(alloc)?;
-    let stamp = PlainStamp::of(alloc, &inputs)?;
-    let mut core: ListCore<R> = Core::new(alloc, rules, inputs, stamp);
+    let fresh = Inputs::new(alloc)?;
+    let stamp = PlainStamp::of(alloc, &fresh)?;
+    let mut core: ListCore<R> = Core::new(alloc, rules, fresh, stamp);
     let mut sheet = Sheet {
         seats: Vec::new(alloc),
         dones: BTreeMap::new(alloc),

@@ -11,14 +11,14 @@ use Rattle.pq_play.proofs.run.play.Goals as goal
 pub carry_all-requires : goal.carry_all-requires
 carry_all-requires g c =
     let start = stood_start c.args.room g.R.Key.Ord.cmp (g.R.Rules.machine c.args.rules) c.args.rules c.new-core.result.rules (StandsFor g.R.Key.Ord.cmp (g.R.Rules.machine c.args.rules) own_point replies_of c.new-core.result) c.new-2.result.items (done_of c.new-3.result)
-    c.new-core.ensures.rules (subst (λ (t : Table). StandsFor g.R.Key.Ord.cmp (g.R.Rules.machine c.args.rules) own_point replies_of c.new-core.result (unused t)) c.in_ok-inputs.ensures c.new-core.ensures.stands)
+    c.new-core.ensures.rules (subst (λ (t : Table). StandsFor g.R.Key.Ord.cmp (g.R.Rules.machine c.args.rules) own_point replies_of c.new-core.result (unused t)) c.in_ok-fresh.ensures c.new-core.ensures.stands)
     c.new-2.ensures.items (none_of c.new-3.result c.new-3.ensures.empty) in
     (beginning, start)
 
 pub close_all-requires : goal.close_all-requires
 close_all-requires g c =
     let start = stood_start c.args.room g.R.Key.Ord.cmp (g.R.Rules.machine c.args.rules) c.args.rules c.new-core.result.rules (StandsFor g.R.Key.Ord.cmp (g.R.Rules.machine c.args.rules) own_point replies_of c.new-core.result) c.new-2.result.items (done_of c.new-3.result)
-    c.new-core.ensures.rules (subst (λ (t : Table). StandsFor g.R.Key.Ord.cmp (g.R.Rules.machine c.args.rules) own_point replies_of c.new-core.result (unused t)) c.in_ok-inputs.ensures c.new-core.ensures.stands)
+    c.new-core.ensures.rules (subst (λ (t : Table). StandsFor g.R.Key.Ord.cmp (g.R.Rules.machine c.args.rules) own_point replies_of c.new-core.result (unused t)) c.in_ok-fresh.ensures c.new-core.ensures.stands)
     c.new-2.ensures.items (none_of c.new-3.result c.new-3.ensures.empty) in
     let led = c.in_ok-carry_all.ensures beginning start in
     (led.v, led.stood)
@@ -26,7 +26,7 @@ close_all-requires g c =
 pub returns : goal.returns
 returns g c =
     let start = stood_start c.args.room g.R.Key.Ord.cmp (g.R.Rules.machine c.args.rules) c.args.rules c.new-core.result.rules (StandsFor g.R.Key.Ord.cmp (g.R.Rules.machine c.args.rules) own_point replies_of c.new-core.result) c.new-2.result.items (done_of c.new-3.result)
-    c.new-core.ensures.rules (subst (λ (t : Table). StandsFor g.R.Key.Ord.cmp (g.R.Rules.machine c.args.rules) own_point replies_of c.new-core.result (unused t)) c.in_ok-inputs.ensures c.new-core.ensures.stands)
+    c.new-core.ensures.rules (subst (λ (t : Table). StandsFor g.R.Key.Ord.cmp (g.R.Rules.machine c.args.rules) own_point replies_of c.new-core.result (unused t)) c.in_ok-fresh.ensures c.new-core.ensures.stands)
     c.new-2.ensures.items (none_of c.new-3.result c.new-3.ensures.empty) in
     let led = c.in_ok-carry_all.ensures beginning start in
     let revision = c.now-revision.ensures.now ∙ ap (λ (t : Table). t.revision) (c.inputs.ensures ∙ sym led.stood.stands.inputs) in
