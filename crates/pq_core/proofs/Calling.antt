@@ -1,9 +1,9 @@
 -- The calls of a core as moves of the ledgers that it stands for: one client changes.
 use Rattle.std.proofs.Common.{◌≡◌, ◌≢◌, ℕ, ◌<◌, Bool, true, false, List, length, slice_get, slice_set, Option, Some, None, refl, sym, ◌∙◌, ap, subst, inl, inr, arith}
-use Rattle.pq_inputs.specs.Sources.{Sources}
 use Rattle.pq_rules.specs.declared.turn.Answer.{Answer}
 use Rattle.pq_core.proofs.Lists.{get_within, get_there, set_same, set_other, same_or_other, some_one, none_some}
 use Rattle.pq_core.proofs.Standing.{Elsewhere, client_entry, count_same, restand}
+use Rattle.pq_core.specs.Points.{Point}
 use Rattle.pq_core.specs.Replies.{ReplyView}
 use Rattle.pq_core.specs.Ledger.{Out, Place, Waiting, Running, Ready, Put, Dropped, Entry, Client, Ledger, IsOpen, IsClosed, with_client, with_entry}
 use Rattle.pq_core.specs.Moves.{RunAt, Runs, NoneRuns}
@@ -36,12 +36,12 @@ pub record SameFields {K L : Type 0} (f g : Fields K L) : Type 0 where
   pub started : g.started ≡ f.started
 
 -- `placed r s o` is the place of the request of the run `r`
-abbrev pub placed : {K V : Type 0} → ℕ → ℕ → Option (Out K) → Place K V
+abbrev pub placed : {K V M : Type 0} → ℕ → ℕ → Option (Out K) → Place K V M
 placed r s o = Running r s o
 
-module _ {K V L O : Type 0} (AsLane : L → Client K V O → Type 0) (means : Sources → K → Answer K V → Type 0) (puts : O → List (ReplyView K V)) where
+module _ {K V M L O : Type 0} (AsLane : L → Client K V M O → Type 0) (means : M → Point → K → Answer K V → Type 0) (puts : O → List (ReplyView K V M)) where
   -- fields that keep the same stand for the same
-  pub stands_same : (f g : Fields K L) (l : Ledger K V O) → SameFields f g → Stands AsLane means puts f l → Stands AsLane means puts g l
+  pub stands_same : (f g : Fields K L) (l : Ledger K V M O) → SameFields f g → Stands AsLane means puts f l → Stands AsLane means puts g l
   stands_same f g l e s = record {
     inputs = s.inputs ∙ sym e.counts.inputs;
     clients = s.clients ∙ sym e.counts.clients;
@@ -60,7 +60,7 @@ module _ {K V L O : Type 0} (AsLane : L → Client K V O → Type 0) (means : So
     kept = s.kept;
   }
     where
-      entry_same : (c n : ℕ) (entry : Entry K V) (place : Place K V) → EntryStands f c n entry place → EntryStands g c n entry place
+      entry_same : (c n : ℕ) (entry : Entry K V M) (place : Place K V M) → EntryStands f c n entry place → EntryStands g c n entry place
       entry_same c n entry Waiting x = x
       entry_same c n entry (Running r st o) x = (subst (λ (m : ℕ). r < m) (sym e.started) x.0, e.runs r ∙ x.1)
       entry_same c n entry (Ready reply) x = x
@@ -68,16 +68,16 @@ module _ {K V L O : Type 0} (AsLane : L → Client K V O → Type 0) (means : So
       entry_same c n entry Dropped x = x
 
   -- the client of a lane
-  pub open_of : (f : Fields K L) (l : Ledger K V O) (c : ℕ) (lane : L) → Stands AsLane means puts f l → f.lanes c ≡ Some lane
-      → (client : Client K V O) × IsOpen l c client × AsLane lane client
+  pub open_of : (f : Fields K L) (l : Ledger K V M O) (c : ℕ) (lane : L) → Stands AsLane means puts f l → f.lanes c ≡ Some lane
+      → (client : Client K V M O) × IsOpen l c client × AsLane lane client
   open_of f l c lane s h =
       let a : c < f.clients = s.within c lane h in
       let b : length l.clients ≡ f.clients = s.clients in
       let w = get_there l.clients c (omega arith) in
       by_flag w.0 w.1 w.0.is_open refl
     where
-      by_flag : (client : Client K V O) → slice_get l.clients c ≡ Some client → (flag : Bool) → client.is_open ≡ flag
-          → (client : Client K V O) × IsOpen l c client × AsLane lane client
+      by_flag : (client : Client K V M O) → slice_get l.clients c ≡ Some client → (flag : Bool) → client.is_open ≡ flag
+          → (client : Client K V M O) × IsOpen l c client × AsLane lane client
       by_flag client here true e =
           let x = (s.each c client here).lane e in
           let same : x.0 ≡ lane = some_one x.0 lane (sym x.1 ∙ h) in
@@ -85,47 +85,47 @@ module _ {K V L O : Type 0} (AsLane : L → Client K V O → Type 0) (means : So
       by_flag client here false e = absurd (none_some lane (sym ((s.each c client here).shut e) ∙ h))
 
   -- a client without a lane is closed
-  pub closed_of : (f : Fields K L) (l : Ledger K V O) (c : ℕ) → Stands AsLane means puts f l → f.lanes c ≡ None → c < f.clients → IsClosed l c
+  pub closed_of : (f : Fields K L) (l : Ledger K V M O) (c : ℕ) → Stands AsLane means puts f l → f.lanes c ≡ None → c < f.clients → IsClosed l c
   closed_of f l c s h a =
       let b : length l.clients ≡ f.clients = s.clients in
       let w = get_there l.clients c (omega arith) in
       by_flag w.0 w.1 w.0.is_open refl
     where
-      by_flag : (client : Client K V O) → slice_get l.clients c ≡ Some client → (flag : Bool) → client.is_open ≡ flag → IsClosed l c
+      by_flag : (client : Client K V M O) → slice_get l.clients c ≡ Some client → (flag : Bool) → client.is_open ≡ flag → IsClosed l c
       by_flag client here true e = absurd (none_some ((s.each c client here).lane e).0 (sym h ∙ ((s.each c client here).lane e).1))
       by_flag client here false e = record { client = client; here = here; closed = e }
 
   -- without a lane the client is not open
-  pub none_open : (f : Fields K L) (l : Ledger K V O) (c : ℕ) → Stands AsLane means puts f l → f.lanes c ≡ None → (client : Client K V O) → IsOpen l c client → ⊥
+  pub none_open : (f : Fields K L) (l : Ledger K V M O) (c : ℕ) → Stands AsLane means puts f l → f.lanes c ≡ None → (client : Client K V M O) → IsOpen l c client → ⊥
   none_open f l c s h client o = let x = (s.each c client o.here).lane o.open_yet in none_some x.0 (sym h ∙ x.1)
 
   -- a run of the ledger, and a run of the core
-  pub run_seen : (f : Fields K L) (l : Ledger K V O) (r : ℕ) (at : RunAt K V O) → Stands AsLane means puts f l → Runs l r at
+  pub run_seen : (f : Fields K L) (l : Ledger K V M O) (r : ℕ) (at : RunAt K V M O) → Stands AsLane means puts f l → Runs l r at
       → f.runs r ≡ Some (record { client = at.c; number = at.n; request = at.entry.request; started = at.started; out = at.out })
   run_seen f l r at s h =
-      (subst (λ (p : Place K V). EntryStands f at.c at.n at.entry p) h.runs ((s.each at.c at.client h.is_entry.client_here).entries at.n at.entry h.is_entry.here)).1
+      (subst (λ (p : Place K V M). EntryStands f at.c at.n at.entry p) h.runs ((s.each at.c at.client h.is_entry.client_here).entries at.n at.entry h.is_entry.here)).1
 
-  pub none_runs : (f : Fields K L) (l : Ledger K V O) (r : ℕ) → Stands AsLane means puts f l → f.runs r ≡ None → NoneRuns l r
+  pub none_runs : (f : Fields K L) (l : Ledger K V M O) (r : ℕ) → Stands AsLane means puts f l → f.runs r ≡ None → NoneRuns l r
   none_runs f l r s h at x = none_some _ (sym h ∙ run_seen f l r at s x)
 
   -- the run of the ledger that the core keeps
-  pub run_at : (f : Fields K L) (l : Ledger K V O) (r : ℕ) (run : RunSeen K) → Stands AsLane means puts f l → f.runs r ≡ Some run
-      → (at : RunAt K V O) × Runs l r at × (run ≡ record { client = at.c; number = at.n; request = at.entry.request; started = at.started; out = at.out })
+  pub run_at : (f : Fields K L) (l : Ledger K V M O) (r : ℕ) (run : RunSeen K) → Stands AsLane means puts f l → f.runs r ≡ Some run
+      → (at : RunAt K V M O) × Runs l r at × (run ≡ record { client = at.c; number = at.n; request = at.entry.request; started = at.started; out = at.out })
   run_at f l r run s h =
       let x = s.runs r run h in
-      let at : RunAt K V O = record { c = run.client; client = x.client; n = run.number; entry = x.entry; started = run.started; out = run.out } in
+      let at : RunAt K V M O = record { c = run.client; client = x.client; n = run.number; entry = x.entry; started = run.started; out = run.out } in
       let there : Runs l r at = record { is_entry = record { client_here = x.client_here; here = x.here }; runs = x.runs } in
       (at, there, some_one run _ (sym h ∙ run_seen f l r at s there))
 
   -- the run's client is open exactly where it has a lane
-  pub lane_open : (f : Fields K L) (l : Ledger K V O) (c : ℕ) (client : Client K V O) (lane : L) → Stands AsLane means puts f l → slice_get l.clients c ≡ Some client
+  pub lane_open : (f : Fields K L) (l : Ledger K V M O) (c : ℕ) (client : Client K V M O) (lane : L) → Stands AsLane means puts f l → slice_get l.clients c ≡ Some client
       → f.lanes c ≡ Some lane → (client.is_open ≡ true) × AsLane lane client
   lane_open f l c client lane s here h =
       let w = open_of f l c lane s h in
       let same : w.0 ≡ client = some_one w.0 client (sym w.1.here ∙ here) in
-      (subst (λ (y : Client K V O). y.is_open ≡ true) same w.1.open_yet, subst (λ (y : Client K V O). AsLane lane y) same w.2)
+      (subst (λ (y : Client K V M O). y.is_open ≡ true) same w.1.open_yet, subst (λ (y : Client K V M O). AsLane lane y) same w.2)
 
-  pub lane_shut : (f : Fields K L) (l : Ledger K V O) (c : ℕ) (client : Client K V O) → Stands AsLane means puts f l → slice_get l.clients c ≡ Some client
+  pub lane_shut : (f : Fields K L) (l : Ledger K V M O) (c : ℕ) (client : Client K V M O) → Stands AsLane means puts f l → slice_get l.clients c ≡ Some client
       → f.lanes c ≡ None → client.is_open ≡ false
   lane_shut f l c client s here h = by_flag client.is_open refl
     where
@@ -134,7 +134,7 @@ module _ {K V L O : Type 0} (AsLane : L → Client K V O → Type 0) (means : So
       by_flag false e = e
 
   -- a run's request has another entry, and the run is kept as `run`, or is over
-  pub run_entry : (f g : Fields K L) (l m : Ledger K V O) (r : ℕ) (at : RunAt K V O) (entry : Entry K V) (run : Option (RunSeen K))
+  pub run_entry : (f g : Fields K L) (l m : Ledger K V M O) (r : ℕ) (at : RunAt K V M O) (entry : Entry K V M) (run : Option (RunSeen K))
       → Stands AsLane means puts f l → Runs l r at → SameCounts f g → RunSet f g r run → g.started ≡ f.started
       → ((k : ℕ) → k ≢ at.c → g.lanes k ≡ f.lanes k)
       → (at.client.is_open ≡ true → (lane : L) × (g.lanes at.c ≡ Some lane) × AsLane lane (with_entry at.client at.n entry))
@@ -158,7 +158,7 @@ module _ {K V L O : Type 0} (AsLane : L → Client K V O → Type 0) (means : So
         ];
       } in
       restand AsLane means puts f g l m at.c at.n at.client (with_entry at.client at.n entry) s h.is_entry.client_here elsewhere counts.inputs counts.clients
-      (ap (λ (y : Ledger K V O). y.inputs) e) (ap (λ (y : Ledger K V O). y.clients) e) (ap (λ (y : Ledger K V O). y.runs) e ∙ (s.started ∙ sym started))
+      (ap (λ (y : Ledger K V M O). y.inputs) e) (ap (λ (y : Ledger K V M O). y.clients) e) (ap (λ (y : Ledger K V M O). y.runs) e ∙ (s.started ∙ sym started))
       (count_same l.clients at.c at.client (with_entry at.client at.n entry) h.is_entry.client_here refl ∙ (s.opened ∙ sym counts.opened))
       (λ i other ne w. set_other at.client.entries at.n entry i ne ∙ w)
       (client_entry AsLane f g at.c at.n at.client entry elsewhere (s.each at.c at.client h.is_entry.client_here) there lane shut dropped)
@@ -179,7 +179,7 @@ module _ {K V L O : Type 0} (AsLane : L → Client K V O → Type 0) (means : So
       there_at x q w v = place x (sym runs.here ∙ (ap g.runs (sym v) ∙ w))
 
       run_at_entry : (x : RunSeen K) (q : ℕ) → g.runs q ≡ Some x → x.client ≡ at.c → x.number ≡ at.n
-          → (other : Entry K V) × (slice_get (slice_set at.client.entries at.n entry) at.n ≡ Some other) × (other.place ≡ Running q x.started x.out) × (x.request ≡ other.request)
+          → (other : Entry K V M) × (slice_get (slice_set at.client.entries at.n entry) at.n ≡ Some other) × (other.place ≡ Running q x.started x.out) × (x.request ≡ other.request)
       run_at_entry x q w v z = elim (same_or_other q r) [
         | inl u ↦
             let fits = there_at x q w u in (
@@ -193,10 +193,10 @@ module _ {K V L O : Type 0} (AsLane : L → Client K V O → Type 0) (means : So
             let client_is : before.client ≡ at.client = some_one before.client at.client (sym before.client_here ∙ (ap (λ (y : ℕ). slice_get l.clients y) v ∙ h.is_entry.client_here)) in
             let entry_is : before.entry ≡ at.entry =
             some_one before.entry at.entry
-            (sym before.here ∙ (ap (λ (y : Client K V O). slice_get y.entries x.number) client_is
+            (sym before.here ∙ (ap (λ (y : Client K V M O). slice_get y.entries x.number) client_is
             ∙ (ap (λ (y : ℕ). slice_get at.client.entries y) z ∙ h.is_entry.here))) in
-            absurd (u (run_one (sym before.runs ∙ (ap (λ (y : Entry K V). y.place) entry_is ∙ h.runs))))
+            absurd (u (run_one (sym before.runs ∙ (ap (λ (y : Entry K V M). y.place) entry_is ∙ h.runs))))
       ]
         where
-          run_one : {a b t u : ℕ} {o p : Option (Out K)} → placed {K = K} {V = V} a t o ≡ placed {K = K} {V = V} b u p → a ≡ b
+          run_one : {a b t u : ℕ} {o p : Option (Out K)} → placed {K = K} {V = V} {M = M} a t o ≡ placed {K = K} {V = V} {M = M} b u p → a ≡ b
           run_one e = cc

@@ -19,6 +19,7 @@ use Rattle.pq_core.proofs.Ending.{end_stands, out_stands}
 use Rattle.pq_core.proofs.Keeping.{runs_placed, kept_looks, kept_gives}
 use Rattle.pq_core.proofs.LaneMoves.{owed_within, running_owed, finished_stands, out_changed_stands}
 use Rattle.pq_core.proofs.Queued.{queue_same, queue_finished}
+use Rattle.pq_core.specs.Points.{Point, point_now}
 use Rattle.pq_core.specs.Replies.{ReplyView}
 use Rattle.pq_core.specs.Ledger.{Out, Ledger, with_entry}
 use Rattle.pq_core.specs.RightReply.{answer_by}
@@ -39,93 +40,93 @@ use Rattle.pq_core.specs.declared.outcome.Outcome.TheVariants.{Cancelled, Answer
 use Rattle.pq_core.specs.declared.moves.Move.TheVariants.{Carry, Stepped, Answered as MoveAnswered, Stopped}
 
 -- `at_seen at` is what the ledger knows of the run `at`
-abbrev pub at_seen : {K V O : Type 0} → RunAt K V O → RunSeen K
+abbrev pub at_seen : {K V M O : Type 0} → RunAt K V M O → RunSeen K
 at_seen at = record { client = at.c; number = at.n; request = at.entry.request; started = at.started; out = at.out }
 
 -- `RunHere l r run` is that `run` is the run `r` of the ledger
-pub record RunHere {K P V O : Type 0} (l : Ledger K V O) (r : ℕ) (run : RunView K P) : Type 0 where
-  pub at : RunAt K V O
+pub record RunHere {K P V M O : Type 0} (l : Ledger K V M O) (r : ℕ) (run : RunView K P) : Type 0 where
+  pub at : RunAt K V M O
   pub runs : Runs l r at
   pub same : seen_of run ≡ at_seen at
 
 -- `lane_reply run revision outcome` is the reply of `outcome` to the request of `run`
-abbrev pub lane_reply : {K P V : Type 0} → RunView K P → ℕ → Outcome K V → ReplyView K V
+abbrev pub lane_reply : {K P V M : Type 0} → RunView K P → ℕ → Outcome K V M → ReplyView K V M
 lane_reply run revision outcome = record { client = run.client; number = run.number; request = run.request; revision = revision; outcome = outcome }
 
 -- `cancelled_as started seen` is the outcome of a run that was stopped
-abbrev pub cancelled_as : {K V : Type 0} → ℕ → ℕ → Outcome K V
+abbrev pub cancelled_as : {K V M : Type 0} → ℕ → ℕ → Outcome K V M
 cancelled_as started seen = Cancelled started seen
 
 -- `SameBut b a` is that but for lanes and runs `a` keeps what `b` keeps
-pub record SameBut {K P V O : Type 0} (b a : Held K P V O) : Type 0 where
+pub record SameBut {K P V M O : Type 0} (b a : Held K P V M O) : Type 0 where
   pub inputs : a.inputs ≡ b.inputs
   pub opened : a.opened ≡ b.opened
   pub clients : a.clients ≡ b.clients
   pub started : a.started ≡ b.started
 
-module _ {K P V O : Type 0} (order : K → K → Ordering) (m : Machine K P V) (puts : O → List (ReplyView K V)) where
+module _ {K P V M O : Type 0} (order : K → K → Ordering) (m : Machine K P V) (point : M → Point) (puts : O → List (ReplyView K V M)) where
   -- the run of the ledger that the core keeps
-  pub run_here : (b : Held K P V O) (l : Ledger K V O) (r : ℕ) (run : RunView K P) → StandsOf order m puts b l → found b.runs r ≡ Some run → RunHere l r run
+  pub run_here : (b : Held K P V M O) (l : Ledger K V M O) (r : ℕ) (run : RunView K P) → StandsOf order m point puts b l → found b.runs r ≡ Some run → RunHere l r run
   run_here b l r run s h =
-      let x = run_at (LaneStands puts) (answer_by order m) puts (fields_of b) l r (seen_of run) s (ap (option_map seen_of) h) in
+      let x = run_at (LaneStands puts) (answer_by order m point) puts (fields_of b) l r (seen_of run) s (ap (option_map seen_of) h) in
       record { at = x.0; runs = x.1; same = x.2 }
 
-  pub no_run : (b : Held K P V O) (l : Ledger K V O) (r : ℕ) → StandsOf order m puts b l → found b.runs r ≡ None → NoneRuns l r
-  no_run b l r s h = none_runs (LaneStands puts) (answer_by order m) puts (fields_of b) l r s (ap (option_map seen_of) h)
+  pub no_run : (b : Held K P V M O) (l : Ledger K V M O) (r : ℕ) → StandsOf order m point puts b l → found b.runs r ≡ None → NoneRuns l r
+  no_run b l r s h = none_runs (LaneStands puts) (answer_by order m point) puts (fields_of b) l r s (ap (option_map seen_of) h)
 
   -- a run's request is in a run in its lane, so in the window of its client; and it is for a key
-  pub run_owed : (b : Held K P V O) (l : Ledger K V O) (r : ℕ) (run : RunView K P) (lane : LaneView K V O) → StandsOf order m puts b l → found b.runs r ≡ Some run
+  pub run_owed : (b : Held K P V M O) (l : Ledger K V M O) (r : ℕ) (run : RunView K P) (lane : LaneView K V M O) → StandsOf order m point puts b l → found b.runs r ≡ Some run
       → found b.lanes run.client ≡ Some lane → IsOwed lane run.number OwedRunning
   run_owed b l r run lane s h there =
       let x = run_here b l r run s h in
       let c_is : run.client ≡ x.at.c = ap (λ (y : RunSeen K). y.client) x.same in
       let n_is : run.number ≡ x.at.n = ap (λ (y : RunSeen K). y.number) x.same in
-      let w = lane_open (LaneStands puts) (answer_by order m) puts (fields_of b) l x.at.c x.at.client lane s x.runs.is_entry.client_here (ap (λ (c : ℕ). found b.lanes c) (sym c_is) ∙ there) in
+      let w = lane_open (LaneStands puts) (answer_by order m point) puts (fields_of b) l x.at.c x.at.client lane s x.runs.is_entry.client_here (ap (λ (c : ℕ). found b.lanes c) (sym c_is) ∙ there) in
       subst (λ (n : ℕ). IsOwed lane n OwedRunning) (sym n_is)
-      (running_owed puts (answer_by order m) l.inputs x.at.c lane x.at.client x.at.n x.at.entry r x.at.started x.at.out
+      (running_owed puts (answer_by order m point) l.inputs x.at.c lane x.at.client x.at.n x.at.entry r x.at.started x.at.out
       (s.kept.clients x.at.c x.at.client x.runs.is_entry.client_here) w.1 x.runs.is_entry.here x.runs.runs)
 
-  pub run_within : (b : Held K P V O) (l : Ledger K V O) (r : ℕ) (run : RunView K P) (lane : LaneView K V O) → StandsOf order m puts b l → found b.runs r ≡ Some run
+  pub run_within : (b : Held K P V M O) (l : Ledger K V M O) (r : ℕ) (run : RunView K P) (lane : LaneView K V M O) → StandsOf order m point puts b l → found b.runs r ≡ Some run
       → found b.lanes run.client ≡ Some lane → (lane.put ≤ run.number) × (run.number < lane.put + length lane.owed)
   run_within b l r run lane s h there = let w = run_owed b l r run lane s h there in (w.past, owed_within puts lane run.number OwedRunning w)
 
   -- the queue after a run has ended
-  pub end_queue : (b : Held K P V O) (a : List (Place (LaneView K V O))) (queue : List (ℕ × ℕ)) (l : Ledger K V O) (r : ℕ) (run last : RunView K P) (reply : ReplyView K V)
-      → StandsOf order m puts b l → found b.runs r ≡ Some run → IsSameRun run last
-      → ((lane : LaneView K V O) → found b.lanes last.client ≡ Some lane
+  pub end_queue : (b : Held K P V M O) (a : List (Place (LaneView K V M O))) (queue : List (ℕ × ℕ)) (l : Ledger K V M O) (r : ℕ) (run last : RunView K P) (reply : ReplyView K V M)
+      → StandsOf order m point puts b l → found b.runs r ≡ Some run → IsSameRun run last
+      → ((lane : LaneView K V M O) → found b.lanes last.client ≡ Some lane
       → (k : ℕ) → found a k ≡ (if k == last.client then Some (with_owed lane last.number (OwedReady reply)) else found b.lanes k))
       → (found b.lanes last.client ≡ None → (k : ℕ) → found a k ≡ found b.lanes k)
       → IsQueue b.lanes queue → IsQueue a queue
   end_queue b a queue l r run last reply s h is set same q = by_lane (found b.lanes last.client) refl
     where
-      owed : (lane : LaneView K V O) → found b.lanes last.client ≡ Some lane → IsOwed lane last.number OwedRunning
+      owed : (lane : LaneView K V M O) → found b.lanes last.client ≡ Some lane → IsOwed lane last.number OwedRunning
       owed lane here =
           subst (λ (n : ℕ). IsOwed lane n OwedRunning) (sym is.number) (run_owed b l r run lane s h (ap (λ (c : ℕ). found b.lanes c) (sym is.client) ∙ here))
 
-      by_lane : (lane : Option (LaneView K V O)) → found b.lanes last.client ≡ lane → IsQueue a queue
+      by_lane : (lane : Option (LaneView K V M O)) → found b.lanes last.client ≡ lane → IsQueue a queue
       by_lane (Some lane) here = queue_finished b.lanes a queue last.client last.number lane reply here (owed lane here) (set lane here) q
       by_lane None none = queue_same b.lanes a queue (same none) q
 
-  pub run_demands : (b : Held K P V O) (l : Ledger K V O) (r : ℕ) (run : RunView K P) → StandsOf order m puts b l → found b.runs r ≡ Some run → IsDemand run.request.want
+  pub run_demands : (b : Held K P V M O) (l : Ledger K V M O) (r : ℕ) (run : RunView K P) → StandsOf order m point puts b l → found b.runs r ≡ Some run → IsDemand run.request.want
   run_demands b l r run s h =
       let x = run_here b l r run s h in
-      subst (λ (y : RunSeen K). IsDemand y.request.want) (sym x.same) (runs_placed (answer_by order m) puts l r x.at s.kept x.runs).1
+      subst (λ (y : RunSeen K). IsDemand y.request.want) (sym x.same) (runs_placed (answer_by order m point) puts l r x.at s.kept x.runs).1
 
   -- a run is overtaken where its start is older than now, or its client has no lane
-  pub overtaken : (b : Held K P V O) (l : Ledger K V O) (r : ℕ) (run : RunView K P) → StandsOf order m puts b l → (x : RunHere l r run)
+  pub overtaken : (b : Held K P V M O) (l : Ledger K V M O) (r : ℕ) (run : RunView K P) → StandsOf order m point puts b l → (x : RunHere l r run)
       → (run.started < b.inputs.revision) ⊎ (found b.lanes run.client ≡ None) → IsOvertaken l x.at
   overtaken b l r run s x o = elim o [
     | inl late ↦ inl (subst (λ (t : Table). x.at.started < t.revision) (sym s.inputs) (subst (λ (y : RunSeen K). y.started < b.inputs.revision) x.same late))
     | inr shut ↦
-        inr (lane_shut (LaneStands puts) (answer_by order m) puts (fields_of b) l x.at.c x.at.client s x.runs.is_entry.client_here
+        inr (lane_shut (LaneStands puts) (answer_by order m point) puts (fields_of b) l x.at.c x.at.client s x.runs.is_entry.client_here
         (subst (λ (y : RunSeen K). found b.lanes y.client ≡ None) x.same shut))
   ]
 
   -- and else it is current
-  pub current : (b : Held K P V O) (l : Ledger K V O) (r : ℕ) (run : RunView K P) → StandsOf order m puts b l → (x : RunHere l r run)
+  pub current : (b : Held K P V M O) (l : Ledger K V M O) (r : ℕ) (run : RunView K P) → StandsOf order m point puts b l → (x : RunHere l r run)
       → ((run.started < b.inputs.revision) ⊎ (found b.lanes run.client ≡ None) → ⊥) → IsCurrent l x.at × (run.started ≡ b.inputs.revision)
   current b l r run s x o =
-      let placed = runs_placed (answer_by order m) puts l r x.at s.kept x.runs in
+      let placed = runs_placed (answer_by order m point) puts l r x.at s.kept x.runs in
       let past : x.at.started ≤ l.inputs.revision = placed.3 in
       let same : run.started ≡ x.at.started = ap (λ (y : RunSeen K). y.started) x.same in
       let now : l.inputs.revision ≡ b.inputs.revision = ap (λ (t : Table). t.revision) s.inputs in
@@ -140,22 +141,22 @@ module _ {K P V O : Type 0} (order : K → K → Ordering) (m : Machine K P V) (
       exactly : (i j : ℕ) → i ≤ j → (i < j → ⊥) → i ≡ j
       exactly i j h f = grind (arith, f)
 
-      still : (lane : Option (LaneView K V O)) → found b.lanes run.client ≡ lane → x.at.client.is_open ≡ true
+      still : (lane : Option (LaneView K V M O)) → found b.lanes run.client ≡ lane → x.at.client.is_open ≡ true
       still None h = absurd (o (inr h))
       still (Some lane) h =
-          (lane_open (LaneStands puts) (answer_by order m) puts (fields_of b) l x.at.c x.at.client lane s x.runs.is_entry.client_here
+          (lane_open (LaneStands puts) (answer_by order m point) puts (fields_of b) l x.at.c x.at.client lane s x.runs.is_entry.client_here
           (subst (λ (y : RunSeen K). found b.lanes y.client ≡ Some lane) x.same h)).0
 
   -- a run that was taken out ends
-  pub end_moved : (b a : Held K P V O) (l : Ledger K V O) (r : ℕ) (run : RunView K P) (starved : Bool) (outcome : Outcome K V) (x : RunHere l r run)
-      → StandsOf order m puts b l → found b.runs r ≡ Some run
+  pub end_moved : (b a : Held K P V M O) (l : Ledger K V M O) (r : ℕ) (run : RunView K P) (starved : Bool) (outcome : Outcome K V M) (x : RunHere l r run)
+      → StandsOf order m point puts b l → found b.runs r ≡ Some run
       → ((k : ℕ) → found a.runs k ≡ (if k == r then None else found b.runs k))
-      → ((lane : LaneView K V O) → found b.lanes run.client ≡ Some lane
+      → ((lane : LaneView K V M O) → found b.lanes run.client ≡ Some lane
       → (k : ℕ) → found a.lanes k ≡ (if k == run.client then Some (with_owed lane run.number (OwedReady (lane_reply run b.inputs.revision outcome))) else found b.lanes k))
       → (found b.lanes run.client ≡ None → (k : ℕ) → found a.lanes k ≡ found b.lanes k)
-      → SameBut b a → Kept (answer_by order m) puts (ended l x.at starved outcome) → StandsOf order m puts a (ended l x.at starved outcome)
+      → SameBut b a → Kept (answer_by order m point) puts (ended l x.at starved outcome) → StandsOf order m point puts a (ended l x.at starved outcome)
   end_moved b a l r run starved outcome x s h runs set same but kept =
-      end_stands (LaneStands puts) (answer_by order m) puts (fields_of b) (fields_of a) l (ended l x.at starved outcome) r x.at starved outcome s x.runs
+      end_stands (LaneStands puts) (answer_by order m point) puts (fields_of b) (fields_of a) l (ended l x.at starved outcome) r x.at starved outcome s x.runs
       (record { inputs = but.inputs; opened = but.opened; clients = but.clients })
       (record {
         here = ap (option_map seen_of) (runs r ∙ if_at r None (found b.runs r));
@@ -175,46 +176,46 @@ module _ {K P V O : Type 0} (order : K → K → Ordering) (m : Machine K P V) (
           subst (λ (y : RunSeen K). lane_reply run b.inputs.revision outcome ≡ record { client = y.client; number = y.number; request = y.request; revision = l.inputs.revision; outcome = outcome }) x.same
           (ap (λ (i : ℕ). record { client = run.client; number = run.number; request = run.request; revision = i; outcome = outcome }) (ap (λ (t : Table). t.revision) (sym s.inputs)))
 
-      elsewhere : (lane : Option (LaneView K V O)) → found b.lanes run.client ≡ lane → (k : ℕ) → k ≢ x.at.c → found a.lanes k ≡ found b.lanes k
+      elsewhere : (lane : Option (LaneView K V M O)) → found b.lanes run.client ≡ lane → (k : ℕ) → k ≢ x.at.c → found a.lanes k ≡ found b.lanes k
       elsewhere None e k ne = same e k
       elsewhere (Some lane) e k ne = set lane e k ∙ if_other k run.client (Some _) (found b.lanes k) (λ i. ne (i ∙ c_is))
 
-      shut_so : (lane : Option (LaneView K V O)) → found b.lanes run.client ≡ lane → x.at.client.is_open ≡ false → found a.lanes x.at.c ≡ None
+      shut_so : (lane : Option (LaneView K V M O)) → found b.lanes run.client ≡ lane → x.at.client.is_open ≡ false → found a.lanes x.at.c ≡ None
       shut_so None e o = same e x.at.c ∙ (ap (λ (c : ℕ). found b.lanes c) (sym c_is) ∙ e)
       shut_so (Some lane) e o =
-          absurd (both (sym (lane_open (LaneStands puts) (answer_by order m) puts (fields_of b) l x.at.c x.at.client lane s x.runs.is_entry.client_here
+          absurd (both (sym (lane_open (LaneStands puts) (answer_by order m point) puts (fields_of b) l x.at.c x.at.client lane s x.runs.is_entry.client_here
           (ap (λ (c : ℕ). found b.lanes c) (sym c_is) ∙ e)).0 ∙ o))
         where
           both : true ≡ false → ⊥
           both z = cc
 
-      opened_so : (lane : Option (LaneView K V O)) → found b.lanes run.client ≡ lane → x.at.client.is_open ≡ true
-          → (after : LaneView K V O) × (found a.lanes x.at.c ≡ Some after) × LaneStands puts after (with_entry x.at.client x.at.n (ended_entry l x.at starved outcome))
+      opened_so : (lane : Option (LaneView K V M O)) → found b.lanes run.client ≡ lane → x.at.client.is_open ≡ true
+          → (after : LaneView K V M O) × (found a.lanes x.at.c ≡ Some after) × LaneStands puts after (with_entry x.at.client x.at.n (ended_entry l x.at starved outcome))
       opened_so None e o =
-          absurd (both (sym o ∙ lane_shut (LaneStands puts) (answer_by order m) puts (fields_of b) l x.at.c x.at.client s x.runs.is_entry.client_here
+          absurd (both (sym o ∙ lane_shut (LaneStands puts) (answer_by order m point) puts (fields_of b) l x.at.c x.at.client s x.runs.is_entry.client_here
           (ap (λ (c : ℕ). found b.lanes c) (sym c_is) ∙ e)))
         where
           both : true ≡ false → ⊥
           both z = cc
       opened_so (Some lane) e o =
           let within = run_within b l r run lane s h e in
-          let w = lane_open (LaneStands puts) (answer_by order m) puts (fields_of b) l x.at.c x.at.client lane s x.runs.is_entry.client_here (ap (λ (c : ℕ). found b.lanes c) (sym c_is) ∙ e) in (
+          let w = lane_open (LaneStands puts) (answer_by order m point) puts (fields_of b) l x.at.c x.at.client lane s x.runs.is_entry.client_here (ap (λ (c : ℕ). found b.lanes c) (sym c_is) ∙ e) in (
             with_owed lane run.number (OwedReady (lane_reply run b.inputs.revision outcome)),
             ap (λ (c : ℕ). found a.lanes c) (sym c_is) ∙ (set lane e run.client ∙ if_at run.client (Some _) (found b.lanes run.client)),
             subst (λ (n : ℕ). LaneStands puts (with_owed lane n (OwedReady (lane_reply run b.inputs.revision outcome))) (with_entry x.at.client x.at.n (ended_entry l x.at starved outcome))) (sym n_is)
-                (subst (λ (y : ReplyView K V). LaneStands puts (with_owed lane x.at.n (OwedReady y)) (with_entry x.at.client x.at.n (ended_entry l x.at starved outcome))) (sym reply_is)
+                (subst (λ (y : ReplyView K V M). LaneStands puts (with_owed lane x.at.n (OwedReady y)) (with_entry x.at.client x.at.n (ended_entry l x.at starved outcome))) (sym reply_is)
                 (finished_stands puts lane x.at.client x.at.n (ended_entry l x.at starved outcome) (reply_at l x.at outcome) w.1
                 (subst (λ (n : ℕ). lane.put ≤ n) n_is within.0) (subst (λ (n : ℕ). n < lane.put + length lane.owed) n_is within.1)
                 (ap (λ (f : Bool). place_ended f (reply_at l x.at outcome)) o))),
           )
 
   -- the work of a run that was taken out and put back is another
-  pub out_moved : (b a : Held K P V O) (l : Ledger K V O) (r : ℕ) (run after : RunView K P) (x : RunHere l r run)
-      → StandsOf order m puts b l → found b.runs r ≡ Some run → IsSameRun run after
+  pub out_moved : (b a : Held K P V M O) (l : Ledger K V M O) (r : ℕ) (run after : RunView K P) (x : RunHere l r run)
+      → StandsOf order m point puts b l → found b.runs r ≡ Some run → IsSameRun run after
       → ((k : ℕ) → found a.runs k ≡ (if k == r then Some after else found b.runs k)) → ((k : ℕ) → found a.lanes k ≡ found b.lanes k) → SameBut b a
-      → Kept (answer_by order m) puts (with_out l r x.at (out_at after.top)) → StandsOf order m puts a (with_out l r x.at (out_at after.top))
+      → Kept (answer_by order m point) puts (with_out l r x.at (out_at after.top)) → StandsOf order m point puts a (with_out l r x.at (out_at after.top))
   out_moved b a l r run after x s h is runs lanes but kept =
-      out_stands (LaneStands puts) (answer_by order m) puts (fields_of b) (fields_of a) l (with_out l r x.at (out_at after.top)) r x.at (out_at after.top) s x.runs
+      out_stands (LaneStands puts) (answer_by order m point) puts (fields_of b) (fields_of a) l (with_out l r x.at (out_at after.top)) r x.at (out_at after.top) s x.runs
       (record { inputs = but.inputs; opened = but.opened; clients = but.clients })
       (record {
         here = ap (option_map seen_of) (runs r ∙ if_at r (Some after) (found b.runs r)) ∙ ap Some seen_is;
@@ -232,11 +233,11 @@ module _ {K P V O : Type 0} (order : K → K → Ordering) (m : Machine K P V) (
           ∙ ap (λ (y : ℕ). record { client = x.at.c; number = x.at.n; request = x.at.entry.request; started = y; out = out_at after.top }) (is.started ∙ ap (λ (y : RunSeen K). y.started) x.same)))
 
   -- a run that was taken out is put back, its work as before
-  pub back_moved : (b a : Held K P V O) (l : Ledger K V O) (r : ℕ) (run after : RunView K P) → StandsOf order m puts b l → found b.runs r ≡ Some run → IsSameRun run after
+  pub back_moved : (b a : Held K P V M O) (l : Ledger K V M O) (r : ℕ) (run after : RunView K P) → StandsOf order m point puts b l → found b.runs r ≡ Some run → IsSameRun run after
       → out_at after.top ≡ out_at run.top → ((k : ℕ) → found a.runs k ≡ (if k == r then Some after else found b.runs k)) → ((k : ℕ) → found a.lanes k ≡ found b.lanes k)
-      → SameBut b a → StandsOf order m puts a l
+      → SameBut b a → StandsOf order m point puts a l
   back_moved b a l r run after s h is out runs lanes but =
-      stands_same (LaneStands puts) (answer_by order m) puts (fields_of b) (fields_of a) l
+      stands_same (LaneStands puts) (answer_by order m point) puts (fields_of b) (fields_of a) l
       (record {
         counts = record { inputs = but.inputs; opened = but.opened; clients = but.clients };
         lanes = lanes;
@@ -260,11 +261,11 @@ module _ {K P V O : Type 0} (order : K → K → Ordering) (m : Machine K P V) (
       same_seen k false e = ap (option_map seen_of) (runs k ∙ ap (λ (z : Bool). if z then Some after else found b.runs k) e)
 
 -- what the ledger knows of each run is the same
-module _ {K P V O : Type 0} (order : K → K → Ordering) (m : Machine K P V) (puts : O → List (ReplyView K V)) where
-  pub seen_moved : (b a : Held K P V O) (l : Ledger K V O) → ((k : ℕ) → option_map seen_of (found a.runs k) ≡ option_map seen_of (found b.runs k))
-      → ((k : ℕ) → found a.lanes k ≡ found b.lanes k) → SameBut b a → StandsOf order m puts b l → StandsOf order m puts a l
+module _ {K P V M O : Type 0} (order : K → K → Ordering) (m : Machine K P V) (point : M → Point) (puts : O → List (ReplyView K V M)) where
+  pub seen_moved : (b a : Held K P V M O) (l : Ledger K V M O) → ((k : ℕ) → option_map seen_of (found a.runs k) ≡ option_map seen_of (found b.runs k))
+      → ((k : ℕ) → found a.lanes k ≡ found b.lanes k) → SameBut b a → StandsOf order m point puts b l → StandsOf order m point puts a l
   seen_moved b a l runs lanes but s =
-      stands_same (LaneStands puts) (answer_by order m) puts (fields_of b) (fields_of a) l
+      stands_same (LaneStands puts) (answer_by order m point) puts (fields_of b) (fields_of a) l
       (record {
         counts = record { inputs = but.inputs; opened = but.opened; clients = but.clients };
         lanes = lanes;
@@ -273,45 +274,45 @@ module _ {K P V O : Type 0} (order : K → K → Ordering) (m : Machine K P V) (
       })
       s
 
-module _ {R K P V O : Type 0} (order : K → K → Ordering) (m : Machine K P V) (puts : O → List (ReplyView K V)) (rules : R) where
+module _ {R K P V M O : Type 0} (order : K → K → Ordering) (m : Machine K P V) (point : M → Point) (puts : O → List (ReplyView K V M)) (rules : R) where
   -- a run that was overtaken and taken out is stopped
-  pub stop_moved : (b a : Held K P V O) (l : Ledger K V O) (r : ℕ) (run : RunView K P) (x : RunHere l r run)
-      → StandsOf order m puts b l → found b.runs r ≡ Some run → (run.started < b.inputs.revision) ⊎ (found b.lanes run.client ≡ None)
+  pub stop_moved : (b a : Held K P V M O) (l : Ledger K V M O) (r : ℕ) (run : RunView K P) (x : RunHere l r run)
+      → StandsOf order m point puts b l → found b.runs r ≡ Some run → (run.started < b.inputs.revision) ⊎ (found b.lanes run.client ≡ None)
       → ((k : ℕ) → found a.runs k ≡ (if k == r then None else found b.runs k))
-      → ((lane : LaneView K V O) → found b.lanes run.client ≡ Some lane
+      → ((lane : LaneView K V M O) → found b.lanes run.client ≡ Some lane
       → (k : ℕ) → found a.lanes k ≡ (if k == run.client then Some (with_owed lane run.number (OwedReady (lane_reply run b.inputs.revision (Cancelled run.started b.inputs.revision)))) else found b.lanes k))
       → (found b.lanes run.client ≡ None → (k : ℕ) → found a.lanes k ≡ found b.lanes k)
       → SameBut b a → Stops l r (ended l x.at x.at.entry.starved (Cancelled x.at.started l.inputs.revision))
-      × StandsOf order m puts a (ended l x.at x.at.entry.starved (Cancelled x.at.started l.inputs.revision))
+      × StandsOf order m point puts a (ended l x.at x.at.entry.starved (Cancelled x.at.started l.inputs.revision))
   stop_moved b a l r run x s h late runs set same but =
-      let stops : Stops l r (ended l x.at x.at.entry.starved (Cancelled x.at.started l.inputs.revision)) = (x.at, x.runs, overtaken order m puts b l r run s x late, refl) in (
+      let stops : Stops l r (ended l x.at x.at.entry.starved (Cancelled x.at.started l.inputs.revision)) = (x.at, x.runs, overtaken order m point puts b l r run s x late, refl) in (
         stops,
-        end_moved order m puts b a l r run x.at.entry.starved (Cancelled x.at.started l.inputs.revision) x s h runs
-            (λ lane e k. subst (λ (y : Outcome K V). found a.lanes k ≡ (if k == run.client then Some (with_owed lane run.number (OwedReady (lane_reply run b.inputs.revision y))) else found b.lanes k)) same_outcome (set lane e k))
+        end_moved order m point puts b a l r run x.at.entry.starved (Cancelled x.at.started l.inputs.revision) x s h runs
+            (λ lane e k. subst (λ (y : Outcome K V M). found a.lanes k ≡ (if k == run.client then Some (with_owed lane run.number (OwedReady (lane_reply run b.inputs.revision y))) else found b.lanes k)) same_outcome (set lane e k))
             same but
-            (kept_looks (answer_by order m) puts {P = P} rules r (Ok Stopped) l _ s.kept stops),
+            (kept_looks (answer_by order m point) puts {P = P} rules r (Ok Stopped) l _ s.kept stops),
       )
     where
-      same_outcome : cancelled_as {K = K} {V = V} run.started b.inputs.revision ≡ cancelled_as x.at.started l.inputs.revision
+      same_outcome : cancelled_as {K = K} {V = V} {M = M} run.started b.inputs.revision ≡ cancelled_as x.at.started l.inputs.revision
       same_outcome =
           ap (λ (i : ℕ). cancelled_as i b.inputs.revision) (ap (λ (y : RunSeen K). y.started) x.same)
           ∙ ap (λ (i : ℕ). cancelled_as x.at.started i) (ap (λ (t : Table). t.revision) (sym s.inputs))
 
   -- the run `at` is the one that the core keeps
-  pub run_is : (b : Held K P V O) (l : Ledger K V O) (r : ℕ) (run : RunView K P) (at : RunAt K V O) → StandsOf order m puts b l → found b.runs r ≡ Some run → Runs l r at
+  pub run_is : (b : Held K P V M O) (l : Ledger K V M O) (r : ℕ) (run : RunView K P) (at : RunAt K V M O) → StandsOf order m point puts b l → found b.runs r ≡ Some run → Runs l r at
       → seen_of run ≡ at_seen at
   run_is b l r run at s h w =
       some_one (seen_of run) (at_seen at)
-      (ap (option_map seen_of) (sym h) ∙ run_seen (LaneStands puts) (answer_by order m) puts (fields_of b) l r at s w)
+      (ap (option_map seen_of) (sym h) ∙ run_seen (LaneStands puts) (answer_by order m point) puts (fields_of b) l r at s w)
 
   -- a result that does not fit is of no work of the run
-  pub not_fitting : (b : Held K P V O) (l : Ledger K V O) (r : ℕ) (run : RunView K P) (done : DoneView R K P V) → StandsOf order m puts b l → found b.runs r ≡ Some run
-      → ((done.run ≡ r) × (done.started ≡ run.started) × (out_at run.top ≡ Some (out_of done)) → ⊥) → (at : RunAt K V O) → Runs l r at → IsOf r at done → ⊥
+  pub not_fitting : (b : Held K P V M O) (l : Ledger K V M O) (r : ℕ) (run : RunView K P) (done : DoneView R K P V) → StandsOf order m point puts b l → found b.runs r ≡ Some run
+      → ((done.run ≡ r) × (done.started ≡ run.started) × (out_at run.top ≡ Some (out_of done)) → ⊥) → (at : RunAt K V M O) → Runs l r at → IsOf r at done → ⊥
   not_fitting b l r run done s h f at w o =
       let is = run_is b l r run at s h w in
       f (o.run_same, o.started ∙ ap (λ (y : RunSeen K). y.started) (sym is), ap (λ (y : RunSeen K). y.out) is ∙ o.out)
 
-  fits_of : (l : Ledger K V O) (r : ℕ) (run : RunView K P) (done : DoneView R K P V) (x : RunHere l r run)
+  fits_of : (l : Ledger K V M O) (r : ℕ) (run : RunView K P) (done : DoneView R K P V) (x : RunHere l r run)
       → (done.run ≡ r) × (done.started ≡ run.started) × (out_at run.top ≡ Some (out_of done)) → IsOf r x.at done
   fits_of l r run done x f = record {
     run_same = f.0;
@@ -319,84 +320,84 @@ module _ {R K P V O : Type 0} (order : K → K → Ordering) (m : Machine K P V)
     out = ap (λ (y : RunSeen K). y.out) (sym x.same) ∙ f.2;
   }
 
-  idle_of : (l : Ledger K V O) (r : ℕ) (run : RunView K P) (x : RunHere l r run) → out_at run.top ≡ None → x.at.out ≡ None
+  idle_of : (l : Ledger K V M O) (r : ℕ) (run : RunView K P) (x : RunHere l r run) → out_at run.top ≡ None → x.at.out ≡ None
   idle_of l r run x e = ap (λ (y : RunSeen K). y.out) (sym x.same) ∙ e
 
   -- an overtaken run is given its result
-  pub give_stopped : (b a : Held K P V O) (l : Ledger K V O) (r : ℕ) (run : RunView K P) (done : DoneView R K P V) (x : RunHere l r run)
+  pub give_stopped : (b a : Held K P V M O) (l : Ledger K V M O) (r : ℕ) (run : RunView K P) (done : DoneView R K P V) (x : RunHere l r run)
       → (done.run ≡ r) × (done.started ≡ run.started) × (out_at run.top ≡ Some (out_of done))
       → Stops l r (ended l x.at x.at.entry.starved (Cancelled x.at.started l.inputs.revision))
-      × StandsOf order m puts a (ended l x.at x.at.entry.starved (Cancelled x.at.started l.inputs.revision))
-      → StandsOf order m puts b l → (run.started < b.inputs.revision) ⊎ (found b.lanes run.client ≡ None)
-      → Reaches (Gives r done (Ok Stopped)) l (StandsOf order m puts a)
+      × StandsOf order m point puts a (ended l x.at x.at.entry.starved (Cancelled x.at.started l.inputs.revision))
+      → StandsOf order m point puts b l → (run.started < b.inputs.revision) ⊎ (found b.lanes run.client ≡ None)
+      → Reaches (Gives r done (Ok Stopped)) l (StandsOf order m point puts a)
   give_stopped b a l r run done x f w s late =
-      (ended l x.at x.at.entry.starved (Cancelled x.at.started l.inputs.revision), (x.at, x.runs, fits_of l r run done x f, overtaken order m puts b l r run s x late, refl), w.1)
+      (ended l x.at x.at.entry.starved (Cancelled x.at.started l.inputs.revision), (x.at, x.runs, fits_of l r run done x f, overtaken order m point puts b l r run s x late, refl), w.1)
 
   -- a run takes its result
-  pub give_moved : (b a : Held K P V O) (l : Ledger K V O) (r : ℕ) (run after : RunView K P) (done : DoneView R K P V)
-      → StandsOf order m puts b l → found b.runs r ≡ Some run → ((run.started < b.inputs.revision) ⊎ (found b.lanes run.client ≡ None) → ⊥)
+  pub give_moved : (b a : Held K P V M O) (l : Ledger K V M O) (r : ℕ) (run after : RunView K P) (done : DoneView R K P V)
+      → StandsOf order m point puts b l → found b.runs r ≡ Some run → ((run.started < b.inputs.revision) ⊎ (found b.lanes run.client ≡ None) → ⊥)
       → (done.run ≡ r) × (done.started ≡ run.started) × (out_at run.top ≡ Some (out_of done)) → IsSameRun run after → out_at after.top ≡ None
       → ((k : ℕ) → found a.runs k ≡ (if k == r then Some after else found b.runs k)) → ((k : ℕ) → found a.lanes k ≡ found b.lanes k) → SameBut b a
-      → Reaches (Gives r done (Ok Stepped)) l (StandsOf order m puts a)
+      → Reaches (Gives r done (Ok Stepped)) l (StandsOf order m point puts a)
   give_moved b a l r run after done s h early f same empty runs lanes but =
-      let x = run_here order m puts b l r run s h in
+      let x = run_here order m point puts b l r run s h in
       let move : Gives r done (Ok Stepped) l (with_out l r x.at (out_at after.top)) =
-      (x.at, x.runs, fits_of l r run done x f, (current order m puts b l r run s x early).0, ap (with_out l r x.at) empty) in (
+      (x.at, x.runs, fits_of l r run done x f, (current order m point puts b l r run s x early).0, ap (with_out l r x.at) empty) in (
         with_out l r x.at (out_at after.top),
         move,
-        out_moved order m puts b a l r run after x s h same runs lanes but (kept_gives (answer_by order m) puts r done (Ok Stepped) l _ s.kept move),
+        out_moved order m point puts b a l r run after x s h same runs lanes but (kept_gives (answer_by order m point) puts r done (Ok Stepped) l _ s.kept move),
       )
 
   -- a run could not take its result
-  pub give_refused : (b : Held K P V O) (l : Ledger K V O) (r : ℕ) (run : RunView K P) (done : DoneView R K P V) → StandsOf order m puts b l → found b.runs r ≡ Some run
+  pub give_refused : (b : Held K P V M O) (l : Ledger K V M O) (r : ℕ) (run : RunView K P) (done : DoneView R K P V) → StandsOf order m point puts b l → found b.runs r ≡ Some run
       → ((run.started < b.inputs.revision) ⊎ (found b.lanes run.client ≡ None) → ⊥)
       → (done.run ≡ r) × (done.started ≡ run.started) × (out_at run.top ≡ Some (out_of done))
-      → (at : RunAt K V O) × Runs l r at × IsOf r at done × IsCurrent l at
+      → (at : RunAt K V M O) × Runs l r at × IsOf r at done × IsCurrent l at
   give_refused b l r run done s h early f =
-      let x = run_here order m puts b l r run s h in
-      (x.at, x.runs, fits_of l r run done x f, (current order m puts b l r run s x early).0)
+      let x = run_here order m point puts b l r run s h in
+      (x.at, x.runs, fits_of l r run done x f, (current order m point puts b l r run s x early).0)
 
   -- what a run that looks is: current, and its work is not out
-  pub goes_on : (b : Held K P V O) (l : Ledger K V O) (r : ℕ) (run : RunView K P) → StandsOf order m puts b l → found b.runs r ≡ Some run
-      → ((run.started < b.inputs.revision) ⊎ (found b.lanes run.client ≡ None) → ⊥) → out_at run.top ≡ None → (at : RunAt K V O) × GoesOn l r at
+  pub goes_on : (b : Held K P V M O) (l : Ledger K V M O) (r : ℕ) (run : RunView K P) → StandsOf order m point puts b l → found b.runs r ≡ Some run
+      → ((run.started < b.inputs.revision) ⊎ (found b.lanes run.client ≡ None) → ⊥) → out_at run.top ≡ None → (at : RunAt K V M O) × GoesOn l r at
   goes_on b l r run s h early empty =
-      let x = run_here order m puts b l r run s h in
-      (x.at, record { runs = x.runs; current = (current order m puts b l r run s x early).0; idle = idle_of l r run x empty })
+      let x = run_here order m point puts b l r run s h in
+      (x.at, record { runs = x.runs; current = (current order m point puts b l r run s x early).0; idle = idle_of l r run x empty })
 
   -- a run whose work is out is blocked by itself
-  pub look_blocked : (b : Held K P V O) (l : Ledger K V O) (r : ℕ) (run : RunView K P) → StandsOf order m puts b l → found b.runs r ≡ Some run
+  pub look_blocked : (b : Held K P V M O) (l : Ledger K V M O) (r : ℕ) (run : RunView K P) → StandsOf order m point puts b l → found b.runs r ≡ Some run
       → ((run.started < b.inputs.revision) ⊎ (found b.lanes run.client ≡ None) → ⊥) → IsSome (out_at run.top)
-      → (at : RunAt K V O) × Runs l r at × IsCurrent l at × ((out : Out K) × (at.out ≡ Some out))
+      → (at : RunAt K V M O) × Runs l r at × IsCurrent l at × ((out : Out K) × (at.out ≡ Some out))
   look_blocked b l r run s h early full =
-      let x = run_here order m puts b l r run s h in
+      let x = run_here order m point puts b l r run s h in
       let w = some_of (out_at run.top) full in
-      (x.at, x.runs, (current order m puts b l r run s x early).0, (w.0, ap (λ (y : RunSeen K). y.out) (sym x.same) ∙ w.1))
+      (x.at, x.runs, (current order m point puts b l r run s x early).0, (w.0, ap (λ (y : RunSeen K). y.out) (sym x.same) ∙ w.1))
     where
       some_of : (o : Option (Out K)) → IsSome o → (out : Out K) × (o ≡ Some out)
       some_of None e = absurd (cc)
       some_of (Some out) e = (out, refl)
 
   -- a run waits for another run
-  pub look_held : (b : Held K P V O) (l : Ledger K V O) (r : ℕ) (run : RunView K P) (other : ℕ) (there : RunView K P) → StandsOf order m puts b l → found b.runs r ≡ Some run
+  pub look_held : (b : Held K P V M O) (l : Ledger K V M O) (r : ℕ) (run : RunView K P) (other : ℕ) (there : RunView K P) → StandsOf order m point puts b l → found b.runs r ≡ Some run
       → ((run.started < b.inputs.revision) ⊎ (found b.lanes run.client ≡ None) → ⊥) → out_at run.top ≡ None → other ≢ r → found b.runs other ≡ Some there
-      → (at : RunAt K V O) × Runs l r at × IsCurrent l at × IsBlocked l r at other
+      → (at : RunAt K V M O) × Runs l r at × IsCurrent l at × IsBlocked l r at other
   look_held b l r run other there s h early empty ne e =
-      let x = run_here order m puts b l r run s h in
-      let y = run_here order m puts b l other there s e in
-      let now = (current order m puts b l r run s x early).0 in
-      let past : y.at.started ≤ l.inputs.revision = (runs_placed (answer_by order m) puts l other y.at s.kept y.runs).3 in
+      let x = run_here order m point puts b l r run s h in
+      let y = run_here order m point puts b l other there s e in
+      let now = (current order m point puts b l r run s x early).0 in
+      let past : y.at.started ≤ l.inputs.revision = (runs_placed (answer_by order m point) puts l other y.at s.kept y.runs).3 in
       (x.at, x.runs, now, inr (idle_of l r run x empty, ne, (y.at, y.runs, subst (λ (i : ℕ). y.at.started ≤ i) (sym now.now) past)))
 
   -- a run hands work out
-  pub carry_moved : (b a : Held K P V O) (l : Ledger K V O) (r : ℕ) (run after : RunView K P) (work : WorkView R K P V) (table : K → Option (Memo K V))
-      → StandsOf order m puts b l → found b.runs r ≡ Some run → ((run.started < b.inputs.revision) ⊎ (found b.lanes run.client ≡ None) → ⊥) → out_at run.top ≡ None
+  pub carry_moved : (b a : Held K P V M O) (l : Ledger K V M O) (r : ℕ) (run after : RunView K P) (work : WorkView R K P V) (table : K → Option (Memo K V))
+      → StandsOf order m point puts b l → found b.runs r ≡ Some run → ((run.started < b.inputs.revision) ⊎ (found b.lanes run.client ≡ None) → ⊥) → out_at run.top ≡ None
       → IsSameRun run after → HandedOut m rules b.inputs table r after.top work
       → ((k : ℕ) → found a.runs k ≡ (if k == r then Some after else found b.runs k)) → ((k : ℕ) → found a.lanes k ≡ found b.lanes k) → SameBut b a
-      → Reaches (LooksFor (answer_by order m) rules r (Ok (Carry work))) l (StandsOf order m puts a)
+      → Reaches (LooksFor (answer_by order m point) rules r (Ok (Carry work))) l (StandsOf order m point puts a)
   carry_moved b a l r run after work table s h early empty same handed runs lanes but =
-      let x = run_here order m puts b l r run s h in
-      let now = current order m puts b l r run s x early in
-      let move : LooksFor (answer_by order m) rules r (Ok (Carry work)) l (with_out l r x.at (out_at after.top)) = (
+      let x = run_here order m point puts b l r run s h in
+      let now = current order m point puts b l r run s x early in
+      let move : LooksFor (answer_by order m point) rules r (Ok (Carry work)) l (with_out l r x.at (out_at after.top)) = (
         x.at,
         record { runs = x.runs; current = now.0; idle = idle_of l r run x empty },
         record {
@@ -409,41 +410,42 @@ module _ {R K P V O : Type 0} (order : K → K → Ordering) (m : Machine K P V)
       ) in (
         with_out l r x.at (out_at after.top),
         move,
-        out_moved order m puts b a l r run after x s h same runs lanes but (kept_looks (answer_by order m) puts {P = P} rules r (Ok (Carry work)) l _ s.kept move),
+        out_moved order m point puts b a l r run after x s h same runs lanes but (kept_looks (answer_by order m point) puts {P = P} rules r (Ok (Carry work)) l _ s.kept move),
       )
 
   -- a run answers
-  pub answer_moved : (b a : Held K P V O) (l : Ledger K V O) (r : ℕ) (run : RunView K P) (answer : Answer K V)
-      → StandsOf order m puts b l → found b.runs r ≡ Some run → ((run.started < b.inputs.revision) ⊎ (found b.lanes run.client ≡ None) → ⊥) → out_at run.top ≡ None
-      → IsAnswer order m b.inputs run.request answer
+  pub answer_moved : (b a : Held K P V M O) (l : Ledger K V M O) (r : ℕ) (run : RunView K P) (answer : Answer K V) (stamp : M)
+      → StandsOf order m point puts b l → found b.runs r ≡ Some run → ((run.started < b.inputs.revision) ⊎ (found b.lanes run.client ≡ None) → ⊥) → out_at run.top ≡ None
+      → IsAnswer order m b.inputs run.request answer → point stamp ≡ point_now b.inputs
       → ((k : ℕ) → found a.runs k ≡ (if k == r then None else found b.runs k))
-      → ((lane : LaneView K V O) → found b.lanes run.client ≡ Some lane
-      → (k : ℕ) → found a.lanes k ≡ (if k == run.client then Some (with_owed lane run.number (OwedReady (lane_reply run b.inputs.revision (Answered answer)))) else found b.lanes k))
+      → ((lane : LaneView K V M O) → found b.lanes run.client ≡ Some lane
+      → (k : ℕ) → found a.lanes k ≡ (if k == run.client then Some (with_owed lane run.number (OwedReady (lane_reply run b.inputs.revision (Answered answer stamp)))) else found b.lanes k))
       → (found b.lanes run.client ≡ None → (k : ℕ) → found a.lanes k ≡ found b.lanes k) → SameBut b a
-      → Reaches (LooksFor {P = P} (answer_by order m) rules r (Ok MoveAnswered)) l (StandsOf order m puts a)
-  answer_moved b a l r run answer s h early empty means runs set lanes but =
-      let x = run_here order m puts b l r run s h in
-      let now = current order m puts b l r run s x early in
-      let move : LooksFor {P = P} (answer_by order m) rules r (Ok MoveAnswered) l (ended l x.at x.at.entry.starved (Answered answer)) = (
+      → Reaches (LooksFor {P = P} (answer_by order m point) rules r (Ok MoveAnswered)) l (StandsOf order m point puts a)
+  answer_moved b a l r run answer stamp s h early empty means stamped runs set lanes but =
+      let x = run_here order m point puts b l r run s h in
+      let now = current order m point puts b l r run s x early in
+      let move : LooksFor {P = P} (answer_by order m point) rules r (Ok MoveAnswered) l (ended l x.at x.at.entry.starved (Answered answer stamp)) = (
         x.at,
         record { runs = x.runs; current = now.0; idle = idle_of l r run x empty },
         (
           answer,
+          stamp,
           record {
             key = means.0;
             demanded = ap (λ (y : RunSeen K). y.request.want) (sym x.same) ∙ means.1;
             is_value = record {
               files = l.inputs.files;
               there = s.kept.inputs.latest;
-              means_so = subst (λ (t : Table). answer_by order m t.files means.0 answer) (sym s.inputs) means.2;
+              means_so = subst (λ (t : Table). answer_by order m point stamp (point_now t) means.0 answer) (sym s.inputs) (stamped, means.2);
             };
           },
           refl,
         ),
       ) in (
-        ended l x.at x.at.entry.starved (Answered answer),
+        ended l x.at x.at.entry.starved (Answered answer stamp),
         move,
-        end_moved order m puts b a l r run x.at.entry.starved (Answered answer) x s h runs set lanes but (kept_looks (answer_by order m) puts {P = P} rules r (Ok MoveAnswered) l _ s.kept move),
+        end_moved order m point puts b a l r run x.at.entry.starved (Answered answer stamp) x s h runs set lanes but (kept_looks (answer_by order m point) puts {P = P} rules r (Ok MoveAnswered) l _ s.kept move),
       )
 
 -- there is no work out where a test finds none
@@ -467,18 +469,18 @@ why_then A B front None h f = h
 why_then A B front (Some w) h f = (h.0, f w h.1)
 
 -- what ended as `after` ended as `run`
-pub ended_as : {K P V O : Type 0} (b a : Held K P V O) (run after : RunView K P) (revision : ℕ) (outcome : Outcome K V) → IsSameRun run after
-    → ((lane : LaneView K V O) → found b.lanes after.client ≡ Some lane
+pub ended_as : {K P V M O : Type 0} (b a : Held K P V M O) (run after : RunView K P) (revision : ℕ) (outcome : Outcome K V M) → IsSameRun run after
+    → ((lane : LaneView K V M O) → found b.lanes after.client ≡ Some lane
     → (k : ℕ) → found a.lanes k ≡ (if k == after.client then Some (with_owed lane after.number (OwedReady (lane_reply after revision outcome))) else found b.lanes k))
-    → (lane : LaneView K V O) → found b.lanes run.client ≡ Some lane
+    → (lane : LaneView K V M O) → found b.lanes run.client ≡ Some lane
     → (k : ℕ) → found a.lanes k ≡ (if k == run.client then Some (with_owed lane run.number (OwedReady (lane_reply run revision outcome))) else found b.lanes k)
-ended_as {K} {P} {V} {O} b a run after revision outcome same f =
-    subst (λ (c : ℕ). (lane : LaneView K V O) → found b.lanes c ≡ Some lane
+ended_as {K} {P} {V} {M} {O} b a run after revision outcome same f =
+    subst (λ (c : ℕ). (lane : LaneView K V M O) → found b.lanes c ≡ Some lane
     → (k : ℕ) → found a.lanes k ≡ (if k == c then Some (with_owed lane run.number (OwedReady (record { client = c; number = run.number; request = run.request; revision = revision; outcome = outcome }))) else found b.lanes k))
     same.client
-    (subst (λ (n : ℕ). (lane : LaneView K V O) → found b.lanes after.client ≡ Some lane
+    (subst (λ (n : ℕ). (lane : LaneView K V M O) → found b.lanes after.client ≡ Some lane
     → (k : ℕ) → found a.lanes k ≡ (if k == after.client then Some (with_owed lane n (OwedReady (record { client = after.client; number = n; request = run.request; revision = revision; outcome = outcome }))) else found b.lanes k))
     same.number
-    (subst (λ q. (lane : LaneView K V O) → found b.lanes after.client ≡ Some lane
+    (subst (λ q. (lane : LaneView K V M O) → found b.lanes after.client ≡ Some lane
     → (k : ℕ) → found a.lanes k ≡ (if k == after.client then Some (with_owed lane after.number (OwedReady (record { client = after.client; number = after.number; request = q; revision = revision; outcome = outcome }))) else found b.lanes k))
     same.request f))

@@ -9,6 +9,7 @@ use Rattle.pq_core.proofs.Moving.{start_stands}
 use Rattle.pq_core.proofs.Keeping.{kept_starts}
 use Rattle.pq_core.proofs.LaneMoves.{started_stands}
 use Rattle.pq_core.proofs.CoreResting.{waits_seen, owed_waits}
+use Rattle.pq_core.specs.Points.{Point}
 use Rattle.pq_core.specs.Replies.{ReplyView}
 use Rattle.pq_core.specs.Ledger.{Entry, Client, Ledger}
 use Rattle.pq_core.specs.RightReply.{answer_by}
@@ -26,32 +27,32 @@ use Rattle.pq_core.specs.declared.lane.Owed.TheVariants.{Waiting as OwedWaiting,
 abbrev pub seen_of : {K : Type 0} → ℕ → ℕ → Request K → ℕ → RunSeen K
 seen_of c n request revision = record { client = c; number = n; request = request; started = revision; out = None }
 
-module _ {K P V O : Type 0} (order : K → K → Ordering) (m : Machine K P V) (puts : O → List (ReplyView K V)) where
+module _ {K P V M O : Type 0} (order : K → K → Ordering) (m : Machine K P V) (point : M → Point) (puts : O → List (ReplyView K V M)) where
   -- the numbers of runs are used up
-  pub start_full : (b : Held K P V O) (l : Ledger K V O) → 2 ^ 64 ≤ b.started + 1 → StandsOf order m puts b l → Reaches (Starts None) l (StandsOf order m puts b)
+  pub start_full : (b : Held K P V M O) (l : Ledger K V M O) → 2 ^ 64 ≤ b.started + 1 → StandsOf order m point puts b l → Reaches (Starts None) l (StandsOf order m point puts b)
   start_full b l full s = (l, (inr (subst (λ (n : ℕ). 2 ^ 64 ≤ n + 1) (sym s.started) full), refl), s)
 
   -- nothing waits
-  pub start_none : (b : Held K P V O) (l : Ledger K V O) → IsQueue b.lanes [] → StandsOf order m puts b l → Reaches (Starts None) l (StandsOf order m puts b)
-  start_none b l q s = (l, (inl (λ c client n entry w. q.queued c n entry.request (waits_seen order m puts b l c client n entry s w)), refl), s)
+  pub start_none : (b : Held K P V M O) (l : Ledger K V M O) → IsQueue b.lanes [] → StandsOf order m point puts b l → Reaches (Starts None) l (StandsOf order m point puts b)
+  start_none b l q s = (l, (inl (λ c client n entry w. q.queued c n entry.request (waits_seen order m point puts b l c client n entry s w)), refl), s)
 
   -- a request that waits is started
-  pub start_moved : (b a : Held K P V O) (c n : ℕ) (lane : LaneView K V O) (request : Request K) (made : RunView K P) (l : Ledger K V O)
+  pub start_moved : (b a : Held K P V M O) (c n : ℕ) (lane : LaneView K V M O) (request : Request K) (made : RunView K P) (l : Ledger K V M O)
       → found b.lanes c ≡ Some lane → IsOwed lane n (OwedWaiting request)
       → ((k : ℕ) → found a.lanes k ≡ (if k == c then Some (with_owed lane n OwedRunning) else found b.lanes k))
       → ((k : ℕ) → found a.runs k ≡ (if k == b.started then Some made else found b.runs k))
       → run_seen made ≡ seen_of c n request b.inputs.revision
       → a.inputs ≡ b.inputs → a.opened ≡ b.opened → a.clients ≡ b.clients → a.started ≡ b.started + 1
-      → StandsOf order m puts b l → Reaches (Starts (Some b.started)) l (StandsOf order m puts a)
+      → StandsOf order m point puts b l → Reaches (Starts (Some b.started)) l (StandsOf order m point puts a)
   start_moved b a c n lane request made l here owed lanes runs seen inputs count clients started s =
-      let x = owed_waits order m puts b l c n lane request s here owed in
-      let client : Client K V O = x.0 in
-      let entry : Entry K V = x.1 in
-      let after : Ledger K V O = started_at l b.started c client n entry in
+      let x = owed_waits order m point puts b l c n lane request s here owed in
+      let client : Client K V M O = x.0 in
+      let entry : Entry K V M = x.1 in
+      let after : Ledger K V M O = started_at l b.started c client n entry in
       let move : Starts (Some b.started) l after = (c, client, n, entry, x.2, sym s.started, refl) in (
         after,
         move,
-        start_stands (LaneStands puts) (answer_by order m) puts (fields_of b) (fields_of a) l after c n client entry (with_owed lane n OwedRunning) s x.4 x.2
+        start_stands (LaneStands puts) (answer_by order m point) puts (fields_of b) (fields_of a) l after c n client entry (with_owed lane n OwedRunning) s x.4 x.2
             (record {
               here = lanes c ∙ if_at c (Some _) (found b.lanes c);
               others = λ k ne. lanes k ∙ if_other k c (Some _) (found b.lanes k) ne;
@@ -66,7 +67,7 @@ module _ {K P V O : Type 0} (order : K → K → Ordering) (m : Machine K P V) (
             started
             (started_stands puts lane client n request entry b.started l.inputs.revision None x.5 owed)
             refl
-            (kept_starts (answer_by order m) puts (Some b.started) l after s.kept move),
+            (kept_starts (answer_by order m point) puts (Some b.started) l after s.kept move),
       )
     where
       seen_as : (other : Request K) (revision : ℕ) → other ≡ request → revision ≡ b.inputs.revision

@@ -1,12 +1,12 @@
 -- The calls of a core as moves of the ledgers that it stands for: steps and ends of runs,
 -- releases, closes, takes, rest.
 use Rattle.std.proofs.Common.{◌≡◌, ◌≢◌, ℕ, zero, suc, ◌+◌, ◌<◌, ◌⊎◌, Bool, true, false, List, [], ◌∷◌, map, length, slice_get, slice_set, Option, Some, None, refl, sym, ◌∙◌, ap, subst, inl, inr, arith}
-use Rattle.pq_inputs.specs.Sources.{Sources}
 use Rattle.pq_rules.specs.declared.turn.Answer.{Answer}
 use Rattle.pq_core.proofs.Lists.{get_set, get_within, get_map, set_long, set_same, set_other, same_or_other, some_one, none_some}
 use Rattle.pq_core.proofs.Standing.{entry_elsewhere, client_elsewhere, count_same, count_closed, restand}
 use Rattle.pq_core.proofs.Calling.{LaneSet, RunSet, SameCounts, run_entry, placed}
 use Rattle.pq_core.proofs.Moving.{SameRuns, elsewhere_lane, none_there, waiting_place}
+use Rattle.pq_core.specs.Points.{Point}
 use Rattle.pq_core.specs.Replies.{ReplyView}
 use Rattle.pq_core.specs.Ledger.{Out, Place, Waiting, Running, Ready, Put, Dropped, Entry, Client, Ledger, IsOpen, with_client, with_entry, moved_to, with_outbox, place_closed, entry_closed, closed}
 use Rattle.pq_core.specs.Moves.{RunAt, Runs, open_count, ended, ended_entry, place_ended, reply_at, with_out}
@@ -14,20 +14,20 @@ use Rattle.pq_core.specs.Kept.{Kept}
 use Rattle.pq_core.specs.aux.Stands.{RunSeen, Fields, EntryStands, ClientStands, HasRun, Stands}
 use Rattle.pq_core.specs.declared.outcome.Outcome.{Outcome}
 
-abbrev ready_place : {K V : Type 0} → ReplyView K V → Place K V
+abbrev ready_place : {K V M : Type 0} → ReplyView K V M → Place K V M
 ready_place reply = Ready reply
 
-module _ {K V L O : Type 0} (AsLane : L → Client K V O → Type 0) (means : Sources → K → Answer K V → Type 0) (puts : O → List (ReplyView K V)) where
-  ended_entry_stands : (g : Fields K L) (c n : ℕ) (entry : Entry K V) (flag : Bool) (reply : ReplyView K V) → EntryStands g c n entry (place_ended flag reply)
+module _ {K V M L O : Type 0} (AsLane : L → Client K V M O → Type 0) (means : M → Point → K → Answer K V → Type 0) (puts : O → List (ReplyView K V M)) where
+  ended_entry_stands : (g : Fields K L) (c n : ℕ) (entry : Entry K V M) (flag : Bool) (reply : ReplyView K V M) → EntryStands g c n entry (place_ended flag reply)
   ended_entry_stands g c n entry true reply = tt
   ended_entry_stands g c n entry false reply = tt
 
-  ended_not_waiting : (flag : Bool) (reply : ReplyView K V) → place_ended flag reply ≡ waiting_place → ⊥
+  ended_not_waiting : (flag : Bool) (reply : ReplyView K V M) → place_ended flag reply ≡ waiting_place → ⊥
   ended_not_waiting true reply e = cc
   ended_not_waiting false reply e = cc
 
   -- a run ends: its reply is in the lane of its client, if that is open
-  pub end_stands : (f g : Fields K L) (l m : Ledger K V O) (r : ℕ) (at : RunAt K V O) (starved : Bool) (outcome : Outcome K V)
+  pub end_stands : (f g : Fields K L) (l m : Ledger K V M O) (r : ℕ) (at : RunAt K V M O) (starved : Bool) (outcome : Outcome K V M)
       → Stands AsLane means puts f l → Runs l r at → SameCounts f g → RunSet f g r None → g.started ≡ f.started
       → ((k : ℕ) → k ≢ at.c → g.lanes k ≡ f.lanes k)
       → (at.client.is_open ≡ true → (lane : L) × (g.lanes at.c ≡ Some lane) × AsLane lane (with_entry at.client at.n (ended_entry l at starved outcome)))
@@ -41,7 +41,7 @@ module _ {K V L O : Type 0} (AsLane : L → Client K V O → Type 0) (means : So
       e kept
 
   -- the work of a run is handed out, or its result was taken
-  pub out_stands : (f g : Fields K L) (l m : Ledger K V O) (r : ℕ) (at : RunAt K V O) (out : Option (Out K))
+  pub out_stands : (f g : Fields K L) (l m : Ledger K V M O) (r : ℕ) (at : RunAt K V M O) (out : Option (Out K))
       → Stands AsLane means puts f l → Runs l r at → SameCounts f g
       → RunSet f g r (Some (record { client = at.c; number = at.n; request = at.entry.request; started = at.started; out = out }))
       → g.started ≡ f.started → ((k : ℕ) → g.lanes k ≡ f.lanes k)
@@ -49,7 +49,7 @@ module _ {K V L O : Type 0} (AsLane : L → Client K V O → Type 0) (means : So
       → m ≡ with_out l r at out → Kept means puts m → Stands AsLane means puts g m
   out_stands f g l m r at out s h counts runs started lanes as_lane e kept =
       let x = s.each at.c at.client h.is_entry.client_here in
-      let below = (subst (λ (p : Place K V). EntryStands f at.c at.n at.entry p) h.runs (x.entries at.n at.entry h.is_entry.here)).0 in
+      let below = (subst (λ (p : Place K V M). EntryStands f at.c at.n at.entry p) h.runs (x.entries at.n at.entry h.is_entry.here)).0 in
       run_entry AsLane means puts f g l m r at (moved_to at.entry (Running r at.started out)) _ s h counts runs started (λ k ne. lanes k)
       (λ o. let w = x.lane o in (w.0, lanes at.c ∙ w.1, as_lane w.0 w.2))
       (λ o. lanes at.c ∙ x.shut o)
@@ -58,30 +58,30 @@ module _ {K V L O : Type 0} (AsLane : L → Client K V O → Type 0) (means : So
       (λ seen y. fits seen (sym (some_one _ seen y)))
       e kept
     where
-      running_not : placed {K = K} {V = V} r at.started out ≡ waiting_place → ⊥
+      running_not : placed {K = K} {V = V} {M = M} r at.started out ≡ waiting_place → ⊥
       running_not p = cc
 
       fits : (seen : RunSeen K) → seen ≡ record { client = at.c; number = at.n; request = at.entry.request; started = at.started; out = out }
-          → (seen.client ≡ at.c) × (seen.number ≡ at.n) × (placed {K = K} {V = V} r at.started out ≡ placed r seen.started seen.out) × (seen.request ≡ at.entry.request)
+          → (seen.client ≡ at.c) × (seen.number ≡ at.n) × (placed {K = K} {V = V} {M = M} r at.started out ≡ placed r seen.started seen.out) × (seen.request ≡ at.entry.request)
       fits seen y = (
         ap (λ (z : RunSeen K). z.client) y,
         ap (λ (z : RunSeen K). z.number) y,
-        subst (λ (z : RunSeen K). placed {K = K} {V = V} r at.started out ≡ placed r z.started z.out) (sym y) refl,
+        subst (λ (z : RunSeen K). placed {K = K} {V = V} {M = M} r at.started out ≡ placed r z.started z.out) (sym y) refl,
         ap (λ (z : RunSeen K). z.request) y,
       )
 
   -- an open client stays open, and at most its request `n` changes, which is in no run
-  pub open_restand : (f g : Fields K L) (l m : Ledger K V O) (c n : ℕ) (client after : Client K V O) (lane : L)
+  pub open_restand : (f g : Fields K L) (l m : Ledger K V M O) (c n : ℕ) (client after : Client K V M O) (lane : L)
       → Stands AsLane means puts f l → IsOpen l c client → after.is_open ≡ true → LaneSet f g c (Some lane) → SameCounts f g → SameRuns f g
-      → ((i : ℕ) (entry : Entry K V) → i ≢ n → slice_get client.entries i ≡ Some entry → slice_get after.entries i ≡ Some entry)
-      → ((i : ℕ) (entry : Entry K V) → slice_get after.entries i ≡ Some entry → (slice_get client.entries i ≡ Some entry) × (i ≢ n) ⊎ EntryStands g c i entry entry.place)
-      → ((entry : Entry K V) (r s : ℕ) (o : Option (Out K)) → slice_get client.entries n ≡ Some entry → entry.place ≡ Running r s o → ⊥)
+      → ((i : ℕ) (entry : Entry K V M) → i ≢ n → slice_get client.entries i ≡ Some entry → slice_get after.entries i ≡ Some entry)
+      → ((i : ℕ) (entry : Entry K V M) → slice_get after.entries i ≡ Some entry → (slice_get client.entries i ≡ Some entry) × (i ≢ n) ⊎ EntryStands g c i entry entry.place)
+      → ((entry : Entry K V M) (r s : ℕ) (o : Option (Out K)) → slice_get client.entries n ≡ Some entry → entry.place ≡ Running r s o → ⊥)
       → AsLane lane after → m ≡ with_client l c after → Kept means puts m → Stands AsLane means puts g m
   open_restand f g l m c n client after lane s is_open still set counts q same entries none as_lane e kept =
       let elsewhere = elsewhere_lane f g c n (Some lane) set q in
       let x = s.each c client is_open.here in
       restand AsLane means puts f g l m c n client after s is_open.here elsewhere counts.inputs counts.clients
-      (ap (λ (y : Ledger K V O). y.inputs) e) (ap (λ (y : Ledger K V O). y.clients) e) (ap (λ (y : Ledger K V O). y.runs) e ∙ (s.started ∙ sym q.started))
+      (ap (λ (y : Ledger K V M O). y.inputs) e) (ap (λ (y : Ledger K V M O). y.clients) e) (ap (λ (y : Ledger K V M O). y.runs) e ∙ (s.started ∙ sym q.started))
       (count_same l.clients c client after is_open.here (still ∙ sym is_open.open_yet) ∙ (s.opened ∙ sym counts.opened))
       same
       (record {
@@ -100,7 +100,7 @@ module _ {K V L O : Type 0} (AsLane : L → Client K V O → Type 0) (means : So
       both o = cc
 
   -- a reply that was ready is put
-  pub put_stands : (f g : Fields K L) (l m : Ledger K V O) (c n : ℕ) (client : Client K V O) (entry : Entry K V) (reply : ReplyView K V) (lane : L) (o : O)
+  pub put_stands : (f g : Fields K L) (l m : Ledger K V M O) (c n : ℕ) (client : Client K V M O) (entry : Entry K V M) (reply : ReplyView K V M) (lane : L) (o : O)
       → Stands AsLane means puts f l → IsOpen l c client → slice_get client.entries n ≡ Some entry → entry.place ≡ Ready reply
       → LaneSet f g c (Some lane) → SameCounts f g → SameRuns f g
       → AsLane lane (with_outbox (with_entry client n (moved_to entry Put)) o false)
@@ -109,17 +109,17 @@ module _ {K V L O : Type 0} (AsLane : L → Client K V O → Type 0) (means : So
       open_restand f g l m c n client (with_outbox (with_entry client n (moved_to entry Put)) o false) lane s is_open is_open.open_yet set counts q
       (λ i other ne w. set_other client.entries n (moved_to entry Put) i ne ∙ w)
       (λ i other h. elim (get_set client.entries n (moved_to entry Put) i other h) [
-        | inl w ↦ inr (subst (λ (y : Entry K V). EntryStands g c i y y.place) (sym w.1) tt)
+        | inl w ↦ inr (subst (λ (y : Entry K V M). EntryStands g c i y y.place) (sym w.1) tt)
         | inr w ↦ inl (w.1, w.0)
       ])
-      (λ other r st u h p. ready_not (sym ready ∙ (ap (λ (y : Entry K V). y.place) (some_one entry other (sym here ∙ h)) ∙ p)))
+      (λ other r st u h p. ready_not (sym ready ∙ (ap (λ (y : Entry K V M). y.place) (some_one entry other (sym here ∙ h)) ∙ p)))
       as_lane e kept
     where
-      ready_not : {r st : ℕ} {u : Option (Out K)} → ready_place {K = K} {V = V} reply ≡ placed {K = K} {V = V} r st u → ⊥
+      ready_not : {r st : ℕ} {u : Option (Out K)} → ready_place {K = K} {V = V} {M = M} reply ≡ placed {K = K} {V = V} {M = M} r st u → ⊥
       ready_not x = cc
 
   -- the outbox of an open client changes, and not its requests
-  pub outbox_stands : (f g : Fields K L) (l m : Ledger K V O) (c : ℕ) (client : Client K V O) (lane : L) (o : O) (refused : Bool)
+  pub outbox_stands : (f g : Fields K L) (l m : Ledger K V M O) (c : ℕ) (client : Client K V M O) (lane : L) (o : O) (refused : Bool)
       → Stands AsLane means puts f l → IsOpen l c client → LaneSet f g c (Some lane) → SameCounts f g → SameRuns f g
       → AsLane lane (with_outbox client o refused) → m ≡ with_client l c (with_outbox client o refused) → Kept means puts m → Stands AsLane means puts g m
   outbox_stands f g l m c client lane o refused s is_open set counts q as_lane e kept =
@@ -129,30 +129,30 @@ module _ {K V L O : Type 0} (AsLane : L → Client K V O → Type 0) (means : So
       (λ other r st u h p. below (length client.entries) other h refl)
       as_lane e kept
     where
-      below : (i : ℕ) (other : Entry K V) → slice_get client.entries i ≡ Some other → i ≢ length client.entries
+      below : (i : ℕ) (other : Entry K V M) → slice_get client.entries i ≡ Some other → i ≢ length client.entries
       below i other h w = let a : i < length client.entries = get_within client.entries i other h in let b : i ≡ length client.entries = w in absurd (omega arith)
 
   -- a client is closed
-  pub close_stands : (f g : Fields K L) (l m : Ledger K V O) (c : ℕ) (client : Client K V O) → Stands AsLane means puts f l → IsOpen l c client
+  pub close_stands : (f g : Fields K L) (l m : Ledger K V M O) (c : ℕ) (client : Client K V M O) → Stands AsLane means puts f l → IsOpen l c client
       → LaneSet f g c None → g.inputs ≡ f.inputs → g.opened + 1 ≡ f.opened → g.clients ≡ f.clients → SameRuns f g
       → m ≡ with_client l c (closed client) → Kept means puts m → Stands AsLane means puts g m
   close_stands f g l m c client s is_open set inputs count clients q e kept = record {
-    inputs = ap (λ (y : Ledger K V O). y.inputs) e ∙ (s.inputs ∙ sym inputs);
-    clients = ap (λ (xs : List (Client K V O)). length xs) clients_set ∙ (set_long l.clients c (closed client) ∙ (s.clients ∙ sym clients));
+    inputs = ap (λ (y : Ledger K V M O). y.inputs) e ∙ (s.inputs ∙ sym inputs);
+    clients = ap (λ (xs : List (Client K V M O)). length xs) clients_set ∙ (set_long l.clients c (closed client) ∙ (s.clients ∙ sym clients));
     opened =
         let a : open_count (slice_set l.clients c (closed client)) + 1 ≡ open_count l.clients = count_closed l.clients c client (closed client) is_open.here is_open.open_yet refl in
         let b : open_count l.clients ≡ f.opened = s.opened in
         let d : g.opened + 1 ≡ f.opened = count in
-        ap (λ (xs : List (Client K V O)). open_count xs) clients_set ∙ omega arith;
-    started = ap (λ (y : Ledger K V O). y.runs) e ∙ (s.started ∙ sym q.started);
+        ap (λ (xs : List (Client K V M O)). open_count xs) clients_set ∙ omega arith;
+    started = ap (λ (y : Ledger K V M O). y.runs) e ∙ (s.started ∙ sym q.started);
     within = λ k lane h. elim (same_or_other k c) [
       | inl w ↦ absurd (none_some lane (sym set.here ∙ (ap g.lanes (sym w) ∙ h)))
       | inr w ↦ subst (λ (i : ℕ). k < i) (sym clients) (s.within k lane (sym (set.others k w) ∙ h))
     ];
-    each = λ k x h. elim (get_set l.clients c (closed client) k x (ap (λ (xs : List (Client K V O)). slice_get xs k) (sym clients_set) ∙ h)) [
+    each = λ k x h. elim (get_set l.clients c (closed client) k x (ap (λ (xs : List (Client K V M O)). slice_get xs k) (sym clients_set) ∙ h)) [
       | inl w ↦
           subst (λ (y : ℕ). ClientStands AsLane g y x) (sym w.0)
-          (subst (λ (y : Client K V O). ClientStands AsLane g c y) (sym w.1) closed_stands)
+          (subst (λ (y : Client K V M O). ClientStands AsLane g c y) (sym w.1) closed_stands)
       | inr w ↦ client_elsewhere AsLane f g c 0 k x (elsewhere_lane f g c 0 None set q) w.0 (s.each k x w.1)
     ];
     runs = λ r run h. run_closed r run (s.runs r run (sym (q.runs r) ∙ h));
@@ -160,19 +160,19 @@ module _ {K V L O : Type 0} (AsLane : L → Client K V O → Type 0) (means : So
   }
     where
       clients_set : m.clients ≡ slice_set l.clients c (closed client)
-      clients_set = ap (λ (y : Ledger K V O). y.clients) e
+      clients_set = ap (λ (y : Ledger K V M O). y.clients) e
 
       both : false ≡ true → ⊥
       both o = cc
 
-      entry_after : (n : ℕ) (entry : Entry K V) (place : Place K V) → EntryStands f c n entry place → EntryStands g c n (entry_closed entry) (place_closed place)
+      entry_after : (n : ℕ) (entry : Entry K V M) (place : Place K V M) → EntryStands f c n entry place → EntryStands g c n (entry_closed entry) (place_closed place)
       entry_after n entry Waiting x = tt
       entry_after n entry (Running r st o) x = (subst (λ (i : ℕ). r < i) (sym q.started) x.0, q.runs r ∙ x.1)
       entry_after n entry (Ready reply) x = tt
       entry_after n entry Put x = tt
       entry_after n entry Dropped x = tt
 
-      closed_not : (place : Place K V) → place_closed place ≡ waiting_place → ⊥
+      closed_not : (place : Place K V M) → place_closed place ≡ waiting_place → ⊥
       closed_not Waiting p = cc
       closed_not (Running r st o) p = cc
       closed_not (Ready reply) p = cc
@@ -183,10 +183,10 @@ module _ {K V L O : Type 0} (AsLane : L → Client K V O → Type 0) (means : So
       closed_stands = record {
         lane = λ o. absurd (both o);
         shut = λ o. set.here;
-        dropped = λ o n entry h p. let w = get_map entry_closed client.entries n entry h in closed_not w.0.place (ap (λ (y : Entry K V). y.place) (sym w.2) ∙ p);
+        dropped = λ o n entry h p. let w = get_map entry_closed client.entries n entry h in closed_not w.0.place (ap (λ (y : Entry K V M). y.place) (sym w.2) ∙ p);
         entries = λ n entry h.
             let w = get_map entry_closed client.entries n entry h in
-            subst (λ (y : Entry K V). EntryStands g c n y y.place) (sym w.2)
+            subst (λ (y : Entry K V M). EntryStands g c n y y.place) (sym w.2)
             (entry_after n w.0 w.0.place ((s.each c client is_open.here).entries n w.0 w.1));
       }
 
@@ -198,24 +198,24 @@ module _ {K V L O : Type 0} (AsLane : L → Client K V O → Type 0) (means : So
               client = closed client;
               entry = entry_closed x.entry;
               client_here =
-                  ap (λ (xs : List (Client K V O)). slice_get xs run.client) clients_set ∙ (ap (λ (k : ℕ). slice_get (slice_set l.clients c (closed client)) k) w
+                  ap (λ (xs : List (Client K V M O)). slice_get xs run.client) clients_set ∙ (ap (λ (k : ℕ). slice_get (slice_set l.clients c (closed client)) k) w
                   ∙ set_same l.clients c (closed client) (get_within l.clients c client is_open.here));
-              here = map_there client.entries run.number x.entry (ap (λ (y : Client K V O). slice_get y.entries run.number) (sym is) ∙ x.here);
-              runs = ap (λ (p : Place K V). place_closed p) x.runs;
+              here = map_there client.entries run.number x.entry (ap (λ (y : Client K V M O). slice_get y.entries run.number) (sym is) ∙ x.here);
+              runs = ap (λ (p : Place K V M). place_closed p) x.runs;
               request = x.request;
             }
         | inr w ↦
             record {
               client = x.client;
               entry = x.entry;
-              client_here = ap (λ (xs : List (Client K V O)). slice_get xs run.client) clients_set ∙ (set_other l.clients c (closed client) run.client w ∙ x.client_here);
+              client_here = ap (λ (xs : List (Client K V M O)). slice_get xs run.client) clients_set ∙ (set_other l.clients c (closed client) run.client w ∙ x.client_here);
               here = x.here;
               runs = x.runs;
               request = x.request;
             }
       ]
         where
-          map_there : (xs : List (Entry K V)) (i : ℕ) (y : Entry K V) → slice_get xs i ≡ Some y → slice_get (map entry_closed xs) i ≡ Some (entry_closed y)
+          map_there : (xs : List (Entry K V M)) (i : ℕ) (y : Entry K V M) → slice_get xs i ≡ Some y → slice_get (map entry_closed xs) i ≡ Some (entry_closed y)
           map_there [] i y h = absurd (none_some y h)
-          map_there (z ∷ zs) zero y h = ap (λ (v : Entry K V). Some (entry_closed v)) (some_one z y h)
+          map_there (z ∷ zs) zero y h = ap (λ (v : Entry K V M). Some (entry_closed v)) (some_one z y h)
           map_there (z ∷ zs) (suc i) y h = map_there zs i y h

@@ -3,6 +3,7 @@ use Rattle.std.proofs.Common.{◌≡◌, ◌≢◌, ℕ, ◌+◌, ◌<◌, ◌�
 use Rattle.std.specs.Prelude.{Ok, Err, Result}
 use Rattle.pq_inputs.specs.Sources.{Sources, Table}
 use Rattle.pq_rules.specs.declared.turn.Answer.{Answer}
+use Rattle.pq_core.specs.Points.{Point}
 use Rattle.pq_core.specs.Replies.{ReplyView}
 use Rattle.pq_rules.proofs.ListLemmas.{get_last}
 use Rattle.pq_core.proofs.Lists.{get_set, get_append, get_longer, get_within, get_map, set_long, append_long, map_long}
@@ -28,48 +29,48 @@ use Rattle.pq_core.specs.declared.fault.OpenRefused.{OpenRefused}
 use Rattle.pq_core.specs.declared.fault.AcceptRefused.{AcceptRefused}
 use Rattle.pq_core.specs.declared.fault.EditRefused.{EditRefused}
 
-module _ {K V O : Type 0} (means : Sources → K → Answer K V → Type 0) (puts : O → List (ReplyView K V)) where
+module _ {K V M O : Type 0} (means : M → Point → K → Answer K V → Type 0) (puts : O → List (ReplyView K V M)) where
   -- another client of an id
-  pub kept_client : (l : Ledger K V O) (c : ℕ) (client : Client K V O) → Kept means puts l
+  pub kept_client : (l : Ledger K V M O) (c : ℕ) (client : Client K V M O) → Kept means puts l
       → ClientKept means l.inputs (puts client.outbox) c client.entries → Kept means puts (with_client l c client)
   kept_client l c client k ck = record {
     inputs = k.inputs;
     clients = λ d other h. elim (get_set l.clients c client d other h) [
       | inl w ↦
           subst (λ (x : ℕ). ClientKept means l.inputs (puts other.outbox) x other.entries) (sym w.0)
-          (subst (λ (y : Client K V O). ClientKept means l.inputs (puts y.outbox) c y.entries) (sym w.1) ck)
+          (subst (λ (y : Client K V M O). ClientKept means l.inputs (puts y.outbox) c y.entries) (sym w.1) ck)
       | inr w ↦ k.clients d other w.1
     ];
   }
 
-module _ {K V : Type 0} (means : Sources → K → Answer K V → Type 0) where
+module _ {K V M : Type 0} (means : M → Point → K → Answer K V → Type 0) where
   -- another request of a number
-  pub kept_entry : (inputs : Table) (qs : List (ReplyView K V)) (c : ℕ) (entries : List (Entry K V)) (n : ℕ) (entry : Entry K V)
+  pub kept_entry : (inputs : Table) (qs : List (ReplyView K V M)) (c : ℕ) (entries : List (Entry K V M)) (n : ℕ) (entry : Entry K V M)
       → ClientKept means inputs qs c entries → EntryKept means inputs qs c n entry → ClientKept means inputs qs c (slice_set entries n entry)
   kept_entry inputs qs c entries n entry k e = record {
     few = let a : length qs ≤ length entries = k.few in let b : length (slice_set entries n entry) ≡ length entries = set_long entries n entry in omega arith;
     each = λ i other h. elim (get_set entries n entry i other h) [
       | inl w ↦
           subst (λ (x : ℕ). EntryKept means inputs qs c x other) (sym w.0)
-          (subst (λ (y : Entry K V). EntryKept means inputs qs c n y) (sym w.1) e)
+          (subst (λ (y : Entry K V M). EntryKept means inputs qs c n y) (sym w.1) e)
       | inr w ↦ k.each i other w.1
     ];
   }
 
   -- one more request
-  pub kept_new : (inputs : Table) (qs : List (ReplyView K V)) (c : ℕ) (entries : List (Entry K V)) (entry : Entry K V)
+  pub kept_new : (inputs : Table) (qs : List (ReplyView K V M)) (c : ℕ) (entries : List (Entry K V M)) (entry : Entry K V M)
       → ClientKept means inputs qs c entries → EntryKept means inputs qs c (length entries) entry → ClientKept means inputs qs c (entries ++ entry ∷ [])
   kept_new inputs qs c entries entry k e = record {
     few = let a : length qs ≤ length entries = k.few in let b : length (entries ++ entry ∷ []) ≡ length entries + 1 = append_long entries entry in omega arith;
     each = λ i other h. elim (get_append entries entry i other h) [
       | inl w ↦
           subst (λ (x : ℕ). EntryKept means inputs qs c x other) (sym w.0)
-          (subst (λ (y : Entry K V). EntryKept means inputs qs c (length entries) y) (sym w.1) e)
+          (subst (λ (y : Entry K V M). EntryKept means inputs qs c (length entries) y) (sym w.1) e)
       | inr w ↦ k.each i other w
     ];
   }
 
-  new_placed : (inputs : Table) (qs : List (ReplyView K V)) (c n : ℕ) (request : Request K) (want : Want K) → request.want ≡ want → length qs ≤ n
+  new_placed : (inputs : Table) (qs : List (ReplyView K V M)) (c n : ℕ) (request : Request K) (want : Want K) → request.want ≡ want → length qs ≤ n
       → PlaceKept means inputs qs c n (record { request = request; accepted = inputs.revision; place = first_place c n request inputs.revision want; starved = false }) (first_place c n request inputs.revision want)
   new_placed inputs qs c n request (Demand key) e h = (h, subst IsDemand (sym e) tt)
   new_placed inputs qs c n request (Fixed text) e h = (
@@ -82,26 +83,26 @@ module _ {K V : Type 0} (means : Sources → K → Answer K V → Type 0) where
     },
   )
 
-  pub new_kept : (inputs : Table) (qs : List (ReplyView K V)) (c n : ℕ) (request : Request K) → length qs ≤ n
+  pub new_kept : (inputs : Table) (qs : List (ReplyView K V M)) (c n : ℕ) (request : Request K) → length qs ≤ n
       → EntryKept means inputs qs c n (new_entry c n request inputs.revision)
   new_kept inputs qs c n request h = record { past = omega arith; placed = new_placed inputs qs c n request request.want refl h }
 
   -- later inputs
-  pub true_later : (t u : Table) (a : ℕ) (s : Bool) (want : Want K) (r : ℕ) (outcome : Outcome K V) → t.revision ≤ u.revision
+  pub true_later : (t u : Table) (a : ℕ) (s : Bool) (want : Want K) (r : ℕ) (outcome : Outcome K V M) → t.revision ≤ u.revision
       → ((j : ℕ) (files : Sources) → slice_get t.history j ≡ Some files → slice_get u.history j ≡ Some files)
       → IsTrueOutcome means t a s want r outcome → IsTrueOutcome means u a s want r outcome
-  true_later t u a s (Demand key) r (Answered answer) h f x =
+  true_later t u a s (Demand key) r (Answered answer stamp) h f x =
       let b : r ≤ t.revision = x.1 in
       (x.0, omega arith, record { files = x.2.files; there = f r x.2.files x.2.there; means_so = x.2.means_so })
   true_later t u a s (Demand key) r Plain h f x = x
   true_later t u a s (Demand key) r (Cancelled started seen) h f x = let b : seen ≤ t.revision = x.2 in (x.0, x.1, omega arith, x.3)
   true_later t u a s (Demand key) r Starved h f x = let b : r ≤ t.revision = x.2 in (x.0, x.1, omega arith)
-  true_later t u a s (Fixed text) r (Answered answer) h f x = x
+  true_later t u a s (Fixed text) r (Answered answer stamp) h f x = x
   true_later t u a s (Fixed text) r Plain h f x = x
   true_later t u a s (Fixed text) r (Cancelled started seen) h f x = x
   true_later t u a s (Fixed text) r Starved h f x = x
 
-  right_later : (t u : Table) (c n : ℕ) (entry : Entry K V) (reply : ReplyView K V) → t.revision ≤ u.revision
+  right_later : (t u : Table) (c n : ℕ) (entry : Entry K V M) (reply : ReplyView K V M) → t.revision ≤ u.revision
       → ((j : ℕ) (files : Sources) → slice_get t.history j ≡ Some files → slice_get u.history j ≡ Some files)
       → IsRightFor means t c n entry reply → IsRightFor means u c n entry reply
   right_later t u c n entry reply h f x = record {
@@ -111,7 +112,7 @@ module _ {K V : Type 0} (means : Sources → K → Answer K V → Type 0) where
     outcome = true_later t u entry.accepted entry.starved entry.request.want reply.revision reply.outcome h f x.outcome;
   }
 
-  placed_later : (t u : Table) (qs : List (ReplyView K V)) (c n : ℕ) (entry : Entry K V) (place : Place K V) → t.revision ≤ u.revision
+  placed_later : (t u : Table) (qs : List (ReplyView K V M)) (c n : ℕ) (entry : Entry K V M) (place : Place K V M) → t.revision ≤ u.revision
       → ((j : ℕ) (files : Sources) → slice_get t.history j ≡ Some files → slice_get u.history j ≡ Some files)
       → PlaceKept means t qs c n entry place → PlaceKept means u qs c n entry place
   placed_later t u qs c n entry Waiting h f x = x
@@ -120,7 +121,7 @@ module _ {K V : Type 0} (means : Sources → K → Answer K V → Type 0) where
   placed_later t u qs c n entry Put h f x = (x.0, x.1, right_later t u c n entry x.0 h f x.2)
   placed_later t u qs c n entry Dropped h f x = x
 
-  pub entry_later : (t u : Table) (qs : List (ReplyView K V)) (c n : ℕ) (entry : Entry K V) → t.revision ≤ u.revision
+  pub entry_later : (t u : Table) (qs : List (ReplyView K V M)) (c n : ℕ) (entry : Entry K V M) → t.revision ≤ u.revision
       → ((j : ℕ) (files : Sources) → slice_get t.history j ≡ Some files → slice_get u.history j ≡ Some files)
       → EntryKept means t qs c n entry → EntryKept means u qs c n entry
   entry_later t u qs c n entry h f x = record {
@@ -129,7 +130,7 @@ module _ {K V : Type 0} (means : Sources → K → Answer K V → Type 0) where
   }
 
   -- one more reply is put, and the request is another
-  placed_put : (inputs : Table) (qs : List (ReplyView K V)) (reply : ReplyView K V) (c n : ℕ) (entry : Entry K V) (place : Place K V) → n ≢ length qs
+  placed_put : (inputs : Table) (qs : List (ReplyView K V M)) (reply : ReplyView K V M) (c n : ℕ) (entry : Entry K V M) (place : Place K V M) → n ≢ length qs
       → PlaceKept means inputs qs c n entry place → PlaceKept means inputs (qs ++ reply ∷ []) c n entry place
   placed_put inputs qs reply c n entry Waiting ne x = let a : length qs ≤ n = x.0 in let b : length (qs ++ reply ∷ []) ≡ length qs + 1 = append_long qs reply in (omega arith, x.1)
   placed_put inputs qs reply c n entry (Running run started out) ne x = let a : length qs ≤ n = x.0 in let b : length (qs ++ reply ∷ []) ≡ length qs + 1 = append_long qs reply in (omega arith, x.1, x.2, x.3)
@@ -138,7 +139,7 @@ module _ {K V : Type 0} (means : Sources → K → Answer K V → Type 0) where
   placed_put inputs qs reply c n entry Dropped ne x = let a : length qs ≤ n = x in let b : length (qs ++ reply ∷ []) ≡ length qs + 1 = append_long qs reply in omega arith
 
   -- the reply that is ready at its turn is put
-  pub kept_put : (inputs : Table) (qs : List (ReplyView K V)) (c : ℕ) (entries : List (Entry K V)) (entry : Entry K V) (reply : ReplyView K V)
+  pub kept_put : (inputs : Table) (qs : List (ReplyView K V M)) (c : ℕ) (entries : List (Entry K V M)) (entry : Entry K V M) (reply : ReplyView K V M)
       → ClientKept means inputs qs c entries → slice_get entries (length qs) ≡ Some entry → entry.place ≡ Ready reply
       → ClientKept means inputs (qs ++ reply ∷ []) c (slice_set entries (length qs) (moved_to entry Put))
   kept_put inputs qs c entries entry reply k here ready =
@@ -161,7 +162,7 @@ module _ {K V : Type 0} (means : Sources → K → Answer K V → Type 0) where
         each = λ i other h. elim (get_set entries (length qs) (moved_to entry Put) i other h) [
           | inl w ↦
               subst (λ (x : ℕ). EntryKept means inputs (qs ++ reply ∷ []) c x other) (sym w.0)
-              (subst (λ (y : Entry K V). EntryKept means inputs (qs ++ reply ∷ []) c (length qs) y) (sym w.1) moved)
+              (subst (λ (y : Entry K V M). EntryKept means inputs (qs ++ reply ∷ []) c (length qs) y) (sym w.1) moved)
           | inr w ↦
               let before : EntryKept means inputs qs c i other = k.each i other w.1 in
               record { past = before.past; placed = placed_put inputs qs reply c i other other.place w.0 before.placed }
@@ -169,7 +170,7 @@ module _ {K V : Type 0} (means : Sources → K → Answer K V → Type 0) where
       }
 
   -- a close
-  placed_closed : (inputs : Table) (qs : List (ReplyView K V)) (c n : ℕ) (entry : Entry K V) (place : Place K V)
+  placed_closed : (inputs : Table) (qs : List (ReplyView K V M)) (c n : ℕ) (entry : Entry K V M) (place : Place K V M)
       → PlaceKept means inputs qs c n entry place → PlaceKept means inputs qs c n (moved_to entry (place_closed place)) (place_closed place)
   placed_closed inputs qs c n entry Waiting x = x.0
   placed_closed inputs qs c n entry (Running run started out) x = x
@@ -177,34 +178,34 @@ module _ {K V : Type 0} (means : Sources → K → Answer K V → Type 0) where
   placed_closed inputs qs c n entry Put x = (x.0, x.1, record { client = x.2.client; number = x.2.number; request = x.2.request; outcome = x.2.outcome })
   placed_closed inputs qs c n entry Dropped x = x
 
-  pub kept_close : (inputs : Table) (qs : List (ReplyView K V)) (c : ℕ) (entries : List (Entry K V))
+  pub kept_close : (inputs : Table) (qs : List (ReplyView K V M)) (c : ℕ) (entries : List (Entry K V M))
       → ClientKept means inputs qs c entries → ClientKept means inputs qs c (map entry_closed entries)
   kept_close inputs qs c entries k = record {
     few = let a : length qs ≤ length entries = k.few in let b : length (map entry_closed entries) ≡ length entries = map_long entry_closed entries in omega arith;
     each = λ i other h.
         let w = get_map entry_closed entries i other h in
         let before : EntryKept means inputs qs c i w.0 = k.each i w.0 w.1 in
-        subst (λ (y : Entry K V). EntryKept means inputs qs c i y) (sym w.2)
+        subst (λ (y : Entry K V M). EntryKept means inputs qs c i y) (sym w.2)
         (record { past = before.past; placed = placed_closed inputs qs c i w.0 w.0.place before.placed });
   }
 
   -- a run ends, in a place that is right
-  pub ended_placed : (inputs : Table) (qs : List (ReplyView K V)) (c n : ℕ) (entry : Entry K V) (starved is_open : Bool) (reply : ReplyView K V)
+  pub ended_placed : (inputs : Table) (qs : List (ReplyView K V M)) (c n : ℕ) (entry : Entry K V M) (starved is_open : Bool) (reply : ReplyView K V M)
       → length qs ≤ n → IsRightFor means inputs c n (record { request = entry.request; accepted = entry.accepted; place = place_ended is_open reply; starved = starved }) reply
       → PlaceKept means inputs qs c n (record { request = entry.request; accepted = entry.accepted; place = place_ended is_open reply; starved = starved }) (place_ended is_open reply)
   ended_placed inputs qs c n entry starved true reply h x = (h, x)
   ended_placed inputs qs c n entry starved false reply h x = h
 
-module _ {K V O : Type 0} (means : Sources → K → Answer K V → Type 0) (puts : O → List (ReplyView K V)) where
+module _ {K V M O : Type 0} (means : M → Point → K → Answer K V → Type 0) (puts : O → List (ReplyView K V M)) where
   -- what is known of a request that runs
-  pub runs_placed : (l : Ledger K V O) (run : ℕ) (at : RunAt K V O) → Kept means puts l → Runs l run at
+  pub runs_placed : (l : Ledger K V M O) (run : ℕ) (at : RunAt K V M O) → Kept means puts l → Runs l run at
       → PlaceKept means l.inputs (puts at.client.outbox) at.c at.n at.entry (Running run at.started at.out)
   runs_placed l run at k r =
       subst (PlaceKept means l.inputs (puts at.client.outbox) at.c at.n at.entry) r.runs
       ((k.clients at.c at.client r.is_entry.client_here).each at.n at.entry r.is_entry.here).placed
 
   -- a run ends with a true outcome
-  pub kept_end : (l : Ledger K V O) (run : ℕ) (at : RunAt K V O) (starved : Bool) (outcome : Outcome K V)
+  pub kept_end : (l : Ledger K V M O) (run : ℕ) (at : RunAt K V M O) (starved : Bool) (outcome : Outcome K V M)
       → Kept means puts l → Runs l run at
       → IsTrueOutcome means l.inputs at.entry.accepted starved at.entry.request.want l.inputs.revision outcome
       → Kept means puts (ended l at starved outcome)
@@ -220,7 +221,7 @@ module _ {K V O : Type 0} (means : Sources → K → Answer K V → Type 0) (put
       }))
 
   -- the run of a closed client ends without a reply
-  kept_dropped : (l : Ledger K V O) (run : ℕ) (at : RunAt K V O) (starved : Bool) (outcome : Outcome K V)
+  kept_dropped : (l : Ledger K V M O) (run : ℕ) (at : RunAt K V M O) (starved : Bool) (outcome : Outcome K V M)
       → Kept means puts l → Runs l run at → at.client.is_open ≡ false → Kept means puts (ended l at starved outcome)
   kept_dropped l run at starved outcome k r shut =
       let ck = k.clients at.c at.client r.is_entry.client_here in
@@ -231,7 +232,7 @@ module _ {K V O : Type 0} (means : Sources → K → Answer K V → Type 0) (put
       (record { past = (ck.each at.n at.entry r.is_entry.here).past; placed = placed.0 })))
 
   -- the work of a run that is out is other work, or none
-  kept_out : (l : Ledger K V O) (run : ℕ) (at : RunAt K V O) (out : Option (Out K)) → Kept means puts l → Runs l run at
+  kept_out : (l : Ledger K V M O) (run : ℕ) (at : RunAt K V M O) (out : Option (Out K)) → Kept means puts l → Runs l run at
       → Kept means puts (with_out l run at out)
   kept_out l run at out k r =
       let ck = k.clients at.c at.client r.is_entry.client_here in
@@ -240,25 +241,25 @@ module _ {K V O : Type 0} (means : Sources → K → Answer K V → Type 0) (put
       (kept_entry means l.inputs (puts at.client.outbox) at.c at.client.entries at.n _ ck
       (record { past = (ck.each at.n at.entry r.is_entry.here).past; placed = (placed.0, placed.1, placed.2, placed.3) }))
 
-  pub kept_opens : (outbox : O) (answer : Result ℕ (OpenRefused O)) (l m : Ledger K V O) → puts outbox ≡ [] → Kept means puts l → Opens outbox answer l m → Kept means puts m
+  pub kept_opens : (outbox : O) (answer : Result ℕ (OpenRefused O)) (l m : Ledger K V M O) → puts outbox ≡ [] → Kept means puts l → Opens outbox answer l m → Kept means puts m
   kept_opens outbox (Ok c) l m e k s =
       subst (Kept means puts) (sym s.2)
       (record {
         inputs = k.inputs;
         clients = λ d other h. elim (get_append l.clients (opened outbox) d other h) [
           | inl w ↦
-              subst (λ (y : Client K V O). ClientKept means l.inputs (puts y.outbox) d y.entries) (sym w.1)
-              (subst (λ (qs : List (ReplyView K V)). ClientKept means l.inputs qs d []) (sym e)
+              subst (λ (y : Client K V M O). ClientKept means l.inputs (puts y.outbox) d y.entries) (sym w.1)
+              (subst (λ (qs : List (ReplyView K V M)). ClientKept means l.inputs qs d []) (sym e)
               (record { few = omega arith; each = λ i entry g. absurd (none_there i entry g) }))
           | inr w ↦ k.clients d other w
         ];
       })
     where
-      none_there : (i : ℕ) (entry : Entry K V) → None ≡ Some entry → ⊥
+      none_there : (i : ℕ) (entry : Entry K V M) → None ≡ Some entry → ⊥
       none_there i entry g = cc
   kept_opens outbox (Err refused) l m e k s = subst (Kept means puts) (sym s.2) k
 
-  pub kept_accepts : (c : ℕ) (request : Request K) (answer : Result ℕ (AcceptRefused K)) (l m : Ledger K V O) → Kept means puts l → Accepts puts c request answer l m → Kept means puts m
+  pub kept_accepts : (c : ℕ) (request : Request K) (answer : Result ℕ (AcceptRefused K)) (l m : Ledger K V M O) → Kept means puts l → Accepts puts c request answer l m → Kept means puts m
   kept_accepts c request (Ok n) l m k s =
       let client = s.0 in
       let ck = k.clients c client s.1.here in
@@ -269,7 +270,7 @@ module _ {K V O : Type 0} (means : Sources → K → Answer K V → Type 0) (put
       (new_kept means l.inputs (puts client.outbox) c (length client.entries) request ck.few))))
   kept_accepts c request (Err refused) l m k s = subst (Kept means puts) (sym s.2) k
 
-  pub kept_edits : (c : ℕ) (change : ChangeView) (answer : Result ℕ EditRefused) (l m : Ledger K V O) → Kept means puts l → Edits c change answer l m → Kept means puts m
+  pub kept_edits : (c : ℕ) (change : ChangeView) (answer : Result ℕ EditRefused) (l m : Ledger K V M O) → Kept means puts l → Edits c change answer l m → Kept means puts m
   kept_edits c change (Ok revision) l m k s =
       let files = (changed l.inputs change).files in
       subst (Kept means puts) (sym s.4)
@@ -289,7 +290,7 @@ module _ {K V O : Type 0} (means : Sources → K → Answer K V → Type 0) (put
       })
   kept_edits c change (Err refused) l m k s = subst (Kept means puts) (sym s.2) k
 
-  pub kept_starts : (answer : Option ℕ) (l m : Ledger K V O) → Kept means puts l → Starts answer l m → Kept means puts m
+  pub kept_starts : (answer : Option ℕ) (l m : Ledger K V M O) → Kept means puts l → Starts answer l m → Kept means puts m
   kept_starts (Some run) l m k s =
       let c = s.0 in
       let client = s.1 in
@@ -316,7 +317,7 @@ module _ {K V O : Type 0} (means : Sources → K → Answer K V → Type 0) (put
   starved_true inputs a (Fixed text) d h = absurd d
 
   -- a run that was overtaken stops
-  kept_stops : (l m : Ledger K V O) (run : ℕ) (at : RunAt K V O) → Kept means puts l → Runs l run at → IsOvertaken l at
+  kept_stops : (l m : Ledger K V M O) (run : ℕ) (at : RunAt K V M O) → Kept means puts l → Runs l run at → IsOvertaken l at
       → m ≡ ended l at at.entry.starved (Cancelled at.started l.inputs.revision) → Kept means puts m
   kept_stops l m run at k r overtaken e =
       let placed = runs_placed l run at k r in
@@ -326,7 +327,7 @@ module _ {K V O : Type 0} (means : Sources → K → Answer K V → Type 0) (put
         | inr shut ↦ kept_dropped l run at at.entry.starved _ k r shut
       ])
 
-  pub kept_looks : {R P : Type 0} (rules : R) (run : ℕ) (answer : Result (Move (WorkView R K P V)) LookFault) (l m : Ledger K V O) → Kept means puts l → LooksFor means rules run answer l m → Kept means puts m
+  pub kept_looks : {R P : Type 0} (rules : R) (run : ℕ) (answer : Result (Move (WorkView R K P V)) LookFault) (l m : Ledger K V M O) → Kept means puts l → LooksFor means rules run answer l m → Kept means puts m
   kept_looks rules run (Ok (Carry work)) l m k s = subst (Kept means puts) (sym s.3) (kept_out l run s.0 (Some (out_of work.done)) k s.1.runs)
   kept_looks rules run (Ok (Blocked other)) l m k s = subst (Kept means puts) (sym s.4) k
   kept_looks rules run (Ok MoveStepped) l m k s = subst (Kept means puts) (sym s.2) k
@@ -336,16 +337,16 @@ module _ {K V O : Type 0} (means : Sources → K → Answer K V → Type 0) (put
       let placed = runs_placed l run at k runs in
       let a : at.entry.accepted ≤ at.started = placed.2 in
       let b : at.started ≤ l.inputs.revision = placed.3 in
-      let w = s.2.1 in
-      subst (Kept means puts) (sym s.2.2)
-      (kept_end l run at at.entry.starved (Answered s.2.0) k runs
-      (subst (λ (x : Want K). IsTrueOutcome means l.inputs at.entry.accepted at.entry.starved x l.inputs.revision (Answered s.2.0)) (sym w.demanded)
+      let w = s.2.2 in
+      subst (Kept means puts) (sym s.2.3)
+      (kept_end l run at at.entry.starved (Answered s.2.0 s.2.1) k runs
+      (subst (λ (x : Want K). IsTrueOutcome means l.inputs at.entry.accepted at.entry.starved x l.inputs.revision (Answered s.2.0 s.2.1)) (sym w.demanded)
       (omega arith, omega arith, w.is_value)))
   kept_looks rules run (Ok MoveStopped) l m k s = kept_stops l m run s.0 k s.1 s.2 s.3
   kept_looks rules run (Err NoRun) l m k s = subst (Kept means puts) (sym s.1) k
   kept_looks rules run (Err LookMemory) l m k s = subst (Kept means puts) (sym s.2) k
 
-  pub kept_gives : {R P : Type 0} (run : ℕ) (done : DoneView R K P V) (answer : Result (Move (WorkView R K P V)) (GiveRefused (DoneView R K P V))) (l m : Ledger K V O) → Kept means puts l → Gives run done answer l m → Kept means puts m
+  pub kept_gives : {R P : Type 0} (run : ℕ) (done : DoneView R K P V) (answer : Result (Move (WorkView R K P V)) (GiveRefused (DoneView R K P V))) (l m : Ledger K V M O) → Kept means puts l → Gives run done answer l m → Kept means puts m
   kept_gives run done (Ok (Carry work)) l m k s = absurd s
   kept_gives run done (Ok (Blocked other)) l m k s = absurd s
   kept_gives run done (Ok MoveStepped) l m k s = subst (Kept means puts) (sym s.4) (kept_out l run s.0 None k s.1)
@@ -353,7 +354,7 @@ module _ {K V O : Type 0} (means : Sources → K → Answer K V → Type 0) (put
   kept_gives run done (Ok MoveStopped) l m k s = kept_stops l m run s.0 k s.1 s.3 s.4
   kept_gives run done (Err refused) l m k s = subst (Kept means puts) (sym s.2) k
 
-  pub kept_starves : (run : ℕ) (answer : Bool) (l m : Ledger K V O) → Kept means puts l → Starves run answer l m → Kept means puts m
+  pub kept_starves : (run : ℕ) (answer : Bool) (l m : Ledger K V M O) → Kept means puts l → Starves run answer l m → Kept means puts m
   kept_starves run true l m k s =
       let at = s.0 in
       let placed = runs_placed l run at k s.1 in
@@ -364,13 +365,13 @@ module _ {K V O : Type 0} (means : Sources → K → Answer K V → Type 0) (put
   kept_starves run false l m k s = subst (Kept means puts) (sym s.1) k
 
   -- another outbox with the same replies put
-  kept_outbox : (l : Ledger K V O) (c : ℕ) (client : Client K V O) (o : O) (refused : Bool) → slice_get l.clients c ≡ Some client → puts o ≡ puts client.outbox
+  kept_outbox : (l : Ledger K V M O) (c : ℕ) (client : Client K V M O) (o : O) (refused : Bool) → slice_get l.clients c ≡ Some client → puts o ≡ puts client.outbox
       → Kept means puts l → Kept means puts (with_client l c (with_outbox client o refused))
   kept_outbox l c client o refused here e k =
       kept_client means puts l c _ k
-      (subst (λ (qs : List (ReplyView K V)). ClientKept means l.inputs qs c client.entries) (sym e) (k.clients c client here))
+      (subst (λ (qs : List (ReplyView K V M)). ClientKept means l.inputs qs c client.entries) (sym e) (k.clients c client here))
 
-  pub kept_releases : (takes : O → List (ReplyView K V)) (was_full was_gone : O → Type 0) (c : ℕ) (answer : Released) (l m : Ledger K V O) → Kept means puts l → Releases puts takes was_full was_gone c answer l m → Kept means puts m
+  pub kept_releases : (takes : O → List (ReplyView K V M)) (was_full was_gone : O → Type 0) (c : ℕ) (answer : Released) (l m : Ledger K V M O) → Kept means puts l → Releases puts takes was_full was_gone c answer l m → Kept means puts m
   kept_releases takes was_full was_gone c (ReleasedPut n) l m k s =
       let next = s.0 in
       let client = next.client in
@@ -378,7 +379,7 @@ module _ {K V O : Type 0} (means : Sources → K → Answer K V → Type 0) (put
       let ck = k.clients c client s.1.here in
       subst (Kept means puts) (sym s.3.3)
       (kept_client means puts l c _ k
-      (subst (λ (qs : List (ReplyView K V)). ClientKept means l.inputs qs c (slice_set client.entries n (moved_to next.entry Put))) (sym s.3.1)
+      (subst (λ (qs : List (ReplyView K V M)). ClientKept means l.inputs qs c (slice_set client.entries n (moved_to next.entry Put))) (sym s.3.1)
       (subst (λ (i : ℕ). ClientKept means l.inputs (puts client.outbox ++ next.reply ∷ []) c (slice_set client.entries i (moved_to next.entry Put))) (sym s.2)
       (kept_put means l.inputs (puts client.outbox) c client.entries next.entry next.reply ck ready.here ready.ready))))
   kept_releases takes was_full was_gone c ReleasedFull l m k s =
@@ -387,13 +388,13 @@ module _ {K V O : Type 0} (means : Sources → K → Answer K V → Type 0) (put
       subst (Kept means puts) (sym s.2.3) (kept_outbox l c s.0.client s.2.0 true s.1.here s.2.1.puts_same k)
   kept_releases takes was_full was_gone c ReleasedNothing l m k s = subst (Kept means puts) (sym s.1) k
 
-  pub kept_closes : (c : ℕ) (answer : Option O) (l m : Ledger K V O) → Kept means puts l → Closes c answer l m → Kept means puts m
+  pub kept_closes : (c : ℕ) (answer : Option O) (l m : Ledger K V M O) → Kept means puts l → Closes c answer l m → Kept means puts m
   kept_closes c (Some o) l m k s =
       subst (Kept means puts) (sym s.3)
       (kept_client means puts l c _ k (kept_close means l.inputs (puts s.0.outbox) c s.0.entries (k.clients c s.0 s.1.here)))
   kept_closes c None l m k s = subst (Kept means puts) (sym s.1) k
 
-  pub kept_takes : {A : Type 0} (takes : O → List (ReplyView K V)) (c : ℕ) (answer : Result Bool A) (l m : Ledger K V O) → Kept means puts l → TakesOut puts takes c answer l m → Kept means puts m
+  pub kept_takes : {A : Type 0} (takes : O → List (ReplyView K V M)) (c : ℕ) (answer : Result Bool A) (l m : Ledger K V M O) → Kept means puts l → TakesOut puts takes c answer l m → Kept means puts m
   kept_takes takes c (Ok true) l m k s =
       subst (Kept means puts) (sym s.2.3) (kept_outbox l c s.0 s.2.0 s.0.refused s.1.here s.2.1 k)
   kept_takes takes c (Ok false) l m k s = subst (Kept means puts) (sym s.1) k

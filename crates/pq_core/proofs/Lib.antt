@@ -12,6 +12,7 @@ pub mod CoreOpening
 pub mod CoreAccepting
 pub mod CoreRunning
 pub mod Keeping
+pub mod Truthful
 pub mod Shutting
 pub mod Slots
 pub mod Writes
@@ -29,3 +30,7 @@ pub mod RingLeaving
 pub mod CoreReleasing
 pub mod CoreResting
 pub mod CoreStarting
+pub mod Counting
+pub mod RulesBegun
+pub mod CoreCounting
+pub mod RingBegun

@@ -1,5 +1,7 @@
 -- Lemmas on places in lists. A middle term: only proofs need it.
-use Rattle.std.proofs.Common.{◌≡◌, ◌≢◌, ℕ, zero, suc, ◌+◌, ◌<◌, ◌⊎◌, List, [], ◌∷◌, ◌++◌, map, length, slice_get, slice_set, Some, None, refl, sym, ap, inl, inr, arith}
+use Rattle.std.proofs.Common.{◌≡◌, ◌≢◌, ℕ, zero, suc, ◌+◌, ◌<◌, ◌⊎◌, List, [], ◌∷◌, ◌++◌, map, length, slice_get, slice_set, Some, None, refl, sym, ap, subst, inl, inr, arith}
+use Rattle.std.specs.Prelude.{Result, Ok, Err}
+use Rattle.std.specs.Result.{IfOk, result_ok}
 
 -- what stands at a place of a list in which one place was set
 pub record Changed {A : Type 0} (xs : List A) (i : ℕ) (x : A) (j : ℕ) (y : A) : Type 0 where
@@ -11,6 +13,11 @@ some_one x y e = cc
 
 pub none_some : {A : Type 0} (y : A) → None ≡ Some y → ⊥
 none_some y e = cc
+
+-- what holds of the value of a result holds of it as an option
+pub of_ok : {T E : Type 0} (r : Result T E) (P : T → Type 0) (x : T) → result_ok r ≡ Some x → IfOk r P → P x
+of_ok (Ok y) P x h p = subst P (some_one y x h) p
+of_ok (Err e) P x h p = absurd (none_some x h)
 
 pub get_set : {A : Type 0} (xs : List A) (i : ℕ) (x : A) (j : ℕ) (y : A) → slice_get (slice_set xs i x) j ≡ Some y → ((j ≡ i) × (y ≡ x)) ⊎ ((j ≢ i) × (slice_get xs j ≡ Some y))
 get_set [] i x j y h = absurd (none_some y h)

@@ -1,11 +1,12 @@
 -- The calls of a core as moves of the ledgers that it stands for: opening, accepting, editing,
 -- starting.
 use Rattle.std.proofs.Common.{◌≡◌, ◌≢◌, ℕ, ◌+◌, ◌<◌, true, false, List, [], ◌∷◌, ◌++◌, length, slice_get, slice_set, Option, Some, None, refl, sym, ◌∙◌, ap, subst, inl, inr, arith}
-use Rattle.pq_inputs.specs.Sources.{Sources, Table}
+use Rattle.pq_inputs.specs.Sources.{Table}
 use Rattle.pq_rules.specs.declared.turn.Answer.{Answer}
 use Rattle.pq_core.proofs.Lists.{get_append, get_longer, get_within, set_same, set_other, append_long, same_or_other, some_one, none_some}
 use Rattle.pq_core.proofs.Standing.{Elsewhere, RunsThere, entry_elsewhere, client_elsewhere, client_entry, count_same, count_opened, restand}
 use Rattle.pq_core.proofs.Calling.{LaneSet, RunSet, SameCounts, SameFields, stands_same, placed}
+use Rattle.pq_core.specs.Points.{Point}
 use Rattle.pq_core.specs.Replies.{ReplyView}
 use Rattle.pq_core.specs.Changes.{ChangeView}
 use Rattle.pq_core.specs.Ledger.{Out, Place, Waiting, Running, Ready, Put, Dropped, Entry, Client, Ledger, IsOpen, with_client, with_entry, moved_to, opened}
@@ -19,7 +20,7 @@ pub record SameRuns {K L : Type 0} (f g : Fields K L) : Type 0 where
   pub runs : (r : ℕ) → g.runs r ≡ f.runs r
   pub started : g.started ≡ f.started
 
-abbrev pub waiting_place : {K V : Type 0} → Place K V
+abbrev pub waiting_place : {K V M : Type 0} → Place K V M
 waiting_place = Waiting
 
 module _ {K L : Type 0} where
@@ -32,41 +33,41 @@ module _ {K L : Type 0} where
     back = λ r run h ne. sym (q.runs r) ∙ h;
   }
 
-module _ {K V L O : Type 0} (AsLane : L → Client K V O → Type 0) (means : Sources → K → Answer K V → Type 0) (puts : O → List (ReplyView K V)) where
+module _ {K V M L O : Type 0} (AsLane : L → Client K V M O → Type 0) (means : M → Point → K → Answer K V → Type 0) (puts : O → List (ReplyView K V M)) where
   -- a run of the core is older than the next
-  pub run_below : (f : Fields K L) (l : Ledger K V O) (r : ℕ) (run : RunSeen K) → Stands AsLane means puts f l → f.runs r ≡ Some run → r < f.started
+  pub run_below : (f : Fields K L) (l : Ledger K V M O) (r : ℕ) (run : RunSeen K) → Stands AsLane means puts f l → f.runs r ≡ Some run → r < f.started
   run_below f l r run s h =
       let x = s.runs r run h in
-      (subst (λ (p : Place K V). EntryStands f run.client run.number x.entry p) x.runs ((s.each run.client x.client x.client_here).entries run.number x.entry x.here)).0
+      (subst (λ (p : Place K V M). EntryStands f run.client run.number x.entry p) x.runs ((s.each run.client x.client x.client_here).entries run.number x.entry x.here)).0
 
   -- no run is of a request that is not in a run
-  pub none_there : (f g : Fields K L) (l : Ledger K V O) (c n : ℕ) (client : Client K V O) (entries : List (Entry K V)) → Stands AsLane means puts f l
+  pub none_there : (f g : Fields K L) (l : Ledger K V M O) (c n : ℕ) (client : Client K V M O) (entries : List (Entry K V M)) → Stands AsLane means puts f l
       → slice_get l.clients c ≡ Some client → ((r : ℕ) → g.runs r ≡ f.runs r)
-      → ((entry : Entry K V) (r s : ℕ) (o : Option (Out K)) → slice_get client.entries n ≡ Some entry → entry.place ≡ Running r s o → ⊥)
+      → ((entry : Entry K V M) (r s : ℕ) (o : Option (Out K)) → slice_get client.entries n ≡ Some entry → entry.place ≡ Running r s o → ⊥)
       → RunsThere g c n entries
   none_there f g l c n client entries s here same other r run h w v =
       let x = s.runs r run (sym (same r) ∙ h) in
       let is : x.client ≡ client = some_one x.client client (sym x.client_here ∙ (ap (λ (k : ℕ). slice_get l.clients k) w ∙ here)) in
       absurd (other x.entry r run.started run.out
-      (ap (λ (k : ℕ). slice_get client.entries k) (sym v) ∙ (ap (λ (y : Client K V O). slice_get y.entries run.number) (sym is) ∙ x.here))
+      (ap (λ (k : ℕ). slice_get client.entries k) (sym v) ∙ (ap (λ (y : Client K V M O). slice_get y.entries run.number) (sym is) ∙ x.here))
       x.runs)
 
   -- a client is opened
-  pub open_stands : (f g : Fields K L) (l m : Ledger K V O) (lane : L) (outbox : O) → Stands AsLane means puts f l
+  pub open_stands : (f g : Fields K L) (l m : Ledger K V M O) (lane : L) (outbox : O) → Stands AsLane means puts f l
       → LaneSet f g f.clients (Some lane) → SameRuns f g → g.inputs ≡ f.inputs → g.opened ≡ f.opened + 1 → g.clients ≡ f.clients + 1
       → AsLane lane (opened outbox) → m ≡ record { inputs = l.inputs; clients = l.clients ++ opened outbox ∷ []; runs = l.runs }
       → Kept means puts m → Stands AsLane means puts g m
   open_stands f g l m lane outbox s set q inputs count clients as_lane e kept = record {
-    inputs = ap (λ (y : Ledger K V O). y.inputs) e ∙ (s.inputs ∙ sym inputs);
-    clients = ap (λ (xs : List (Client K V O)). length xs) clients_set ∙ (append_long l.clients (opened outbox) ∙ (ap (λ (n : ℕ). n + 1) s.clients ∙ sym clients));
-    opened = ap (λ (xs : List (Client K V O)). open_count xs) clients_set ∙ (count_opened l.clients outbox ∙ (ap (λ (n : ℕ). n + 1) s.opened ∙ sym count));
-    started = ap (λ (y : Ledger K V O). y.runs) e ∙ (s.started ∙ sym q.started);
+    inputs = ap (λ (y : Ledger K V M O). y.inputs) e ∙ (s.inputs ∙ sym inputs);
+    clients = ap (λ (xs : List (Client K V M O)). length xs) clients_set ∙ (append_long l.clients (opened outbox) ∙ (ap (λ (n : ℕ). n + 1) s.clients ∙ sym clients));
+    opened = ap (λ (xs : List (Client K V M O)). open_count xs) clients_set ∙ (count_opened l.clients outbox ∙ (ap (λ (n : ℕ). n + 1) s.opened ∙ sym count));
+    started = ap (λ (y : Ledger K V M O). y.runs) e ∙ (s.started ∙ sym q.started);
     within = λ c x h. elim (same_or_other c f.clients) [
       | inl w ↦ let d : g.clients ≡ f.clients + 1 = clients in let is : c ≡ f.clients = w in omega arith
       | inr w ↦ let a : c < f.clients = s.within c x (sym (set.others c w) ∙ h) in let d : g.clients ≡ f.clients + 1 = clients in omega arith
     ];
-    each = λ c client h. elim (get_append l.clients (opened outbox) c client (ap (λ (xs : List (Client K V O)). slice_get xs c) (sym clients_set) ∙ h)) [
-      | inl w ↦ subst (λ (y : Client K V O). ClientStands AsLane g c y) (sym w.1) (new_client c (w.0 ∙ s.clients))
+    each = λ c client h. elim (get_append l.clients (opened outbox) c client (ap (λ (xs : List (Client K V M O)). slice_get xs c) (sym clients_set) ∙ h)) [
+      | inl w ↦ subst (λ (y : Client K V M O). ClientStands AsLane g c y) (sym w.1) (new_client c (w.0 ∙ s.clients))
       | inr w ↦ client_elsewhere AsLane f g f.clients 0 c client (elsewhere_lane f g f.clients 0 (Some lane) set q) (not_new c client w) (s.each c client w)
     ];
     runs = λ r run h.
@@ -74,7 +75,7 @@ module _ {K V L O : Type 0} (AsLane : L → Client K V O → Type 0) (means : So
         record {
           client = x.client;
           entry = x.entry;
-          client_here = ap (λ (xs : List (Client K V O)). slice_get xs run.client) clients_set ∙ get_longer l.clients (opened outbox ∷ []) run.client x.client x.client_here;
+          client_here = ap (λ (xs : List (Client K V M O)). slice_get xs run.client) clients_set ∙ get_longer l.clients (opened outbox ∷ []) run.client x.client x.client_here;
           here = x.here;
           runs = x.runs;
           request = x.request;
@@ -83,9 +84,9 @@ module _ {K V L O : Type 0} (AsLane : L → Client K V O → Type 0) (means : So
   }
     where
       clients_set : m.clients ≡ l.clients ++ opened outbox ∷ []
-      clients_set = ap (λ (y : Ledger K V O). y.clients) e
+      clients_set = ap (λ (y : Ledger K V M O). y.clients) e
 
-      not_new : (c : ℕ) (client : Client K V O) → slice_get l.clients c ≡ Some client → c ≢ f.clients
+      not_new : (c : ℕ) (client : Client K V M O) → slice_get l.clients c ≡ Some client → c ≢ f.clients
       not_new c client h w =
           let a : c < length l.clients = get_within l.clients c client h in
           let b : length l.clients ≡ f.clients = s.clients in
@@ -104,14 +105,14 @@ module _ {K V L O : Type 0} (AsLane : L → Client K V O → Type 0) (means : So
           not_shut o = cc
 
   -- a request is accepted
-  pub accept_stands : (f g : Fields K L) (l m : Ledger K V O) (c n : ℕ) (client : Client K V O) (lane : L) (request : Request K) → Stands AsLane means puts f l
+  pub accept_stands : (f g : Fields K L) (l m : Ledger K V M O) (c n : ℕ) (client : Client K V M O) (lane : L) (request : Request K) → Stands AsLane means puts f l
       → IsOpen l c client → n ≡ length client.entries → LaneSet f g c (Some lane) → SameCounts f g → ((r : ℕ) → g.runs r ≡ f.runs r) → g.started ≡ f.started
-      → EntryStands g c n (new_entry {V = V} c n request l.inputs.revision) (first_place c n request l.inputs.revision request.want)
+      → EntryStands g c n (new_entry {V = V} {M = M} c n request l.inputs.revision) (first_place c n request l.inputs.revision request.want)
       → AsLane lane (with_new client (new_entry c n request l.inputs.revision))
       → m ≡ with_client l c (with_new client (new_entry c n request l.inputs.revision)) → Kept means puts m → Stands AsLane means puts g m
   accept_stands f g l m c n client lane request s is_open number set counts runs started there as_lane e kept =
       restand AsLane means puts f g l m c n client after s is_open.here elsewhere counts.inputs counts.clients
-      (ap (λ (y : Ledger K V O). y.inputs) e) (ap (λ (y : Ledger K V O). y.clients) e) (ap (λ (y : Ledger K V O). y.runs) e ∙ (s.started ∙ sym started))
+      (ap (λ (y : Ledger K V M O). y.inputs) e) (ap (λ (y : Ledger K V M O). y.clients) e) (ap (λ (y : Ledger K V M O). y.runs) e ∙ (s.started ∙ sym started))
       (count_same l.clients c client after is_open.here refl ∙ (s.opened ∙ sym counts.opened))
       (λ i entry ne h. get_longer client.entries (entry_new ∷ []) i entry h)
       stands
@@ -119,10 +120,10 @@ module _ {K V L O : Type 0} (AsLane : L → Client K V O → Type 0) (means : So
       (λ entry r st o h p. let a : n < length client.entries = get_within client.entries n entry h in let b : n ≡ length client.entries = number in absurd (omega arith)))
       kept
     where
-      entry_new : Entry K V
+      entry_new : Entry K V M
       entry_new = new_entry c n request l.inputs.revision
 
-      after : Client K V O
+      after : Client K V M O
       after = with_new client entry_new
 
       elsewhere : Elsewhere f g c n
@@ -141,7 +142,7 @@ module _ {K V L O : Type 0} (AsLane : L → Client K V O → Type 0) (means : So
         entries = λ i entry h. elim (get_append client.entries entry_new i entry h) [
           | inl w ↦
               subst (λ (y : ℕ). EntryStands g c y entry entry.place) (number ∙ sym w.0)
-              (subst (λ (y : Entry K V). EntryStands g c n y y.place) (sym w.1) there)
+              (subst (λ (y : Entry K V M). EntryStands g c n y y.place) (sym w.1) there)
           | inr w ↦
               entry_elsewhere f g c n c i entry entry.place elsewhere
               (λ v. let a : i < length client.entries = get_within client.entries i entry w in let b : n ≡ length client.entries = number in let d : i ≡ n = v.1 in absurd (omega arith))
@@ -153,7 +154,7 @@ module _ {K V L O : Type 0} (AsLane : L → Client K V O → Type 0) (means : So
           both o = cc
 
   -- an edit is accepted
-  pub edit_stands : (f g : Fields K L) (l m : Ledger K V O) (change : ChangeView) → Stands AsLane means puts f l
+  pub edit_stands : (f g : Fields K L) (l m : Ledger K V M O) (change : ChangeView) → Stands AsLane means puts f l
       → g.inputs ≡ changed f.inputs change → g.opened ≡ f.opened → g.clients ≡ f.clients → ((c : ℕ) → g.lanes c ≡ f.lanes c) → SameRuns f g
       → m ≡ record { inputs = changed l.inputs change; clients = l.clients; runs = l.runs } → Kept means puts m → Stands AsLane means puts g m
   edit_stands f g l m change s inputs count clients lanes q e kept =
@@ -165,20 +166,20 @@ module _ {K V L O : Type 0} (AsLane : L → Client K V O → Type 0) (means : So
       } in
       let x = stands_same AsLane means puts f _ l h s in
       record {
-        inputs = ap (λ (y : Ledger K V O). y.inputs) e ∙ (ap (λ (t : Table). changed t change) s.inputs ∙ sym inputs);
-        clients = ap (λ (y : Ledger K V O). length y.clients) e ∙ x.clients;
-        opened = ap (λ (y : Ledger K V O). open_count y.clients) e ∙ x.opened;
-        started = ap (λ (y : Ledger K V O). y.runs) e ∙ x.started;
+        inputs = ap (λ (y : Ledger K V M O). y.inputs) e ∙ (ap (λ (t : Table). changed t change) s.inputs ∙ sym inputs);
+        clients = ap (λ (y : Ledger K V M O). length y.clients) e ∙ x.clients;
+        opened = ap (λ (y : Ledger K V M O). open_count y.clients) e ∙ x.opened;
+        started = ap (λ (y : Ledger K V M O). y.runs) e ∙ x.started;
         within = x.within;
         each = λ c client w.
-            let y = x.each c client (ap (λ (z : Ledger K V O). slice_get z.clients c) (sym e) ∙ w) in
+            let y = x.each c client (ap (λ (z : Ledger K V M O). slice_get z.clients c) (sym e) ∙ w) in
             record { lane = y.lane; shut = y.shut; dropped = y.dropped; entries = λ n entry v. entry_same c n entry entry.place (y.entries n entry v) };
         runs = λ r run w.
             let y = x.runs r run w in
             record {
               client = y.client;
               entry = y.entry;
-              client_here = ap (λ (z : Ledger K V O). slice_get z.clients run.client) e ∙ y.client_here;
+              client_here = ap (λ (z : Ledger K V M O). slice_get z.clients run.client) e ∙ y.client_here;
               here = y.here;
               runs = y.runs;
               request = y.request;
@@ -186,7 +187,7 @@ module _ {K V L O : Type 0} (AsLane : L → Client K V O → Type 0) (means : So
         kept = kept;
       }
     where
-      entry_same : (c n : ℕ) (entry : Entry K V) (place : Place K V)
+      entry_same : (c n : ℕ) (entry : Entry K V M) (place : Place K V M)
           → EntryStands (record { inputs = f.inputs; lanes = g.lanes; opened = g.opened; clients = g.clients; runs = g.runs; started = g.started }) c n entry place
           → EntryStands g c n entry place
       entry_same c n entry Waiting x = x
@@ -196,7 +197,7 @@ module _ {K V L O : Type 0} (AsLane : L → Client K V O → Type 0) (means : So
       entry_same c n entry Dropped x = x
 
   -- a request is started
-  pub start_stands : (f g : Fields K L) (l m : Ledger K V O) (c n : ℕ) (client : Client K V O) (entry : Entry K V) (lane : L) → Stands AsLane means puts f l
+  pub start_stands : (f g : Fields K L) (l m : Ledger K V M O) (c n : ℕ) (client : Client K V M O) (entry : Entry K V M) (lane : L) → Stands AsLane means puts f l
       → client.is_open ≡ true → Waits l c client n entry → LaneSet f g c (Some lane) → SameCounts f g
       → RunSet f g f.started (Some (record { client = c; number = n; request = entry.request; started = l.inputs.revision; out = None }))
       → g.started ≡ f.started + 1
@@ -204,8 +205,8 @@ module _ {K V L O : Type 0} (AsLane : L → Client K V O → Type 0) (means : So
       → m ≡ started_at l f.started c client n entry → Kept means puts m → Stands AsLane means puts g m
   start_stands f g l m c n client entry lane s is_open w set counts runs started as_lane e kept =
       restand AsLane means puts f g l m c n client after s w.is_entry.client_here elsewhere counts.inputs counts.clients
-      (ap (λ (y : Ledger K V O). y.inputs) e) (ap (λ (y : Ledger K V O). y.clients) e)
-      (ap (λ (y : Ledger K V O). y.runs) e ∙ (ap (λ (i : ℕ). i + 1) s.started ∙ sym started))
+      (ap (λ (y : Ledger K V M O). y.inputs) e) (ap (λ (y : Ledger K V M O). y.clients) e)
+      (ap (λ (y : Ledger K V M O). y.runs) e ∙ (ap (λ (i : ℕ). i + 1) s.started ∙ sym started))
       (count_same l.clients c client after w.is_entry.client_here refl ∙ (s.opened ∙ sym counts.opened))
       (λ i other ne h. set_other client.entries n entry_after i ne ∙ h)
       (client_entry AsLane f g c n client entry_after elsewhere (s.each c client w.is_entry.client_here)
@@ -216,10 +217,10 @@ module _ {K V L O : Type 0} (AsLane : L → Client K V O → Type 0) (means : So
       there
       kept
     where
-      entry_after : Entry K V
+      entry_after : Entry K V M
       entry_after = moved_to entry (Running f.started l.inputs.revision None)
 
-      after : Client K V O
+      after : Client K V M O
       after = with_entry client n entry_after
 
       both : true ≡ false → ⊥
@@ -244,15 +245,15 @@ module _ {K V L O : Type 0} (AsLane : L → Client K V O → Type 0) (means : So
             let is = some_one run _ (sym h ∙ (ap g.runs u ∙ runs.here)) in (
               entry_after,
               set_same client.entries n entry_after (get_within client.entries n entry w.is_entry.here),
-              subst (λ (y : RunSeen K). placed {K = K} {V = V} f.started l.inputs.revision None ≡ placed r y.started y.out) (sym is)
-                  (subst (λ (y : ℕ). placed {K = K} {V = V} f.started l.inputs.revision None ≡ placed y l.inputs.revision None) (sym u) refl),
+              subst (λ (y : RunSeen K). placed {K = K} {V = V} {M = M} f.started l.inputs.revision None ≡ placed r y.started y.out) (sym is)
+                  (subst (λ (y : ℕ). placed {K = K} {V = V} {M = M} f.started l.inputs.revision None ≡ placed y l.inputs.revision None) (sym u) refl),
               ap (λ (y : RunSeen K). y.request) is,
             )
         | inr u ↦
             none_there f f l c n client (slice_set client.entries n entry_after) s w.is_entry.client_here (λ q. refl)
-            (λ other q st o hh p. absurd (waits_not (sym w.waits ∙ (ap (λ (y : Entry K V). y.place) (some_one entry other (sym w.is_entry.here ∙ hh)) ∙ p))))
+            (λ other q st o hh p. absurd (waits_not (sym w.waits ∙ (ap (λ (y : Entry K V M). y.place) (some_one entry other (sym w.is_entry.here ∙ hh)) ∙ p))))
             r run (sym (runs.others r u) ∙ h) v z
       ]
         where
-          waits_not : {q st : ℕ} {o : Option (Out K)} → waiting_place {K = K} {V = V} ≡ placed {K = K} {V = V} q st o → ⊥
+          waits_not : {q st : ℕ} {o : Option (Out K)} → waiting_place {K = K} {V = V} {M = M} ≡ placed {K = K} {V = V} {M = M} q st o → ⊥
           waits_not x = cc

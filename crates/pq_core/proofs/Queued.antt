@@ -117,25 +117,25 @@ once_none A = tt
 
 -- ---- what waits
 
-abbrev waits_item : {K V : Type 0} → Request K → Owed K V
+abbrev waits_item : {K V M : Type 0} → Request K → Owed K V M
 waits_item request = OwedWaiting request
 
-ready_waits_not : {K V : Type 0} (reply : ReplyView K V) (request : Request K) → waits_item {K = K} {V = V} request ≡ OwedReady reply → ⊥
+ready_waits_not : {K V M : Type 0} (reply : ReplyView K V M) (request : Request K) → waits_item {K = K} {V = V} {M = M} request ≡ OwedReady reply → ⊥
 ready_waits_not reply request e = cc
 
-running_waits_not : {K V : Type 0} (request : Request K) → waits_item {K = K} {V = V} request ≡ OwedRunning → ⊥
+running_waits_not : {K V M : Type 0} (request : Request K) → waits_item {K = K} {V = V} {M = M} request ≡ OwedRunning → ⊥
 running_waits_not request e = cc
 
 seat_one : (c n k i : ℕ) → (k ≡ c) × (i ≡ n) → ◌≡◌ {A = ℕ × ℕ} (k, i) (c, n)
 seat_one c n k i w = ap (λ (j : ℕ). (j, i)) w.0 ∙ ap (λ (j : ℕ). (c, j)) w.1
 
-module _ {K V O : Type 0} where
+module _ {K V M O : Type 0} where
   -- `IsWaiting lane n` is that the request `n` of `lane` waits
-  abbrev IsWaiting : LaneView K V O → ℕ → Request K → Type 0
+  abbrev IsWaiting : LaneView K V M O → ℕ → Request K → Type 0
   IsWaiting lane n request = IsOwed lane n (OwedWaiting request)
 
   -- the lanes stay as they are
-  pub queue_same : (b a : List (Place (LaneView K V O))) (queue : List (ℕ × ℕ)) → ((k : ℕ) → found a k ≡ found b k) → IsQueue b queue → IsQueue a queue
+  pub queue_same : (b a : List (Place (LaneView K V M O))) (queue : List (ℕ × ℕ)) → ((k : ℕ) → found a k ≡ found b k) → IsQueue b queue → IsQueue a queue
   queue_same b a queue same q = record {
     waits = λ c n w. let x = q.waits c n w in (x.0, record { lane = x.1.lane; here = same c ∙ x.1.here; waits = x.1.waits });
     queued = λ c n request w. q.queued c n request (record { lane = w.lane; here = sym (same c) ∙ w.here; waits = w.waits });
@@ -143,32 +143,32 @@ module _ {K V O : Type 0} where
   }
 
   -- another lane than the one that is set
-  waits_other : (b a : List (Place (LaneView K V O))) (c : ℕ) (value : Option (LaneView K V O)) → ((k : ℕ) → found a k ≡ (if k == c then value else found b k))
+  waits_other : (b a : List (Place (LaneView K V M O))) (c : ℕ) (value : Option (LaneView K V M O)) → ((k : ℕ) → found a k ≡ (if k == c then value else found b k))
       → (k i : ℕ) (request : Request K) → k ≢ c → WaitsIn b k i request → WaitsIn a k i request
   waits_other b a c value set k i request ne w = record { lane = w.lane; here = set k ∙ (if_other k c value (found b k) ne ∙ w.here); waits = w.waits }
 
-  waits_before : (b a : List (Place (LaneView K V O))) (c : ℕ) (value : Option (LaneView K V O)) → ((k : ℕ) → found a k ≡ (if k == c then value else found b k))
+  waits_before : (b a : List (Place (LaneView K V M O))) (c : ℕ) (value : Option (LaneView K V M O)) → ((k : ℕ) → found a k ≡ (if k == c then value else found b k))
       → (k i : ℕ) (request : Request K) → k ≢ c → WaitsIn a k i request → WaitsIn b k i request
   waits_before b a c value set k i request ne w = record { lane = w.lane; here = sym (set k ∙ if_other k c value (found b k) ne) ∙ w.here; waits = w.waits }
 
   -- the lane that is set
-  waits_set : (b a : List (Place (LaneView K V O))) (c : ℕ) (after : LaneView K V O) → ((k : ℕ) → found a k ≡ (if k == c then Some after else found b k))
+  waits_set : (b a : List (Place (LaneView K V M O))) (c : ℕ) (after : LaneView K V M O) → ((k : ℕ) → found a k ≡ (if k == c then Some after else found b k))
       → (k i : ℕ) (request : Request K) → k ≡ c → IsWaiting after i request → WaitsIn a k i request
   waits_set b a c after set k i request is w = record { lane = after; here = ap (found a) is ∙ (set c ∙ if_at c (Some after) (found b c)); waits = w }
 
-  waits_there : (b a : List (Place (LaneView K V O))) (c : ℕ) (after : LaneView K V O) → ((k : ℕ) → found a k ≡ (if k == c then Some after else found b k))
+  waits_there : (b a : List (Place (LaneView K V M O))) (c : ℕ) (after : LaneView K V M O) → ((k : ℕ) → found a k ≡ (if k == c then Some after else found b k))
       → (k i : ℕ) (request : Request K) → k ≡ c → WaitsIn a k i request → IsWaiting after i request
   waits_there b a c after set k i request is w =
-      subst (λ (x : LaneView K V O). IsWaiting x i request)
+      subst (λ (x : LaneView K V M O). IsWaiting x i request)
       (some_one w.lane after (sym w.here ∙ (ap (found a) is ∙ (set c ∙ if_at c (Some after) (found b c))))) w.waits
 
-  waits_lane : (b : List (Place (LaneView K V O))) (c : ℕ) (lane : LaneView K V O) → found b c ≡ Some lane
+  waits_lane : (b : List (Place (LaneView K V M O))) (c : ℕ) (lane : LaneView K V M O) → found b c ≡ Some lane
       → (k i : ℕ) (request : Request K) → k ≡ c → WaitsIn b k i request → IsWaiting lane i request
   waits_lane b c lane here k i request is w =
-      subst (λ (x : LaneView K V O). IsWaiting x i request) (some_one w.lane lane (sym w.here ∙ (ap (found b) is ∙ here))) w.waits
+      subst (λ (x : LaneView K V M O). IsWaiting x i request) (some_one w.lane lane (sym w.here ∙ (ap (found b) is ∙ here))) w.waits
 
   -- the lane of one client changes, and what waits in it stays
-  pub queue_lane : (b a : List (Place (LaneView K V O))) (queue : List (ℕ × ℕ)) (c : ℕ) (lane after : LaneView K V O) → found b c ≡ Some lane
+  pub queue_lane : (b a : List (Place (LaneView K V M O))) (queue : List (ℕ × ℕ)) (c : ℕ) (lane after : LaneView K V M O) → found b c ≡ Some lane
       → ((k : ℕ) → found a k ≡ (if k == c then Some after else found b k))
       → ((n : ℕ) (request : Request K) → IsWaiting lane n request → IsWaiting after n request)
       → ((n : ℕ) (request : Request K) → IsWaiting after n request → IsWaiting lane n request)
@@ -192,13 +192,13 @@ module _ {K V O : Type 0} where
   -- ---- one request of a lane is written
 
   -- the others stay
-  owed_other : (lane : LaneView K V O) (n k : ℕ) (item : Owed K V) (request : Request K) → lane.put ≤ n → k ≢ n → IsWaiting lane k request
+  owed_other : (lane : LaneView K V M O) (n k : ℕ) (item : Owed K V M) (request : Request K) → lane.put ≤ n → k ≢ n → IsWaiting lane k request
       → IsWaiting (with_owed lane n item) k request
   owed_other lane n k item request past ne w =
       let at = w.past in
       record { past = w.past; here = set_other lane.owed (n - lane.put) item (k - lane.put) (omega arith) ∙ w.here }
 
-  owed_before : (lane : LaneView K V O) (n k : ℕ) (item : Owed K V) (request : Request K) → (waits_item request ≡ item → ⊥) → IsWaiting (with_owed lane n item) k request
+  owed_before : (lane : LaneView K V M O) (n k : ℕ) (item : Owed K V M) (request : Request K) → (waits_item request ≡ item → ⊥) → IsWaiting (with_owed lane n item) k request
       → (k ≢ n) × IsWaiting lane k request
   owed_before lane n k item request waits_not w =
       elim (get_set lane.owed (n - lane.put) item (k - lane.put) (OwedWaiting request) w.here) [
@@ -206,13 +206,13 @@ module _ {K V O : Type 0} where
         | inr x ↦ (let ne : k - lane.put ≢ n - lane.put = x.0 in omega arith, record { past = w.past; here = x.1 })
       ]
 
-  not_there : (lane : LaneView K V O) (n k : ℕ) (item : Owed K V) (request : Request K) → IsOwed lane n item → (waits_item request ≡ item → ⊥)
+  not_there : (lane : LaneView K V M O) (n k : ℕ) (item : Owed K V M) (request : Request K) → IsOwed lane n item → (waits_item request ≡ item → ⊥)
       → IsWaiting lane k request → k ≢ n
   not_there lane n k item request at waits_not w is =
       waits_not (some_one (OwedWaiting request) item (sym w.here ∙ (ap (λ (i : ℕ). slice_get lane.owed (i - lane.put)) is ∙ at.here)))
 
   -- the reply to a request in a run is made
-  pub queue_finished : (b a : List (Place (LaneView K V O))) (queue : List (ℕ × ℕ)) (c n : ℕ) (lane : LaneView K V O) (reply : ReplyView K V) → found b c ≡ Some lane
+  pub queue_finished : (b a : List (Place (LaneView K V M O))) (queue : List (ℕ × ℕ)) (c n : ℕ) (lane : LaneView K V M O) (reply : ReplyView K V M) → found b c ≡ Some lane
       → IsOwed lane n OwedRunning → ((k : ℕ) → found a k ≡ (if k == c then Some (with_owed lane n (OwedReady reply)) else found b k)) → IsQueue b queue → IsQueue a queue
   queue_finished b a queue c n lane reply here runs set q =
       queue_lane b a queue c lane (with_owed lane n (OwedReady reply)) here set
@@ -221,7 +221,7 @@ module _ {K V O : Type 0} where
       q
 
   -- the first of the queue is in a run
-  pub queue_started : (b a : List (Place (LaneView K V O))) (rest : List (ℕ × ℕ)) (c n : ℕ) (lane : LaneView K V O) (request : Request K) → found b c ≡ Some lane
+  pub queue_started : (b a : List (Place (LaneView K V M O))) (rest : List (ℕ × ℕ)) (c n : ℕ) (lane : LaneView K V M O) (request : Request K) → found b c ≡ Some lane
       → IsWaiting lane n request → ((k : ℕ) → found a k ≡ (if k == c then Some (with_owed lane n OwedRunning) else found b k)) → IsQueue b ((c, n) ∷ rest) → IsQueue a rest
   unfolding IsOnce
   queue_started b a rest c n lane request here at set q = record {
@@ -253,7 +253,7 @@ module _ {K V O : Type 0} where
 
   -- ---- a request is accepted
 
-  before_first : (lane : LaneView K V O) (k : ℕ) (item : Owed K V) (request : Request K) → IsWaiting (pushed lane item) k request
+  before_first : (lane : LaneView K V M O) (k : ℕ) (item : Owed K V M) (request : Request K) → IsWaiting (pushed lane item) k request
       → ((k ≡ lane.put + length lane.owed) × (waits_item request ≡ item)) ⊎ IsWaiting lane k request
   before_first lane k item request w =
       let past = w.past in
@@ -262,11 +262,11 @@ module _ {K V O : Type 0} where
         | inr x ↦ inr (record { past = w.past; here = x })
       ]
 
-  stays_pushed : (lane : LaneView K V O) (k : ℕ) (item : Owed K V) (request : Request K) → IsWaiting lane k request → IsWaiting (pushed lane item) k request
+  stays_pushed : (lane : LaneView K V M O) (k : ℕ) (item : Owed K V M) (request : Request K) → IsWaiting lane k request → IsWaiting (pushed lane item) k request
   stays_pushed lane k item request w = record { past = w.past; here = get_longer lane.owed (item ∷ []) (k - lane.put) (OwedWaiting request) w.here }
 
   -- its reply is ready
-  pub queue_fixed : (b a : List (Place (LaneView K V O))) (queue : List (ℕ × ℕ)) (c n revision : ℕ) (lane : LaneView K V O) (request : Request K) (want : Want K) → (IsDemand want → ⊥)
+  pub queue_fixed : (b a : List (Place (LaneView K V M O))) (queue : List (ℕ × ℕ)) (c n revision : ℕ) (lane : LaneView K V M O) (request : Request K) (want : Want K) → (IsDemand want → ⊥)
       → found b c ≡ Some lane → ((k : ℕ) → found a k ≡ (if k == c then Some (pushed lane (first_owed c n request revision want)) else found b k)) → IsQueue b queue → IsQueue a queue
   queue_fixed b a queue c n revision lane request (Demand key) not_so here set q = absurd (not_so tt)
   queue_fixed b a queue c n revision lane request (Fixed text) not_so here set q =
@@ -276,7 +276,7 @@ module _ {K V O : Type 0} where
       q
 
   -- it waits
-  pub queue_pushed : (b a : List (Place (LaneView K V O))) (queue after : List (ℕ × ℕ)) (c n revision : ℕ) (lane : LaneView K V O) (request : Request K) (want : Want K) → IsDemand want
+  pub queue_pushed : (b a : List (Place (LaneView K V M O))) (queue after : List (ℕ × ℕ)) (c n revision : ℕ) (lane : LaneView K V M O) (request : Request K) (want : Want K) → IsDemand want
       → n ≡ lane.put + length lane.owed → found b c ≡ Some lane → ((k : ℕ) → found a k ≡ (if k == c then Some (pushed lane (first_owed c n request revision want)) else found b k))
       → after ≡ queue ++ (c, n) ∷ [] → IsQueue b queue → IsQueue a after
   queue_pushed b a queue after c n revision lane request (Fixed text) so number here set e q = absurd so
@@ -306,7 +306,7 @@ module _ {K V O : Type 0} where
         once = once_longer queue (c, n) q.once (λ w. new (q.waits c n w));
       })
     where
-      longer : LaneView K V O
+      longer : LaneView K V M O
       longer = pushed lane (OwedWaiting request)
 
       last : IsWaiting longer n request
@@ -325,7 +325,7 @@ module _ {K V O : Type 0} where
   -- ---- clients
 
   -- a client is opened
-  pub queue_opened : (b a : List (Place (LaneView K V O))) (queue : List (ℕ × ℕ)) (c : ℕ) (outbox : O) → found b c ≡ None
+  pub queue_opened : (b a : List (Place (LaneView K V M O))) (queue : List (ℕ × ℕ)) (c : ℕ) (outbox : O) → found b c ≡ None
       → ((k : ℕ) → found a k ≡ (if k == c then Some (record { outbox = outbox; put = 0; owed = []; refused = false }) else found b k)) → IsQueue b queue → IsQueue a queue
   queue_opened b a queue c outbox none set q = record {
     waits = λ k i w. (let x = q.waits k i w in (x.0, waits_other b a c (Some _) set k i x.0 (λ is. none_some x.1.lane (sym none ∙ (ap (found b) (sym is) ∙ x.1.here))) x.1));
@@ -337,7 +337,7 @@ module _ {K V O : Type 0} where
   }
 
   -- a client is closed
-  pub queue_closed : (b a : List (Place (LaneView K V O))) (queue after : List (ℕ × ℕ)) (c : ℕ) → ((k : ℕ) → found a k ≡ (if k == c then None else found b k))
+  pub queue_closed : (b a : List (Place (LaneView K V M O))) (queue after : List (ℕ × ℕ)) (c : ℕ) → ((k : ℕ) → found a k ≡ (if k == c then None else found b k))
       → after ≡ filter (λ seat. is_of_other c seat) queue → IsQueue b queue → IsQueue a after
   queue_closed b a queue after c set e q =
       rw e
@@ -362,22 +362,22 @@ module _ {K V O : Type 0} where
 
   -- ---- releases and takes
 
-  with_outbox : (lane : LaneView K V O) (o : O) (refused : Bool) (n : ℕ) (request : Request K) → IsWaiting lane n request
+  with_outbox : (lane : LaneView K V M O) (o : O) (refused : Bool) (n : ℕ) (request : Request K) → IsWaiting lane n request
       → IsWaiting (record { outbox = o; put = lane.put; owed = lane.owed; refused = refused }) n request
   with_outbox lane o refused n request w = record { past = w.past; here = w.here }
 
-  without_outbox : (lane : LaneView K V O) (o : O) (refused : Bool) (n : ℕ) (request : Request K)
+  without_outbox : (lane : LaneView K V M O) (o : O) (refused : Bool) (n : ℕ) (request : Request K)
       → IsWaiting (record { outbox = o; put = lane.put; owed = lane.owed; refused = refused }) n request → IsWaiting lane n request
   without_outbox lane o refused n request w = record { past = w.past; here = w.here }
 
   -- what waits in a lane waits in another
-  abbrev pub SameWaiting : LaneView K V O → LaneView K V O → Type 0
+  abbrev pub SameWaiting : LaneView K V M O → LaneView K V M O → Type 0
   SameWaiting l m = ((n : ℕ) (request : Request K) → IsWaiting l n request → IsWaiting m n request) × ((n : ℕ) (request : Request K) → IsWaiting m n request → IsWaiting l n request)
 
-  as_lane : (l m x : LaneView K V O) → m ≡ x → SameWaiting l x → SameWaiting l m
-  as_lane l m x e s = subst (λ (y : LaneView K V O). SameWaiting l y) (sym e) s
+  as_lane : (l m x : LaneView K V M O) → m ≡ x → SameWaiting l x → SameWaiting l m
+  as_lane l m x e s = subst (λ (y : LaneView K V M O). SameWaiting l y) (sym e) s
 
-  after_put : (lane : LaneView K V O) (o : O) (reply : ReplyView K V) → slice_get lane.owed 0 ≡ Some (OwedReady reply)
+  after_put : (lane : LaneView K V M O) (o : O) (reply : ReplyView K V M) → slice_get lane.owed 0 ≡ Some (OwedReady reply)
       → SameWaiting lane (record { outbox = o; put = lane.put + 1; owed = drop 1 lane.owed; refused = false })
   after_put lane o reply first = (
     λ n request w.
@@ -402,24 +402,24 @@ module _ {K V O : Type 0} where
           let zero_at : n - lane.put ≡ 0 = omega (arith, is) in
           ready_waits_not reply request (some_one (OwedWaiting request) (OwedReady reply) (sym w.here ∙ (ap (slice_get lane.owed) zero_at ∙ first)))
 
-  pub released_waits : (puts takes : O → List (ReplyView K V)) (was_full was_gone : O → Type 0) (answer : Released) (l m : LaneView K V O) → LaneReleases puts takes was_full was_gone answer l m → SameWaiting l m
+  pub released_waits : (puts takes : O → List (ReplyView K V M)) (was_full was_gone : O → Type 0) (answer : Released) (l m : LaneView K V M O) → LaneReleases puts takes was_full was_gone answer l m → SameWaiting l m
   released_waits puts takes was_full was_gone (ReleasedPut n) l m (reply, first, e, (o, more, taken, is)) = as_lane l m _ is (after_put l o reply first)
   released_waits puts takes was_full was_gone ReleasedFull l m (reply, first, (o, same, full, is)) = as_lane l m _ is (with_outbox l o true, without_outbox l o true)
   released_waits puts takes was_full was_gone ReleasedGone l m (reply, first, (o, same, gone, is)) = as_lane l m _ is (with_outbox l o true, without_outbox l o true)
   released_waits puts takes was_full was_gone ReleasedNothing l m (none, is) = as_lane l m l is (λ n request w. w, λ n request w. w)
 
-  pub taken_waits : {A : Type 0} (puts takes : O → List (ReplyView K V)) (answer : Result Bool A) (l m : LaneView K V O) → LaneTakes puts takes answer l m → SameWaiting l m
+  pub taken_waits : {A : Type 0} (puts takes : O → List (ReplyView K V M)) (answer : Result Bool A) (l m : LaneView K V M O) → LaneTakes puts takes answer l m → SameWaiting l m
   taken_waits puts takes (Ok true) l m (o, same, next, is) = as_lane l m _ is (with_outbox l o l.refused, without_outbox l o l.refused)
   taken_waits puts takes (Ok false) l m (all, is) = as_lane l m l is (λ n request w. w, λ n request w. w)
   taken_waits puts takes (Err failure) l m is = as_lane l m l is (λ n request w. w, λ n request w. w)
 
   -- a call for the lane of one client that leaves what waits in it
-  pub queue_called : {R : Type 0} (b a : List (Place (LaneView K V O))) (queue : List (ℕ × ℕ)) (c : ℕ)
-      → ((lane : LaneView K V O) → found b c ≡ Some lane → (after : LaneView K V O) × SameWaiting lane after × ((k : ℕ) → found a k ≡ (if k == c then Some after else found b k)))
+  pub queue_called : {R : Type 0} (b a : List (Place (LaneView K V M O))) (queue : List (ℕ × ℕ)) (c : ℕ)
+      → ((lane : LaneView K V M O) → found b c ≡ Some lane → (after : LaneView K V M O) × SameWaiting lane after × ((k : ℕ) → found a k ≡ (if k == c then Some after else found b k)))
       → (found b c ≡ None → R × ((k : ℕ) → found a k ≡ found b k)) → IsQueue b queue → IsQueue a queue
   queue_called {R} b a queue c opens closes q = by_lane (found b c) refl
     where
-      by_lane : (lane : Option (LaneView K V O)) → found b c ≡ lane → IsQueue a queue
+      by_lane : (lane : Option (LaneView K V M O)) → found b c ≡ lane → IsQueue a queue
       by_lane (Some lane) here = (let x = opens lane here in queue_lane b a queue c lane x.0 here x.2 x.1.0 x.1.1 q)
       by_lane None none = queue_same b a queue (closes none).1 q
 

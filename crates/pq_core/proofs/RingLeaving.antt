@@ -3,14 +3,14 @@
 -- The ring was published, so its keys are up to date, and no other key became so. Key by key, the last
 -- frames of the run that holds it leave, that of the key among them. A run that holds a key of the ring
 -- has a frame on top all the while, since a frame comes up where frames leave.
-use Rattle.std.proofs.Common.{◌≡◌, ℕ, zero, suc, ◌+◌, ◌-◌, ◌<◌, ◌≤◌, ◌==◌, if◌then◌else◌, List, [], ◌∷◌, ◌++◌, length, take, drop, get_or, Option, Some, None, refl, sym, ◌∙◌, ap, subst, inl, inr, arith}
+use Rattle.std.proofs.Common.{◌≡◌, ℕ, zero, suc, ◌+◌, ◌-◌, ◌<◌, ◌≤◌, ◌==◌, if◌then◌else◌, List, [], ◌∷◌, ◌++◌, length, take, drop, get_or, ◌⊎◌, Option, Some, None, refl, sym, ◌∙◌, ap, subst, inl, inr, arith, append_assoc}
 use Rattle.std.specs.Option.{option_map}
 use Rattle.std.proofs.Math.Seq.{take-length}
 use Rattle.std.specs.declared.cmp.Ordering.{Ordering}
 use Rattle.pq_inputs.specs.Sources.{Table}
 use Rattle.pq_rules.specs.Turns.{Machine}
 use Rattle.pq_rules.specs.Relations.{In}
-use Rattle.pq_rules.specs.aux.Lists.{in_append_left}
+use Rattle.pq_rules.specs.aux.Lists.{in_append, in_append_left}
 use Rattle.pq_rules.proofs.Weight.{Exact}
 use Rattle.pq_memo.specs.declared.frame.Frame.{Frame}
 use Rattle.pq_memo.specs.Sound.{Memo}
@@ -80,6 +80,13 @@ module _ {K P : Type 0} where
   pub first_left : (stack left : List (Frame K P)) (top : Top K P) → IsLowered stack left top → (count : ℕ) × (count + 0 ≡ length stack) × IsLowered (take count stack) left top
   first_left stack left top low = (length stack, omega arith, subst (λ (l : List (Frame K P)). IsLowered l left top) (sym (take-length stack)) low)
 
+  -- those that are to leave are above `below`
+  pub start_over : (stack : List (Frame K P)) (count below : ℕ) → count + 0 ≡ length stack → below ≤ length stack → below ≤ count
+  start_over stack count below sum within = omega (arith, sum, within)
+
+  pub still_over : (stack fs : List (Frame K P)) (count below step : ℕ) → fs ≡ stack → count + (step + 1) ≡ length stack → below ≤ length stack → step < length fs - below → below ≤ count
+  still_over stack fs count below step same sum within more = let s : length fs ≡ length stack = ap (λ (l : List (Frame K P)). length l) same in omega (arith, s, sum, within, more)
+
   module _ (stack fs left : List (Frame K P)) (top : Top K P) (below step : ℕ) (same : fs ≡ stack) (more : step < length fs - below) where
     -- a frame is on top
     pub still_below : (count : ℕ) → count + step ≡ length stack → IsLowered (take count stack) left top → (keys : List K) → keys ≡ run_keys left top
@@ -110,10 +117,12 @@ module _ {K P : Type 0} where
 
   -- all of them left, and the run waits for no key
   pub run_left : (run : ℕ) (key : K) (stack fs rest : List (Frame K P)) (top : Top K P) (below step count : ℕ) (before after last : List (ℕ × Hold K)) → fs ≡ stack
-      → below ≤ length stack → (In key (frame_keys (take below stack)) → ⊥) → length fs - below ≤ step → count + step ≡ length stack → IsLowered (take count stack) rest top
+      → below ≤ length stack → (In key (frame_keys (take below stack)) → ⊥)
+      → ((more : List K) × (frame_keys stack ≡ frame_keys (take below stack) ++ key ∷ more)) ⊎ ((below ≡ length stack) × (In key (frame_keys stack) → ⊥))
+      → length fs - below ≤ step → below ≤ count → count + step ≡ length stack → IsLowered (take count stack) rest top
       → (hold_of after run).keys ≡ run_keys rest top → OthersHold run before after → HoldsBelow before run stack
       → IsSet after last run (record { keys = (hold_of after run).keys; wait = None }) → LeavesRun run key stack rest top before last
-  run_left run key stack fs rest top below step count before after last same within apart all sum low keys others holds ended = record {
+  run_left run key stack fs rest top below step count before after last same within apart split all least sum low keys others holds ended = record {
     count = count;
     lowered = low;
     keys = keys_are;
@@ -121,6 +130,7 @@ module _ {K P : Type 0} where
     fewer = λ k i. subst (λ (ks : List K). In k ks) (sym holds.1) (in_append_left k (frame_keys stack) (holds.0 ∷ []) (in_taken stack count k (left k i)));
     awake = ap (λ (h : Hold K). h.wait) (set_own run after last _ ended);
     others = others_then run before after last others (set_others run after last _ ended);
+    split = λ i. parts split i;
   }
     where
       keys_are : (hold_of last run).keys ≡ run_keys rest top
@@ -131,6 +141,28 @@ module _ {K P : Type 0} where
 
       less : count ≤ below
       less = let s : length fs ≡ length stack = ap (λ (l : List (Frame K P)). length l) same in omega (arith, within, all, sum, s)
+
+      -- the keys that are left are those below the frame of `key`
+      rest_keys : (hold_of last run).keys ≡ frame_keys (take below stack)
+      rest_keys = keys_are ∙ (sym (lowered_keys (take count stack) rest top low) ∙ ap (λ (n : ℕ). frame_keys (take n stack)) (let e : count ≡ below = omega (arith, less, least) in e))
+
+      parts : ((more : List K) × (frame_keys stack ≡ frame_keys (take below stack) ++ key ∷ more)) ⊎ ((below ≡ length stack) × (In key (frame_keys stack) → ⊥)) → In key (hold_of before run).keys
+          → (more : List K) × ((hold_of before run).keys ≡ (hold_of last run).keys ++ key ∷ more)
+      parts (inl s) i = (
+        s.0 ++ holds.0 ∷ [],
+        holds.1 ∙ (ap (λ (l : List K). l ++ holds.0 ∷ []) s.1 ∙ (append_assoc (frame_keys (take below stack)) (key ∷ s.0) (holds.0 ∷ [])
+            ∙ ap (λ (l : List K). l ++ key ∷ (s.0 ++ holds.0 ∷ [])) (sym rest_keys))),
+      )
+      parts (inr o) i =
+          let all_of : frame_keys (take below stack) ≡ frame_keys stack = ap (λ (n : ℕ). frame_keys (take n stack)) o.0 ∙ ap (λ (l : List (Frame K P)). frame_keys l) (take-length stack) in
+          ([], holds.1 ∙ (ap (λ (l : List K). l ++ holds.0 ∷ []) (sym (rest_keys ∙ all_of)) ∙ ap (λ (q : K). (hold_of last run).keys ++ q ∷ []) (sym (last_key i))))
+        where
+          last_key : In key (hold_of before run).keys → key ≡ holds.0
+          last_key j = elim (in_append key (frame_keys stack) (holds.0 ∷ []) (subst (λ (ks : List K). In key ks) holds.1 j)) [
+            | inl n ↦ absurd (o.1 n)
+            | inr (inl e) ↦ e
+            | inr (inr n) ↦ absurd n
+          ]
 
 -- ---- a key leaves
 
@@ -144,7 +176,7 @@ module _ {K P : Type 0} (key : K) (before : List (ℕ × Hold K)) (old : List (P
 
   -- no run holds it
   pub none_leaves : ((r : ℕ) → Holds before r key → ⊥) → KeyLeaves key before before old old
-  none_leaves free = record { claimed = claimed; gone = free; fewer = λ r k h. h; waits = λ r k w. w; each = λ r. inl refl }
+  none_leaves free = record { claimed = claimed; gone = free; fewer = λ r k h. h; waits = λ r k w. w; each = λ r. inl refl; split = λ r. inl refl }
 
   -- one run holds it
   pub key_leaves : (after : List (ℕ × Hold K)) (new : List (Place (RunView K P))) (id : ℕ) (was now : RunView K P) → AreSound before → found old id ≡ Some was → Holds before id key
@@ -180,6 +212,10 @@ module _ {K P : Type 0} (key : K) (before : List (ℕ × Hold K)) (old : List (P
         },
       )
       | inr ne ↦ inl (set r ∙ if_other r id (Some now) (found old r) ne)
+    ];
+    split = λ r. elim (same_or_other r id) [
+      | inl e ↦ inr (subst (λ (q : ℕ). (more : List K) × ((hold_of before q).keys ≡ (hold_of after q).keys ++ key ∷ more)) (sym e) (left.split holds))
+      | inr ne ↦ inl (left.others r ne).0
     ];
   }
 

@@ -45,7 +45,7 @@ module _ {K : Type 0} where
   differ_none [] ys d = tt
   differ_none (x ∷ xs) ys d = (λ i. d.0 (elim (in_append x xs [] i) [ inl j ↦ in_append_left x xs ys j | inr n ↦ absurd n ]), differ_none xs ys d.1)
 
-  differ_front : (xs ys : List K) → Differ (xs ++ ys) → Differ xs
+  pub differ_front : (xs ys : List K) → Differ (xs ++ ys) → Differ xs
   differ_front [] ys d = tt
   differ_front (x ∷ xs) ys d = (λ i. d.0 (in_append_left x xs ys i), differ_front xs ys d.1)
 
@@ -55,7 +55,7 @@ module _ {K P : Type 0} where
   in_key (g ∷ gs) f (inl e) = inl (ap (λ (x : Frame K P). x.key) e)
   in_key (g ∷ gs) f (inr i) = inr (in_key gs f i)
 
-  one_in : (fs : List (Frame K P)) (f g : Frame K P) → Differ (frame_keys fs) → In f fs → In g fs → f.key ≡ g.key → f ≡ g
+  pub one_in : (fs : List (Frame K P)) (f g : Frame K P) → Differ (frame_keys fs) → In f fs → In g fs → f.key ≡ g.key → f ≡ g
   one_in [] f g d i j e = absurd i
   one_in (h ∷ hs) f g d (inl p) (inl q) e = p ∙ sym q
   one_in (h ∷ hs) f g d (inl p) (inr j) e =
@@ -65,12 +65,12 @@ module _ {K P : Type 0} where
   one_in (h ∷ hs) f g d (inr i) (inr j) e = one_in hs f g d.1 i j e
 
   -- the keys of the frames of a run differ
-  frames_differ : (stack : List (Frame K P)) (top : Top K P) → Differ (run_keys stack top) → Differ (frame_keys (stack ++ top_frames top))
+  pub frames_differ : (stack : List (Frame K P)) (top : Top K P) → Differ (run_keys stack top) → Differ (frame_keys (stack ++ top_frames top))
   frames_differ stack Empty d = subst (λ (ks : List K). Differ ks) (sym (keys_append stack [])) d
   frames_differ stack (At f) d = subst (λ (ks : List K). Differ ks) (sym (keys_append stack (f ∷ []))) d
   frames_differ stack (Away p) d = subst (λ (ks : List K). Differ ks) (sym (keys_append stack [])) (differ_none (frame_keys stack) (p.key ∷ []) d)
 
-  in_frames : (stack : List (Frame K P)) (top : Top K P) (f : Frame K P) → IsFrameOf stack top f → In f (stack ++ top_frames top)
+  pub in_frames : (stack : List (Frame K P)) (top : Top K P) (f : Frame K P) → IsFrameOf stack top f → In f (stack ++ top_frames top)
   in_frames stack top f (inl i) = in_append_left f stack (top_frames top) i
   in_frames stack top f (inr e) = subst (λ (t : Top K P). In f (stack ++ top_frames t)) (sym e) (in_append_right f stack (f ∷ []) (inl refl))
 
@@ -84,7 +84,7 @@ module _ {K P : Type 0} where
       of_top (Away p) j = absurd j
 
   -- the key of a frame is a key of its run
-  frame_held : (stack : List (Frame K P)) (top : Top K P) (f : Frame K P) → IsFrameOf stack top f → In f.key (run_keys stack top)
+  pub frame_held : (stack : List (Frame K P)) (top : Top K P) (f : Frame K P) → IsFrameOf stack top f → In f.key (run_keys stack top)
   frame_held stack top f (inl i) = in_append_left f.key (frame_keys stack) _ (in_key stack f i)
   frame_held stack top f (inr e) = subst (λ (t : Top K P). In f.key (run_keys stack t)) (sym e) (in_append_right f.key (frame_keys stack) (f.key ∷ []) (inl refl))
 
@@ -107,7 +107,7 @@ module _ {K P : Type 0} where
       frame_at (x ∷ l) zero g h e = inl e
       frame_at (x ∷ l) (suc n) g h e = inr (frame_at l n g (omega arith) e)
 
-  key_at : (stack : List (Frame K P)) (i : ℕ) (k : K) → i < length stack → HoldsAt (λ g. g.key ≡ k) stack i → In k (frame_keys stack)
+  pub key_at : (stack : List (Frame K P)) (i : ℕ) (k : K) → i < length stack → HoldsAt (λ g. g.key ≡ k) stack i → In k (frame_keys stack)
   key_at [] i k l h = absurd (omega arith)
   key_at (g ∷ gs) zero k l h = inl (sym (h g))
   key_at (g ∷ gs) (suc i) k l h = inr (key_at gs i k (omega arith) h)
@@ -118,6 +118,15 @@ module _ {K P : Type 0} where
   apart_below (g ∷ gs) zero k d f j = j
   apart_below (g ∷ gs) (suc i) k d f (inl e) = d.0 (subst (λ (q : K). In q (frame_keys gs)) e (key_at gs i k (let l : suc i < length (g ∷ gs) = f.0 in omega arith) f.1))
   apart_below (g ∷ gs) (suc i) k d f (inr j) = apart_below gs i k d.1 ((let l : suc i < length (g ∷ gs) = f.0 in omega arith), f.1) j
+
+  -- the keys below a frame, its key, and the keys above
+  pub place_split : (stack : List (Frame K P)) (i : ℕ) (k : K) → (i < length stack) × HoldsAt (λ g. g.key ≡ k) stack i
+      → (more : List K) × (frame_keys stack ≡ frame_keys (take i stack) ++ k ∷ more)
+  place_split [] i k f = absurd (let l : i < 0 = f.0 in omega arith)
+  place_split (g ∷ gs) zero k f = (frame_keys gs, ap (λ (q : K). q ∷ frame_keys gs) (f.1 g))
+  place_split (g ∷ gs) (suc i) k f =
+      let r = place_split gs i k ((let l : suc i < length (g ∷ gs) = f.0 in omega arith), f.1) in
+      (r.0, ap (λ (l : List K). g.key ∷ l) r.1)
 
   -- a run that holds the keys of its frames and one more
   pub below_differ : (claims : List (ℕ × Hold K)) (run : ℕ) (stack : List (Frame K P)) → AreSound claims → HoldsBelow claims run stack → Differ (frame_keys stack)

@@ -20,20 +20,20 @@ use Rattle.pq_core.proofs.Changing.{if_other}
 -- ---- lists
 
 module _ {K : Type 0} where
-  precedes_in : (ks : List K) (a b : K) → Precedes ks a b → In a ks × In b ks
+  pub precedes_in : (ks : List K) (a b : K) → Precedes ks a b → In a ks × In b ks
   precedes_in ks a b p = (
     subst (λ (l : List K). In a l) (sym p.2) (in_append_right a p.0 (a ∷ b ∷ p.1) (inl refl)),
     subst (λ (l : List K). In b l) (sym p.2) (in_append_right b p.0 (a ∷ b ∷ p.1) (inr (inl refl))),
   )
 
-  last_in : (ks : List K) (a : K) → IsLast ks a → In a ks
+  pub last_in : (ks : List K) (a : K) → IsLast ks a → In a ks
   last_in ks a l = subst (λ (m : List K). In a m) (sym l.1) (in_append_right a l.0 (a ∷ []) (inl refl))
 
   no_one : (front : List K) (a : K) (more : List K) → [] ≡ front ++ a ∷ more → ⊥
   no_one [] a more e = cc
   no_one (x ∷ front) a more e = cc
 
-  head_same : (x y : K) (xs ys : List K) → x ∷ xs ≡ y ∷ ys → x ≡ y
+  pub head_same : (x y : K) (xs ys : List K) → x ∷ xs ≡ y ∷ ys → x ≡ y
   head_same x y xs ys e = cc
 
   tail_same : (x y : K) (xs ys : List K) → x ∷ xs ≡ y ∷ ys → xs ≡ ys
@@ -51,7 +51,7 @@ module _ {K : Type 0} where
   split_at (x ∷ ks) k (inr i) = let s = split_at ks k i in record { front = x ∷ s.front; back = s.back; whole = ap (λ (l : List K). x ∷ l) s.whole }
 
   -- in a list of keys that differ, one list comes after a key
-  one_back : (f g : List K) (k : K) (bs cs : List K) → Differ (f ++ k ∷ bs) → f ++ k ∷ bs ≡ g ++ k ∷ cs → bs ≡ cs
+  pub one_back : (f g : List K) (k : K) (bs cs : List K) → Differ (f ++ k ∷ bs) → f ++ k ∷ bs ≡ g ++ k ∷ cs → bs ≡ cs
   one_back [] [] k bs cs d e = tail_same k k bs cs e
   one_back [] (y ∷ g) k bs cs d e =
       absurd (d.0 (subst (λ (l : List K). In k l) (sym (tail_same k y bs (g ++ k ∷ cs) e)) (in_append_right k g (k ∷ cs) (inl refl))))
@@ -71,7 +71,7 @@ chain_next N k (x ∷ xs) z c y (inr i) =
     let r = chain_next N x xs z c.1 y i in
     (r.0, elim r.1 [ inl e ↦ inl e | inr j ↦ inr (inr j) ], r.2)
 
-ring_next : {K : Type 0} (order : K → K → Ordering) (N : K → K → Type 0) (ring : List K) → IsRing order N ring → (y : K) → In y ring → (b : K) × In b ring × N y b
+pub ring_next : {K : Type 0} (order : K → K → Ordering) (N : K → K → Type 0) (ring : List K) → IsRing order N ring → (y : K) → In y ring → (b : K) × In b ring × N y b
 unfolding IsRing
 ring_next order N [] r y i = absurd r
 ring_next order N (z ∷ zs) r y i = let n = chain_next N z zs z r.0 y i in (n.0, n.1, n.2)

@@ -1,8 +1,8 @@
 -- Each move leaves a closed client closed, with the same outbox. A middle term: only proofs need it.
 use Rattle.std.proofs.Common.{◌≡◌, ℕ, Bool, true, false, List, [], ◌∷◌, slice_get, slice_set, Option, Some, None, refl, sym, ◌∙◌, ap, subst, inl, inr}
 use Rattle.std.specs.Prelude.{Ok, Err, Result}
-use Rattle.pq_inputs.specs.Sources.{Sources}
 use Rattle.pq_rules.specs.declared.turn.Answer.{Answer}
+use Rattle.pq_core.specs.Points.{Point}
 use Rattle.pq_core.specs.Replies.{ReplyView}
 use Rattle.pq_core.proofs.Lists.{get_longer, get_within, set_same, set_other, same_or_other}
 use Rattle.pq_core.specs.Ledger.{Client, Ledger, IsClosed, opened}
@@ -24,74 +24,74 @@ use Rattle.pq_core.specs.declared.fault.EditRefused.{EditRefused}
 not_both : (b : Bool) → b ≡ true → b ≡ false → ⊥
 not_both b e f = cc
 
-module _ {K V O : Type 0} where
+module _ {K V M O : Type 0} where
   -- the closed client `c` of `l` is one of `m` too, with the same outbox
-  abbrev pub Stays : (l : Ledger K V O) (c : ℕ) → IsClosed l c → Ledger K V O → Type 0
+  abbrev pub Stays : (l : Ledger K V M O) (c : ℕ) → IsClosed l c → Ledger K V M O → Type 0
   Stays l c shut m = (after : IsClosed m c) × (after.client.outbox ≡ shut.client.outbox)
 
-  some_one : (x y : Client K V O) → Some x ≡ Some y → x ≡ y
+  some_one : (x y : Client K V M O) → Some x ≡ Some y → x ≡ y
   some_one x y e = cc
 
-  stays_as : (l m : Ledger K V O) (c : ℕ) (shut : IsClosed l c) → m ≡ l → Stays l c shut m
+  stays_as : (l m : Ledger K V M O) (c : ℕ) (shut : IsClosed l c) → m ≡ l → Stays l c shut m
   stays_as l m c shut e = subst (Stays l c shut) (sym e) (shut, refl)
 
   -- the client `d` is another, which is closed with the same outbox if it was closed
-  stays_set : (l m : Ledger K V O) (c : ℕ) (shut : IsClosed l c) (d : ℕ) (found other : Client K V O) → slice_get l.clients d ≡ Some found
+  stays_set : (l m : Ledger K V M O) (c : ℕ) (shut : IsClosed l c) (d : ℕ) (found other : Client K V M O) → slice_get l.clients d ≡ Some found
       → (found.is_open ≡ false → (other.is_open ≡ false) × (other.outbox ≡ found.outbox))
       → m.clients ≡ slice_set l.clients d other → Stays l c shut m
   stays_set l m c shut d found other here alike e =
-      let w : (client : Client K V O) × (slice_get (slice_set l.clients d other) c ≡ Some client) × (client.is_open ≡ false) × (client.outbox ≡ shut.client.outbox) =
+      let w : (client : Client K V M O) × (slice_get (slice_set l.clients d other) c ≡ Some client) × (client.is_open ≡ false) × (client.outbox ≡ shut.client.outbox) =
       elim (same_or_other c d) [
         | inl same ↦
             let is : shut.client ≡ found = some_one shut.client found (sym shut.here ∙ ap (slice_get l.clients) same ∙ here) in
-            let a = alike (sym (ap (λ (x : Client K V O). x.is_open) is) ∙ shut.closed) in
-            (other, ap (slice_get (slice_set l.clients d other)) same ∙ set_same l.clients d other (get_within l.clients d found here), a.0, a.1 ∙ sym (ap (λ (x : Client K V O). x.outbox) is))
+            let a = alike (sym (ap (λ (x : Client K V M O). x.is_open) is) ∙ shut.closed) in
+            (other, ap (slice_get (slice_set l.clients d other)) same ∙ set_same l.clients d other (get_within l.clients d found here), a.0, a.1 ∙ sym (ap (λ (x : Client K V M O). x.outbox) is))
         | inr apart ↦ (shut.client, set_other l.clients d other c apart ∙ shut.here, shut.closed, refl)
       ] in
-      (record { client = w.0; here = ap (λ (xs : List (Client K V O)). slice_get xs c) e ∙ w.1; closed = w.2 }, w.3)
+      (record { client = w.0; here = ap (λ (xs : List (Client K V M O)). slice_get xs c) e ∙ w.1; closed = w.2 }, w.3)
 
   -- a client that has the same outbox and is as open
-  stays_alike : (l m : Ledger K V O) (c : ℕ) (shut : IsClosed l c) (d : ℕ) (found other : Client K V O) → slice_get l.clients d ≡ Some found
+  stays_alike : (l m : Ledger K V M O) (c : ℕ) (shut : IsClosed l c) (d : ℕ) (found other : Client K V M O) → slice_get l.clients d ≡ Some found
       → other.is_open ≡ found.is_open → other.outbox ≡ found.outbox → m.clients ≡ slice_set l.clients d other → Stays l c shut m
   stays_alike l m c shut d found other here e f set = stays_set l m c shut d found other here (λ g. (e ∙ g, f)) set
 
   -- a client that is open
-  stays_open : (l m : Ledger K V O) (c : ℕ) (shut : IsClosed l c) (d : ℕ) (found other : Client K V O) → slice_get l.clients d ≡ Some found
+  stays_open : (l m : Ledger K V M O) (c : ℕ) (shut : IsClosed l c) (d : ℕ) (found other : Client K V M O) → slice_get l.clients d ≡ Some found
       → found.is_open ≡ true → m.clients ≡ slice_set l.clients d other → Stays l c shut m
   stays_open l m c shut d found other here e set = stays_set l m c shut d found other here (λ g. absurd (not_both found.is_open e g)) set
 
-  clients_of : (l m : Ledger K V O) → m ≡ l → m.clients ≡ l.clients
-  clients_of l m e = ap (λ (x : Ledger K V O). x.clients) e
+  clients_of : (l m : Ledger K V M O) → m ≡ l → m.clients ≡ l.clients
+  clients_of l m e = ap (λ (x : Ledger K V M O). x.clients) e
 
-  pub shut_opens : (c : ℕ) (outbox : O) (answer : Result ℕ (OpenRefused O)) (l m : Ledger K V O) (shut : IsClosed l c) → Opens outbox answer l m → Stays l c shut m
+  pub shut_opens : (c : ℕ) (outbox : O) (answer : Result ℕ (OpenRefused O)) (l m : Ledger K V M O) (shut : IsClosed l c) → Opens outbox answer l m → Stays l c shut m
   shut_opens c outbox (Ok n) l m shut s =
       subst (Stays l c shut) (sym s.2)
       (record { client = shut.client; here = get_longer l.clients (opened outbox ∷ []) c shut.client shut.here; closed = shut.closed }, refl)
   shut_opens c outbox (Err refused) l m shut s = stays_as l m c shut s.2
 
-  pub shut_accepts : (puts : O → List (ReplyView K V)) (c d : ℕ) (request : Request K) (answer : Result ℕ (AcceptRefused K)) (l m : Ledger K V O) (shut : IsClosed l c) → Accepts puts d request answer l m → Stays l c shut m
+  pub shut_accepts : (puts : O → List (ReplyView K V M)) (c d : ℕ) (request : Request K) (answer : Result ℕ (AcceptRefused K)) (l m : Ledger K V M O) (shut : IsClosed l c) → Accepts puts d request answer l m → Stays l c shut m
   shut_accepts puts c d request (Ok n) l m shut s = stays_open l m c shut d s.0 _ s.1.here s.1.open_yet (clients_of _ m s.4)
   shut_accepts puts c d request (Err refused) l m shut s = stays_as l m c shut s.2
 
-  pub shut_edits : (c d : ℕ) (change : ChangeView) (answer : Result ℕ EditRefused) (l m : Ledger K V O) (shut : IsClosed l c) → Edits d change answer l m → Stays l c shut m
+  pub shut_edits : (c d : ℕ) (change : ChangeView) (answer : Result ℕ EditRefused) (l m : Ledger K V M O) (shut : IsClosed l c) → Edits d change answer l m → Stays l c shut m
   shut_edits c d change (Ok revision) l m shut s =
-      (record { client = shut.client; here = ap (λ (xs : List (Client K V O)). slice_get xs c) (clients_of _ m s.4) ∙ shut.here; closed = shut.closed }, refl)
+      (record { client = shut.client; here = ap (λ (xs : List (Client K V M O)). slice_get xs c) (clients_of _ m s.4) ∙ shut.here; closed = shut.closed }, refl)
   shut_edits c d change (Err refused) l m shut s = stays_as l m c shut s.2
 
-  pub shut_starts : (c : ℕ) (answer : Option ℕ) (l m : Ledger K V O) (shut : IsClosed l c) → Starts answer l m → Stays l c shut m
+  pub shut_starts : (c : ℕ) (answer : Option ℕ) (l m : Ledger K V M O) (shut : IsClosed l c) → Starts answer l m → Stays l c shut m
   shut_starts c (Some run) l m shut s = stays_alike l m c shut s.0 s.1 _ s.4.is_entry.client_here refl refl (clients_of _ m s.6)
   shut_starts c None l m shut s = stays_as l m c shut s.1
 
-  pub shut_looks : {R P : Type 0} (means : Sources → K → Answer K V → Type 0) (rules : R) (c run : ℕ) (answer : Result (Move (WorkView R K P V)) LookFault) (l m : Ledger K V O) (shut : IsClosed l c) → LooksFor means rules run answer l m → Stays l c shut m
+  pub shut_looks : {R P : Type 0} (means : M → Point → K → Answer K V → Type 0) (rules : R) (c run : ℕ) (answer : Result (Move (WorkView R K P V)) LookFault) (l m : Ledger K V M O) (shut : IsClosed l c) → LooksFor means rules run answer l m → Stays l c shut m
   shut_looks means rules c run (Ok (Carry work)) l m shut s = stays_alike l m c shut s.0.c s.0.client _ s.1.runs.is_entry.client_here refl refl (clients_of _ m s.3)
   shut_looks means rules c run (Ok (Blocked other)) l m shut s = stays_as l m c shut s.4
   shut_looks means rules c run (Ok MoveStepped) l m shut s = stays_as l m c shut s.2
-  shut_looks means rules c run (Ok MoveAnswered) l m shut s = stays_alike l m c shut s.0.c s.0.client _ s.1.runs.is_entry.client_here refl refl (clients_of _ m s.2.2)
+  shut_looks means rules c run (Ok MoveAnswered) l m shut s = stays_alike l m c shut s.0.c s.0.client _ s.1.runs.is_entry.client_here refl refl (clients_of _ m s.2.3)
   shut_looks means rules c run (Ok MoveStopped) l m shut s = stays_alike l m c shut s.0.c s.0.client _ s.1.is_entry.client_here refl refl (clients_of _ m s.3)
   shut_looks means rules c run (Err NoRun) l m shut s = stays_as l m c shut s.1
   shut_looks means rules c run (Err LookMemory) l m shut s = stays_as l m c shut s.2
 
-  pub shut_gives : {R P : Type 0} (c run : ℕ) (done : DoneView R K P V) (answer : Result (Move (WorkView R K P V)) (GiveRefused (DoneView R K P V))) (l m : Ledger K V O) (shut : IsClosed l c) → Gives run done answer l m → Stays l c shut m
+  pub shut_gives : {R P : Type 0} (c run : ℕ) (done : DoneView R K P V) (answer : Result (Move (WorkView R K P V)) (GiveRefused (DoneView R K P V))) (l m : Ledger K V M O) (shut : IsClosed l c) → Gives run done answer l m → Stays l c shut m
   shut_gives c run done (Ok (Carry work)) l m shut s = absurd s
   shut_gives c run done (Ok (Blocked other)) l m shut s = absurd s
   shut_gives c run done (Ok MoveStepped) l m shut s = stays_alike l m c shut s.0.c s.0.client _ s.1.is_entry.client_here refl refl (clients_of _ m s.4)
@@ -99,21 +99,21 @@ module _ {K V O : Type 0} where
   shut_gives c run done (Ok MoveStopped) l m shut s = stays_alike l m c shut s.0.c s.0.client _ s.1.is_entry.client_here refl refl (clients_of _ m s.4)
   shut_gives c run done (Err refused) l m shut s = stays_as l m c shut s.2
 
-  pub shut_starves : (c run : ℕ) (answer : Bool) (l m : Ledger K V O) (shut : IsClosed l c) → Starves run answer l m → Stays l c shut m
+  pub shut_starves : (c run : ℕ) (answer : Bool) (l m : Ledger K V M O) (shut : IsClosed l c) → Starves run answer l m → Stays l c shut m
   shut_starves c run true l m shut s = stays_alike l m c shut s.0.c s.0.client _ s.1.is_entry.client_here refl refl (clients_of _ m s.2)
   shut_starves c run false l m shut s = stays_as l m c shut s.1
 
-  pub shut_releases : (puts takes : O → List (ReplyView K V)) (was_full was_gone : O → Type 0) (c d : ℕ) (answer : Released) (l m : Ledger K V O) (shut : IsClosed l c) → Releases puts takes was_full was_gone d answer l m → Stays l c shut m
+  pub shut_releases : (puts takes : O → List (ReplyView K V M)) (was_full was_gone : O → Type 0) (c d : ℕ) (answer : Released) (l m : Ledger K V M O) (shut : IsClosed l c) → Releases puts takes was_full was_gone d answer l m → Stays l c shut m
   shut_releases puts takes was_full was_gone c d (ReleasedPut n) l m shut s = stays_open l m c shut d s.0.client _ s.1.here s.1.ready.open_yet (clients_of _ m s.3.3)
   shut_releases puts takes was_full was_gone c d ReleasedFull l m shut s = stays_open l m c shut d s.0.client _ s.1.here s.1.ready.open_yet (clients_of _ m s.2.3)
   shut_releases puts takes was_full was_gone c d ReleasedGone l m shut s = stays_open l m c shut d s.0.client _ s.1.here s.1.ready.open_yet (clients_of _ m s.2.3)
   shut_releases puts takes was_full was_gone c d ReleasedNothing l m shut s = stays_as l m c shut s.1
 
-  pub shut_closes : (c d : ℕ) (answer : Option O) (l m : Ledger K V O) (shut : IsClosed l c) → Closes d answer l m → Stays l c shut m
+  pub shut_closes : (c d : ℕ) (answer : Option O) (l m : Ledger K V M O) (shut : IsClosed l c) → Closes d answer l m → Stays l c shut m
   shut_closes c d (Some o) l m shut s = stays_open l m c shut d s.0 _ s.1.here s.1.open_yet (clients_of _ m s.3)
   shut_closes c d None l m shut s = stays_as l m c shut s.1
 
-  pub shut_takes : {A : Type 0} (puts takes : O → List (ReplyView K V)) (c d : ℕ) (answer : Result Bool A) (l m : Ledger K V O) (shut : IsClosed l c) → TakesOut puts takes d answer l m → Stays l c shut m
+  pub shut_takes : {A : Type 0} (puts takes : O → List (ReplyView K V M)) (c d : ℕ) (answer : Result Bool A) (l m : Ledger K V M O) (shut : IsClosed l c) → TakesOut puts takes d answer l m → Stays l c shut m
   shut_takes puts takes c d (Ok true) l m shut s = stays_open l m c shut d s.0 _ s.1.here s.1.open_yet (clients_of _ m s.2.3)
   shut_takes puts takes c d (Ok false) l m shut s = stays_as l m c shut s.1
   shut_takes puts takes c d (Err failure) l m shut s = stays_as l m c shut s

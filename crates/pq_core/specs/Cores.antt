@@ -12,6 +12,7 @@ use Rattle.pq_claims.specs.Claims.{Hold, WaitsFor}
 use Rattle.pq_core.specs.Works.{WorkView, IsWorkOf, HasWhy}
 use Rattle.pq_core.specs.declared.moves.Move.{Move}
 use Rattle.pq_core.specs.declared.moves.Move.TheVariants.{Carry, Blocked, Stepped, Answered, Stopped}
+use Rattle.pq_core.specs.Points.{Point, point_now}
 use Rattle.pq_core.specs.Replies.{ReplyView}
 use Rattle.pq_core.specs.Ledger.{Ledger}
 use Rattle.pq_core.specs.RightReply.{answer_by}
@@ -22,12 +23,12 @@ use Rattle.pq_core.specs.aux.Runs.{RunView, RunsKept, out_at}
 use Rattle.pq_core.specs.aux.Stands.{RunSeen, Fields, Stands}
 use Rattle.pq_core.specs.aux.Queue.{IsQueue}
 
--- `CoreView R K P V O` is a core
-pub record CoreView (R K P V O : Type 0) : Type 0 where
+-- `CoreView R K P V M O` is a core
+pub record CoreView (R K P V M O : Type 0) : Type 0 where
   pub rules : R
   pub places : List (K × Option (Memo K V))
   pub inputs : Table
-  pub lanes : Slots (LaneView K V O)
+  pub lanes : Slots (LaneView K V M O)
   pub opened : ℕ
   pub clients : ℕ
   pub waiting : List (ℕ × ℕ)
@@ -39,17 +40,17 @@ pub record CoreView (R K P V O : Type 0) : Type 0 where
 abbrev pub run_seen : {K P : Type 0} → RunView K P → RunSeen K
 run_seen run = record { client = run.client; number = run.number; request = run.request; started = run.started; out = out_at run.top }
 
--- `Held K P V O` is what a core keeps of inputs, clients and runs
-pub record Held (K P V O : Type 0) : Type 0 where
+-- `Held K P V M O` is what a core keeps of inputs, clients and runs
+pub record Held (K P V M O : Type 0) : Type 0 where
   pub inputs : Table
-  pub lanes : List (Place (LaneView K V O))
+  pub lanes : List (Place (LaneView K V M O))
   pub opened : ℕ
   pub clients : ℕ
   pub runs : List (Place (RunView K P))
   pub started : ℕ
 
 -- `held core` is what `core` keeps of inputs, clients and runs
-abbrev pub held : {R K P V O : Type 0} → CoreView R K P V O → Held K P V O
+abbrev pub held : {R K P V M O : Type 0} → CoreView R K P V M O → Held K P V M O
 held core = record {
   inputs = core.inputs;
   lanes = core.lanes.items;
@@ -60,7 +61,7 @@ held core = record {
 }
 
 -- `fields_of h` is `h` as maps from numbers
-abbrev pub fields_of : {K P V O : Type 0} → Held K P V O → Fields K (LaneView K V O)
+abbrev pub fields_of : {K P V M O : Type 0} → Held K P V M O → Fields K (LaneView K V M O)
 fields_of h = record {
   inputs = h.inputs;
   lanes = λ c. found h.lanes c;
@@ -70,25 +71,27 @@ fields_of h = record {
   started = h.started;
 }
 
--- `StandsOf order m puts h l` is that what `h` keeps stands for the ledger `l`
-abbrev pub StandsOf : {K P V O : Type 0} → (K → K → Ordering) → Machine K P V → (O → List (ReplyView K V)) → Held K P V O → Ledger K V O → Type 0
-StandsOf order m puts h l = Stands (LaneStands puts) (answer_by order m) puts (fields_of h) l
+-- `StandsOf order m point puts h l` is that what `h` keeps stands for the ledger `l`
+abbrev pub StandsOf : {K P V M O : Type 0} → (K → K → Ordering) → Machine K P V → (M → Point) → (O → List (ReplyView K V M)) → Held K P V M O → Ledger K V M O → Type 0
+StandsOf order m point puts h l = Stands (LaneStands puts) (answer_by order m point) puts (fields_of h) l
 
--- `StandsFor order m puts core l` is that `core` stands for the ledger `l`
-abbrev pub StandsFor : {R K P V O : Type 0} → (K → K → Ordering) → Machine K P V → (O → List (ReplyView K V)) → CoreView R K P V O → Ledger K V O → Type 0
-StandsFor order m puts core l = StandsOf order m puts (held core) l
+-- `StandsFor order m point puts core l` is that `core` stands for the ledger `l`
+abbrev pub StandsFor : {R K P V M O : Type 0} → (K → K → Ordering) → Machine K P V → (M → Point) → (O → List (ReplyView K V M)) → CoreView R K P V M O → Ledger K V M O → Type 0
+StandsFor order m point puts core l = StandsOf order m point puts (held core) l
 
--- `IsWhole order m puts core` is the invariant of a core: its table keeps its invariant; the
+-- `IsWhole order m point puts stamp core` is the invariant of a core with the stamp `stamp`: the stamp
+-- is of the last revision and the sources now; its table keeps its invariant; the
 -- numbers of clients and runs are above those given; its queue is of the requests that wait, and
 -- there is room for a run of each; its runs and their claims are kept; and it stands for a ledger
-pub record IsWhole {R K P V O : Type 0} (order : K → K → Ordering) (m : Machine K P V) (puts : O → List (ReplyView K V)) (core : CoreView R K P V O) : Type 0 where
+pub record IsWhole {R K P V M O : Type 0} (order : K → K → Ordering) (m : Machine K P V) (point : M → Point) (puts : O → List (ReplyView K V M)) (stamp : M) (core : CoreView R K P V M O) : Type 0 where
+  pub stamped : point stamp ≡ point_now core.inputs
   pub kept : KeptOver order m core.inputs core.places
   pub lanes_above : IsAbove core.clients core.lanes.items
   pub runs_above : IsAbove core.started core.runs.items
   pub queue : IsQueue core.lanes.items core.waiting
   pub room : length core.waiting ≤ core.runs.room
   pub runs : RunsKept order m core.inputs (memo_at order core.places) core.claims core.runs.items
-  pub ledger : (l : Ledger K V O) × StandsOf order m puts (held core) l
+  pub ledger : (l : Ledger K V M O) × StandsOf order m point puts (held core) l
 
 -- `OnCarry Says move` is that `Says` holds of the work that `move` hands out, if it hands out work
 abbrev pub OnCarry : {W : Type 0} → (W → Type 0) → Move W → Type 0
@@ -100,17 +103,17 @@ OnCarry Says Stopped = Unit {0}
 
 -- `HandsOut core run move` is that the work that `move` hands out, if it does, is for `run`, of the
 -- rules of `core` and over its sources
-abbrev pub HandsOut : {R K P V O : Type 0} → CoreView R K P V O → ℕ → Move (WorkView R K P V) → Type 0
+abbrev pub HandsOut : {R K P V M O : Type 0} → CoreView R K P V M O → ℕ → Move (WorkView R K P V) → Type 0
 HandsOut core run move = OnCarry (IsWorkOf core.rules run core.inputs.revision core.inputs.files) move
 
 -- `NamesCause order m core work` is that `work`, if its rule is to be started, and only then, names
 -- a cause, which the table of `core` gives
-abbrev pub NamesCause : {R K P V O : Type 0} → (K → K → Ordering) → Machine K P V → CoreView R K P V O → WorkView R K P V → Type 0
+abbrev pub NamesCause : {R K P V M O : Type 0} → (K → K → Ordering) → Machine K P V → CoreView R K P V M O → WorkView R K P V → Type 0
 NamesCause order m core work =
     HasWhy (IsCause order m core.inputs.history core.inputs.revision (HasIn (memo_at order core.places)) work.done.key) work.done.front work.why
 
 -- `HasCause order m core move` is that the work that `move` hands out, if it does, names its cause
-abbrev pub HasCause : {R K P V O : Type 0} → (K → K → Ordering) → Machine K P V → CoreView R K P V O → Move (WorkView R K P V) → Type 0
+abbrev pub HasCause : {R K P V M O : Type 0} → (K → K → Ordering) → Machine K P V → CoreView R K P V M O → Move (WorkView R K P V) → Type 0
 HasCause order m core move = OnCarry (NamesCause order m core) move
 
 -- `NamesHolder claims run move` is that the run by which `move` is blocked, if it is, is `run` itself,

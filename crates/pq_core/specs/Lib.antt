@@ -1,10 +1,13 @@
+pub mod Points
 pub mod Replies
 pub mod Changes
 pub mod Works
 pub mod Ledger
 pub mod RightReply
+pub mod Truth
 pub mod Outboxes
 pub mod Moves
 pub mod Kept
 pub mod Cores
+pub mod Starts
 pub mod aux

@@ -2,9 +2,11 @@
 ghost use Rattle.std.specs.Prelude.{◌≡◌, ◌≤◌, ◌<◌, ◌+◌, IfErr, IfSome, IfNone, OnOk, length, Some, None, true, false, IsTrue, ◌↔◌};
 ghost use Rattle.std.specs.VecDeque.{deque_capacity};
 ghost use Rattle.pq_core.specs.Kept.{IsDemand};
+ghost use Rattle.pq_core.specs.Points.{point_now};
 ghost use Rattle.pq_core.specs.Ledger.{Ledger};
-ghost use Rattle.pq_core.specs.Moves.{Reaches, Accepts, Edits, inputs_after};
+ghost use Rattle.pq_core.specs.Moves.{Reaches, Accepts, Edits, changed, inputs_after};
 ghost use Rattle.pq_core.specs.Cores.{StandsFor};
+ghost use Rattle.pq_core.specs.Starts.{IsCountedFor, Log};
 ghost use Rattle.pq_core.specs.aux.Rising.{found};
 ghost use Rattle.pq_core.specs.aux.Changes.{IsSameMap};
 ghost use Rattle.pq_core.specs.aux.Lanes.{LaneView};
@@ -17,6 +19,7 @@ use crate::in_lanes::accept_in;
 use crate::outbox::Outbox;
 use crate::request::{Change, Request, Want};
 use crate::rising::Rising;
+use crate::stamp::Stamp;
 use pq_inputs::{Revision, SetRefused};
 use pq_memo::kept_is_sound;
 use pq_rules::Rules;
@@ -48,7 +51,7 @@ fn is_demand<K>(want: &Want<K>) -> bool
     }
 }
 
-impl<R: Rules, O: Outbox<R::Key, R::Value> + Drop> Core<R, O> {
+impl<R: Rules, M: Stamp, O: Outbox<R, M> + Drop> Core<R, M, O> {
     ghost use Rattle.pq_core.specs.Cores.{held};
 
     /// The reason to refuse a request of `client` whatever memory there is.
@@ -84,8 +87,9 @@ impl<R: Rules, O: Outbox<R::Key, R::Value> + Drop> Core<R, O> {
         ensures inputs { self.new.inputs ≡ self.old.inputs }
         ensures places { self.new.places ≡ self.old.places }
         ensures back { IfErr result (λ refused. refused.request ≡ request) }
-        ensures moved { (l : Ledger R.Key R.Value O) → StandsFor R.Key.cmp (R.machine self.old.rules) O.puts self.old l
-            → Reaches (Accepts O.puts client request result) l (StandsFor R.Key.cmp (R.machine self.old.rules) O.puts self.new) }
+        ensures moved { (l : Ledger R.Key R.Value M O) → StandsFor R.Key.cmp (R.machine self.old.rules) M.point O.puts self.old l
+            → Reaches (Accepts O.puts client request result) l (StandsFor R.Key.cmp (R.machine self.old.rules) M.point O.puts self.new) }
+        ensures counted { (log : Log R.Key) → IsCountedFor R.Key.cmp (R.machine self.old.rules) self.old log → IsCountedFor R.Key.cmp (R.machine self.old.rules) self.new log }
     {
         if let Some(fault) = self.accept_refusal(client.number()) {
             return Err(AcceptRefused { fault, request });
@@ -115,7 +119,7 @@ impl<R: Rules, O: Outbox<R::Key, R::Value> + Drop> Core<R, O> {
     /// The reason to refuse an edit of `client` whatever the change is.
     fn edit_refusal(&self, client: u64) -> Option<EditFault>
         ensures refused { IfSome result (λ fault. MayNotEdit (held self.now) client fault) }
-        ensures may { IfNone result ((lane : LaneView R.Key R.Value O) × (found self.now.lanes.items client ≡ Some lane)) }
+        ensures may { IfNone result ((lane : LaneView R.Key R.Value M O) × (found self.now.lanes.items client ≡ Some lane)) }
     {
         if client >= self.clients {
             return Some(EditFault::NoClient);
@@ -126,18 +130,26 @@ impl<R: Rules, O: Outbox<R::Key, R::Value> + Drop> Core<R, O> {
         }
     }
 
-    /// Makes the change of `client`, at the next revision. It waits for no run.
+    /// Makes the change of `client`, at the next revision, of which `stamp` is the stamp. It waits for
+    /// no run.
     ///
     /// # Errors
     ///
     /// `NoClient`, `Closed`, and those of `Inputs::set`, in this order. The change comes back.
-    pub fn edit(&mut self, client: ClientId, change: Change) -> Result<Revision, EditRefused>
+    pub fn edit(
+        &mut self,
+        client: ClientId,
+        change: Change,
+        stamp: M,
+    ) -> Result<Revision, EditRefused>
+        requires { M.point stamp ≡ point_now (changed self.old.inputs change) }
         ensures rules { self.new.rules ≡ self.old.rules }
         ensures inputs { self.new.inputs ≡ inputs_after self.old.inputs change result }
         ensures places { self.new.places ≡ self.old.places }
         ensures back { IfErr result (λ refused. refused.change ≡ change) }
-        ensures moved { (l : Ledger R.Key R.Value O) → StandsFor R.Key.cmp (R.machine self.old.rules) O.puts self.old l
-            → Reaches (Edits client change result) l (StandsFor R.Key.cmp (R.machine self.old.rules) O.puts self.new) }
+        ensures moved { (l : Ledger R.Key R.Value M O) → StandsFor R.Key.cmp (R.machine self.old.rules) M.point O.puts self.old l
+            → Reaches (Edits client change result) l (StandsFor R.Key.cmp (R.machine self.old.rules) M.point O.puts self.new) }
+        ensures counted { (log : Log R.Key) → IsCountedFor R.Key.cmp (R.machine self.old.rules) self.old log → IsCountedFor R.Key.cmp (R.machine self.old.rules) self.new log }
     {
         if let Some(fault) = self.edit_refusal(client.number()) {
             return Err(EditRefused { fault, change });
@@ -150,7 +162,10 @@ impl<R: Rules, O: Outbox<R::Key, R::Value> + Drop> Core<R, O> {
         let _latest = self.inputs.now();
         kept_is_sound(&self.memos);
         match self.inputs.set(file.as_str(), text, durability) {
-            Ok(revision) => return Ok(revision),
+            Ok(revision) => {
+                self.stamp = stamp;
+                return Ok(revision);
+            }
             Err(refused) => {
                 let SetRefused { fault, text } = refused;
                 let change = Change {

@@ -3,7 +3,7 @@
 //!
 //! The frame of a key is found through the run that holds the key. A ring costs time and memory linear
 //! in its keys and their reads, but for the searches: some for each key, in logarithmic time.
-ghost use Rattle.std.specs.Prelude.{◌≡◌, ◌≤◌, ℕ, List, length, take, IfOk, IfSome, IfNone, OnOk, OnErr, Some};
+ghost use Rattle.std.specs.Prelude.{◌≡◌, ◌⊎◌, ◌++◌, ◌∷◌, ◌≤◌, ℕ, List, length, take, IfOk, IfSome, IfNone, OnOk, OnErr, Some};
 ghost use Rattle.std.specs.Option.{option_map};
 ghost use Rattle.pq_inputs.specs.declared.durability.Durability.{Durability};
 ghost use Rattle.pq_rules.specs.Relations.{Each, In};
@@ -16,6 +16,8 @@ ghost use Rattle.pq_core.specs.Cores.{run_seen};
 ghost use Rattle.pq_core.specs.aux.Rising.{found, IsAbove};
 ghost use Rattle.pq_core.specs.aux.Runs.{AreClaimed, ClosesRing, HoldsBelow, Renewed, RunView, RunsKept};
 ghost use Rattle.pq_core.specs.declared.frames.Top.TheVariants.{At};
+ghost use Rattle.pq_memo.specs.Look.{IsUpToDate};
+ghost use Rattle.pq_core.specs.aux.Begun.{IsBegunIn};
 ghost use Rattle.pq_core.specs.aux.Rings.{HasFrame, IsFrameOf, KeyLeaves, LeavesRun};
 
 use crate::fault::Memory;
@@ -138,6 +140,7 @@ impl<R: Rules> Frames<R> {
         requires differ { Differ (frame_keys self.now.stack) }
         ensures within { result ≤ length self.now.stack }
         ensures apart { In key.now (frame_keys (take result self.now.stack)) → ⊥ }
+        ensures split { ((more : List R.Key) × (frame_keys self.now.stack ≡ frame_keys (take result self.now.stack) ++ key.now ∷ more)) ⊎ ((result ≡ length self.now.stack) × (In key.now (frame_keys self.now.stack) → ⊥)) }
     {
         match self.stack.place_of(rules, key) {
             Some(place) => place,
@@ -209,6 +212,8 @@ pub(crate) fn close_ring<R: Rules>(
     ensures seen { (r : ℕ) → option_map run_seen (found runs.new.items r) ≡ option_map run_seen (found runs.old.items r) }
     ensures above { (m : ℕ) → IsAbove m runs.old.items → IsAbove m runs.new.items }
     ensures room { runs.old.room ≤ runs.new.room }
+    ensures begun { (k : R.Key) → IsBegunIn inputs.now.revision runs.old.items k
+        → IsBegunIn inputs.now.revision runs.new.items k ⊎ IsUpToDate (R.machine memos.old.rules) inputs.now.revision (HasIn (memo_at R.Key.cmp memos.new.places)) k }
 {
     claims_are_sound(claims);
     publish_ring(alloc, memos, claims, runs, inputs, id, ring)?;

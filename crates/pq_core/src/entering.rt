@@ -8,11 +8,13 @@ ghost use Rattle.pq_memo.specs.Look.{IsUpToDate};
 ghost use Rattle.pq_memo.specs.Table.{memo_at, HasIn};
 ghost use Rattle.pq_memo.specs.Frames.{Awaits, frame_keys};
 ghost use Rattle.pq_claims.specs.Claims.{hold_of};
+ghost use Rattle.pq_core.specs.aux.Begun.{HandsNothing, IsBegun};
+ghost use Rattle.pq_core.specs.declared.frames.Top.TheVariants.{At};
 ghost use Rattle.pq_core.specs.aux.Runs.{AreStale, Enters, FramesKept, HasAdvanced, HoldsBelow, IsLowered, KeptBelow, OthersHold, WaitStands, out_at, run_keys};
 
 use crate::fault::Memory;
 use crate::frames::{Frames, Top, Went};
-use crate::work::Work;
+use crate::job::Job;
 use pq_claims::{Claim, Claims, RunId};
 use pq_inputs::Inputs;
 use pq_memo::{Frame, Memos, Stage};
@@ -41,7 +43,7 @@ impl<R: Rules> Frames<R> {
         id: RunId,
         claims: &mut Claims<R>,
         next: R::Key,
-    ) -> Result<Went<Work<R>, R::Key>, Memory>
+    ) -> Result<Went<Job<R>, R::Key>, Memory>
         requires claimed { (hold_of claims.old id).keys ≡ frame_keys self.old.stack }
         requires awake { (hold_of claims.old id).wait ≡ None }
         ensures entered { Enters R.Key.cmp claims.new id next result self.old.stack self.new.stack self.new.top }
@@ -82,7 +84,7 @@ impl<R: Rules> Frames<R> {
         inputs: &Inputs,
         frame: Frame<R::Key, R::Part>,
         next: R::Key,
-    ) -> Result<Went<Work<R>, R::Key>, Memory>
+    ) -> Result<Went<Job<R>, R::Key>, Memory>
         requires below { KeptBelow R.Key.cmp (R.machine memos.now.rules) inputs.now (memo_at R.Key.cmp memos.now.places) self.old.stack frame.key }
         requires awaits { Awaits R.Key.cmp (R.machine memos.now.rules) inputs.now.history inputs.now.revision (HasIn (memo_at R.Key.cmp memos.now.places)) frame.key frame.stage next }
         requires needed { IsUpToDate (R.machine memos.now.rules) inputs.now.revision (HasIn (memo_at R.Key.cmp memos.now.places)) next → ⊥ }
@@ -96,6 +98,8 @@ impl<R: Rules> Frames<R> {
         ensures waits { WaitStands R.Key.cmp (R.machine memos.now.rules) inputs.now (memo_at R.Key.cmp memos.now.places) claims.new id self.new.top }
         ensures went { IfOk result (λ w. HasAdvanced R.Key.cmp (R.machine memos.now.rules) memos.now.rules inputs.now (memo_at R.Key.cmp memos.now.places) claims.new id self.new.top w) }
         ensures idle { out_at self.new.top ≡ None }
+        ensures begun { (k : R.Key) → IsBegun self.old.stack (At frame) k → IsBegun self.new.stack self.new.top k }
+        ensures none { IfOk result (λ w. HandsNothing w) }
     {
         match self.stack.put(alloc, memos.rules(), frame) {
             Ok(()) => self.enter(alloc, id, claims, next),

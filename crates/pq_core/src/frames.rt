@@ -17,10 +17,12 @@ ghost use Rattle.pq_memo.specs.Steps.{IsWhy};
 ghost use Rattle.pq_claims.specs.Claims.{hold_of};
 ghost use Rattle.pq_core.specs.Moves.{out_of};
 ghost use Rattle.pq_core.specs.aux.Runs.{AreStale, FramesKept, HandedOut, HasAdvanced, IsLowered, KeptBelow, CanGoOn, CanTake, OthersHold, Renewed, WaitStands, OthersUnwritten, out_at, run_keys};
-ghost use Rattle.pq_core.specs.declared.frames.Top.TheVariants.{Empty};
+ghost use Rattle.pq_core.specs.aux.Begun.{AdvancesFirst, KeepsBegun};
+ghost use Rattle.pq_core.specs.declared.frames.Pending.{Pending};
+ghost use Rattle.pq_core.specs.declared.frames.Top.TheVariants.{Empty, At, Away};
 
 use crate::fault::Memory;
-use crate::work::{Done, Task, Work};
+use crate::job::{Job, Made, Task};
 use pq_claims::{Claims, RunId, claims_are_sound};
 use pq_inputs::Inputs;
 use pq_memo::{Frame, Memos, Stack, Stage, Step, Unpublished, Why, turns_are_right};
@@ -147,7 +149,7 @@ impl<R: Rules> Frames<R> {
         key: R::Key,
         copy: R::Key,
         why: Why<R::Key>,
-    ) -> Work<R>
+    ) -> Job<R>
         requires kept { KeptOver R.Key.cmp (R.machine memos.now.rules) inputs.now memos.now.places }
         requires below { KeptBelow R.Key.cmp (R.machine memos.now.rules) inputs.now (memo_at R.Key.cmp memos.now.places) self.old.stack key }
         requires copied { copy ≡ key }
@@ -155,11 +157,13 @@ impl<R: Rules> Frames<R> {
         ensures keys { run_keys self.new.stack self.new.top ≡ frame_keys self.old.stack ++ key ∷ [] }
         ensures frames_kept { FramesKept R.Key.cmp (R.machine memos.now.rules) inputs.now (memo_at R.Key.cmp memos.now.places) self.new.stack self.new.top }
         ensures handed { HandedOut (R.machine memos.now.rules) memos.now.rules inputs.now (memo_at R.Key.cmp memos.now.places) id self.new.top result }
+        ensures stack { self.new.stack ≡ self.old.stack }
+        ensures away { (p : Pending R.Key) × (self.new.top ≡ Away p) × (p.key ≡ key) }
     {
         let _latest = inputs.now();
         turns_are_right(memos);
         let reads = Vec::new(alloc);
-        let work = Work::new(
+        let work = Job::new(
             *memos.rules(),
             id,
             inputs,
@@ -184,7 +188,7 @@ impl<R: Rules> Frames<R> {
         part: R::Part,
         answer: Shared<Answer<R::Key, R::Value>>,
         reads: Vec<R::Key>,
-    ) -> Work<R>
+    ) -> Job<R>
         requires below { KeptBelow R.Key.cmp (R.machine memos.now.rules) inputs.now (memo_at R.Key.cmp memos.now.places) self.old.stack key }
         requires copied { copy ≡ key }
         requires came { Came R.Key.cmp (R.machine memos.now.rules) inputs.now.history inputs.now.revision (HasIn (memo_at R.Key.cmp memos.now.places)) key ((R.machine memos.now.rules).advance part answer) reads.items }
@@ -192,10 +196,13 @@ impl<R: Rules> Frames<R> {
         ensures keys { run_keys self.new.stack self.new.top ≡ frame_keys self.old.stack ++ key ∷ [] }
         ensures frames_kept { FramesKept R.Key.cmp (R.machine memos.now.rules) inputs.now (memo_at R.Key.cmp memos.now.places) self.new.stack self.new.top }
         ensures handed { HandedOut (R.machine memos.now.rules) memos.now.rules inputs.now (memo_at R.Key.cmp memos.now.places) id self.new.top result }
+        ensures stack { self.new.stack ≡ self.old.stack }
+        ensures away { (p : Pending R.Key) × (self.new.top ≡ Away p) × (p.key ≡ key) }
+        ensures going { result.why ≡ None }
     {
         let _latest = inputs.now();
         let task = Task::Advance(part, answer);
-        let work = Work::new(*memos.rules(), id, inputs, copy, None, task, &reads);
+        let work = Job::new(*memos.rules(), id, inputs, copy, None, task, &reads);
         self.top = Top::Away(Pending { key, reads });
         work
     }
@@ -211,7 +218,7 @@ impl<R: Rules> Frames<R> {
         inputs: &Inputs,
         frame: Frame<R::Key, R::Part>,
         copy: R::Key,
-    ) -> Result<Went<Work<R>, R::Key>, Memory>
+    ) -> Result<Went<Job<R>, R::Key>, Memory>
         requires kept { KeptOver R.Key.cmp (R.machine memos.old.rules) inputs.now memos.old.places }
         requires below { KeptBelow R.Key.cmp (R.machine memos.old.rules) inputs.now (memo_at R.Key.cmp memos.old.places) self.old.stack frame.key }
         requires stale { AreStale (R.machine memos.old.rules) inputs.now.revision (memo_at R.Key.cmp memos.old.places) (frame_keys self.old.stack ++ frame.key ∷ []) }
@@ -230,6 +237,8 @@ impl<R: Rules> Frames<R> {
         ensures written { OthersUnwritten claims.old id (memo_at R.Key.cmp memos.old.places) (memo_at R.Key.cmp memos.new.places) }
         ensures advanced { IfOk result (λ w. HasAdvanced R.Key.cmp (R.machine memos.old.rules) memos.old.rules inputs.now (memo_at R.Key.cmp memos.old.places) claims.new id self.new.top w) }
         ensures refused { OnErr result (out_at self.new.top ≡ None) }
+        ensures begun { KeepsBegun (R.machine memos.old.rules) inputs.now.revision (memo_at R.Key.cmp memos.new.places) self.old.stack (At frame) self.new.stack self.new.top }
+        ensures first { IfOk result (λ w. AdvancesFirst self.old.stack (At frame) w) }
     {
         match memos.step(alloc, frame, inputs) {
             Ok(Step::Finished) => {
@@ -263,7 +272,7 @@ impl<R: Rules> Frames<R> {
         claims: &mut Claims<R>,
         inputs: &Inputs,
         frame: Frame<R::Key, R::Part>,
-    ) -> Result<Went<Work<R>, R::Key>, Memory>
+    ) -> Result<Went<Job<R>, R::Key>, Memory>
         requires kept { KeptOver R.Key.cmp (R.machine memos.old.rules) inputs.now memos.old.places }
         requires below { KeptBelow R.Key.cmp (R.machine memos.old.rules) inputs.now (memo_at R.Key.cmp memos.old.places) self.old.stack frame.key }
         requires can { CanGoOn R.Key.cmp (R.machine memos.old.rules) inputs.now (memo_at R.Key.cmp memos.old.places) frame }
@@ -280,6 +289,8 @@ impl<R: Rules> Frames<R> {
         ensures written { OthersUnwritten claims.old id (memo_at R.Key.cmp memos.old.places) (memo_at R.Key.cmp memos.new.places) }
         ensures advanced { IfOk result (λ w. HasAdvanced R.Key.cmp (R.machine memos.old.rules) memos.old.rules inputs.now (memo_at R.Key.cmp memos.old.places) claims.new id self.new.top w) }
         ensures refused { OnErr result (out_at self.new.top ≡ None) }
+        ensures begun { KeepsBegun (R.machine memos.old.rules) inputs.now.revision (memo_at R.Key.cmp memos.new.places) self.old.stack (At frame) self.new.stack self.new.top }
+        ensures first { IfOk result (λ w. AdvancesFirst self.old.stack (At frame) w) }
     {
         claims.end_wait(id);
         match memos.rules().copy_key(alloc, &frame.key) {
@@ -301,8 +312,8 @@ impl<R: Rules> Frames<R> {
         claims: &mut Claims<R>,
         inputs: &Inputs,
         pending: Pending<R::Key>,
-        done: Done<R>,
-    ) -> Result<(), Done<R>>
+        done: Made<R>,
+    ) -> Result<(), Made<R>>
         requires kept { KeptOver R.Key.cmp (R.machine memos.old.rules) inputs.now memos.old.places }
         requires below { KeptBelow R.Key.cmp (R.machine memos.old.rules) inputs.now (memo_at R.Key.cmp memos.old.places) self.old.stack pending.key }
         requires can { CanTake R.Key.cmp (R.machine memos.old.rules) inputs.now (memo_at R.Key.cmp memos.old.places) pending }
@@ -325,9 +336,10 @@ impl<R: Rules> Frames<R> {
         ensures taken { OnOk result (out_at self.new.top ≡ None) }
         ensures back { IfErr result (λ d. d ≡ done) }
         ensures refused { OnErr result (out_at self.new.top ≡ Some (out_of done)) }
+        ensures begun { KeepsBegun (R.machine memos.old.rules) inputs.now.revision (memo_at R.Key.cmp memos.new.places) self.old.stack (Away pending) self.new.stack self.new.top }
     {
         let _latest = inputs.now();
-        let Done {
+        let Made {
             rules,
             run,
             started,
@@ -355,7 +367,7 @@ impl<R: Rules> Frames<R> {
                 }
                 Err(pending) => {
                     self.top = Top::Away(pending);
-                    Err(Done {
+                    Err(Made {
                         rules,
                         run,
                         started,

@@ -5,6 +5,7 @@
 //! time, and only `accept` allocates.
 ghost use Rattle.std.specs.Prelude.{◌≡◌, ◌+◌, ◌<◌, ◌≤◌, ◌⊎◌, ◌^◌, ◌↔◌, [], false, drop, length, slice_get, slice_set, Some, None, IsTrue, IfSome, IfNone, IfOk, IfErr, OnErr};
 ghost use Rattle.pq_core.specs.Replies.{ReplyView};
+ghost use Rattle.pq_core.specs.Truth.{IsTrueReply};
 ghost use Rattle.pq_core.specs.Moves.{window};
 ghost use Rattle.pq_core.specs.aux.Lanes.{IsOwed, with_owed, pushed, first_owed, LetsOut, LaneReleases, LaneTakes};
 ghost use Rattle.pq_core.specs.declared.request.Request.{Request};
@@ -17,7 +18,9 @@ use crate::moves::Released;
 use crate::outbox::{Outbox, PutFault, Taking};
 use crate::reply::Reply;
 use crate::request::{Request, Want};
+use crate::stamp::Stamp;
 use pq_inputs::Revision;
+use pq_rules::Rules;
 use std::alloc::Global;
 use std::collections::VecDeque;
 use std::marker::Model;
@@ -25,36 +28,36 @@ use std::mem;
 
 /// A request that was accepted from an open client, and whose reply was not put.
 #[derive(Drop)]
-pub(crate) enum Owed<K, V> {
+pub(crate) enum Owed<K, V, M> {
     /// It waits for a run.
     Waiting(Request<K>),
     /// It is in a run, which keeps the request.
     Running,
     /// Its reply is made.
-    Ready(Reply<K, V>),
+    Ready(Reply<K, V, M>),
 }
 
 /// An open client.
 #[derive(Drop)]
-pub(crate) struct Lane<K, V, O> {
+pub(crate) struct Lane<K, V, M, O> {
     outbox: O,
     put: u64,
-    owed: VecDeque<Owed<K, V>>,
+    owed: VecDeque<Owed<K, V, M>>,
     refused: bool,
 }
 
-impl<K, V, O> Model for Lane<K, V, O> {
+impl<K, V, M, O> Model for Lane<K, V, M, O> {
     ghost use Rattle.std.specs.Prelude.{◌+◌, ◌<◌, ◌^◌, length};
     ghost use Rattle.pq_core.specs.aux.Lanes.{LaneView};
 
-    ghost Value = { LaneView K V O };
+    ghost Value = { LaneView K V M O };
 
     ghost view = { λ l. record { outbox = l.outbox; put = l.put; owed = l.owed.items; refused = l.refused } };
 
     ghost invariant = { λ l. l.put + length l.owed.items < 2 ^ 64 };
 }
 
-impl<K: Drop, V: Drop> Owed<K, V> {
+impl<K: Drop, V: Drop, M: Drop> Owed<K, V, M> {
     /// Hands out the request, which waits. It is in a run afterwards.
     fn start(&mut self) -> Request<K>
         requires { (request : Request K) × (self.old ≡ OwedWaiting request) }
@@ -68,9 +71,9 @@ impl<K: Drop, V: Drop> Owed<K, V> {
     }
 
     /// Hands out the reply if it is ready.
-    fn reply(&mut self) -> Option<Reply<K, V>>
+    fn reply(&mut self) -> Option<Reply<K, V, M>>
         ensures ready { IfSome result (λ reply. self.old ≡ OwedReady reply) }
-        ensures none { IfNone result (((reply : ReplyView K V) → self.old ≡ OwedReady reply → ⊥) × (self.new ≡ self.old)) }
+        ensures none { IfNone result (((reply : ReplyView K V M) → self.old ≡ OwedReady reply → ⊥) × (self.new ≡ self.old)) }
     {
         match mem::replace(self, Owed::Running) {
             Owed::Waiting(request) => {
@@ -84,7 +87,7 @@ impl<K: Drop, V: Drop> Owed<K, V> {
 
     /// Whether its reply is ready.
     fn is_ready(&self) -> bool
-        ensures { IsTrue result ↔ ((reply : ReplyView K V) × (self.now ≡ OwedReady reply)) }
+        ensures { IsTrue result ↔ ((reply : ReplyView K V M) × (self.now ≡ OwedReady reply)) }
     {
         match self {
             Owed::Waiting(_) => return false,
@@ -94,7 +97,7 @@ impl<K: Drop, V: Drop> Owed<K, V> {
     }
 }
 
-impl<K: Drop, V: Drop, O> Lane<K, V, O> {
+impl<K: Drop, V: Drop, M: Drop, O> Lane<K, V, M, O> {
     /// A client without requests.
     pub(crate) fn new(alloc: Global, outbox: O) -> Self
         ensures { result ≡ record { outbox = outbox; put = 0; owed = []; refused = false } }
@@ -154,7 +157,7 @@ impl<K: Drop, V: Drop, O> Lane<K, V, O> {
     }
 
     /// Makes `reply` to the request `number`.
-    pub(crate) fn finish(&mut self, number: u64, reply: Reply<K, V>)
+    pub(crate) fn finish(&mut self, number: u64, reply: Reply<K, V, M>)
         requires past { self.old.put ≤ number }
         requires within { number < self.old.put + length self.old.owed }
         ensures { self.new ≡ with_owed self.old number (OwedReady reply) }
@@ -164,7 +167,7 @@ impl<K: Drop, V: Drop, O> Lane<K, V, O> {
 
     /// Whether the reply to the first request that is owed one is ready.
     pub(crate) fn is_ready(&self) -> bool
-        ensures { IsTrue result ↔ ((reply : ReplyView K V) × (slice_get self.now.owed 0 ≡ Some (OwedReady reply))) }
+        ensures { IsTrue result ↔ ((reply : ReplyView K V M) × (slice_get self.now.owed 0 ≡ Some (OwedReady reply))) }
     {
         if self.owed.is_empty() {
             return false;
@@ -188,53 +191,55 @@ impl<K: Drop, V: Drop, O> Lane<K, V, O> {
     }
 }
 
-impl<K: Drop, V: Drop, O: Outbox<K, V>> Lane<K, V, O> {
-    /// Puts the first reply that is owed into the outbox, if it is ready.
-    pub(crate) fn release(&mut self) -> Released
-        requires put { self.old.put ≡ length (O.puts self.old.outbox) }
-        requires numbered { (reply : ReplyView K V) → slice_get self.old.owed 0 ≡ Some (OwedReady reply) → reply.number ≡ self.old.put }
-        ensures { LaneReleases O.puts O.takes O.was_full O.was_gone result self.old self.new }
-    {
-        let put = self.put;
-        match let_out(&mut self.owed, &mut self.outbox, put) {
-            Released::Put(number) => {
-                self.put = put + 1;
-                self.refused = false;
-                return Released::Put(number);
-            }
-            Released::Full => {
-                self.refused = true;
-                return Released::Full;
-            }
-            Released::Gone => {
-                self.refused = true;
-                return Released::Gone;
-            }
-            Released::Nothing => return Released::Nothing,
+/// Puts the first reply that is owed by `lane` into its outbox, if it is ready.
+pub(crate) fn release<R: Rules, M: Stamp, O: Outbox<R, M>>(
+    lane: &mut Lane<R::Key, R::Value, M, O>,
+) -> Released
+    requires put { lane.old.put ≡ length (O.puts lane.old.outbox) }
+    requires numbered { (reply : ReplyView R.Key R.Value M) → slice_get lane.old.owed 0 ≡ Some (OwedReady reply) → reply.number ≡ lane.old.put }
+    requires right { (reply : ReplyView R.Key R.Value M) → slice_get lane.old.owed 0 ≡ Some (OwedReady reply) → IsTrueReply R.Key.cmp R.machine M.point reply }
+    ensures { LaneReleases O.puts O.takes O.was_full O.was_gone result lane.old lane.new }
+{
+    let put = lane.put;
+    match let_out(&mut lane.owed, &mut lane.outbox, put) {
+        Released::Put(number) => {
+            lane.put = put + 1;
+            lane.refused = false;
+            return Released::Put(number);
         }
+        Released::Full => {
+            lane.refused = true;
+            return Released::Full;
+        }
+        Released::Gone => {
+            lane.refused = true;
+            return Released::Gone;
+        }
+        Released::Nothing => return Released::Nothing,
     }
 }
 
-impl<K: Drop, V: Drop, O: Taking<K, V>> Lane<K, V, O> {
-    /// Takes the first reply that was put and not taken. Returns whether there was one.
-    pub(crate) fn take(&mut self) -> Result<bool, Memory>
-        ensures { LaneTakes O.puts O.takes result self.old self.new }
-    {
-        match self.outbox.take() {
-            Ok(true) => return Ok(true),
-            Ok(false) => return Ok(false),
-            Err(failure) => return Err(failure),
-        }
+/// Takes the first reply that was put to the client of `lane` and not taken. Returns whether there
+/// was one.
+pub(crate) fn take<R: Rules, M: Stamp, O: Taking<R, M>>(
+    lane: &mut Lane<R::Key, R::Value, M, O>,
+) -> Result<bool, Memory>
+    ensures { LaneTakes O.puts O.takes result lane.old lane.new }
+{
+    match lane.outbox.take() {
+        Ok(true) => return Ok(true),
+        Ok(false) => return Ok(false),
+        Err(failure) => return Err(failure),
     }
 }
 
 /// The request `number` at its acceptance.
-fn owed_first<K, V>(
+fn owed_first<K, V, M>(
     client: ClientId,
     number: Number,
     request: Request<K>,
     revision: Revision,
-) -> Owed<K, V>
+) -> Owed<K, V, M>
     ensures { result ≡ first_owed client number request revision request.want }
 {
     match &request.want {
@@ -244,27 +249,28 @@ fn owed_first<K, V>(
 }
 
 /// Puts `reply` into `item`.
-fn restore<K: Drop, V: Drop>(item: &mut Owed<K, V>, reply: Reply<K, V>)
+fn restore<K: Drop, V: Drop, M: Drop>(item: &mut Owed<K, V, M>, reply: Reply<K, V, M>)
     ensures { item.new ≡ OwedReady reply }
 {
     *item = Owed::Ready(reply);
 }
 
 /// Drops the first of `owed`.
-fn drop_first<K: Drop, V: Drop>(owed: &mut VecDeque<Owed<K, V>>)
+fn drop_first<K: Drop, V: Drop, M: Drop>(owed: &mut VecDeque<Owed<K, V, M>>)
     ensures { owed.new.items ≡ drop 1 owed.old.items }
 {
     let _first = owed.pop_front();
 }
 
 /// Puts the first reply that is owed, which has the number `put`, into `outbox` if it is ready.
-fn let_out<K: Drop, V: Drop, O: Outbox<K, V>>(
-    owed: &mut VecDeque<Owed<K, V>>,
+fn let_out<R: Rules, M: Stamp, O: Outbox<R, M>>(
+    owed: &mut VecDeque<Owed<R::Key, R::Value, M>>,
     outbox: &mut O,
     put: u64,
 ) -> Released
     requires put { put ≡ length (O.puts outbox.old) }
-    requires numbered { (reply : ReplyView K V) → slice_get owed.old.items 0 ≡ Some (OwedReady reply) → reply.number ≡ put }
+    requires numbered { (reply : ReplyView R.Key R.Value M) → slice_get owed.old.items 0 ≡ Some (OwedReady reply) → reply.number ≡ put }
+    requires right { (reply : ReplyView R.Key R.Value M) → slice_get owed.old.items 0 ≡ Some (OwedReady reply) → IsTrueReply R.Key.cmp R.machine M.point reply }
     ensures { LetsOut O.puts O.takes O.was_full O.was_gone result put owed.old.items owed.new.items outbox.old outbox.new }
 {
     if owed.is_empty() {

@@ -1,7 +1,7 @@
 //! Laws of the ledger, each as the contract of a function that does nothing.
 //!
 //! They are what holds of every ledger that is reached, whatever the calls answer.
-ghost use Rattle.std.specs.Prelude.{◌≡◌, ℕ, [], Bool, Option, Result};
+ghost use Rattle.std.specs.Prelude.{◌≡◌, ◌≤◌, ◌+◌, ℕ, [], Bool, Option, Result};
 ghost use Rattle.std.specs.declared.alloc.AllocError.{AllocError};
 ghost use Rattle.pq_core.specs.Changes.{ChangeView};
 ghost use Rattle.pq_core.specs.Works.{DoneView, WorkView};
@@ -10,6 +10,7 @@ ghost use Rattle.pq_core.specs.Moves.{Opens, Accepts, Edits, Starts, Looks, Give
 ghost use Rattle.pq_core.specs.RightReply.{answer_by};
 ghost use Rattle.pq_core.specs.Kept.{Kept};
 ghost use Rattle.pq_core.specs.Cores.{StandsFor};
+ghost use Rattle.pq_core.specs.Starts.{IsCountedFor, Log, count};
 ghost use Rattle.pq_memo.specs.Sound.{Sound};
 ghost use Rattle.pq_memo.specs.Look.{IsUpToDate};
 ghost use Rattle.pq_memo.specs.Table.{memo_at, HasIn};
@@ -25,45 +26,46 @@ ghost use Rattle.pq_core.specs.declared.moves.Released.{Released};
 
 use crate::cores::Core;
 use crate::outbox::Outbox;
+use crate::stamp::Stamp;
 use pq_claims::claims_are_sound;
 use pq_memo::kept_is_sound;
 use pq_rules::Rules;
 
 /// Each move keeps what holds of every ledger: the replies put are those to the first requests, in
 /// order, and each reply is right. A client is opened with an outbox into which nothing was put.
-pub fn moves_keep<R: Rules, O: Outbox<R::Key, R::Value>>(_rules: &R)
-    ensures opens { (outbox : O) (answer : Result ℕ (OpenRefused O)) (l m : Ledger R.Key R.Value O) → O.puts outbox ≡ [] → Kept (answer_by R.Key.cmp (R.machine _rules.now)) O.puts l → Opens outbox answer l m → Kept (answer_by R.Key.cmp (R.machine _rules.now)) O.puts m }
-    ensures accepts { (client : ℕ) (request : Request R.Key) (answer : Result ℕ (AcceptRefused R.Key)) (l m : Ledger R.Key R.Value O) → Kept (answer_by R.Key.cmp (R.machine _rules.now)) O.puts l → Accepts O.puts client request answer l m → Kept (answer_by R.Key.cmp (R.machine _rules.now)) O.puts m }
-    ensures edits { (client : ℕ) (change : ChangeView) (answer : Result ℕ EditRefused) (l m : Ledger R.Key R.Value O) → Kept (answer_by R.Key.cmp (R.machine _rules.now)) O.puts l → Edits client change answer l m → Kept (answer_by R.Key.cmp (R.machine _rules.now)) O.puts m }
-    ensures starts { (answer : Option ℕ) (l m : Ledger R.Key R.Value O) → Kept (answer_by R.Key.cmp (R.machine _rules.now)) O.puts l → Starts answer l m → Kept (answer_by R.Key.cmp (R.machine _rules.now)) O.puts m }
-    ensures looks { (run : ℕ) (answer : Result (Move (WorkView R R.Key R.Part R.Value)) LookFault) (l m : Ledger R.Key R.Value O) → Kept (answer_by R.Key.cmp (R.machine _rules.now)) O.puts l → Looks R.Key.cmp (R.machine _rules.now) _rules.now run answer l m → Kept (answer_by R.Key.cmp (R.machine _rules.now)) O.puts m }
-    ensures gives { (run : ℕ) (done : DoneView R R.Key R.Part R.Value) (answer : Result (Move (WorkView R R.Key R.Part R.Value)) (GiveRefused (DoneView R R.Key R.Part R.Value))) (l m : Ledger R.Key R.Value O) → Kept (answer_by R.Key.cmp (R.machine _rules.now)) O.puts l → Gives run done answer l m → Kept (answer_by R.Key.cmp (R.machine _rules.now)) O.puts m }
-    ensures starves { (run : ℕ) (answer : Bool) (l m : Ledger R.Key R.Value O) → Kept (answer_by R.Key.cmp (R.machine _rules.now)) O.puts l → Starves run answer l m → Kept (answer_by R.Key.cmp (R.machine _rules.now)) O.puts m }
-    ensures releases { (client : ℕ) (answer : Released) (l m : Ledger R.Key R.Value O) → Kept (answer_by R.Key.cmp (R.machine _rules.now)) O.puts l → Releases O.puts O.takes O.was_full O.was_gone client answer l m → Kept (answer_by R.Key.cmp (R.machine _rules.now)) O.puts m }
-    ensures closes { (client : ℕ) (answer : Option O) (l m : Ledger R.Key R.Value O) → Kept (answer_by R.Key.cmp (R.machine _rules.now)) O.puts l → Closes client answer l m → Kept (answer_by R.Key.cmp (R.machine _rules.now)) O.puts m }
-    ensures takes { (client : ℕ) (answer : Result Bool AllocError) (l m : Ledger R.Key R.Value O) → Kept (answer_by R.Key.cmp (R.machine _rules.now)) O.puts l → TakesOut O.puts O.takes client answer l m → Kept (answer_by R.Key.cmp (R.machine _rules.now)) O.puts m }
+pub fn moves_keep<R: Rules, M: Stamp, O: Outbox<R, M>>(_rules: &R)
+    ensures opens { (outbox : O) (answer : Result ℕ (OpenRefused O)) (l m : Ledger R.Key R.Value M O) → O.puts outbox ≡ [] → Kept (answer_by R.Key.cmp (R.machine _rules.now) M.point) O.puts l → Opens outbox answer l m → Kept (answer_by R.Key.cmp (R.machine _rules.now) M.point) O.puts m }
+    ensures accepts { (client : ℕ) (request : Request R.Key) (answer : Result ℕ (AcceptRefused R.Key)) (l m : Ledger R.Key R.Value M O) → Kept (answer_by R.Key.cmp (R.machine _rules.now) M.point) O.puts l → Accepts O.puts client request answer l m → Kept (answer_by R.Key.cmp (R.machine _rules.now) M.point) O.puts m }
+    ensures edits { (client : ℕ) (change : ChangeView) (answer : Result ℕ EditRefused) (l m : Ledger R.Key R.Value M O) → Kept (answer_by R.Key.cmp (R.machine _rules.now) M.point) O.puts l → Edits client change answer l m → Kept (answer_by R.Key.cmp (R.machine _rules.now) M.point) O.puts m }
+    ensures starts { (answer : Option ℕ) (l m : Ledger R.Key R.Value M O) → Kept (answer_by R.Key.cmp (R.machine _rules.now) M.point) O.puts l → Starts answer l m → Kept (answer_by R.Key.cmp (R.machine _rules.now) M.point) O.puts m }
+    ensures looks { (run : ℕ) (answer : Result (Move (WorkView R R.Key R.Part R.Value)) LookFault) (l m : Ledger R.Key R.Value M O) → Kept (answer_by R.Key.cmp (R.machine _rules.now) M.point) O.puts l → Looks R.Key.cmp (R.machine _rules.now) M.point _rules.now run answer l m → Kept (answer_by R.Key.cmp (R.machine _rules.now) M.point) O.puts m }
+    ensures gives { (run : ℕ) (done : DoneView R R.Key R.Part R.Value) (answer : Result (Move (WorkView R R.Key R.Part R.Value)) (GiveRefused (DoneView R R.Key R.Part R.Value))) (l m : Ledger R.Key R.Value M O) → Kept (answer_by R.Key.cmp (R.machine _rules.now) M.point) O.puts l → Gives run done answer l m → Kept (answer_by R.Key.cmp (R.machine _rules.now) M.point) O.puts m }
+    ensures starves { (run : ℕ) (answer : Bool) (l m : Ledger R.Key R.Value M O) → Kept (answer_by R.Key.cmp (R.machine _rules.now) M.point) O.puts l → Starves run answer l m → Kept (answer_by R.Key.cmp (R.machine _rules.now) M.point) O.puts m }
+    ensures releases { (client : ℕ) (answer : Released) (l m : Ledger R.Key R.Value M O) → Kept (answer_by R.Key.cmp (R.machine _rules.now) M.point) O.puts l → Releases O.puts O.takes O.was_full O.was_gone client answer l m → Kept (answer_by R.Key.cmp (R.machine _rules.now) M.point) O.puts m }
+    ensures closes { (client : ℕ) (answer : Option O) (l m : Ledger R.Key R.Value M O) → Kept (answer_by R.Key.cmp (R.machine _rules.now) M.point) O.puts l → Closes client answer l m → Kept (answer_by R.Key.cmp (R.machine _rules.now) M.point) O.puts m }
+    ensures takes { (client : ℕ) (answer : Result Bool AllocError) (l m : Ledger R.Key R.Value M O) → Kept (answer_by R.Key.cmp (R.machine _rules.now) M.point) O.puts l → TakesOut O.puts O.takes client answer l m → Kept (answer_by R.Key.cmp (R.machine _rules.now) M.point) O.puts m }
 {}
 
 /// Each move leaves a client that is closed as it was, with the same outbox: after the close of a
 /// client nothing enters its outbox.
-pub fn closed_for_good<R: Rules, O: Outbox<R::Key, R::Value>>(_rules: &R)
-    ensures opens { (c : ℕ) (outbox : O) (answer : Result ℕ (OpenRefused O)) (l m : Ledger R.Key R.Value O) (shut : IsClosed l c) → Opens outbox answer l m → (after : IsClosed m c) × (after.client.outbox ≡ shut.client.outbox) }
-    ensures accepts { (c : ℕ) (client : ℕ) (request : Request R.Key) (answer : Result ℕ (AcceptRefused R.Key)) (l m : Ledger R.Key R.Value O) (shut : IsClosed l c) → Accepts O.puts client request answer l m → (after : IsClosed m c) × (after.client.outbox ≡ shut.client.outbox) }
-    ensures edits { (c : ℕ) (client : ℕ) (change : ChangeView) (answer : Result ℕ EditRefused) (l m : Ledger R.Key R.Value O) (shut : IsClosed l c) → Edits client change answer l m → (after : IsClosed m c) × (after.client.outbox ≡ shut.client.outbox) }
-    ensures starts { (c : ℕ) (answer : Option ℕ) (l m : Ledger R.Key R.Value O) (shut : IsClosed l c) → Starts answer l m → (after : IsClosed m c) × (after.client.outbox ≡ shut.client.outbox) }
-    ensures looks { (c : ℕ) (run : ℕ) (answer : Result (Move (WorkView R R.Key R.Part R.Value)) LookFault) (l m : Ledger R.Key R.Value O) (shut : IsClosed l c) → Looks R.Key.cmp (R.machine _rules.now) _rules.now run answer l m → (after : IsClosed m c) × (after.client.outbox ≡ shut.client.outbox) }
-    ensures gives { (c : ℕ) (run : ℕ) (done : DoneView R R.Key R.Part R.Value) (answer : Result (Move (WorkView R R.Key R.Part R.Value)) (GiveRefused (DoneView R R.Key R.Part R.Value))) (l m : Ledger R.Key R.Value O) (shut : IsClosed l c) → Gives run done answer l m → (after : IsClosed m c) × (after.client.outbox ≡ shut.client.outbox) }
-    ensures starves { (c : ℕ) (run : ℕ) (answer : Bool) (l m : Ledger R.Key R.Value O) (shut : IsClosed l c) → Starves run answer l m → (after : IsClosed m c) × (after.client.outbox ≡ shut.client.outbox) }
-    ensures releases { (c : ℕ) (client : ℕ) (answer : Released) (l m : Ledger R.Key R.Value O) (shut : IsClosed l c) → Releases O.puts O.takes O.was_full O.was_gone client answer l m → (after : IsClosed m c) × (after.client.outbox ≡ shut.client.outbox) }
-    ensures closes { (c : ℕ) (client : ℕ) (answer : Option O) (l m : Ledger R.Key R.Value O) (shut : IsClosed l c) → Closes client answer l m → (after : IsClosed m c) × (after.client.outbox ≡ shut.client.outbox) }
-    ensures takes { (c : ℕ) (client : ℕ) (answer : Result Bool AllocError) (l m : Ledger R.Key R.Value O) (shut : IsClosed l c) → TakesOut O.puts O.takes client answer l m → (after : IsClosed m c) × (after.client.outbox ≡ shut.client.outbox) }
+pub fn closed_for_good<R: Rules, M: Stamp, O: Outbox<R, M>>(_rules: &R)
+    ensures opens { (c : ℕ) (outbox : O) (answer : Result ℕ (OpenRefused O)) (l m : Ledger R.Key R.Value M O) (shut : IsClosed l c) → Opens outbox answer l m → (after : IsClosed m c) × (after.client.outbox ≡ shut.client.outbox) }
+    ensures accepts { (c : ℕ) (client : ℕ) (request : Request R.Key) (answer : Result ℕ (AcceptRefused R.Key)) (l m : Ledger R.Key R.Value M O) (shut : IsClosed l c) → Accepts O.puts client request answer l m → (after : IsClosed m c) × (after.client.outbox ≡ shut.client.outbox) }
+    ensures edits { (c : ℕ) (client : ℕ) (change : ChangeView) (answer : Result ℕ EditRefused) (l m : Ledger R.Key R.Value M O) (shut : IsClosed l c) → Edits client change answer l m → (after : IsClosed m c) × (after.client.outbox ≡ shut.client.outbox) }
+    ensures starts { (c : ℕ) (answer : Option ℕ) (l m : Ledger R.Key R.Value M O) (shut : IsClosed l c) → Starts answer l m → (after : IsClosed m c) × (after.client.outbox ≡ shut.client.outbox) }
+    ensures looks { (c : ℕ) (run : ℕ) (answer : Result (Move (WorkView R R.Key R.Part R.Value)) LookFault) (l m : Ledger R.Key R.Value M O) (shut : IsClosed l c) → Looks R.Key.cmp (R.machine _rules.now) M.point _rules.now run answer l m → (after : IsClosed m c) × (after.client.outbox ≡ shut.client.outbox) }
+    ensures gives { (c : ℕ) (run : ℕ) (done : DoneView R R.Key R.Part R.Value) (answer : Result (Move (WorkView R R.Key R.Part R.Value)) (GiveRefused (DoneView R R.Key R.Part R.Value))) (l m : Ledger R.Key R.Value M O) (shut : IsClosed l c) → Gives run done answer l m → (after : IsClosed m c) × (after.client.outbox ≡ shut.client.outbox) }
+    ensures starves { (c : ℕ) (run : ℕ) (answer : Bool) (l m : Ledger R.Key R.Value M O) (shut : IsClosed l c) → Starves run answer l m → (after : IsClosed m c) × (after.client.outbox ≡ shut.client.outbox) }
+    ensures releases { (c : ℕ) (client : ℕ) (answer : Released) (l m : Ledger R.Key R.Value M O) (shut : IsClosed l c) → Releases O.puts O.takes O.was_full O.was_gone client answer l m → (after : IsClosed m c) × (after.client.outbox ≡ shut.client.outbox) }
+    ensures closes { (c : ℕ) (client : ℕ) (answer : Option O) (l m : Ledger R.Key R.Value M O) (shut : IsClosed l c) → Closes client answer l m → (after : IsClosed m c) × (after.client.outbox ≡ shut.client.outbox) }
+    ensures takes { (c : ℕ) (client : ℕ) (answer : Result Bool AllocError) (l m : Ledger R.Key R.Value M O) (shut : IsClosed l c) → TakesOut O.puts O.takes client answer l m → (after : IsClosed m c) × (after.client.outbox ≡ shut.client.outbox) }
 {}
 
 /// Between any two calls the table of memos is sound, as `engine_is_sound` says of an engine's. And
 /// the core stands for some ledger.
-pub fn core_is_sound<R: Rules, O: Outbox<R::Key, R::Value>>(core: &Core<R, O>)
+pub fn core_is_sound<R: Rules, M: Stamp, O: Outbox<R, M>>(core: &Core<R, M, O>)
     ensures sound { Sound R.Key.cmp (R.machine core.now.rules) core.now.inputs.history core.now.inputs.revision (HasIn (memo_at R.Key.cmp core.now.places)) }
-    ensures stands { (l : Ledger R.Key R.Value O) × StandsFor R.Key.cmp (R.machine core.now.rules) O.puts core.now l × Kept (answer_by R.Key.cmp (R.machine core.now.rules)) O.puts l }
+    ensures stands { (l : Ledger R.Key R.Value M O) × StandsFor R.Key.cmp (R.machine core.now.rules) M.point O.puts core.now l × Kept (answer_by R.Key.cmp (R.machine core.now.rules) M.point) O.puts l }
 {
     kept_is_sound(&core.memos);
 }
@@ -71,10 +73,17 @@ pub fn core_is_sound<R: Rules, O: Outbox<R::Key, R::Value>>(core: &Core<R, O>)
 /// Between any two calls a key has one holder at most, and waits between runs form no ring. A run
 /// that holds a key exists. No key that a run holds is up to date: so a key is released in the call
 /// that brings it up to date, and after a ring was published no run holds a key of it.
-pub fn runs_hold_their_keys<R: Rules, O: Outbox<R::Key, R::Value>>(core: &Core<R, O>)
+pub fn runs_hold_their_keys<R: Rules, M: Stamp, O: Outbox<R, M>>(core: &Core<R, M, O>)
     ensures sound { AreSound core.now.claims }
-    ensures runs { (run : ℕ) (key : R.Key) → Holds core.now.claims run key → (l : Ledger R.Key R.Value O) → StandsFor R.Key.cmp (R.machine core.now.rules) O.puts core.now l → (at : RunAt R.Key R.Value O) × Runs l run at }
+    ensures runs { (run : ℕ) (key : R.Key) → Holds core.now.claims run key → (l : Ledger R.Key R.Value M O) → StandsFor R.Key.cmp (R.machine core.now.rules) M.point O.puts core.now l → (at : RunAt R.Key R.Value M O) × Runs l run at }
     ensures stale { (run : ℕ) (key : R.Key) → Holds core.now.claims run key → IsUpToDate (R.machine core.now.rules) core.now.inputs.revision (HasIn (memo_at R.Key.cmp core.now.places)) key → ⊥ }
 {
     claims_are_sound(&core.claims);
 }
+
+/// In one revision a key's rule is started at most once, and once more for each run that was stopped
+/// or starved while it held the key. It holds of the log of every list of calls: the empty log is
+/// counted for a new core, and each call keeps that.
+pub fn starts_are_counted<R: Rules, M: Stamp, O: Outbox<R, M>>(core: &Core<R, M, O>)
+    ensures { (log : Log R.Key) → IsCountedFor R.Key.cmp (R.machine core.now.rules) core.now log → (revision : ℕ) (key : R.Key) → count R.Key.cmp revision key log.starts ≤ count R.Key.cmp revision key log.lost + 1 }
+{}

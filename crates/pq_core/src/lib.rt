@@ -6,12 +6,14 @@
 //! revision, and of each client its requests, each in one place.
 //!
 //! Definitions: `specs/Ledger` (the world: clients, requests and their places), `specs/Moves` (one
-//! relation for each call), `specs/RightReply` (when a reply is right), `specs/Outboxes`,
-//! `specs/Kept` (what holds of each ledger that is reached), `specs/Works` (work that is out).
-//! Modules: `ids`, `label` and `request` (what clients post), `outcome` and `reply`, `fault` (why a
-//! call is refused), `moves` (what runs and releases come to), `outbox` (where replies go), `work`
-//! (a rule that is to be carried out), `cores` (the core), `opening`, `accepting`, `starting`,
-//! `running` and `releasing` (its calls), `lane` and `in_lanes` (an open client), `rising` (a map from
+//! relation for each call), `specs/Points` (a revision and its sources), `specs/RightReply` (when a
+//! reply is right), `specs/Truth` (when it is so at its stamp), `specs/Outboxes`, `specs/Kept` (what
+//! holds of each ledger that is reached), `specs/Works` (work that is out), `specs/Starts` (how often
+//! a rule is started).
+//! Modules: `ids`, `label` and `request` (what clients post), `stamp` (of a revision), `outcome` and
+//! `reply`, `fault` (why a call is refused), `moves` (what runs and releases come to), `outbox` (where
+//! replies go), `work` and `job` (a rule that is to be carried out, with a stamp and without), `cores`
+//! (the core), `opening`, `accepting`, `starting`, `running` and `releasing` (its calls), `lane` and `in_lanes` (an open client), `rising` (a map from
 //! rising numbers), `run`, `frames` and `entering` (how a run goes on), `closing` (of a ring of keys),
 //! `laws` (what each move keeps).
 #![tactic(auto)]
@@ -24,6 +26,7 @@ mod fault;
 mod frames;
 mod ids;
 mod in_lanes;
+mod job;
 mod label;
 mod lane;
 mod laws;
@@ -39,6 +42,7 @@ mod request;
 mod rising;
 mod run;
 mod running;
+mod stamp;
 mod starting;
 mod work;
 
@@ -49,7 +53,9 @@ pub use fault::{
 };
 pub use ids::{ClientId, Number};
 pub use label::Label;
-pub use laws::{closed_for_good, core_is_sound, moves_keep, runs_hold_their_keys};
+pub use laws::{
+    closed_for_good, core_is_sound, moves_keep, runs_hold_their_keys, starts_are_counted,
+};
 pub use limits::{MAX_CLIENTS, WINDOW};
 pub use list_outbox::ListOutbox;
 pub use moves::{Move, Released};
@@ -58,4 +64,5 @@ pub use outcome::Outcome;
 pub use pq_claims::RunId;
 pub use reply::Reply;
 pub use request::{Change, Request, Want, copy_change, copy_request, is_same_request};
+pub use stamp::{PlainStamp, Stamp};
 pub use work::{Done, Work};

@@ -4,31 +4,33 @@ ghost use Rattle.std.specs.Prelude.{◌≡◌, ◌≤◌, [], length, IfOk};
 use crate::fault::Memory;
 use crate::outbox::{Outbox, PutFault, Taking};
 use crate::reply::Reply;
+use crate::stamp::Stamp;
+use pq_rules::Rules;
 use std::alloc::Global;
 use std::marker::Model;
 
 /// An outbox that is a list, with room for a number of replies that were not taken. Its room is
 /// allocated from the start, so it refuses a reply only where it is full.
 #[derive(Drop)]
-pub struct ListOutbox<K, V> {
-    replies: Vec<Reply<K, V>>,
+pub struct ListOutbox<K, V, M> {
+    replies: Vec<Reply<K, V, M>>,
     taken: usize,
     room: usize,
 }
 
-impl<K, V> Model for ListOutbox<K, V> {
+impl<K, V, M> Model for ListOutbox<K, V, M> {
     ghost use Rattle.pq_core.specs.Outboxes.{Listed};
     ghost use Rattle.std.specs.Prelude.{length, vec_capacity};
     ghost use Rattle.pq_core.specs.aux.Rooms.{HasRoom};
 
-    ghost Value = { Listed K V };
+    ghost Value = { Listed K V M };
 
     ghost view = { λ o. record { replies = o.replies.items; taken = o.taken; room = o.room } };
 
     ghost invariant = { λ o. HasRoom (length o.replies.items) o.taken o.room (vec_capacity o.replies) };
 }
 
-impl<K: Drop, V: Drop> ListOutbox<K, V> {
+impl<K: Drop, V: Drop, M: Drop> ListOutbox<K, V, M> {
     /// An outbox without replies, with room for `room` replies that were not taken.
     pub fn new(alloc: Global, room: usize) -> Result<Self, Memory>
         ensures { IfOk result (λ o. o ≡ record { replies = []; taken = 0; room = room }) }
@@ -43,7 +45,7 @@ impl<K: Drop, V: Drop> ListOutbox<K, V> {
     }
 
     /// The replies that were put, and the count of those that were taken.
-    pub fn into_parts(self) -> (Vec<Reply<K, V>>, usize)
+    pub fn into_parts(self) -> (Vec<Reply<K, V, M>>, usize)
         ensures { (result.0.items ≡ self.replies) × (result.1 ≡ self.taken) × (result.1 ≤ length result.0.items) }
     {
         let ListOutbox { replies, taken, .. } = self;
@@ -51,7 +53,7 @@ impl<K: Drop, V: Drop> ListOutbox<K, V> {
     }
 }
 
-impl<K: Drop, V: Drop> Outbox<K, V> for ListOutbox<K, V> {
+impl<R: Rules, M: Stamp> Outbox<R, M> for ListOutbox<R::Key, R::Value, M> {
     ghost use Rattle.std.specs.Prelude.{◌≡◌, ◌++◌, ◌∷◌, [], OnOk, OnErr, IfErr};
     ghost use Rattle.pq_core.specs.Outboxes.{handed_back, IsFull, IsGone, taken_front, HasNoRoom, HasLostEnd};
 
@@ -63,7 +65,10 @@ impl<K: Drop, V: Drop> Outbox<K, V> for ListOutbox<K, V> {
 
     ghost was_gone = { HasLostEnd };
 
-    fn put(&mut self, reply: Reply<K, V>) -> Result<(), PutFault<K, V>>
+    fn put(
+        &mut self,
+        reply: Reply<R::Key, R::Value, M>,
+    ) -> Result<(), PutFault<R::Key, R::Value, M>>
         ensures put { OnOk result (self.new.replies ≡ self.old.replies ++ reply ∷ []) }
         ensures refused { OnErr result (self.new.replies ≡ self.old.replies) }
         ensures takes { taken_front self.new ≡ taken_front self.old }
@@ -79,7 +84,7 @@ impl<K: Drop, V: Drop> Outbox<K, V> for ListOutbox<K, V> {
     }
 }
 
-impl<K: Drop, V: Drop> Taking<K, V> for ListOutbox<K, V> {
+impl<R: Rules, M: Stamp> Taking<R, M> for ListOutbox<R::Key, R::Value, M> {
     fn take(&mut self) -> Result<bool, Memory> {
         if self.taken >= self.replies.len() {
             return Ok(false);

@@ -3,6 +3,7 @@ ghost use Rattle.std.specs.Prelude.{◌≡◌, ◌<◌, ◌+◌, [], IfErr};
 ghost use Rattle.pq_core.specs.Ledger.{Ledger};
 ghost use Rattle.pq_core.specs.Moves.{Reaches, Opens};
 ghost use Rattle.pq_core.specs.Cores.{StandsFor};
+ghost use Rattle.pq_core.specs.Starts.{IsCountedFor, Log};
 
 use crate::cores::Core;
 use crate::fault::{OpenFault, OpenRefused};
@@ -10,10 +11,11 @@ use crate::ids::ClientId;
 use crate::lane::Lane;
 use crate::limits::MAX_CLIENTS;
 use crate::outbox::Outbox;
+use crate::stamp::Stamp;
 use pq_rules::Rules;
 use std::alloc::Global;
 
-impl<R: Rules, O: Outbox<R::Key, R::Value> + Drop> Core<R, O> {
+impl<R: Rules, M: Stamp, O: Outbox<R, M> + Drop> Core<R, M, O> {
     /// Opens a client, whose replies go to `outbox`.
     ///
     /// # Errors
@@ -26,8 +28,9 @@ impl<R: Rules, O: Outbox<R::Key, R::Value> + Drop> Core<R, O> {
         ensures inputs { self.new.inputs ≡ self.old.inputs }
         ensures places { self.new.places ≡ self.old.places }
         ensures back { IfErr result (λ refused. refused.outbox ≡ outbox) }
-        ensures moved { (l : Ledger R.Key R.Value O) → StandsFor R.Key.cmp (R.machine self.old.rules) O.puts self.old l
-            → Reaches (Opens outbox result) l (StandsFor R.Key.cmp (R.machine self.old.rules) O.puts self.new) }
+        ensures moved { (l : Ledger R.Key R.Value M O) → StandsFor R.Key.cmp (R.machine self.old.rules) M.point O.puts self.old l
+            → Reaches (Opens outbox result) l (StandsFor R.Key.cmp (R.machine self.old.rules) M.point O.puts self.new) }
+        ensures counted { (log : Log R.Key) → IsCountedFor R.Key.cmp (R.machine self.old.rules) self.old log → IsCountedFor R.Key.cmp (R.machine self.old.rules) self.new log }
     {
         if self.opened >= MAX_CLIENTS {
             let fault = OpenFault::TooManyClients;

@@ -1,27 +1,30 @@
 //! Where the replies to a client go.
 ghost use Rattle.std.specs.Prelude.{◌≡◌, ◌++◌, ◌∷◌, List, [], true, false, length, OnOk, OnErr, IfOk, IfErr};
 ghost use Rattle.pq_core.specs.Replies.{ReplyView};
+ghost use Rattle.pq_core.specs.Truth.{IsTrueReply};
 ghost use Rattle.pq_core.specs.Outboxes.{handed_back, IsFull, IsGone, TakesNext};
 
 use crate::fault::Memory;
 use crate::reply::Reply;
+use crate::stamp::Stamp;
+use pq_rules::Rules;
 
 /// Why a reply did not enter an outbox. The reply comes back.
 #[derive(Drop)]
-pub enum PutFault<K, V> {
+pub enum PutFault<K, V, M> {
     /// The outbox is full.
-    Full(Reply<K, V>),
+    Full(Reply<K, V, M>),
     /// The end that takes the replies is gone.
-    Gone(Reply<K, V>),
+    Gone(Reply<K, V, M>),
 }
 
 /// Where the replies to a client go, in order.
-pub trait Outbox<K, V> {
+pub trait Outbox<R: Rules, M: Stamp> {
     /// The replies that entered it, in order.
-    ghost puts: { Self → List (ReplyView K V) };
+    ghost puts: { Self → List (ReplyView R.Key R.Value M) };
 
     /// Those of them that its owner took out. It is empty where another end takes them.
-    ghost takes: { Self → List (ReplyView K V) };
+    ghost takes: { Self → List (ReplyView R.Key R.Value M) };
 
     /// Whether the outbox was found full, as it knows itself.
     ghost was_full: { Self → Type 0 };
@@ -29,10 +32,14 @@ pub trait Outbox<K, V> {
     /// Whether the end that takes the replies was found gone, as the outbox knows itself.
     ghost was_gone: { Self → Type 0 };
 
-    /// Puts `reply` after those put before. Its number is their count. A refusal leaves the replies
-    /// as they were.
-    fn put(&mut self, reply: Reply<K, V>) -> Result<(), PutFault<K, V>>
-        requires { reply.number ≡ length (puts self.old) }
+    /// Puts `reply` after those put before. Its number is their count, and its answer is right. A
+    /// refusal leaves the replies as they were.
+    fn put(
+        &mut self,
+        reply: Reply<R::Key, R::Value, M>,
+    ) -> Result<(), PutFault<R::Key, R::Value, M>>
+        requires number { reply.number ≡ length (puts self.old) }
+        requires right { IsTrueReply R.Key.cmp R.machine M.point reply }
         ensures put { OnOk result (puts self.new ≡ puts self.old ++ reply ∷ []) }
         ensures refused { OnErr result (puts self.new ≡ puts self.old) }
         ensures takes { takes self.new ≡ takes self.old }
@@ -42,7 +49,7 @@ pub trait Outbox<K, V> {
 }
 
 /// An outbox out of which its owner takes replies.
-pub trait Taking<K, V>: Outbox<K, V> {
+pub trait Taking<R: Rules, M: Stamp>: Outbox<R, M> {
     /// Takes the first reply that was put and not taken. Returns whether there was one. After an
     /// allocation failure nothing has changed.
     fn take(&mut self) -> Result<bool, Memory>

@@ -3,6 +3,7 @@ ghost use Rattle.std.specs.Prelude.{◌≡◌, ◌↔◌, IsTrue, Some, None, tr
 ghost use Rattle.pq_core.specs.Ledger.{Ledger};
 ghost use Rattle.pq_core.specs.Moves.{Reaches, Releases, Closes, TakesOut, IsAtRest};
 ghost use Rattle.pq_core.specs.Cores.{StandsFor};
+ghost use Rattle.pq_core.specs.Starts.{IsCountedFor, Log};
 ghost use Rattle.pq_core.specs.aux.Queue.{is_of_other};
 ghost use Rattle.pq_core.specs.aux.Resting.{HasReadyLane};
 
@@ -14,6 +15,7 @@ use crate::lane::Lane;
 use crate::moves::Released;
 use crate::outbox::{Outbox, Taking};
 use crate::rising::Rising;
+use crate::stamp::Stamp;
 use pq_rules::Rules;
 use std::collections::VecDeque;
 
@@ -29,7 +31,7 @@ fn drop_queued(waiting: &mut VecDeque<(u64, u64)>, client: u64)
 }
 
 /// Whether the next reply to an open client is ready, and its last release was not refused.
-fn has_ready<K: Drop, V: Drop, O: Drop>(lanes: &Rising<Lane<K, V, O>>) -> bool
+fn has_ready<K: Drop, V: Drop, M: Drop, O: Drop>(lanes: &Rising<Lane<K, V, M, O>>) -> bool
     ensures { IsTrue result ↔ HasReadyLane lanes.now }
 {
     let places = lanes.places();
@@ -43,17 +45,18 @@ fn has_ready<K: Drop, V: Drop, O: Drop>(lanes: &Rising<Lane<K, V, O>>) -> bool
     false
 }
 
-impl<R: Rules, O: Outbox<R::Key, R::Value> + Drop> Core<R, O> {
+impl<R: Rules, M: Stamp, O: Outbox<R, M> + Drop> Core<R, M, O> {
     /// Puts the next reply to `client` into its outbox, if it is ready. It takes no memory.
     pub fn release(&mut self, client: ClientId) -> Released
         ensures rules { self.new.rules ≡ self.old.rules }
         ensures inputs { self.new.inputs ≡ self.old.inputs }
         ensures places { self.new.places ≡ self.old.places }
-        ensures moved { (l : Ledger R.Key R.Value O) → StandsFor R.Key.cmp (R.machine self.old.rules) O.puts self.old l
-            → Reaches (Releases O.puts O.takes O.was_full O.was_gone client result) l (StandsFor R.Key.cmp (R.machine self.old.rules) O.puts self.new) }
+        ensures moved { (l : Ledger R.Key R.Value M O) → StandsFor R.Key.cmp (R.machine self.old.rules) M.point O.puts self.old l
+            → Reaches (Releases O.puts O.takes O.was_full O.was_gone client result) l (StandsFor R.Key.cmp (R.machine self.old.rules) M.point O.puts self.new) }
+        ensures counted { (log : Log R.Key) → IsCountedFor R.Key.cmp (R.machine self.old.rules) self.old log → IsCountedFor R.Key.cmp (R.machine self.old.rules) self.new log }
     {
         let seat = client.number();
-        release_in(&mut self.lanes, seat)
+        release_in::<R, M, O>(&mut self.lanes, seat)
     }
 
     /// Closes `client`. Returns its outbox the first time. Replies that are ready and requests that
@@ -63,8 +66,9 @@ impl<R: Rules, O: Outbox<R::Key, R::Value> + Drop> Core<R, O> {
         ensures rules { self.new.rules ≡ self.old.rules }
         ensures inputs { self.new.inputs ≡ self.old.inputs }
         ensures places { self.new.places ≡ self.old.places }
-        ensures moved { (l : Ledger R.Key R.Value O) → StandsFor R.Key.cmp (R.machine self.old.rules) O.puts self.old l
-            → Reaches (Closes client result) l (StandsFor R.Key.cmp (R.machine self.old.rules) O.puts self.new) }
+        ensures moved { (l : Ledger R.Key R.Value M O) → StandsFor R.Key.cmp (R.machine self.old.rules) M.point O.puts self.old l
+            → Reaches (Closes client result) l (StandsFor R.Key.cmp (R.machine self.old.rules) M.point O.puts self.new) }
+        ensures counted { (log : Log R.Key) → IsCountedFor R.Key.cmp (R.machine self.old.rules) self.old log → IsCountedFor R.Key.cmp (R.machine self.old.rules) self.new log }
     {
         let seat = client.number();
         match self.lanes.take(seat) {
@@ -81,7 +85,7 @@ impl<R: Rules, O: Outbox<R::Key, R::Value> + Drop> Core<R, O> {
     /// reply is ready unless its last `release` answered `Full` or `Gone`. It looks at each open
     /// client.
     pub fn is_at_rest(&self) -> bool
-        ensures { (l : Ledger R.Key R.Value O) → StandsFor R.Key.cmp (R.machine self.now.rules) O.puts self.now l → (IsTrue result ↔ IsAtRest O.puts l) }
+        ensures { (l : Ledger R.Key R.Value M O) → StandsFor R.Key.cmp (R.machine self.now.rules) M.point O.puts self.now l → (IsTrue result ↔ IsAtRest O.puts l) }
     {
         if !self.waiting.is_empty() {
             return false;
@@ -93,17 +97,18 @@ impl<R: Rules, O: Outbox<R::Key, R::Value> + Drop> Core<R, O> {
     }
 }
 
-impl<R: Rules, O: Taking<R::Key, R::Value> + Drop> Core<R, O> {
+impl<R: Rules, M: Stamp, O: Taking<R, M> + Drop> Core<R, M, O> {
     /// Takes the first reply that was put to the open `client` and not taken. Returns whether there
     /// was one.
     pub fn take(&mut self, client: ClientId) -> Result<bool, Memory>
         ensures rules { self.new.rules ≡ self.old.rules }
         ensures inputs { self.new.inputs ≡ self.old.inputs }
         ensures places { self.new.places ≡ self.old.places }
-        ensures moved { (l : Ledger R.Key R.Value O) → StandsFor R.Key.cmp (R.machine self.old.rules) O.puts self.old l
-            → Reaches (TakesOut O.puts O.takes client result) l (StandsFor R.Key.cmp (R.machine self.old.rules) O.puts self.new) }
+        ensures moved { (l : Ledger R.Key R.Value M O) → StandsFor R.Key.cmp (R.machine self.old.rules) M.point O.puts self.old l
+            → Reaches (TakesOut O.puts O.takes client result) l (StandsFor R.Key.cmp (R.machine self.old.rules) M.point O.puts self.new) }
+        ensures counted { (log : Log R.Key) → IsCountedFor R.Key.cmp (R.machine self.old.rules) self.old log → IsCountedFor R.Key.cmp (R.machine self.old.rules) self.new log }
     {
         let seat = client.number();
-        take_in(&mut self.lanes, seat)
+        take_in::<R, M, O>(&mut self.lanes, seat)
     }
 }

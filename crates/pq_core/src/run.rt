@@ -10,13 +10,14 @@ ghost use Rattle.pq_claims.specs.Claims.{hold_of};
 ghost use Rattle.pq_core.specs.Kept.{IsDemand};
 ghost use Rattle.pq_core.specs.Moves.{out_of};
 ghost use Rattle.pq_core.specs.aux.Runs.{AreStale, FramesKept, HasLooked, IsAnswer, IsSameRun, IsStale, OthersHold, Renewed, RunKept, WaitStands, OthersUnwritten, out_at, run_keys};
+ghost use Rattle.pq_core.specs.aux.Begun.{KeepsBegun, LooksFirst};
 ghost use Rattle.pq_core.specs.declared.frames.Top.TheVariants.{Empty, At};
 ghost use Rattle.pq_core.specs.declared.request.Want.TheVariants.{Demand};
 
 use crate::fault::Memory;
 use crate::frames::{Frames, Pending, Top, Went};
+use crate::job::{Job, Made};
 use crate::request::{Request, Want};
-use crate::work::{Done, Work};
 use pq_claims::{Claim, Claims, RunId};
 use pq_inputs::{Inputs, Revision};
 use pq_memo::{Frame, Memos, Stage};
@@ -59,7 +60,7 @@ impl<R: Rules> Model for Run<R> {
 }
 
 /// Whether `done` is of the key of `pending`, after as many reads.
-fn is_work_of<R: Rules>(rules: &R, pending: &Pending<R::Key>, done: &Done<R>) -> bool
+fn is_work_of<R: Rules>(rules: &R, pending: &Pending<R::Key>, done: &Made<R>) -> bool
     ensures { IsTrue result ↔ ((pending.now.key ≡ done.now.key) × (length pending.now.reads.items ≡ length done.now.front)) }
 {
     let count = pending.reads.as_slice().len();
@@ -98,7 +99,7 @@ impl<R: Rules> Run<R> {
     }
 
     /// Whether `done` is the result of the work of this run, whose number is `id`, that is out.
-    pub(crate) fn fits(&self, rules: &R, id: RunId, done: &Done<R>) -> bool
+    pub(crate) fn fits(&self, rules: &R, id: RunId, done: &Made<R>) -> bool
         ensures { IsTrue result ↔ ((done.now.run ≡ id) × (done.now.started ≡ self.now.started) × (out_at self.now.top ≡ Some (out_of done.now))) }
     {
         if done.run != id || done.started != self.started {
@@ -148,7 +149,7 @@ impl<R: Rules> Run<R> {
         claims: &mut Claims<R>,
         inputs: &Inputs,
         frame: Frame<R::Key, R::Part>,
-    ) -> Result<Looked<Work<R>, R::Key, Shared<Answer<R::Key, R::Value>>>, Memory>
+    ) -> Result<Looked<Job<R>, R::Key, Shared<Answer<R::Key, R::Value>>>, Memory>
         requires kept { KeptOver R.Key.cmp (R.machine memos.old.rules) inputs.now memos.old.places }
         requires frames_kept { FramesKept R.Key.cmp (R.machine memos.old.rules) inputs.now (memo_at R.Key.cmp memos.old.places) self.old.stack (At frame) }
         requires claimed { (hold_of claims.old id).keys ≡ run_keys self.old.stack (At frame) }
@@ -165,6 +166,8 @@ impl<R: Rules> Run<R> {
         ensures written { OthersUnwritten claims.old id (memo_at R.Key.cmp memos.old.places) (memo_at R.Key.cmp memos.new.places) }
         ensures looked { IfOk result (λ l. HasLooked R.Key.cmp (R.machine memos.old.rules) memos.old.rules inputs.now (memo_at R.Key.cmp memos.old.places) claims.new id self.old.request self.new.top l) }
         ensures refused { OnErr result (out_at self.new.top ≡ None) }
+        ensures begun { KeepsBegun (R.machine memos.old.rules) inputs.now.revision (memo_at R.Key.cmp memos.new.places) self.old.stack (At frame) self.new.stack self.new.top }
+        ensures first { IfOk result (λ l. LooksFirst self.old.stack (At frame) l) }
     {
         match self
             .frames
@@ -186,7 +189,7 @@ impl<R: Rules> Run<R> {
         memos: &mut Memos<R>,
         claims: &mut Claims<R>,
         inputs: &Inputs,
-    ) -> Result<Looked<Work<R>, R::Key, Shared<Answer<R::Key, R::Value>>>, Memory>
+    ) -> Result<Looked<Job<R>, R::Key, Shared<Answer<R::Key, R::Value>>>, Memory>
         requires demand { IsDemand self.old.request.want }
         requires empty { (self.old.stack ≡ []) × (self.old.top ≡ Empty) }
         requires kept { KeptOver R.Key.cmp (R.machine memos.old.rules) inputs.now memos.old.places }
@@ -203,6 +206,8 @@ impl<R: Rules> Run<R> {
         ensures written { OthersUnwritten claims.old id (memo_at R.Key.cmp memos.old.places) (memo_at R.Key.cmp memos.new.places) }
         ensures looked { IfOk result (λ l. HasLooked R.Key.cmp (R.machine memos.old.rules) memos.old.rules inputs.now (memo_at R.Key.cmp memos.old.places) claims.new id self.old.request self.new.top l) }
         ensures refused { OnErr result (out_at self.new.top ≡ None) }
+        ensures begun { KeepsBegun (R.machine memos.old.rules) inputs.now.revision (memo_at R.Key.cmp memos.new.places) self.old.stack self.old.top self.new.stack self.new.top }
+        ensures first { IfOk result (λ l. LooksFirst self.old.stack self.old.top l) }
     {
         if let Some(answer) = self.answer(alloc, memos, inputs)? {
             return Ok(Looked::Answered(answer));
@@ -227,7 +232,7 @@ impl<R: Rules> Run<R> {
         memos: &mut Memos<R>,
         claims: &mut Claims<R>,
         inputs: &Inputs,
-    ) -> Result<Looked<Work<R>, R::Key, Shared<Answer<R::Key, R::Value>>>, Memory>
+    ) -> Result<Looked<Job<R>, R::Key, Shared<Answer<R::Key, R::Value>>>, Memory>
         requires demand { IsDemand self.old.request.want }
         requires idle { out_at self.old.top ≡ None }
         requires current { self.old.started ≡ inputs.now.revision }
@@ -247,6 +252,8 @@ impl<R: Rules> Run<R> {
         ensures written { OthersUnwritten claims.old id (memo_at R.Key.cmp memos.old.places) (memo_at R.Key.cmp memos.new.places) }
         ensures looked { IfOk result (λ l. HasLooked R.Key.cmp (R.machine memos.old.rules) memos.old.rules inputs.now (memo_at R.Key.cmp memos.old.places) claims.new id self.old.request self.new.top l) }
         ensures refused { OnErr result (out_at self.new.top ≡ None) }
+        ensures begun { KeepsBegun (R.machine memos.old.rules) inputs.now.revision (memo_at R.Key.cmp memos.new.places) self.old.stack self.old.top self.new.stack self.new.top }
+        ensures first { IfOk result (λ l. LooksFirst self.old.stack self.old.top l) }
     {
         match replace(&mut self.frames.top, Top::Empty) {
             Top::At(frame) => self.advance(alloc, id, memos, claims, inputs, frame),
@@ -264,8 +271,8 @@ impl<R: Rules> Run<R> {
         memos: &mut Memos<R>,
         claims: &mut Claims<R>,
         inputs: &Inputs,
-        done: Done<R>,
-    ) -> Result<(), Done<R>>
+        done: Made<R>,
+    ) -> Result<(), Made<R>>
         requires out { out_at self.old.top ≡ Some (out_of done) }
         requires rules { done.rules ≡ memos.old.rules }
         requires files { done.files ≡ inputs.now.files }
@@ -288,6 +295,7 @@ impl<R: Rules> Run<R> {
         ensures taken { OnOk result (out_at self.new.top ≡ None) }
         ensures back { IfErr result (λ d. d ≡ done) }
         ensures refused { OnErr result (out_at self.new.top ≡ Some (out_of done)) }
+        ensures begun { KeepsBegun (R.machine memos.old.rules) inputs.now.revision (memo_at R.Key.cmp memos.new.places) self.old.stack self.old.top self.new.stack self.new.top }
     {
         match replace(&mut self.frames.top, Top::Empty) {
             Top::Away(pending) => self

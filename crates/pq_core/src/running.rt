@@ -9,6 +9,7 @@ ghost use Rattle.pq_core.specs.Replies.{IsFair};
 ghost use Rattle.pq_core.specs.Ledger.{Ledger};
 ghost use Rattle.pq_core.specs.Moves.{Reaches, Looks, Gives, Starves, IsMade, IsRequestOf};
 ghost use Rattle.pq_core.specs.Cores.{StandsFor, HandsOut, HasCause, NamesHolder};
+ghost use Rattle.pq_core.specs.Starts.{IsCountedFor, Log, log_moved, log_starved};
 ghost use Rattle.pq_core.specs.aux.Rising.{found, IsAbove};
 ghost use Rattle.pq_core.specs.aux.Changes.{IsSetAt, IsSameMap};
 ghost use Rattle.pq_core.specs.aux.Lanes.{LaneView, with_owed};
@@ -27,6 +28,7 @@ use crate::outcome::Outcome;
 use crate::reply::Reply;
 use crate::rising::Rising;
 use crate::run::{Looked, Run};
+use crate::stamp::Stamp;
 use crate::work::{Done, Work};
 use pq_claims::{RunId, claims_are_sound};
 use pq_inputs::Revision;
@@ -35,8 +37,8 @@ use pq_rules::Rules;
 use std::alloc::Global;
 
 /// Whether `run` was overtaken: an edit was accepted since its start, or its client was closed.
-fn is_overtaken<R: Rules, O: Drop>(
-    lanes: &Rising<Lane<R::Key, R::Value, O>>,
+fn is_overtaken<R: Rules, M: Drop, O: Drop>(
+    lanes: &Rising<Lane<R::Key, R::Value, M, O>>,
     run: &Run<R>,
     now: Revision,
 ) -> bool
@@ -49,15 +51,15 @@ fn is_overtaken<R: Rules, O: Drop>(
 }
 
 /// Makes the reply of `outcome` to the request of `run`, which is over, if its client is open.
-fn end_run<R: Rules, O: Drop>(
-    lanes: &mut Rising<Lane<R::Key, R::Value, O>>,
+fn end_run<R: Rules, M: Drop, O: Drop>(
+    lanes: &mut Rising<Lane<R::Key, R::Value, M, O>>,
     run: Run<R>,
     revision: Revision,
-    outcome: Outcome<R::Key, R::Value>,
+    outcome: Outcome<R::Key, R::Value, M>,
 )
     requires fair { IsFair revision outcome }
-    requires within { (lane : LaneView R.Key R.Value O) → found lanes.old.items run.client ≡ Some lane → (lane.put ≤ run.number) × (run.number < lane.put + length lane.owed) }
-    ensures open { (lane : LaneView R.Key R.Value O) → found lanes.old.items run.client ≡ Some lane
+    requires within { (lane : LaneView R.Key R.Value M O) → found lanes.old.items run.client ≡ Some lane → (lane.put ≤ run.number) × (run.number < lane.put + length lane.owed) }
+    ensures open { (lane : LaneView R.Key R.Value M O) → found lanes.old.items run.client ≡ Some lane
         → IsSetAt lanes.old lanes.new run.client (Some (with_owed lane run.number (OwedReady (record { client = run.client; number = run.number; request = run.request; revision = revision; outcome = outcome })))) }
     ensures closed { found lanes.old.items run.client ≡ None → IsSameMap lanes.old lanes.new }
     ensures above { (m : ℕ) → IsAbove m lanes.old.items → IsAbove m lanes.new.items }
@@ -75,14 +77,14 @@ fn end_run<R: Rules, O: Drop>(
 }
 
 /// Ends `run`, which was overtaken. It is cancelled at the revision `seen`, if its client is open.
-fn stop_run<R: Rules, O: Drop>(
-    lanes: &mut Rising<Lane<R::Key, R::Value, O>>,
+fn stop_run<R: Rules, M: Drop, O: Drop>(
+    lanes: &mut Rising<Lane<R::Key, R::Value, M, O>>,
     run: Run<R>,
     seen: Revision,
 )
     requires overtaken { (run.started < seen) ⊎ (found lanes.old.items run.client ≡ None) }
-    requires within { (lane : LaneView R.Key R.Value O) → found lanes.old.items run.client ≡ Some lane → (lane.put ≤ run.number) × (run.number < lane.put + length lane.owed) }
-    ensures open { (lane : LaneView R.Key R.Value O) → found lanes.old.items run.client ≡ Some lane
+    requires within { (lane : LaneView R.Key R.Value M O) → found lanes.old.items run.client ≡ Some lane → (lane.put ≤ run.number) × (run.number < lane.put + length lane.owed) }
+    ensures open { (lane : LaneView R.Key R.Value M O) → found lanes.old.items run.client ≡ Some lane
         → IsSetAt lanes.old lanes.new run.client (Some (with_owed lane run.number (OwedReady (record { client = run.client; number = run.number; request = run.request; revision = seen; outcome = Cancelled run.started seen })))) }
     ensures closed { found lanes.old.items run.client ≡ None → IsSameMap lanes.old lanes.new }
     ensures above { (m : ℕ) → IsAbove m lanes.old.items → IsAbove m lanes.new.items }
@@ -94,10 +96,10 @@ fn stop_run<R: Rules, O: Drop>(
     }
 }
 
-impl<R: Rules, O: Outbox<R::Key, R::Value> + Drop> Core<R, O> {
+impl<R: Rules, M: Stamp, O: Outbox<R, M> + Drop> Core<R, M, O> {
     /// The client and the number of the request of `run`, if it exists.
     pub fn request_of(&self, run: RunId) -> Option<(ClientId, Number)>
-        ensures { (l : Ledger R.Key R.Value O) → StandsFor R.Key.cmp (R.machine self.now.rules) O.puts self.now l → IsRequestOf l run result }
+        ensures { (l : Ledger R.Key R.Value M O) → StandsFor R.Key.cmp (R.machine self.now.rules) M.point O.puts self.now l → IsRequestOf l run result }
     {
         match self.runs.get(run.number()) {
             Some(run) => return Some((ClientId::new(run.client), Number::new(run.number))),
@@ -110,15 +112,16 @@ impl<R: Rules, O: Outbox<R::Key, R::Value> + Drop> Core<R, O> {
     /// # Errors
     ///
     /// `NoRun`, `Memory`, in this order.
-    pub fn look(&mut self, alloc: Global, run: RunId) -> Result<Move<Work<R>>, LookFault>
+    pub fn look(&mut self, alloc: Global, run: RunId) -> Result<Move<Work<R, M>>, LookFault>
         ensures rules { self.new.rules ≡ self.old.rules }
         ensures inputs { self.new.inputs ≡ self.old.inputs }
         ensures none_lost { NoneLost (memo_at R.Key.cmp self.old.places) (memo_at R.Key.cmp self.new.places) }
-        ensures moved { (l : Ledger R.Key R.Value O) → StandsFor R.Key.cmp (R.machine self.old.rules) O.puts self.old l
-            → Reaches (Looks R.Key.cmp (R.machine self.old.rules) self.old.rules run result) l (StandsFor R.Key.cmp (R.machine self.old.rules) O.puts self.new) }
+        ensures moved { (l : Ledger R.Key R.Value M O) → StandsFor R.Key.cmp (R.machine self.old.rules) M.point O.puts self.old l
+            → Reaches (Looks R.Key.cmp (R.machine self.old.rules) M.point self.old.rules run result) l (StandsFor R.Key.cmp (R.machine self.old.rules) M.point O.puts self.new) }
         ensures handed { IfOk result (HandsOut self.old run) }
         ensures holder { IfOk result (NamesHolder self.new.claims run) }
         ensures cause { IfOk result (HasCause R.Key.cmp (R.machine self.old.rules) self.old) }
+        ensures counted { (log : Log R.Key) → IsCountedFor R.Key.cmp (R.machine self.old.rules) self.old log → IsCountedFor R.Key.cmp (R.machine self.old.rules) self.new (log_moved self.old run result log) }
     {
         look_is_right(&self.memos);
         claims_are_sound(&self.claims);
@@ -138,13 +141,20 @@ impl<R: Rules, O: Outbox<R::Key, R::Value> + Drop> Core<R, O> {
                     self.runs.put_back(id, run);
                     return Ok(Move::Blocked(who));
                 }
+                let stamp = match self.stamp.again().ok() {
+                    Some(stamp) => stamp,
+                    None => {
+                        self.runs.put_back(id, run);
+                        return Err(LookFault::Memory);
+                    }
+                };
                 let looked = run.look(alloc, who, &mut self.memos, &mut self.claims, &self.inputs);
                 claims_are_sound(&self.claims);
                 match looked {
                     Ok(looked) => match looked {
                         Looked::Carry(work) => {
                             self.runs.put_back(id, run);
-                            return Ok(Move::Carry(work));
+                            return Ok(Move::Carry(Work::new(work, stamp)));
                         }
                         Looked::Stepped => {
                             self.runs.put_back(id, run);
@@ -171,7 +181,7 @@ impl<R: Rules, O: Outbox<R::Key, R::Value> + Drop> Core<R, O> {
                         }
                         Looked::Answered(answer) => {
                             self.claims.release_all(who);
-                            end_run(&mut self.lanes, run, now, Outcome::Answered(answer));
+                            end_run(&mut self.lanes, run, now, Outcome::Answered(answer, stamp));
                             return Ok(Move::Answered);
                         }
                     },
@@ -194,15 +204,16 @@ impl<R: Rules, O: Outbox<R::Key, R::Value> + Drop> Core<R, O> {
         &mut self,
         alloc: Global,
         run: RunId,
-        done: Done<R>,
-    ) -> Result<Move<Work<R>>, GiveRefused<Done<R>>>
+        done: Done<R, M>,
+    ) -> Result<Move<Work<R, M>>, GiveRefused<Done<R, M>>>
         requires { IsMade self.old.rules self.old.inputs done }
         ensures rules { self.new.rules ≡ self.old.rules }
         ensures inputs { self.new.inputs ≡ self.old.inputs }
         ensures none_lost { NoneLost (memo_at R.Key.cmp self.old.places) (memo_at R.Key.cmp self.new.places) }
         ensures back { IfErr result (λ refused. refused.done ≡ done) }
-        ensures moved { (l : Ledger R.Key R.Value O) → StandsFor R.Key.cmp (R.machine self.old.rules) O.puts self.old l
-            → Reaches (Gives run done result) l (StandsFor R.Key.cmp (R.machine self.old.rules) O.puts self.new) }
+        ensures moved { (l : Ledger R.Key R.Value M O) → StandsFor R.Key.cmp (R.machine self.old.rules) M.point O.puts self.old l
+            → Reaches (Gives run done result) l (StandsFor R.Key.cmp (R.machine self.old.rules) M.point O.puts self.new) }
+        ensures counted { (log : Log R.Key) → IsCountedFor R.Key.cmp (R.machine self.old.rules) self.old log → IsCountedFor R.Key.cmp (R.machine self.old.rules) self.new (log_moved self.old run result log) }
     {
         claims_are_sound(&self.claims);
         let who = run;
@@ -215,7 +226,7 @@ impl<R: Rules, O: Outbox<R::Key, R::Value> + Drop> Core<R, O> {
             }
             Some(taken) => {
                 let mut run = taken;
-                if !run.fits(self.memos.rules(), who, &done) {
+                if !run.fits(self.memos.rules(), who, &done.made) {
                     self.runs.put_back(id, run);
                     let fault = GiveFault::NotThisRun;
                     return Err(GiveRefused { fault, done });
@@ -225,13 +236,14 @@ impl<R: Rules, O: Outbox<R::Key, R::Value> + Drop> Core<R, O> {
                     stop_run(&mut self.lanes, run, now);
                     return Ok(Move::Stopped);
                 }
+                let Done { made, stamp } = done;
                 let given = run.give(
                     alloc,
                     who,
                     &mut self.memos,
                     &mut self.claims,
                     &self.inputs,
-                    done,
+                    made,
                 );
                 claims_are_sound(&self.claims);
                 match given {
@@ -239,9 +251,10 @@ impl<R: Rules, O: Outbox<R::Key, R::Value> + Drop> Core<R, O> {
                         self.runs.put_back(id, run);
                         return Ok(Move::Stepped);
                     }
-                    Err(done) => {
+                    Err(made) => {
                         self.runs.put_back(id, run);
                         let fault = GiveFault::Memory;
+                        let done = Done { made, stamp };
                         return Err(GiveRefused { fault, done });
                     }
                 }
@@ -254,8 +267,9 @@ impl<R: Rules, O: Outbox<R::Key, R::Value> + Drop> Core<R, O> {
         ensures rules { self.new.rules ≡ self.old.rules }
         ensures inputs { self.new.inputs ≡ self.old.inputs }
         ensures places { self.new.places ≡ self.old.places }
-        ensures moved { (l : Ledger R.Key R.Value O) → StandsFor R.Key.cmp (R.machine self.old.rules) O.puts self.old l
-            → Reaches (Starves run result) l (StandsFor R.Key.cmp (R.machine self.old.rules) O.puts self.new) }
+        ensures moved { (l : Ledger R.Key R.Value M O) → StandsFor R.Key.cmp (R.machine self.old.rules) M.point O.puts self.old l
+            → Reaches (Starves run result) l (StandsFor R.Key.cmp (R.machine self.old.rules) M.point O.puts self.new) }
+        ensures counted { (log : Log R.Key) → IsCountedFor R.Key.cmp (R.machine self.old.rules) self.old log → IsCountedFor R.Key.cmp (R.machine self.old.rules) self.new (log_starved self.old run result log) }
     {
         let now = self.inputs.now();
         match self.runs.take(run.number()) {

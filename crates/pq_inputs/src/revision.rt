@@ -1,5 +1,5 @@
 //! Revisions: the numbers of the states of the inputs.
-ghost use Rattle.std.specs.Prelude.{◌≡◌};
+ghost use Rattle.std.specs.Prelude.{◌≡◌, ◌<◌, ◌+◌, ◌^◌};
 
 use std::marker::Model;
 
@@ -27,6 +27,16 @@ impl Revision {
         ensures { result ≡ number }
     {
         Revision { number }
+    }
+
+    /// The revision after this one, which the next accepted change makes.
+    pub fn next(self) -> Revision
+        requires { self + 1 < 2 ^ 64 }
+        ensures { result ≡ self + 1 }
+    {
+        Revision {
+            number: self.number + 1,
+        }
     }
 
     /// The number, counted from 0.

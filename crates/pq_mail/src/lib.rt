@@ -7,7 +7,7 @@
 //!
 //! Definitions: `specs/Mailbox` (the ends of a mailbox), `specs/Posts` (posts and receipts).
 //! Modules: `line` (the rule of a mailbox, and its kinds of step), `ends` (the two ends of any mailbox),
-//! `post`, `inboxes`, `outboxes`, `fault`.
+//! `post`, `inboxes`, `right` (replies whose type keeps that they are right), `outboxes`, `fault`.
 #![tactic(auto)]
 
 mod ends;
@@ -16,8 +16,10 @@ mod inboxes;
 mod line;
 mod outboxes;
 mod post;
+mod right;
 
 pub use fault::{MailEnd, Memory, PostFault, PostRefused};
 pub use inboxes::{PorterEnd, PostEnd, carried_is_prefix, inbox};
 pub use outboxes::{LaneEnd, TakeEnd, outbox, taken_is_prefix};
 pub use post::{Post, Receipt};
+pub use right::RightReply;

@@ -5,40 +5,35 @@ ghost use Rattle.pq_mail.specs.Posts.{IsReceiptOf, Misses};
 
 use crate::ends::{GetEnd, PutEnd, Unput, mailbox};
 use crate::fault::{MailEnd, Memory};
-use crate::line::Item;
 use crate::post::{Receipt, is_receipt_of};
-use pq_core::{Outbox, PutFault, Reply};
+use crate::right::RightReply;
+use pq_core::{Outbox, PutFault, Reply, Stamp};
 use pq_rules::Rules;
 use std::alloc::Global;
 use std::marker::Model;
 use std::sync::Wait;
 
-impl<K: Drop, V: Drop> Item for Reply<K, V> {
-    ghost use Rattle.std.specs.Prelude.{◌≡◌};
-
-    ghost fits = { λ n reply. reply.number ≡ n };
-}
-
 /// The end of an outbox that puts. A put never waits for room. It may wait for the step of another
 /// thread on the same place, so the end keeps the handle `rt`. Contracts see the outbox's name and
 /// what was put, in order.
 #[derive(Drop)]
-pub struct LaneEnd<K: Drop, V: Drop, H: Wait> {
+pub struct LaneEnd<R: Rules, M: Stamp, H: Wait> {
     rt: H,
-    end: PutEnd<Reply<K, V>>,
+    end: PutEnd<RightReply<R, M>>,
 }
 
-impl<K: Drop, V: Drop, H: Wait> Model for LaneEnd<K, V, H> {
+impl<R: Rules, M: Stamp, H: Wait> Model for LaneEnd<R, M, H> {
     ghost use Rattle.pq_mail.specs.Mailbox.{Side};
     ghost use Rattle.pq_core.specs.Replies.{ReplyView};
 
-    ghost Value = { Side (ReplyView K V) };
+    ghost Value = { Side (ReplyView R.Key R.Value M) };
 
     ghost view = { λ e. e.end };
 }
 
-impl<K: Drop, V: Drop, H: Wait + Drop> Outbox<K, V> for LaneEnd<K, V, H> {
+impl<R: Rules, M: Stamp, H: Wait + Drop> Outbox<R, M> for LaneEnd<R, M, H> {
     ghost use Rattle.std.specs.Prelude.{◌≡◌, ◌++◌, ◌∷◌, [], length, OnOk, OnErr, IfErr};
+    ghost use Rattle.pq_core.specs.Truth.{IsTrueReply};
     ghost use Rattle.pq_core.specs.Outboxes.{handed_back, IsFull, IsGone};
     ghost use Rattle.pq_mail.specs.Mailbox.{HasNoRoom, no_items};
 
@@ -50,8 +45,12 @@ impl<K: Drop, V: Drop, H: Wait + Drop> Outbox<K, V> for LaneEnd<K, V, H> {
 
     ghost was_gone = { λ e. Unit {0} };
 
-    fn put(&mut self, reply: Reply<K, V>) -> Result<(), PutFault<K, V>>
-        requires { reply.number ≡ length self.old.items }
+    fn put(
+        &mut self,
+        reply: Reply<R::Key, R::Value, M>,
+    ) -> Result<(), PutFault<R::Key, R::Value, M>>
+        requires number { reply.number ≡ length self.old.items }
+        requires right { IsTrueReply R.Key.cmp R.machine M.point reply }
         ensures put { OnOk result (self.new.items ≡ self.old.items ++ reply ∷ []) }
         ensures refused { OnErr result (self.new.items ≡ self.old.items) }
         ensures takes { no_items self.new ≡ no_items self.old }
@@ -59,37 +58,37 @@ impl<K: Drop, V: Drop, H: Wait + Drop> Outbox<K, V> for LaneEnd<K, V, H> {
         ensures gone { IfErr result (λ fault. IsGone fault → Unit {0}) }
         ensures back { IfErr result (λ fault. handed_back fault ≡ reply) }
     {
-        match self.end.try_put(&self.rt, reply) {
+        match self.end.try_put(&self.rt, RightReply::new(reply)) {
             Ok(()) => return Ok(()),
-            Err(Unput::Full(reply)) => return Err(PutFault::Full(reply)),
-            Err(Unput::Gone(reply)) => return Err(PutFault::Gone(reply)),
+            Err(Unput::Full(reply)) => return Err(PutFault::Full(reply.into_reply())),
+            Err(Unput::Gone(reply)) => return Err(PutFault::Gone(reply.into_reply())),
         }
     }
 }
 
 /// The end of an outbox that takes. Contracts see the outbox's name and what was taken, in order.
 #[derive(Drop)]
-pub struct TakeEnd<R: Rules> {
+pub struct TakeEnd<R: Rules, M: Stamp> {
     rules: R,
-    end: GetEnd<Reply<R::Key, R::Value>>,
+    end: GetEnd<RightReply<R, M>>,
 }
 
-impl<R: Rules> Model for TakeEnd<R> {
+impl<R: Rules, M: Stamp> Model for TakeEnd<R, M> {
     ghost use Rattle.pq_mail.specs.Mailbox.{Side};
     ghost use Rattle.pq_core.specs.Replies.{ReplyView};
 
-    ghost Value = { Side (ReplyView R.Key R.Value) };
+    ghost Value = { Side (ReplyView R.Key R.Value M) };
 
     ghost view = { λ e. e.end };
 }
 
 /// An empty outbox with room for 32 replies, of which `put` takes no more memory. `rules` compares the
 /// keys of requests; `rt` is the handle of the end that puts.
-pub fn outbox<R: Rules, H: Wait + Drop>(
+pub fn outbox<R: Rules, M: Stamp, H: Wait + Drop>(
     alloc: Global,
     rules: R,
     rt: H,
-) -> Result<(LaneEnd<R::Key, R::Value, H>, TakeEnd<R>), Memory>
+) -> Result<(LaneEnd<R, M, H>, TakeEnd<R, M>), Memory>
     ensures put { IfOk result (λ r. r.0.items ≡ []) }
     ensures got { IfOk result (λ r. r.1.items ≡ []) }
     ensures same { IfOk result (λ r. (r.0.table ≡ r.1.table) × (r.0.key ≡ r.1.key)) }
@@ -98,7 +97,7 @@ pub fn outbox<R: Rules, H: Wait + Drop>(
     Ok((LaneEnd { rt, end: put }, TakeEnd { rules, end: got }))
 }
 
-impl<R: Rules> TakeEnd<R> {
+impl<R: Rules, M: Stamp> TakeEnd<R, M> {
     /// The next reply, if it is that of `receipt`: it has the number and the request of the receipt.
     /// It waits for a reply.
     ///
@@ -112,7 +111,7 @@ impl<R: Rules> TakeEnd<R> {
         &mut self,
         rt: &H,
         receipt: &Receipt<R::Key>,
-    ) -> Result<Reply<R::Key, R::Value>, MailEnd>
+    ) -> Result<RightReply<R, M>, MailEnd>
         ensures taken { IfOk result (λ reply. (self.new.items ≡ self.old.items ++ reply ∷ []) × (reply.number ≡ length self.old.items) × IsReceiptOf receipt.now reply) }
         ensures missed { IfErr result (λ fault. Misses fault receipt.now self.old.items self.new.items) }
         ensures same { (self.new.table ≡ self.old.table) × (self.new.key ≡ self.old.key) }
@@ -120,7 +119,7 @@ impl<R: Rules> TakeEnd<R> {
         match self.end.get(rt) {
             None => return Err(MailEnd::Ended),
             Some(reply) => {
-                if is_receipt_of(&self.rules, receipt, &reply) {
+                if is_receipt_of(&self.rules, receipt, reply.reply()) {
                     return Ok(reply);
                 }
                 return Err(MailEnd::Stranger);
@@ -130,10 +129,10 @@ impl<R: Rules> TakeEnd<R> {
 }
 
 /// A law: what was taken out of an outbox is a prefix of what was put.
-pub fn taken_is_prefix<R: Rules, H: Wait + Drop>(
-    lane: &mut LaneEnd<R::Key, R::Value, H>,
-    take: TakeEnd<R>,
-) -> TakeEnd<R>
+pub fn taken_is_prefix<R: Rules, M: Stamp, H: Wait + Drop>(
+    lane: &mut LaneEnd<R, M, H>,
+    take: TakeEnd<R, M>,
+) -> TakeEnd<R, M>
     requires same { (take.table ≡ lane.old.table) × (take.key ≡ lane.old.key) }
     ensures prefix { IsPrefixOf take.items lane.old.items }
     ensures put { lane.new ≡ lane.old }

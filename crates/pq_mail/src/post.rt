@@ -60,10 +60,10 @@ pub(crate) fn counted<K>(number: u64, post: &Post<K>) -> u64
 }
 
 /// Whether `receipt` is that of the request of `reply`.
-pub(crate) fn is_receipt_of<R: Rules>(
+pub(crate) fn is_receipt_of<R: Rules, M>(
     rules: &R,
     receipt: &Receipt<R::Key>,
-    reply: &Reply<R::Key, R::Value>,
+    reply: &Reply<R::Key, R::Value, M>,
 ) -> bool
     ensures { IsTrue result ↔ IsReceiptOf receipt.now reply.now }
 {

@@ -4,6 +4,7 @@ use Rattle.std.specs.Prelude.{Ok, Err, Result}
 use Rattle.std.specs.declared.alloc.AllocError.{AllocError}
 use Rattle.std.specs.declared.cmp.Ordering.{Ordering}
 use Rattle.pq_rules.specs.Turns.{Machine}
+use Rattle.pq_core.specs.Points.{Point}
 use Rattle.pq_core.specs.Replies.{ReplyView}
 use Rattle.pq_core.specs.Changes.{ChangeView}
 use Rattle.pq_core.specs.Works.{DoneView, WorkView}
@@ -17,7 +18,7 @@ use Rattle.pq_core.specs.declared.fault.EditRefused.{EditRefused}
 use Rattle.pq_core.specs.declared.moves.Move.{Move}
 use Rattle.pq_core.specs.declared.moves.Released.{Released}
 use Rattle.pq_core.proofs.Lists.{some_one, none_some, get_within, get_there, same_or_other}
-use Rattle.pq_play.specs.World.{World, replies_of}
+use Rattle.pq_play.specs.World.{World, replies_of, own_point}
 use Rattle.pq_play.specs.Steps.{Steps, OpenAnswered, EditAnswered, empty_list}
 use Rattle.pq_play.specs.aux.Seats.{SeatView, free_seat, with_request, with_left, Seated, Aligned, SetsSeat, SeatLeaves, TakesLeft, LeavesNone}
 use Rattle.pq_play.specs.aux.Running.{OutOf, IsPut, IsSame, KeepsMove}
@@ -29,11 +30,11 @@ use Rattle.pq_play.proofs.Leading.{true_or_false}
 use Rattle.pq_play.specs.declared.event.Event.{Event}
 use Rattle.pq_play.specs.declared.event.Event.TheVariants.{Open, Accept, Edit, Start, Step, Give, Starve, Release, Take, Close}
 
-module _ {R K P V : Type 0} (room : ℕ) (order : K → K → Ordering) (machine : Machine K P V) (rules own after_own : R) (Stands After : Ledger K V (Listed K V) → Type 0) (w : World K V) (seats : List (SeatView K V)) (dones : ℕ → Option (DoneView R K P V)) (s : Stood order machine rules own Stands w seats dones) (same_rules : after_own ≡ own) where
+module _ {R K P V : Type 0} (room : ℕ) (order : K → K → Ordering) (machine : Machine K P V) (rules own after_own : R) (Stands After : Ledger K V Point (Listed K V Point) → Type 0) (w : World K V) (seats : List (SeatView K V)) (dones : ℕ → Option (DoneView R K P V)) (s : Stood order machine rules own Stands w seats dones) (same_rules : after_own ≡ own) where
   ran : Ran rules w.ledger dones
   ran = (s.fits.runs, s.fits.outs)
 
-  carried : (event : Event K) (m : Ledger K V (Listed K V)) (taken : List (List (ReplyView K V))) (after_seats : List (SeatView K V)) (after_dones : ℕ → Option (DoneView R K P V)) → After m
+  carried : (event : Event K) (m : Ledger K V Point (Listed K V Point)) (taken : List (List (ReplyView K V Point))) (after_seats : List (SeatView K V)) (after_dones : ℕ → Option (DoneView R K P V)) → After m
       → Steps room order machine rules event w (record { ledger = m; taken = taken }) → Aligned m.clients taken after_seats → Ran rules m after_dones → Carried room order machine rules event w after_own After after_seats after_dones
   carried event m taken after_seats after_dones stands steps aligned ran_after = record {
     v = record { ledger = m; taken = taken };
@@ -53,11 +54,11 @@ module _ {R K P V : Type 0} (room : ℕ) (order : K → K → Ordering) (machine
       (subst (λ (ys : List (SeatView K V)). Aligned r.0.clients (w.taken ++ [] ∷ []) ys) (sym e) (aligned_opens (empty_list room) n w.taken seats w.ledger r.0 refl r.1 s.fits.aligned))
       (ran_same rules w.ledger r.0 dones dones (runs_opens (empty_list room) (Ok n) w.ledger r.0 r.1) (λ q. refl) ran)
 
-  pub carried_not_opened : (refused : OpenRefused (Listed K V)) → OpenAnswered (Err refused) → Reaches (Opens (empty_list room) (Err refused)) w.ledger After
+  pub carried_not_opened : (refused : OpenRefused (Listed K V Point)) → OpenAnswered (Err refused) → Reaches (Opens (empty_list room) (Err refused)) w.ledger After
       → Carried room order machine rules Open w after_own After seats dones
   carried_not_opened refused answered r =
       carried Open r.0 w.taken seats dones r.2 (Err refused, answered, r.1, refl)
-      (subst (λ (x : Ledger K V (Listed K V)). Aligned x.clients w.taken seats) (sym r.1.2) s.fits.aligned)
+      (subst (λ (x : Ledger K V Point (Listed K V Point)). Aligned x.clients w.taken seats) (sym r.1.2) s.fits.aligned)
       (ran_same rules w.ledger r.0 dones dones (same_as w.ledger r.0 r.1.2) (λ q. refl) ran)
 
   pub carried_accepted : (c : ℕ) (request : Request K) (n : ℕ) (after_seats : List (SeatView K V)) → Reaches (Accepts replies_of c request (Ok n)) w.ledger After → SetsSeat seats after_seats c (λ seat. with_request seat request)
@@ -85,12 +86,12 @@ module _ {R K P V : Type 0} (room : ℕ) (order : K → K → Ordering) (machine
       (aligned_releases w.taken seats c answer w.ledger r.0 r.1 s.fits.aligned)
       (ran_same rules w.ledger r.0 dones dones (runs_releases replies_of taken_front HasNoRoom HasLostEnd c answer w.ledger r.0 r.1) (λ q. refl) ran)
 
-  pub carried_step : (run : ℕ) (move : Move (WorkView R K P V)) (after_dones : ℕ → Option (DoneView R K P V)) → Reaches (Looks order machine rules run (Ok move)) w.ledger After → KeepsMove run move dones after_dones
+  pub carried_step : (run : ℕ) (move : Move (WorkView R K P V)) (after_dones : ℕ → Option (DoneView R K P V)) → Reaches (Looks order machine own_point rules run (Ok move)) w.ledger After → KeepsMove run move dones after_dones
       → Carried room order machine rules (Step run) w after_own After seats after_dones
   carried_step run move after_dones r k =
       carried (Step run) r.0 w.taken seats after_dones r.2 (Ok move, tt, r.1, refl)
-      (aligned_looks w.taken seats (answer_by order machine) rules run (Ok move) w.ledger r.0 r.1 s.fits.aligned)
-      (ran_looks rules (answer_by order machine) run move w.ledger r.0 dones after_dones s.kept.inputs r.1 k ran)
+      (aligned_looks w.taken seats (answer_by order machine own_point) rules run (Ok move) w.ledger r.0 r.1 s.fits.aligned)
+      (ran_looks rules (answer_by order machine own_point) run move w.ledger r.0 dones after_dones s.kept.inputs r.1 k ran)
 
   pub carried_given : (run : ℕ) (done : DoneView R K P V) (move : Move (WorkView R K P V)) (after_dones : ℕ → Option (DoneView R K P V)) → Some done ≡ dones run → IsPut dones after_dones run None → Reaches (Gives run done (Ok move)) w.ledger After
       → Carried room order machine rules (Give run) w after_own After seats after_dones
@@ -132,12 +133,12 @@ module _ {R K P V : Type 0} (room : ℕ) (order : K → K → Ordering) (machine
         taken = u.0;
         taken_here = u.2;
         after_it = taken_front o.2.0;
-        next = subst (λ (qs : List (ReplyView K V)). TakesNext client.outbox.replies qs (taken_front o.2.0)) (sym is_taken) o.2.2;
+        next = subst (λ (qs : List (ReplyView K V Point)). TakesNext client.outbox.replies qs (taken_front o.2.0)) (sym is_taken) o.2.2;
         taken_after = refl;
         open_so = λ _. o;
         shut_so = λ e. absurd (not_both client.is_open o.1.open_yet e);
       }))
-      (subst (λ (x : Ledger K V (Listed K V)). Aligned x.clients (slice_set w.taken c (taken_front o.2.0)) seats) (sym o.2.3)
+      (subst (λ (x : Ledger K V Point (Listed K V Point)). Aligned x.clients (slice_set w.taken c (taken_front o.2.0)) seats) (sym o.2.3)
       (aligned_takes w.taken seats c o.2.0 client w.ledger.clients o.1.here o.1.open_yet s.fits.aligned))
       (ran_same rules w.ledger r.0 dones dones (runs_takes {A = AllocError} replies_of taken_front c (Ok true) w.ledger r.0 o) (λ q. refl) ran)
     where
@@ -166,13 +167,13 @@ module _ {R K P V : Type 0} (room : ℕ) (order : K → K → Ordering) (machine
         taken_here = u.2;
         after_it = taken_front t.next;
         next =
-            subst (λ (qs : List (ReplyView K V)). TakesNext qs u.0 (taken_front t.next)) (ap (λ (x : Listed K V). x.replies) (sym it) ∙ left.3)
-            (subst (λ (qs : List (ReplyView K V)). TakesNext t.old.replies qs (taken_front t.next)) (ap (λ (x : Listed K V). taken_front x) (sym it) ∙ sym left.2) t.takes);
+            subst (λ (qs : List (ReplyView K V Point)). TakesNext qs u.0 (taken_front t.next)) (ap (λ (x : Listed K V Point). x.replies) (sym it) ∙ left.3)
+            (subst (λ (qs : List (ReplyView K V Point)). TakesNext t.old.replies qs (taken_front t.next)) (ap (λ (x : Listed K V Point). taken_front x) (sym it) ∙ sym left.2) t.takes);
         taken_after = refl;
         open_so = λ e. absurd (not_both client.0.is_open e shut);
         shut_so = λ _. r.1.1;
       }))
-      (subst (λ (x : Ledger K V (Listed K V)). Aligned x.clients (slice_set w.taken c (taken_front t.next)) after_seats) (sym r.1.1)
+      (subst (λ (x : Ledger K V Point (Listed K V Point)). Aligned x.clients (slice_set w.taken c (taken_front t.next)) after_seats) (sym r.1.1)
       (subst (λ (ys : List (SeatView K V)). Aligned w.ledger.clients (slice_set w.taken c (taken_front t.next)) ys) (sym (o.set_so ∙ ap (λ (x : SeatView K V). slice_set seats c x) t.after_it))
       (aligned_takes_left w.taken seats c t.next t.old o.seat client.0 w.ledger.clients client.1 shut o.here t.left_here t.same a)))
       (ran_same rules w.ledger r.0 dones dones (same_as w.ledger r.0 r.1.1) (λ q. refl) ran)
@@ -189,30 +190,30 @@ module _ {R K P V : Type 0} (room : ℕ) (order : K → K → Ordering) (machine
         none = λ client tk h i.
             let u = seated_at w.ledger.clients w.taken seats c client a h in
             let mine : u.0 ≡ tk = some_one u.0 tk (sym u.2 ∙ i) in
-            subst (λ (qs : List (ReplyView K V)). length client.outbox.replies ≤ length qs) mine
+            subst (λ (qs : List (ReplyView K V Point)). length client.outbox.replies ≤ length qs) mine
             (elim (true_or_false client.is_open) [
               | inl e ↦
                   let x : length client.outbox.replies ≡ length (taken_front client.outbox) = r.1.0 client (record { here = h; open_yet = e }) in
-                  subst (λ (qs : List (ReplyView K V)). length client.outbox.replies ≤ length qs) (sym (u.4.open_so e).1) (omega arith)
+                  subst (λ (qs : List (ReplyView K V Point)). length client.outbox.replies ≤ length qs) (sym (u.4.open_so e).1) (omega arith)
               | inr e ↦
                   let left = u.4.shut_so e in
-                  subst (λ (qs : List (ReplyView K V)). length client.outbox.replies ≤ length qs) (sym left.2)
-                  (subst (λ (qs : List (ReplyView K V)). length qs ≤ length (taken_front left.0)) left.3 (o.none u.1 left.0 u.3 left.1))
+                  subst (λ (qs : List (ReplyView K V Point)). length client.outbox.replies ≤ length qs) (sym left.2)
+                  (subst (λ (qs : List (ReplyView K V Point)). length qs ≤ length (taken_front left.0)) left.3 (o.none u.1 left.0 u.3 left.1))
             ]);
-        same = ap (λ (x : Ledger K V (Listed K V)). record { ledger = x; taken = w.taken }) r.1.1;
+        same = ap (λ (x : Ledger K V Point (Listed K V Point)). record { ledger = x; taken = w.taken }) r.1.1;
       }))
-      (subst (λ (x : Ledger K V (Listed K V)). Aligned x.clients w.taken after_seats) (sym r.1.1)
+      (subst (λ (x : Ledger K V Point (Listed K V Point)). Aligned x.clients w.taken after_seats) (sym r.1.1)
       (subst (λ (ys : List (SeatView K V)). Aligned w.ledger.clients w.taken ys) (sym o.same) a))
       (ran_same rules w.ledger r.0 dones dones (same_as w.ledger r.0 r.1.1) (λ q. refl) ran)
 
-  pub carried_closed : (c : ℕ) (o : Listed K V) (after_seats : List (SeatView K V)) → Reaches (Closes c (Some o)) w.ledger After → SetsSeat seats after_seats c (λ seat. with_left seat o)
+  pub carried_closed : (c : ℕ) (o : Listed K V Point) (after_seats : List (SeatView K V)) → Reaches (Closes c (Some o)) w.ledger After → SetsSeat seats after_seats c (λ seat. with_left seat o)
       → Carried room order machine rules (Close c) w after_own After after_seats dones
   carried_closed c o after_seats r k =
       carried (Close c) r.0 w.taken after_seats dones r.2 (Some o, r.1, refl)
       (subst (λ (ys : List (SeatView K V)). Aligned r.0.clients w.taken ys) (sym k.set_so) (aligned_closes w.taken seats c o w.ledger r.0 k.seat k.here r.1 s.fits.aligned))
       (ran_same rules w.ledger r.0 dones dones (runs_closes c (Some o) w.ledger r.0 r.1) (λ q. refl) ran)
 
-module _ {R K P V : Type 0} (room : ℕ) (order : K → K → Ordering) (machine : Machine K P V) (rules own : R) (Stands : Ledger K V (Listed K V) → Type 0) (w : World K V) (seats : List (SeatView K V)) (dones : ℕ → Option (DoneView R K P V)) (s : Stood order machine rules own Stands w seats dones) where
+module _ {R K P V : Type 0} (room : ℕ) (order : K → K → Ordering) (machine : Machine K P V) (rules own : R) (Stands : Ledger K V Point (Listed K V Point) → Type 0) (w : World K V) (seats : List (SeatView K V)) (dones : ℕ → Option (DoneView R K P V)) (s : Stood order machine rules own Stands w seats dones) where
   pub carried_not_given : (run : ℕ) (after_dones : ℕ → Option (DoneView R K P V)) → None ≡ dones run → IsPut dones after_dones run None → Carried room order machine rules (Give run) w own Stands seats after_dones
   carried_not_given run after_dones e p =
       let none : OutOf {P = P} rules w.ledger run None = subst (OutOf rules w.ledger run) (sym e) (s.fits.outs run) in

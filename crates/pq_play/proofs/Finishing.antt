@@ -6,6 +6,7 @@ use Rattle.std.specs.Map.{lookup}
 use Rattle.std.specs.BTreeMap.{BTreeMap, IsEmpty, is_at}
 use Rattle.std.specs.declared.cmp.Ordering.{Ordering}
 use Rattle.pq_rules.specs.Turns.{Machine}
+use Rattle.pq_core.specs.Points.{Point}
 use Rattle.pq_core.specs.Replies.{ReplyView}
 use Rattle.pq_core.specs.Works.{DoneView}
 use Rattle.pq_core.specs.Outboxes.{Listed}
@@ -37,7 +38,7 @@ map_id (x ∷ xs) = ap (λ zs. x ∷ zs) (map_id xs)
 
 module _ {R K P V : Type 0} (room : ℕ) (order : K → K → Ordering) (machine : Machine K P V) (rules : R) where
   -- one more event of a list
-  pub playing_next : (events : List (Event K)) (i : ℕ) (event : Event K) (start : World K V) (own after_own : R) (Stands After : Ledger K V (Listed K V) → Type 0) (seats after_seats : List (SeatView K V)) (dones after_dones : ℕ → Option (DoneView R K P V))
+  pub playing_next : (events : List (Event K)) (i : ℕ) (event : Event K) (start : World K V) (own after_own : R) (Stands After : Ledger K V Point (Listed K V Point) → Type 0) (seats after_seats : List (SeatView K V)) (dones after_dones : ℕ → Option (DoneView R K P V))
       → i < length events → event ≡ get_or events i event
       → Playing room order machine rules events (drop i events) start own Stands seats dones → Carries room order machine rules event own Stands seats dones after_own After after_seats after_dones
       → Playing room order machine rules events (drop (i + 1) events) start after_own After after_seats after_dones
@@ -48,7 +49,7 @@ module _ {R K P V : Type 0} (room : ℕ) (order : K → K → Ordering) (machine
       (subst (λ (xs : List (Event K)). Playing room order machine rules events xs start own Stands seats dones) cut p) f
 
   -- no event is left
-  pub led_all : (events : List (Event K)) (i : ℕ) (start : World K V) (own : R) (Stands : Ledger K V (Listed K V) → Type 0) (seats : List (SeatView K V)) (dones : ℕ → Option (DoneView R K P V)) → length events ≤ i
+  pub led_all : (events : List (Event K)) (i : ℕ) (start : World K V) (own : R) (Stands : Ledger K V Point (Listed K V Point) → Type 0) (seats : List (SeatView K V)) (dones : ℕ → Option (DoneView R K P V)) → length events ≤ i
       → Playing room order machine rules events (drop i events) start own Stands seats dones → Led room order machine rules events start own Stands seats dones
   led_all events i start own Stands seats dones past p = record {
     v = p.w;
@@ -56,27 +57,27 @@ module _ {R K P V : Type 0} (room : ℕ) (order : K → K → Ordering) (machine
     stood = p.stood;
   }
 
-  closes_accepted : (c : ℕ) (answer : Option (Listed K V)) (l m : Ledger K V (Listed K V)) → Closes c answer l m → map accepted_of m.clients ≡ map accepted_of l.clients
+  closes_accepted : (c : ℕ) (answer : Option (Listed K V Point)) (l m : Ledger K V Point (Listed K V Point)) → Closes c answer l m → map accepted_of m.clients ≡ map accepted_of l.clients
   closes_accepted c (Some o) l m s =
-      ap (λ (x : Ledger K V (Listed K V)). map accepted_of x.clients) s.3 ∙ map_set accepted_of l.clients c s.0 (closed s.0) s.1.here (closed_requests s.0.entries)
-  closes_accepted c None l m s = ap (λ (x : Ledger K V (Listed K V)). map accepted_of x.clients) s.1
+      ap (λ (x : Ledger K V Point (Listed K V Point)). map accepted_of x.clients) s.3 ∙ map_set accepted_of l.clients c s.0 (closed s.0) s.1.here (closed_requests s.0.entries)
+  closes_accepted c None l m s = ap (λ (x : Ledger K V Point (Listed K V Point)). map accepted_of x.clients) s.1
 
-  closes_shut : (c : ℕ) (answer : Option (Listed K V)) (l m : Ledger K V (Listed K V)) (client : Client K V (Listed K V)) → Closes c answer l m → slice_get m.clients c ≡ Some client → client.is_open ≡ false
+  closes_shut : (c : ℕ) (answer : Option (Listed K V Point)) (l m : Ledger K V Point (Listed K V Point)) (client : Client K V Point (Listed K V Point)) → Closes c answer l m → slice_get m.clients c ≡ Some client → client.is_open ≡ false
   closes_shut c (Some o) l m client s h =
-      elim (get_set l.clients c (closed s.0) c client (ap (λ (x : Ledger K V (Listed K V)). slice_get x.clients c) (sym s.3) ∙ h)) [
-        | inl w ↦ ap (λ (x : Client K V (Listed K V)). x.is_open) w.1
+      elim (get_set l.clients c (closed s.0) c client (ap (λ (x : Ledger K V Point (Listed K V Point)). slice_get x.clients c) (sym s.3) ∙ h)) [
+        | inl w ↦ ap (λ (x : Client K V Point (Listed K V Point)). x.is_open) w.1
         | inr w ↦ absurd (w.0 refl)
       ]
   closes_shut c None l m client s h =
       elim (true_or_false client.is_open) [
-        | inl e ↦ absurd (s.0 client (record { here = ap (λ (x : Ledger K V (Listed K V)). slice_get x.clients c) (sym s.1) ∙ h; open_yet = e }))
+        | inl e ↦ absurd (s.0 client (record { here = ap (λ (x : Ledger K V Point (Listed K V Point)). slice_get x.clients c) (sym s.1) ∙ h; open_yet = e }))
         | inr e ↦ e
       ]
 
-  as_long : (xs ys : List (Client K V (Listed K V))) → map accepted_of xs ≡ map accepted_of ys → length xs ≡ length ys
+  as_long : (xs ys : List (Client K V Point (Listed K V Point))) → map accepted_of xs ≡ map accepted_of ys → length xs ≡ length ys
   as_long xs ys e = sym (map_long accepted_of xs) ∙ ap length e ∙ map_long accepted_of ys
 
-  pub closing_start : (w : World K V) (own : R) (Stands : Ledger K V (Listed K V) → Type 0) (seats : List (SeatView K V)) (dones : ℕ → Option (DoneView R K P V)) → Stood order machine rules own Stands w seats dones
+  pub closing_start : (w : World K V) (own : R) (Stands : Ledger K V Point (Listed K V Point) → Type 0) (seats : List (SeatView K V)) (dones : ℕ → Option (DoneView R K P V)) → Stood order machine rules own Stands w seats dones
       → Closing order machine rules w own Stands seats dones 0
   closing_start w own Stands seats dones s = record {
     v = w;
@@ -87,7 +88,7 @@ module _ {R K P V : Type 0} (room : ℕ) (order : K → K → Ordering) (machine
   }
 
   -- one more client is closed
-  pub closing_next : (w : World K V) (n id : ℕ) (own after_own : R) (Stands After : Ledger K V (Listed K V) → Type 0) (seats after_seats : List (SeatView K V)) (dones after_dones : ℕ → Option (DoneView R K P V))
+  pub closing_next : (w : World K V) (n id : ℕ) (own after_own : R) (Stands After : Ledger K V Point (Listed K V Point) → Type 0) (seats after_seats : List (SeatView K V)) (dones after_dones : ℕ → Option (DoneView R K P V))
       → id ≡ n → Closing order machine rules w own Stands seats dones n → Carries room order machine rules (Close id) own Stands seats dones after_own After after_seats after_dones
       → Closing order machine rules w after_own After after_seats after_dones (n + 1)
   closing_next w n id own after_own Stands After seats after_seats dones after_dones e p g =
@@ -107,12 +108,12 @@ module _ {R K P V : Type 0} (room : ℕ) (order : K → K → Ordering) (machine
               let within : c < length d.v.ledger.clients = get_within d.v.ledger.clients c client h in
               let was = get_there p.v.ledger.clients c (omega arith) in
               let later = (closed_steps room order machine rules (Close n) p.v d.v s c (record { client = was.0; here = was.1; closed = p.shut c was.0 (omega arith) was.1 })).0 in
-              ap (λ (x : Client K V (Listed K V)). x.is_open) (some_one client later.client (sym h ∙ later.here)) ∙ later.closed
+              ap (λ (x : Client K V Point (Listed K V Point)). x.is_open) (some_one client later.client (sym h ∙ later.here)) ∙ later.closed
         ];
       }
 
   -- all clients are closed
-  pub gathers : (w : World K V) (n : ℕ) (own : R) (Stands : Ledger K V (Listed K V) → Type 0) (seats : List (SeatView K V)) (dones : ℕ → Option (DoneView R K P V)) → length w.ledger.clients ≤ n
+  pub gathers : (w : World K V) (n : ℕ) (own : R) (Stands : Ledger K V Point (Listed K V Point) → Type 0) (seats : List (SeatView K V)) (dones : ℕ → Option (DoneView R K P V)) → length w.ledger.clients ≤ n
       → Closing order machine rules w own Stands seats dones n → GathersAll w seats
   gathers w n own Stands seats dones past p =
       let clients = p.v.ledger.clients in
@@ -123,13 +124,13 @@ module _ {R K P V : Type 0} (room : ℕ) (order : K → K → Ordering) (machine
             let u = seated_at clients p.v.taken seats i client a g in
             ap (λ (x : SeatView K V). x.accepted) (some_one seat u.1 (sym h ∙ u.3)) ∙ u.4.accepted_so) ∙ p.accepted_same;
         taken_same =
-            map_same seat_taken (λ (x : List (ReplyView K V)). x) seats p.v.taken (a.places ∙ sym a.counted) (λ i seat tk h g.
+            map_same seat_taken (λ (x : List (ReplyView K V Point)). x) seats p.v.taken (a.places ∙ sym a.counted) (λ i seat tk h g.
             let b : length p.v.taken ≡ length clients = a.counted in
             let within : i < length p.v.taken = get_within p.v.taken i tk g in
             let client = get_there clients i (omega arith) in
             let seated : Seated client.0 tk seat = a.each i client.0 tk seat client.1 g h in
             let left = seated.shut_so (p.shut i client.0 (omega arith) client.1) in
-            ap (λ (x : Option (Listed K V)). left_taken x) left.1 ∙ sym left.2) ∙ map_id p.v.taken ∙ p.taken_same;
+            ap (λ (x : Option (Listed K V Point)). left_taken x) left.1 ∙ sym left.2) ∙ map_id p.v.taken ∙ p.taken_same;
       }
 
 pub played_as : {K V : Type 0} (w : World K V) (p : PlayedView K V) (seats : List (SeatView K V)) (revision : ℕ) → p ≡ record { accepted = map seat_accepted seats; taken = map seat_taken seats; revision = revision }
@@ -137,7 +138,7 @@ pub played_as : {K V : Type 0} (w : World K V) (p : PlayedView K V) (seats : Lis
 played_as {K} {V} w p seats revision e g same =
     e
     ∙ ap (λ (x : List (List (Request K))). record { accepted = x; taken = map seat_taken seats; revision = revision }) g.accepted_same
-    ∙ ap (λ (x : List (List (ReplyView K V))). record { accepted = map accepted_of w.ledger.clients; taken = x; revision = revision }) g.taken_same
+    ∙ ap (λ (x : List (List (ReplyView K V Point))). record { accepted = map accepted_of w.ledger.clients; taken = x; revision = revision }) g.taken_same
     ∙ ap (λ (x : ℕ). record { accepted = map accepted_of w.ledger.clients; taken = w.taken; revision = x }) same
 
 pub none_of : {D : Type 0} (m : BTreeMap ℕ D) → IsEmpty m → (r : ℕ) → done_of m r ≡ None

@@ -6,6 +6,7 @@ use Rattle.std.specs.declared.cmp.Ordering.{Ordering}
 use Rattle.pq_inputs.specs.Sources.{Sources, Table}
 use Rattle.pq_rules.specs.declared.turn.Answer.{Answer}
 use Rattle.pq_rules.specs.Turns.{Machine}
+use Rattle.pq_core.specs.Points.{Point}
 use Rattle.pq_core.specs.Replies.{ReplyView}
 use Rattle.pq_core.specs.Works.{DoneView}
 use Rattle.pq_core.specs.Outboxes.{Listed, taken_front, HasNoRoom, HasLostEnd}
@@ -15,7 +16,7 @@ use Rattle.pq_core.specs.Kept.{PlaceKept, Kept}
 use Rattle.pq_core.proofs.Lists.{some_one, none_some, get_within, get_there}
 use Rattle.pq_core.proofs.Keeping.{kept_opens, kept_accepts, kept_edits, kept_starts, kept_looks, kept_gives, kept_starves, kept_releases, kept_closes, kept_takes}
 use Rattle.pq_core.proofs.Shutting.{shut_opens, shut_accepts, shut_edits, shut_starts, shut_looks, shut_gives, shut_starves, shut_releases, shut_closes, shut_takes}
-use Rattle.pq_play.specs.World.{World, no_files, beginning, replies_of}
+use Rattle.pq_play.specs.World.{World, no_files, beginning, replies_of, own_point}
 use Rattle.pq_play.specs.Headline.{Headline, LeavesClosed}
 use Rattle.pq_play.specs.Steps.{Steps, LeadsTo, empty_list}
 use Rattle.pq_play.specs.aux.Seats.{SeatView, Seated, Aligned}
@@ -34,8 +35,8 @@ get_taken [] (suc n) i x h = h
 get_taken (a ∷ xs) (suc n) zero x h = h
 get_taken (a ∷ xs) (suc n) (suc i) x h = get_taken xs n i x h
 
-module _ {K V : Type 0} (means : Sources → K → Answer K V → Type 0) where
-  put_right : (inputs : Table) (qs : List (ReplyView K V)) (c i : ℕ) (entry : Entry K V) (reply : ReplyView K V) (place : Place K V) → i < length qs
+module _ {K V : Type 0} (means : Point → Point → K → Answer K V → Type 0) where
+  put_right : (inputs : Table) (qs : List (ReplyView K V Point)) (c i : ℕ) (entry : Entry K V Point) (reply : ReplyView K V Point) (place : Place K V Point) → i < length qs
       → slice_get qs i ≡ Some reply → PlaceKept means inputs qs c i entry place → IsRightFor means inputs c i entry reply
   put_right inputs qs c i entry reply Waiting b h p = let x : length qs ≤ i = p.0 in absurd (omega arith)
   put_right inputs qs c i entry reply (Running run started out) b h p = let x : length qs ≤ i = p.0 in absurd (omega arith)
@@ -44,7 +45,7 @@ module _ {K V : Type 0} (means : Sources → K → Answer K V → Type 0) where
   put_right inputs qs c i entry reply Dropped b h p = let x : length qs ≤ i = p in absurd (omega arith)
 
   -- each reply that was put is right
-  right_put : (l : Ledger K V (Listed K V)) (c i : ℕ) (client : Client K V (Listed K V)) (reply : ReplyView K V) → Kept means replies_of l → slice_get l.clients c ≡ Some client
+  right_put : (l : Ledger K V Point (Listed K V Point)) (c i : ℕ) (client : Client K V Point (Listed K V Point)) (reply : ReplyView K V Point) → Kept means replies_of l → slice_get l.clients c ≡ Some client
       → slice_get client.outbox.replies i ≡ Some reply → IsRight means l c i reply
   right_put l c i client reply k here h =
       let ck = k.clients c client here in
@@ -70,52 +71,52 @@ module _ {K V : Type 0} (means : Sources → K → Answer K V → Type 0) where
         let seated : Seated client.0 tk seat.0 = a.each c client.0 tk seat.0 client.1 h seat.1 in
         right_put w.ledger c i client.0 reply k client.1
         (elim (true_or_false client.0.is_open) [
-          | inl e ↦ get_taken client.0.outbox.replies client.0.outbox.taken i reply (subst (λ (qs : List (ReplyView K V)). slice_get qs i ≡ Some reply) (seated.open_so e).1 g)
+          | inl e ↦ get_taken client.0.outbox.replies client.0.outbox.taken i reply (subst (λ (qs : List (ReplyView K V Point)). slice_get qs i ≡ Some reply) (seated.open_so e).1 g)
           | inr e ↦
               let u = seated.shut_so e in
-              subst (λ (qs : List (ReplyView K V)). slice_get qs i ≡ Some reply) u.3
-              (get_taken u.0.replies u.0.taken i reply (subst (λ (qs : List (ReplyView K V)). slice_get qs i ≡ Some reply) u.2 g))
+              subst (λ (qs : List (ReplyView K V Point)). slice_get qs i ≡ Some reply) u.3
+              (get_taken u.0.replies u.0.taken i reply (subst (λ (qs : List (ReplyView K V Point)). slice_get qs i ≡ Some reply) u.2 g))
         ]);
   }
 
 module _ {K V : Type 0} where
-  kept_as : (means : Sources → K → Answer K V → Type 0) (l m : Ledger K V (Listed K V)) → m ≡ l → Kept means replies_of l → Kept means replies_of m
+  kept_as : (means : Point → Point → K → Answer K V → Type 0) (l m : Ledger K V Point (Listed K V Point)) → m ≡ l → Kept means replies_of l → Kept means replies_of m
   kept_as means l m e k = subst (Kept means replies_of) (sym e) k
 
-  closed_as : (l m : Ledger K V (Listed K V)) → m ≡ l → LeavesClosed l m
-  closed_as l m e = λ c shut. subst (λ (x : Ledger K V (Listed K V)). (after : IsClosed x c) × (after.client.outbox ≡ shut.client.outbox)) (sym e) (shut, refl)
+  closed_as : (l m : Ledger K V Point (Listed K V Point)) → m ≡ l → LeavesClosed l m
+  closed_as l m e = λ c shut. subst (λ (x : Ledger K V Point (Listed K V Point)). (after : IsClosed x c) × (after.client.outbox ≡ shut.client.outbox)) (sym e) (shut, refl)
 
   ledger_of : (w v : World K V) → v ≡ w → v.ledger ≡ w.ledger
   ledger_of w v e = ap (λ (x : World K V). x.ledger) e
 
 module _ {R K P V : Type 0} (room : ℕ) (order : K → K → Ordering) (machine : Machine K P V) (rules : R) where
-  kept_steps : (event : Event K) (w v : World K V) → Steps room order machine rules event w v → Kept (answer_by order machine) replies_of w.ledger → Kept (answer_by order machine) replies_of v.ledger
-  kept_steps Open w v s k = kept_opens (answer_by order machine) replies_of (empty_list room) s.0 w.ledger v.ledger refl k s.2
-  kept_steps (Accept c request) w v s k = kept_accepts (answer_by order machine) replies_of c request s.0 w.ledger v.ledger k s.2
-  kept_steps (Edit c change) w v s k = kept_edits (answer_by order machine) replies_of c change s.0 w.ledger v.ledger k s.2
-  kept_steps Start w v s k = kept_starts (answer_by order machine) replies_of s.0 w.ledger v.ledger k s.1
-  kept_steps (Step run) w v s k = kept_looks (answer_by order machine) replies_of rules run s.0 w.ledger v.ledger k s.2
+  kept_steps : (event : Event K) (w v : World K V) → Steps room order machine rules event w v → Kept (answer_by order machine own_point) replies_of w.ledger → Kept (answer_by order machine own_point) replies_of v.ledger
+  kept_steps Open w v s k = kept_opens (answer_by order machine own_point) replies_of (empty_list room) s.0 w.ledger v.ledger refl k s.2
+  kept_steps (Accept c request) w v s k = kept_accepts (answer_by order machine own_point) replies_of c request s.0 w.ledger v.ledger k s.2
+  kept_steps (Edit c change) w v s k = kept_edits (answer_by order machine own_point) replies_of c change s.0 w.ledger v.ledger k s.2
+  kept_steps Start w v s k = kept_starts (answer_by order machine own_point) replies_of s.0 w.ledger v.ledger k s.1
+  kept_steps (Step run) w v s k = kept_looks (answer_by order machine own_point) replies_of rules run s.0 w.ledger v.ledger k s.2
   kept_steps (Give run) w v s k = elim s [
-    | inl g ↦ kept_gives (answer_by order machine) replies_of run g.done (Ok g.move) w.ledger v.ledger k g.given
-    | inr g ↦ kept_as (answer_by order machine) w.ledger v.ledger (ledger_of w v g.same) k
+    | inl g ↦ kept_gives (answer_by order machine own_point) replies_of run g.done (Ok g.move) w.ledger v.ledger k g.given
+    | inr g ↦ kept_as (answer_by order machine own_point) w.ledger v.ledger (ledger_of w v g.same) k
   ]
-  kept_steps (Starve run) w v s k = kept_starves (answer_by order machine) replies_of run s.0 w.ledger v.ledger k s.1
-  kept_steps (Release c) w v s k = kept_releases (answer_by order machine) replies_of taken_front HasNoRoom HasLostEnd c s.0 w.ledger v.ledger k s.1
+  kept_steps (Starve run) w v s k = kept_starves (answer_by order machine own_point) replies_of run s.0 w.ledger v.ledger k s.1
+  kept_steps (Release c) w v s k = kept_releases (answer_by order machine own_point) replies_of taken_front HasNoRoom HasLostEnd c s.0 w.ledger v.ledger k s.1
   kept_steps (Take c) w v s k = elim s [
     | inl t ↦ elim (true_or_false t.client.is_open) [
-      | inl e ↦ kept_takes (answer_by order machine) replies_of {A = AllocError} taken_front c (Ok true) w.ledger v.ledger k (t.open_so e)
-      | inr e ↦ kept_as (answer_by order machine) w.ledger v.ledger (t.shut_so e) k
+      | inl e ↦ kept_takes (answer_by order machine own_point) replies_of {A = AllocError} taken_front c (Ok true) w.ledger v.ledger k (t.open_so e)
+      | inr e ↦ kept_as (answer_by order machine own_point) w.ledger v.ledger (t.shut_so e) k
     ]
-    | inr t ↦ kept_as (answer_by order machine) w.ledger v.ledger (ledger_of w v t.same) k
+    | inr t ↦ kept_as (answer_by order machine own_point) w.ledger v.ledger (ledger_of w v t.same) k
   ]
-  kept_steps (Close c) w v s k = kept_closes (answer_by order machine) replies_of c s.0 w.ledger v.ledger k s.1
+  kept_steps (Close c) w v s k = kept_closes (answer_by order machine own_point) replies_of c s.0 w.ledger v.ledger k s.1
 
   pub closed_steps : (event : Event K) (w v : World K V) → Steps room order machine rules event w v → LeavesClosed w.ledger v.ledger
   closed_steps Open w v s = λ d shut. shut_opens d (empty_list room) s.0 w.ledger v.ledger shut s.2
   closed_steps (Accept c request) w v s = λ d shut. shut_accepts replies_of d c request s.0 w.ledger v.ledger shut s.2
   closed_steps (Edit c change) w v s = λ d shut. shut_edits d c change s.0 w.ledger v.ledger shut s.2
   closed_steps Start w v s = λ d shut. shut_starts d s.0 w.ledger v.ledger shut s.1
-  closed_steps (Step run) w v s = λ d shut. shut_looks (answer_by order machine) rules d run s.0 w.ledger v.ledger shut s.2
+  closed_steps (Step run) w v s = λ d shut. shut_looks (answer_by order machine own_point) rules d run s.0 w.ledger v.ledger shut s.2
   closed_steps (Give run) w v s = elim s [
     | inl g ↦ λ d shut. shut_gives d run g.done (Ok g.move) w.ledger v.ledger shut g.given
     | inr g ↦ closed_as w.ledger v.ledger (ledger_of w v g.same)
@@ -132,7 +133,7 @@ module _ {R K P V : Type 0} (room : ℕ) (order : K → K → Ordering) (machine
   closed_steps (Close c) w v s = λ d shut. shut_closes d c s.0 w.ledger v.ledger shut s.1
 
   -- the world after an event is one for which the core stands
-  pub stood_after : (event : Event K) (w : World K V) (own after_own : R) (Stands After : Ledger K V (Listed K V) → Type 0) (seats after_seats : List (SeatView K V)) (dones after_dones : ℕ → Option (DoneView R K P V))
+  pub stood_after : (event : Event K) (w : World K V) (own after_own : R) (Stands After : Ledger K V Point (Listed K V Point) → Type 0) (seats after_seats : List (SeatView K V)) (dones after_dones : ℕ → Option (DoneView R K P V))
       → Stood order machine rules own Stands w seats dones → (d : Carried room order machine rules event w after_own After after_seats after_dones) → Stood order machine rules after_own After d.v after_seats after_dones
   stood_after event w own after_own Stands After seats after_seats dones after_dones s d = record {
     own_same = d.own_same;
@@ -142,7 +143,7 @@ module _ {R K P V : Type 0} (room : ℕ) (order : K → K → Ordering) (machine
   }
 
   -- one more event
-  pub playing_on : (events : List (Event K)) (event : Event K) (rest : List (Event K)) (start : World K V) (own after_own : R) (Stands After : Ledger K V (Listed K V) → Type 0) (seats after_seats : List (SeatView K V)) (dones after_dones : ℕ → Option (DoneView R K P V))
+  pub playing_on : (events : List (Event K)) (event : Event K) (rest : List (Event K)) (start : World K V) (own after_own : R) (Stands After : Ledger K V Point (Listed K V Point) → Type 0) (seats after_seats : List (SeatView K V)) (dones after_dones : ℕ → Option (DoneView R K P V))
       → Playing room order machine rules events (event ∷ rest) start own Stands seats dones → Carries room order machine rules event own Stands seats dones after_own After after_seats after_dones
       → Playing room order machine rules events rest start after_own After after_seats after_dones
   playing_on events event rest start own after_own Stands After seats after_seats dones after_dones p f =
@@ -151,14 +152,14 @@ module _ {R K P V : Type 0} (room : ℕ) (order : K → K → Ordering) (machine
       record {
         w = d.v;
         stood = after;
-        goes_on = λ v h. p.goes_on v (d.v, d.steps, headline_of (answer_by order machine) d.v after_seats d.fits.aligned after.kept, closed_steps event p.w d.v d.steps, h);
+        goes_on = λ v h. p.goes_on v (d.v, d.steps, headline_of (answer_by order machine own_point) d.v after_seats d.fits.aligned after.kept, closed_steps event p.w d.v d.steps, h);
       }
 
-  no_run : (c n : ℕ) (a : Run K) → run_at {V = V} {O = Listed K V} [] c n ≡ Some a → ⊥
+  no_run : (c n : ℕ) (a : Run K) → run_at {V = V} {M = Point} {O = Listed K V Point} [] c n ≡ Some a → ⊥
   no_run c n a h = none_some a h
 
   -- a core that was just made
-  pub stood_start : (own : R) (Stands : Ledger K V (Listed K V) → Type 0) (seats : List (SeatView K V)) (dones : ℕ → Option (DoneView R K P V)) → own ≡ rules → Stands (unused no_files)
+  pub stood_start : (own : R) (Stands : Ledger K V Point (Listed K V Point) → Type 0) (seats : List (SeatView K V)) (dones : ℕ → Option (DoneView R K P V)) → own ≡ rules → Stands (unused no_files)
       → seats ≡ [] → ((r : ℕ) → dones r ≡ None) → Stood order machine rules own Stands beginning seats dones
   stood_start own Stands seats dones same stands e none = record {
     own_same = same;

@@ -4,6 +4,7 @@ use Rattle.std.proofs.Common.{◌≡◌, ◌≢◌, ℕ, zero, suc, ◌+◌, ◌
 use Rattle.std.specs.Prelude.{Ok, Err, Result}
 use Rattle.pq_inputs.specs.Sources.{Sources, Table}
 use Rattle.pq_rules.specs.declared.turn.Answer.{Answer}
+use Rattle.pq_core.specs.Points.{Point}
 use Rattle.pq_core.specs.Replies.{ReplyView}
 use Rattle.pq_core.specs.Changes.{ChangeView}
 use Rattle.pq_core.specs.Works.{DoneView, WorkView}
@@ -31,71 +32,71 @@ same_place d k c n =
       | inr g ↦ inr (λ e _. g e)
     ]
 
-ended_none : {K V : Type 0} (b : Bool) (reply : ReplyView K V) → run_in (place_ended b reply) ≡ None
+ended_none : {K V M : Type 0} (b : Bool) (reply : ReplyView K V M) → run_in (place_ended b reply) ≡ None
 ended_none true reply = refl
 ended_none false reply = refl
 
-none_first : {K : Type 0} (V : Type 0) (c n : ℕ) (request : Request K) (revision : ℕ) (want : Want K) → run_in {V = V} (first_place c n request revision want) ≡ None
-none_first V c n request revision (Demand key) = refl
-none_first V c n request revision (Fixed text) = refl
+none_first : {K : Type 0} (V M : Type 0) (c n : ℕ) (request : Request K) (revision : ℕ) (want : Want K) → run_in {V = V} {M = M} (first_place c n request revision want) ≡ None
+none_first V M c n request revision (Demand key) = refl
+none_first V M c n request revision (Fixed text) = refl
 
-module _ {K V : Type 0} where
-  none_new : (es : List (Entry K V)) (entry : Entry K V) (k : ℕ) → run_in entry.place ≡ None → run_of (slice_get (es ++ entry ∷ []) k) ≡ run_of (slice_get es k)
+module _ {K V M : Type 0} where
+  none_new : (es : List (Entry K V M)) (entry : Entry K V M) (k : ℕ) → run_in entry.place ≡ None → run_of (slice_get (es ++ entry ∷ []) k) ≡ run_of (slice_get es k)
   none_new [] entry zero e = e
   none_new [] entry (suc k) e = refl
   none_new (x ∷ es) entry zero e = refl
   none_new (x ∷ es) entry (suc k) e = none_new es entry k e
 
-  same_closed : (place : Place K V) → run_in (place_closed place) ≡ run_in place
+  same_closed : (place : Place K V M) → run_in (place_closed place) ≡ run_in place
   same_closed Waiting = refl
   same_closed (Running run started out) = refl
   same_closed (Ready reply) = refl
   same_closed Put = refl
   same_closed Dropped = refl
 
-  runs_closed : (es : List (Entry K V)) (k : ℕ) → run_of (slice_get (map entry_closed es) k) ≡ run_of (slice_get es k)
+  runs_closed : (es : List (Entry K V M)) (k : ℕ) → run_of (slice_get (map entry_closed es) k) ≡ run_of (slice_get es k)
   runs_closed [] k = refl
   runs_closed (x ∷ es) zero = same_closed x.place
   runs_closed (x ∷ es) (suc k) = runs_closed es k
 
-  runs_moved : (es : List (Entry K V)) (n : ℕ) (entry other : Entry K V) → slice_get es n ≡ Some entry → run_in other.place ≡ run_in entry.place → (k : ℕ) → run_of (slice_get (slice_set es n other) k) ≡ run_of (slice_get es k)
+  runs_moved : (es : List (Entry K V M)) (n : ℕ) (entry other : Entry K V M) → slice_get es n ≡ Some entry → run_in other.place ≡ run_in entry.place → (k : ℕ) → run_of (slice_get (slice_set es n other) k) ≡ run_of (slice_get es k)
   runs_moved [] n entry other h e k = refl
-  runs_moved (x ∷ es) zero entry other h e zero = e ∙ ap (λ (y : Entry K V). run_in y.place) (sym (some_one x entry h))
+  runs_moved (x ∷ es) zero entry other h e zero = e ∙ ap (λ (y : Entry K V M). run_in y.place) (sym (some_one x entry h))
   runs_moved (x ∷ es) zero entry other h e (suc k) = refl
   runs_moved (x ∷ es) (suc n) entry other h e zero = refl
   runs_moved (x ∷ es) (suc n) entry other h e (suc k) = runs_moved es n entry other h e k
 
-module _ {K V O : Type 0} where
+module _ {K V M O : Type 0} where
   -- the history of `l` is the first of that of `m`
-  pub record Grows (l m : Ledger K V O) : Type 0 where
+  pub record Grows (l m : Ledger K V M O) : Type 0 where
     pub grows : (j : ℕ) (files : Sources) → slice_get l.inputs.history j ≡ Some files → slice_get m.inputs.history j ≡ Some files
 
   -- the runs are those of the same requests
-  pub record SameRuns (l m : Ledger K V O) : Type 0 where
+  pub record SameRuns (l m : Ledger K V M O) : Type 0 where
     pub at : (c n : ℕ) → run_at m.clients c n ≡ run_at l.clients c n
     pub runs : m.runs ≡ l.runs
     pub history : Grows l m
 
   -- the run of one request is another
-  pub record SetRun (l m : Ledger K V O) (c n : ℕ) (new : Option (Run K)) : Type 0 where
+  pub record SetRun (l m : Ledger K V M O) (c n : ℕ) (new : Option (Run K)) : Type 0 where
     pub here : run_at m.clients c n ≡ new
     pub other : (d k : ℕ) → (d ≡ c → k ≡ n → ⊥) → run_at m.clients d k ≡ run_at l.clients d k
     pub history : Grows l m
 
-  pub history_of : (l m : Ledger K V O) → m.inputs ≡ l.inputs → Grows l m
+  pub history_of : (l m : Ledger K V M O) → m.inputs ≡ l.inputs → Grows l m
   history_of l m e = record { grows = λ j files h. ap (λ (t : Table). slice_get t.history j) e ∙ h }
 
-  moved : (xs : List (Client K V O)) (d k c n : ℕ) → d ≡ c → k ≡ n → run_at xs d k ≡ run_at xs c n
+  moved : (xs : List (Client K V M O)) (d k c n : ℕ) → d ≡ c → k ≡ n → run_at xs d k ≡ run_at xs c n
   moved xs d k c n e f = ap (λ (x : ℕ). run_at xs x k) e ∙ ap (λ (y : ℕ). run_at xs c y) f
 
-  pub runs_same : (l m : Ledger K V O) → RunsKept l → SameRuns l m → RunsKept m
+  pub runs_same : (l m : Ledger K V M O) → RunsKept l → SameRuns l m → RunsKept m
   runs_same l m k s = record {
     below = λ c n a h. let x : a.number < l.runs = k.below c n a (sym (s.at c n) ∙ h) in let e : m.runs ≡ l.runs = s.runs in omega arith;
     once = λ c n d i a b h g e. k.once c n d i a b (sym (s.at c n) ∙ h) (sym (s.at d i) ∙ g) e;
   }
 
   -- where the run `a` was is now `new`, which is none or has its number
-  module _ (l m : Ledger K V O) (c n : ℕ) (a : Run K) (new : Option (Run K)) (was : run_at l.clients c n ≡ Some a) (s : SetRun l m c n new) (held : (b : Run K) → new ≡ Some b → b.number ≡ a.number) where
+  module _ (l m : Ledger K V M O) (c n : ℕ) (a : Run K) (new : Option (Run K)) (was : run_at l.clients c n ≡ Some a) (s : SetRun l m c n new) (held : (b : Run K) → new ≡ Some b → b.number ≡ a.number) where
     new_here : (d k : ℕ) (b : Run K) → d ≡ c → k ≡ n → run_at m.clients d k ≡ Some b → new ≡ Some b
     new_here d k b e f h = sym s.here ∙ sym (moved m.clients d k c n e f) ∙ h
 
@@ -120,21 +121,21 @@ module _ {K V O : Type 0} where
           k.once d i x y w.0 v.0 w.1 v.1 (w.2 ∙ same ∙ sym v.2);
     }
 
-module _ {K V O : Type 0} where
+module _ {K V M O : Type 0} where
   -- no work of the run `r` is out
-  abbrev pub NoneOutOf : Ledger K V O → ℕ → Type 0
+  abbrev pub NoneOutOf : Ledger K V M O → ℕ → Type 0
   NoneOutOf l r = (c n : ℕ) (a : Run K) → run_at l.clients c n ≡ Some a → a.number ≡ r → a.out ≡ None
 
   -- a run whose work is not out, or that is over
-  outs_none : (l m : Ledger K V O) (c n : ℕ) (a : Run K) (new : Option (Run K)) → RunsKept l → run_at l.clients c n ≡ Some a → SetRun l m c n new → ((b : Run K) → new ≡ Some b → b.number ≡ a.number)
+  outs_none : (l m : Ledger K V M O) (c n : ℕ) (a : Run K) (new : Option (Run K)) → RunsKept l → run_at l.clients c n ≡ Some a → SetRun l m c n new → ((b : Run K) → new ≡ Some b → b.number ≡ a.number)
       → ((b : Run K) → new ≡ Some b → b.out ≡ None) → NoneOutOf m a.number
   outs_none l m c n a new k was s held idle = λ d i b h e. elim (same_place d i c n) [
     | inl w ↦ idle b (new_here l m c n a new was s held d i b w.0 w.1 h)
     | inr apart ↦ let u = k.once d i c n b a (sym (s.other d i apart) ∙ h) was e in absurd (apart u.0 u.1)
   ]
 
-module _ {R K P V O : Type 0} (rules : R) where
-  pub outs_same : (l m : Ledger K V O) (r : ℕ) (kept : Option (DoneView R K P V)) → SameRuns l m → OutOf rules l r kept → OutOf rules m r kept
+module _ {R K P V M O : Type 0} (rules : R) where
+  pub outs_same : (l m : Ledger K V M O) (r : ℕ) (kept : Option (DoneView R K P V)) → SameRuns l m → OutOf rules l r kept → OutOf rules m r kept
   outs_same l m r None s x = λ c n a h e. x c n a (sym (s.at c n) ∙ h) e
   outs_same l m r (Some done) s x = record {
     c = x.c;
@@ -149,7 +150,7 @@ module _ {R K P V O : Type 0} (rules : R) where
     files = s.history.grows done.started done.files x.files;
   }
 
-  outs_other : (l m : Ledger K V O) (c n : ℕ) (a : Run K) (new : Option (Run K)) → run_at l.clients c n ≡ Some a → SetRun l m c n new → ((b : Run K) → new ≡ Some b → b.number ≡ a.number)
+  outs_other : (l m : Ledger K V M O) (c n : ℕ) (a : Run K) (new : Option (Run K)) → run_at l.clients c n ≡ Some a → SetRun l m c n new → ((b : Run K) → new ≡ Some b → b.number ≡ a.number)
       → (r : ℕ) (kept : Option (DoneView R K P V)) → r ≢ a.number → OutOf rules l r kept → OutOf rules m r kept
   outs_other l m c n a new was s held r None ne x = λ d k b h e. elim (same_place d k c n) [
     | inl w ↦ absurd (ne (sym e ∙ held b (new_here l m c n a new was s held d k b w.0 w.1 h)))
@@ -168,7 +169,7 @@ module _ {R K P V O : Type 0} (rules : R) where
     files = s.history.grows done.started done.files x.files;
   }
 
-  pub outs_set : (l m : Ledger K V O) (c n : ℕ) (a : Run K) (new : Option (Run K)) (run : ℕ) (kept : Option (DoneView R K P V)) (dones after_it : ℕ → Option (DoneView R K P V)) → run_at l.clients c n ≡ Some a → a.number ≡ run → SetRun l m c n new
+  pub outs_set : (l m : Ledger K V M O) (c n : ℕ) (a : Run K) (new : Option (Run K)) (run : ℕ) (kept : Option (DoneView R K P V)) (dones after_it : ℕ → Option (DoneView R K P V)) → run_at l.clients c n ≡ Some a → a.number ≡ run → SetRun l m c n new
       → ((b : Run K) → new ≡ Some b → b.number ≡ a.number) → IsPut dones after_it run kept → ((r : ℕ) → OutOf rules l r (dones r)) → OutOf rules m run kept → (r : ℕ) → OutOf rules m r (after_it r)
   outs_set l m c n a new run kept dones after_it was number s held p o mine r =
       elim (same_or_other r run) [
@@ -177,24 +178,24 @@ module _ {R K P V O : Type 0} (rules : R) where
       ]
 
   -- nothing is kept for a run whose work is not out
-  idle_none : (l : Ledger K V O) (c n : ℕ) (a : Run K) (run : ℕ) (kept : Option (DoneView R K P V)) → RunsKept l → run_at l.clients c n ≡ Some a → a.number ≡ run → a.out ≡ None → OutOf rules l run kept → kept ≡ None
+  idle_none : (l : Ledger K V M O) (c n : ℕ) (a : Run K) (run : ℕ) (kept : Option (DoneView R K P V)) → RunsKept l → run_at l.clients c n ≡ Some a → a.number ≡ run → a.out ≡ None → OutOf rules l run kept → kept ≡ None
   idle_none l c n a run None k was number idle x = refl
   idle_none l c n a run (Some done) k was number idle x =
       let u = k.once x.c x.n c n x.a a x.here was (x.number ∙ sym number) in
       let same : x.a ≡ a = some_one x.a a (sym x.here ∙ moved l.clients x.c x.n c n u.0 u.1 ∙ was) in
       absurd (none_some (out_of done) (sym idle ∙ ap (λ (y : Run K). y.out) (sym same) ∙ x.out))
 
-module _ {K V O : Type 0} where
+module _ {K V M O : Type 0} where
   -- where a run is
-  pub was_at : (l : Ledger K V O) (run : ℕ) (at : RunAt K V O) → Runs l run at → run_at l.clients at.c at.n ≡ Some (record { number = run; started = at.started; out = at.out })
+  pub was_at : (l : Ledger K V M O) (run : ℕ) (at : RunAt K V M O) → Runs l run at → run_at l.clients at.c at.n ≡ Some (record { number = run; started = at.started; out = at.out })
   was_at l run at r =
-      ap (λ (x : Option (Client K V O)). run_among x at.n) r.is_entry.client_here ∙ ap run_of r.is_entry.here ∙ ap run_in r.runs
+      ap (λ (x : Option (Client K V M O)). run_among x at.n) r.is_entry.client_here ∙ ap run_of r.is_entry.here ∙ ap run_in r.runs
 
-  runs_there : (l : Ledger K V O) (c n : ℕ) (a : Run K) → run_at l.clients c n ≡ Some a → (at : RunAt K V O) × Runs l a.number at × (at.started ≡ a.started) × (at.out ≡ a.out)
+  runs_there : (l : Ledger K V M O) (c n : ℕ) (a : Run K) → run_at l.clients c n ≡ Some a → (at : RunAt K V M O) × Runs l a.number at × (at.started ≡ a.started) × (at.out ≡ a.out)
   runs_there l c n a h = of_client (slice_get l.clients c) refl h
     where
-      of_place : (client : Client K V O) (entry : Entry K V) (place : Place K V) → slice_get l.clients c ≡ Some client → slice_get client.entries n ≡ Some entry → entry.place ≡ place → run_in place ≡ Some a
-          → (at : RunAt K V O) × Runs l a.number at × (at.started ≡ a.started) × (at.out ≡ a.out)
+      of_place : (client : Client K V M O) (entry : Entry K V M) (place : Place K V M) → slice_get l.clients c ≡ Some client → slice_get client.entries n ≡ Some entry → entry.place ≡ place → run_in place ≡ Some a
+          → (at : RunAt K V M O) × Runs l a.number at × (at.started ≡ a.started) × (at.out ≡ a.out)
       of_place client entry Waiting e f g i = absurd (none_some a i)
       of_place client entry (Running run started out) e f g i =
           let same : record { number = run; started = started; out = out } ≡ a = some_one _ a i in (
@@ -208,92 +209,92 @@ module _ {K V O : Type 0} where
       of_place client entry Put e f g i = absurd (none_some a i)
       of_place client entry Dropped e f g i = absurd (none_some a i)
 
-      of_entry : (client : Client K V O) (entry : Option (Entry K V)) → slice_get l.clients c ≡ Some client → slice_get client.entries n ≡ entry → run_of entry ≡ Some a
-          → (at : RunAt K V O) × Runs l a.number at × (at.started ≡ a.started) × (at.out ≡ a.out)
+      of_entry : (client : Client K V M O) (entry : Option (Entry K V M)) → slice_get l.clients c ≡ Some client → slice_get client.entries n ≡ entry → run_of entry ≡ Some a
+          → (at : RunAt K V M O) × Runs l a.number at × (at.started ≡ a.started) × (at.out ≡ a.out)
       of_entry client None e f i = absurd (none_some a i)
       of_entry client (Some entry) e f i = of_place client entry entry.place e f refl i
 
-      of_client : (client : Option (Client K V O)) → slice_get l.clients c ≡ client → run_among client n ≡ Some a
-          → (at : RunAt K V O) × Runs l a.number at × (at.started ≡ a.started) × (at.out ≡ a.out)
+      of_client : (client : Option (Client K V M O)) → slice_get l.clients c ≡ client → run_among client n ≡ Some a
+          → (at : RunAt K V M O) × Runs l a.number at × (at.started ≡ a.started) × (at.out ≡ a.out)
       of_client None e i = absurd (none_some a i)
       of_client (Some client) e i = of_entry client (slice_get client.entries n) e refl i
 
   -- ---- what moves do to the runs
 
-  clients_of : (l m : Ledger K V O) → m ≡ l → m.clients ≡ l.clients
-  clients_of l m e = ap (λ (x : Ledger K V O). x.clients) e
+  clients_of : (l m : Ledger K V M O) → m ≡ l → m.clients ≡ l.clients
+  clients_of l m e = ap (λ (x : Ledger K V M O). x.clients) e
 
-  inputs_of : (l m : Ledger K V O) → m ≡ l → m.inputs ≡ l.inputs
-  inputs_of l m e = ap (λ (x : Ledger K V O). x.inputs) e
+  inputs_of : (l m : Ledger K V M O) → m ≡ l → m.inputs ≡ l.inputs
+  inputs_of l m e = ap (λ (x : Ledger K V M O). x.inputs) e
 
-  count_of : (l m : Ledger K V O) → m ≡ l → m.runs ≡ l.runs
-  count_of l m e = ap (λ (x : Ledger K V O). x.runs) e
+  count_of : (l m : Ledger K V M O) → m ≡ l → m.runs ≡ l.runs
+  count_of l m e = ap (λ (x : Ledger K V M O). x.runs) e
 
-  pub same_as : (l m : Ledger K V O) → m ≡ l → SameRuns l m
+  pub same_as : (l m : Ledger K V M O) → m ≡ l → SameRuns l m
   same_as l m e = record {
-    at = λ c n. ap (λ (xs : List (Client K V O)). run_at xs c n) (clients_of l m e);
+    at = λ c n. ap (λ (xs : List (Client K V M O)). run_at xs c n) (clients_of l m e);
     runs = count_of l m e;
     history = history_of l m (inputs_of l m e);
   }
 
   -- a client is another with the same runs
-  same_set : (l m : Ledger K V O) (c : ℕ) (client other : Client K V O) → slice_get l.clients c ≡ Some client → ((k : ℕ) → run_of (slice_get other.entries k) ≡ run_of (slice_get client.entries k))
+  same_set : (l m : Ledger K V M O) (c : ℕ) (client other : Client K V M O) → slice_get l.clients c ≡ Some client → ((k : ℕ) → run_of (slice_get other.entries k) ≡ run_of (slice_get client.entries k))
       → m ≡ with_client l c other → SameRuns l m
   same_set l m c client other here f e = record {
-    at = λ d k. ap (λ (xs : List (Client K V O)). run_at xs d k) (clients_of _ m e) ∙ elim (same_or_other d c) [
+    at = λ d k. ap (λ (xs : List (Client K V M O)). run_at xs d k) (clients_of _ m e) ∙ elim (same_or_other d c) [
       | inl g ↦
-          ap (λ (x : ℕ). run_at (slice_set l.clients c other) x k) g ∙ ap (λ (x : Option (Client K V O)). run_among x k) (set_same l.clients c other (get_within l.clients c client here))
-          ∙ f k ∙ sym (ap (λ (x : Option (Client K V O)). run_among x k) here) ∙ ap (λ (x : ℕ). run_at l.clients x k) (sym g)
-      | inr ne ↦ ap (λ (x : Option (Client K V O)). run_among x k) (set_other l.clients c other d ne)
+          ap (λ (x : ℕ). run_at (slice_set l.clients c other) x k) g ∙ ap (λ (x : Option (Client K V M O)). run_among x k) (set_same l.clients c other (get_within l.clients c client here))
+          ∙ f k ∙ sym (ap (λ (x : Option (Client K V M O)). run_among x k) here) ∙ ap (λ (x : ℕ). run_at l.clients x k) (sym g)
+      | inr ne ↦ ap (λ (x : Option (Client K V M O)). run_among x k) (set_other l.clients c other d ne)
     ];
     runs = count_of _ m e;
     history = history_of l m (inputs_of _ m e);
   }
 
   -- a request of a client is in another place
-  set_entry : (l m : Ledger K V O) (c : ℕ) (client : Client K V O) (n : ℕ) (entry other : Entry K V) → slice_get l.clients c ≡ Some client → slice_get client.entries n ≡ Some entry
+  set_entry : (l m : Ledger K V M O) (c : ℕ) (client : Client K V M O) (n : ℕ) (entry other : Entry K V M) → slice_get l.clients c ≡ Some client → slice_get client.entries n ≡ Some entry
       → m.clients ≡ slice_set l.clients c (with_entry client n other) → m.inputs ≡ l.inputs → SetRun l m c n (run_in other.place)
   set_entry l m c client n entry other here at e i =
       let now : (k : ℕ) → run_at m.clients c k ≡ run_of (slice_get (slice_set client.entries n other) k) = λ k.
-      ap (λ (xs : List (Client K V O)). run_at xs c k) e ∙ ap (λ (x : Option (Client K V O)). run_among x k) (set_same l.clients c (with_entry client n other) (get_within l.clients c client here)) in
+      ap (λ (xs : List (Client K V M O)). run_at xs c k) e ∙ ap (λ (x : Option (Client K V M O)). run_among x k) (set_same l.clients c (with_entry client n other) (get_within l.clients c client here)) in
       record {
         here = now n ∙ ap run_of (set_same client.entries n other (get_within client.entries n entry at));
         other = λ d k ne. elim (same_or_other d c) [
           | inl g ↦
               ap (λ (x : ℕ). run_at m.clients x k) g ∙ now k ∙ ap run_of (set_other client.entries n other k (λ f. ne g f))
-              ∙ sym (ap (λ (x : Option (Client K V O)). run_among x k) here) ∙ ap (λ (x : ℕ). run_at l.clients x k) (sym g)
-          | inr apart ↦ ap (λ (xs : List (Client K V O)). run_at xs d k) e ∙ ap (λ (x : Option (Client K V O)). run_among x k) (set_other l.clients c (with_entry client n other) d apart)
+              ∙ sym (ap (λ (x : Option (Client K V M O)). run_among x k) here) ∙ ap (λ (x : ℕ). run_at l.clients x k) (sym g)
+          | inr apart ↦ ap (λ (xs : List (Client K V M O)). run_at xs d k) e ∙ ap (λ (x : Option (Client K V M O)). run_among x k) (set_other l.clients c (with_entry client n other) d apart)
         ];
         history = history_of l m i;
       }
 
-  none_opened : (xs : List (Client K V O)) (o : O) (c n : ℕ) → run_at (xs ++ opened o ∷ []) c n ≡ run_at xs c n
+  none_opened : (xs : List (Client K V M O)) (o : O) (c n : ℕ) → run_at (xs ++ opened o ∷ []) c n ≡ run_at xs c n
   none_opened [] o zero n = refl
   none_opened [] o (suc c) n = refl
   none_opened (x ∷ xs) o zero n = refl
   none_opened (x ∷ xs) o (suc c) n = none_opened xs o c n
 
-  pub runs_opens : (outbox : O) (answer : Result ℕ (OpenRefused O)) (l m : Ledger K V O) → Opens outbox answer l m → SameRuns l m
+  pub runs_opens : (outbox : O) (answer : Result ℕ (OpenRefused O)) (l m : Ledger K V M O) → Opens outbox answer l m → SameRuns l m
   runs_opens outbox (Ok c) l m s = record {
-    at = λ d k. ap (λ (xs : List (Client K V O)). run_at xs d k) (clients_of _ m s.2) ∙ none_opened l.clients outbox d k;
+    at = λ d k. ap (λ (xs : List (Client K V M O)). run_at xs d k) (clients_of _ m s.2) ∙ none_opened l.clients outbox d k;
     runs = count_of _ m s.2;
     history = history_of l m (inputs_of _ m s.2);
   }
   runs_opens outbox (Err refused) l m s = same_as l m s.2
 
-  pub runs_accepts : (puts : O → List (ReplyView K V)) (c : ℕ) (request : Request K) (answer : Result ℕ (AcceptRefused K)) (l m : Ledger K V O) → Accepts puts c request answer l m → SameRuns l m
-  runs_accepts puts c request (Ok n) l m s = same_set l m c s.0 _ s.1.here (λ k. none_new s.0.entries (new_entry c n request l.inputs.revision) k (none_first V c n request l.inputs.revision request.want)) s.4
+  pub runs_accepts : (puts : O → List (ReplyView K V M)) (c : ℕ) (request : Request K) (answer : Result ℕ (AcceptRefused K)) (l m : Ledger K V M O) → Accepts puts c request answer l m → SameRuns l m
+  runs_accepts puts c request (Ok n) l m s = same_set l m c s.0 _ s.1.here (λ k. none_new s.0.entries (new_entry c n request l.inputs.revision) k (none_first V M c n request l.inputs.revision request.want)) s.4
   runs_accepts puts c request (Err refused) l m s = same_as l m s.2
 
-  pub runs_edits : (c : ℕ) (change : ChangeView) (answer : Result ℕ EditRefused) (l m : Ledger K V O) → Edits c change answer l m → SameRuns l m
+  pub runs_edits : (c : ℕ) (change : ChangeView) (answer : Result ℕ EditRefused) (l m : Ledger K V M O) → Edits c change answer l m → SameRuns l m
   runs_edits c change (Ok revision) l m s = record {
-    at = λ d k. ap (λ (xs : List (Client K V O)). run_at xs d k) (clients_of _ m s.4);
+    at = λ d k. ap (λ (xs : List (Client K V M O)). run_at xs d k) (clients_of _ m s.4);
     runs = count_of _ m s.4;
     history = record { grows = λ j files h. ap (λ (t : Table). slice_get t.history j) (inputs_of _ m s.4) ∙ get_longer l.inputs.history ((changed l.inputs change).files ∷ []) j files h };
   }
   runs_edits c change (Err refused) l m s = same_as l m s.2
 
-  pub runs_releases : (puts takes : O → List (ReplyView K V)) (was_full was_gone : O → Type 0) (c : ℕ) (answer : Released) (l m : Ledger K V O) → Releases puts takes was_full was_gone c answer l m → SameRuns l m
+  pub runs_releases : (puts takes : O → List (ReplyView K V M)) (was_full was_gone : O → Type 0) (c : ℕ) (answer : Released) (l m : Ledger K V M O) → Releases puts takes was_full was_gone c answer l m → SameRuns l m
   runs_releases puts takes was_full was_gone c (ReleasedPut n) l m s =
       let client = s.0.client in
       let at : slice_get client.entries n ≡ Some s.0.entry = ap (slice_get client.entries) s.2 ∙ s.1.ready.here in
@@ -302,17 +303,17 @@ module _ {K V O : Type 0} where
   runs_releases puts takes was_full was_gone c ReleasedGone l m s = same_set l m c s.0.client _ s.1.here (λ k. refl) s.2.3
   runs_releases puts takes was_full was_gone c ReleasedNothing l m s = same_as l m s.1
 
-  pub runs_closes : (c : ℕ) (answer : Option O) (l m : Ledger K V O) → Closes c answer l m → SameRuns l m
+  pub runs_closes : (c : ℕ) (answer : Option O) (l m : Ledger K V M O) → Closes c answer l m → SameRuns l m
   runs_closes c (Some o) l m s = same_set l m c s.0 _ s.1.here (runs_closed s.0.entries) s.3
   runs_closes c None l m s = same_as l m s.1
 
-  pub runs_takes : {A : Type 0} (puts takes : O → List (ReplyView K V)) (c : ℕ) (answer : Result Bool A) (l m : Ledger K V O) → TakesOut puts takes c answer l m → SameRuns l m
+  pub runs_takes : {A : Type 0} (puts takes : O → List (ReplyView K V M)) (c : ℕ) (answer : Result Bool A) (l m : Ledger K V M O) → TakesOut puts takes c answer l m → SameRuns l m
   runs_takes puts takes c (Ok true) l m s = same_set l m c s.0 _ s.1.here (λ k. refl) s.2.3
   runs_takes puts takes c (Ok false) l m s = same_as l m s.1
   runs_takes puts takes c (Err failure) l m s = same_as l m s
 
-module _ {K V O : Type 0} where
-  runs_started : (l m : Ledger K V O) (c n : ℕ) (b0 : Run K) → b0.number ≡ l.runs → m.runs ≡ l.runs + 1 → SetRun l m c n (Some b0) → RunsKept l → RunsKept m
+module _ {K V M O : Type 0} where
+  runs_started : (l m : Ledger K V M O) (c n : ℕ) (b0 : Run K) → b0.number ≡ l.runs → m.runs ≡ l.runs + 1 → SetRun l m c n (Some b0) → RunsKept l → RunsKept m
   runs_started l m c n b0 number count s k =
       let at : (d i : ℕ) (b : Run K) → run_at m.clients d i ≡ Some b → ((d ≡ c) × (i ≡ n) × (b.number ≡ l.runs)) ⊎ (run_at l.clients d i ≡ Some b) = λ d i b h. elim (same_place d i c n) [
         | inl w ↦ inl (w.0, w.1, ap (λ (y : Run K). y.number) (sym (some_one b0 b (sym s.here ∙ sym (moved m.clients d i c n w.0 w.1) ∙ h))) ∙ number)
@@ -339,16 +340,16 @@ module _ {K V O : Type 0} where
             ];
       }
 
-module _ {R K P V O : Type 0} (rules : R) where
+module _ {R K P V M O : Type 0} (rules : R) where
   -- the runs are kept, and so is what is out
-  abbrev pub Ran : Ledger K V O → (ℕ → Option (DoneView R K P V)) → Type 0
+  abbrev pub Ran : Ledger K V M O → (ℕ → Option (DoneView R K P V)) → Type 0
   Ran l dones = RunsKept l × ((r : ℕ) → OutOf rules l r (dones r))
 
-  pub ran_same : (l m : Ledger K V O) (dones after_it : ℕ → Option (DoneView R K P V)) → SameRuns l m → IsSame dones after_it → Ran l dones → Ran m after_it
+  pub ran_same : (l m : Ledger K V M O) (dones after_it : ℕ → Option (DoneView R K P V)) → SameRuns l m → IsSame dones after_it → Ran l dones → Ran m after_it
   ran_same l m dones after_it s same x =
       (runs_same l m x.0 s, λ r. subst (OutOf rules m r) (sym (same r)) (outs_same rules l m r (dones r) s (x.1 r)))
 
-  ran_ended : (l m : Ledger K V O) (run : ℕ) (at : RunAt K V O) (starved : Bool) (outcome : Outcome K V) (dones after_it : ℕ → Option (DoneView R K P V)) → Runs l run at → m ≡ ended l at starved outcome
+  ran_ended : (l m : Ledger K V M O) (run : ℕ) (at : RunAt K V M O) (starved : Bool) (outcome : Outcome K V M) (dones after_it : ℕ → Option (DoneView R K P V)) → Runs l run at → m ≡ ended l at starved outcome
       → IsPut dones after_it run None → Ran l dones → Ran m after_it
   ran_ended l m run at starved outcome dones after_it r e p x =
       let a : Run K = record { number = run; started = at.started; out = at.out } in
@@ -363,7 +364,7 @@ module _ {R K P V O : Type 0} (rules : R) where
       )
 
   -- the work that is out of a run is none
-  ran_idle : (l m : Ledger K V O) (run : ℕ) (at : RunAt K V O) (dones after_it : ℕ → Option (DoneView R K P V)) → Runs l run at → m ≡ with_out l run at None
+  ran_idle : (l m : Ledger K V M O) (run : ℕ) (at : RunAt K V M O) (dones after_it : ℕ → Option (DoneView R K P V)) → Runs l run at → m ≡ with_out l run at None
       → IsPut dones after_it run None → Ran l dones → Ran m after_it
   ran_idle l m run at dones after_it r e p x =
       let a : Run K = record { number = run; started = at.started; out = at.out } in
@@ -377,24 +378,24 @@ module _ {R K P V O : Type 0} (rules : R) where
       )
 
   -- nothing is out of a run that does not exist
-  ran_none : (l m : Ledger K V O) (run : ℕ) (dones after_it : ℕ → Option (DoneView R K P V)) → NoneRuns l run → m ≡ l → IsPut dones after_it run None → Ran l dones → Ran m after_it
+  ran_none : (l m : Ledger K V M O) (run : ℕ) (dones after_it : ℕ → Option (DoneView R K P V)) → NoneRuns l run → m ≡ l → IsPut dones after_it run None → Ran l dones → Ran m after_it
   ran_none l m run dones after_it none e p x =
       let idle : NoneOutOf l run = λ c n a h g. let w = runs_there l c n a h in absurd (none w.0 (subst (λ (i : ℕ). Runs l i w.0) g w.1)) in
       let here : (r : ℕ) → OutOf rules l r (after_it r) = λ r. elim (same_or_other r run) [
         | inl f ↦ subst (λ (i : ℕ). OutOf rules l i (after_it i)) (sym f) (subst (OutOf rules l run) (sym p.here) idle)
         | inr ne ↦ subst (OutOf rules l r) (sym (p.others r ne)) (x.1 r)
       ] in
-      subst (λ (y : Ledger K V O). Ran y after_it) (sym e) (x.0, here)
+      subst (λ (y : Ledger K V M O). Ran y after_it) (sym e) (x.0, here)
 
   -- nothing was kept for a run whose work is not out
-  put_idle : (l : Ledger K V O) (run : ℕ) (at : RunAt K V O) (dones after_it : ℕ → Option (DoneView R K P V)) → Runs l run at → at.out ≡ None → IsSame dones after_it → Ran l dones → IsPut dones after_it run None
+  put_idle : (l : Ledger K V M O) (run : ℕ) (at : RunAt K V M O) (dones after_it : ℕ → Option (DoneView R K P V)) → Runs l run at → at.out ≡ None → IsSame dones after_it → Ran l dones → IsPut dones after_it run None
   put_idle l run at dones after_it r idle same x = record {
     here = same run ∙ idle_none rules l at.c at.n _ run (dones run) x.0 (was_at l run at r) refl idle (x.1 run);
     others = λ q ne. same q;
   }
 
   -- the result of work that is handed out is kept
-  ran_handed : (l m : Ledger K V O) (run : ℕ) (at : RunAt K V O) (done : DoneView R K P V) (dones after_it : ℕ → Option (DoneView R K P V)) → Runs l run at → m ≡ with_out l run at (Some (out_of done))
+  ran_handed : (l m : Ledger K V M O) (run : ℕ) (at : RunAt K V M O) (done : DoneView R K P V) (dones after_it : ℕ → Option (DoneView R K P V)) → Runs l run at → m ≡ with_out l run at (Some (out_of done))
       → done.rules ≡ rules → done.run ≡ run → done.started ≡ at.started → slice_get l.inputs.history done.started ≡ Some done.files
       → IsPut dones after_it run (Some done) → Ran l dones → Ran m after_it
   ran_handed l m run at done dones after_it r e own same started files p x =
@@ -419,7 +420,7 @@ module _ {R K P V O : Type 0} (rules : R) where
             }),
       )
 
-  pub ran_looks : (means : Sources → K → Answer K V → Type 0) (run : ℕ) (move : Move (WorkView R K P V)) (l m : Ledger K V O) (dones after_it : ℕ → Option (DoneView R K P V)) → InputsKept l.inputs
+  pub ran_looks : (means : M → Point → K → Answer K V → Type 0) (run : ℕ) (move : Move (WorkView R K P V)) (l m : Ledger K V M O) (dones after_it : ℕ → Option (DoneView R K P V)) → InputsKept l.inputs
       → LooksFor means rules run (Ok move) l m → KeepsMove run move dones after_it → Ran l dones → Ran m after_it
   ran_looks means run (Carry work) l m dones after_it i s p x =
       let h = s.2 in
@@ -430,10 +431,10 @@ module _ {R K P V O : Type 0} (rules : R) where
   ran_looks means run (Blocked other) l m dones after_it i s p x = ran_same l m dones after_it (same_as l m s.4) p x
   ran_looks means run MoveStepped l m dones after_it i s p x = ran_same l m dones after_it (same_as l m s.2) p x
   ran_looks means run MoveAnswered l m dones after_it i s p x =
-      ran_ended l m run s.0 _ _ dones after_it s.1.runs s.2.2 (put_idle l run s.0 dones after_it s.1.runs s.1.idle p x) x
+      ran_ended l m run s.0 _ _ dones after_it s.1.runs s.2.3 (put_idle l run s.0 dones after_it s.1.runs s.1.idle p x) x
   ran_looks means run MoveStopped l m dones after_it i s p x = ran_ended l m run s.0 _ _ dones after_it s.1 s.3 p x
 
-  pub ran_gives : (run : ℕ) (done : DoneView R K P V) (move : Move (WorkView R K P V)) (l m : Ledger K V O) (dones after_it : ℕ → Option (DoneView R K P V))
+  pub ran_gives : (run : ℕ) (done : DoneView R K P V) (move : Move (WorkView R K P V)) (l m : Ledger K V M O) (dones after_it : ℕ → Option (DoneView R K P V))
       → Gives run done (Ok move) l m → IsPut dones after_it run None → Ran l dones → Ran m after_it
   ran_gives run done (Carry work) l m dones after_it s p x = absurd s
   ran_gives run done (Blocked other) l m dones after_it s p x = absurd s
@@ -441,11 +442,11 @@ module _ {R K P V O : Type 0} (rules : R) where
   ran_gives run done MoveAnswered l m dones after_it s p x = absurd s
   ran_gives run done MoveStopped l m dones after_it s p x = ran_ended l m run s.0 _ _ dones after_it s.1 s.4 p x
 
-  pub ran_starves : (run : ℕ) (answer : Bool) (l m : Ledger K V O) (dones after_it : ℕ → Option (DoneView R K P V)) → Starves run answer l m → IsPut dones after_it run None → Ran l dones → Ran m after_it
+  pub ran_starves : (run : ℕ) (answer : Bool) (l m : Ledger K V M O) (dones after_it : ℕ → Option (DoneView R K P V)) → Starves run answer l m → IsPut dones after_it run None → Ran l dones → Ran m after_it
   ran_starves run true l m dones after_it s p x = ran_ended l m run s.0 _ _ dones after_it s.1 s.2 p x
   ran_starves run false l m dones after_it s p x = ran_none l m run dones after_it s.0 s.1 p x
 
-  outs_started : (l m : Ledger K V O) (c n : ℕ) (b0 : Run K) (r : ℕ) (kept : Option (DoneView R K P V)) → run_at l.clients c n ≡ None → SetRun l m c n (Some b0) → b0.out ≡ None → OutOf rules l r kept → OutOf rules m r kept
+  outs_started : (l m : Ledger K V M O) (c n : ℕ) (b0 : Run K) (r : ℕ) (kept : Option (DoneView R K P V)) → run_at l.clients c n ≡ None → SetRun l m c n (Some b0) → b0.out ≡ None → OutOf rules l r kept → OutOf rules m r kept
   outs_started l m c n b0 r None was s idle x = λ d k b h e. elim (same_place d k c n) [
     | inl w ↦ ap (λ (y : Run K). y.out) (sym (some_one b0 b (sym s.here ∙ sym (moved m.clients d k c n w.0 w.1) ∙ h))) ∙ idle
     | inr apart ↦ x d k b (sym (s.other d k apart) ∙ h) e
@@ -463,7 +464,7 @@ module _ {R K P V O : Type 0} (rules : R) where
     files = s.history.grows done.started done.files x.files;
   }
 
-  pub ran_starts : (answer : Option ℕ) (l m : Ledger K V O) (dones : ℕ → Option (DoneView R K P V)) → Starts answer l m → Ran l dones → Ran m dones
+  pub ran_starts : (answer : Option ℕ) (l m : Ledger K V M O) (dones : ℕ → Option (DoneView R K P V)) → Starts answer l m → Ran l dones → Ran m dones
   ran_starts (Some run) l m dones s x =
       let c = s.0 in
       let client = s.1 in
@@ -472,11 +473,11 @@ module _ {R K P V O : Type 0} (rules : R) where
       let ie = s.4.is_entry in
       let b0 : Run K = record { number = run; started = l.inputs.revision; out = None } in
       let set : SetRun l m c n (Some b0) = set_entry l m c client n entry _ ie.client_here ie.here (clients_of _ m s.6) (inputs_of _ m s.6) in
-      let was : run_at l.clients c n ≡ None = ap (λ (y : Option (Client K V O)). run_among y n) ie.client_here ∙ ap run_of ie.here ∙ ap run_in s.4.waits in
+      let was : run_at l.clients c n ≡ None = ap (λ (y : Option (Client K V M O)). run_among y n) ie.client_here ∙ ap run_of ie.here ∙ ap run_in s.4.waits in
       (runs_started l m c n b0 s.5 (count_of _ m s.6) set x.0, λ r. outs_started l m c n b0 r (dones r) was set refl (x.1 r))
   ran_starts None l m dones s x = ran_same l m dones dones (same_as l m s.1) (λ q. refl) x
 
-  pub given_of : (l : Ledger K V O) (run : ℕ) (done : DoneView R K P V) → IsKeptFor rules l run done → (at : RunAt K V O) × Runs l run at × IsOf run at done
+  pub given_of : (l : Ledger K V M O) (run : ℕ) (done : DoneView R K P V) → IsKeptFor rules l run done → (at : RunAt K V M O) × Runs l run at × IsOf run at done
   given_of l run done x =
       let w = runs_there l x.c x.n x.a x.here in (
         w.0,
@@ -484,10 +485,10 @@ module _ {R K P V O : Type 0} (rules : R) where
         record { run_same = x.run_same; started = x.started ∙ sym w.2; out = w.3 ∙ x.out },
       )
 
-  pub made_of : (l : Ledger K V O) (run : ℕ) (done : DoneView R K P V) → InputsKept l.inputs → IsKeptFor rules l run done → IsMade rules l.inputs done
+  pub made_of : (l : Ledger K V M O) (run : ℕ) (done : DoneView R K P V) → InputsKept l.inputs → IsKeptFor rules l run done → IsMade rules l.inputs done
   made_of l run done i x = λ now.
       (x.rules_same, some_one done.files l.inputs.files (sym x.files ∙ ap (slice_get l.inputs.history) now ∙ i.latest))
 
-module _ {K V O : Type 0} where
-  pub none_given : (l : Ledger K V O) (run : ℕ) → NoneOutOf l run → (at : RunAt K V O) → Runs l run at → at.out ≡ None
+module _ {K V M O : Type 0} where
+  pub none_given : (l : Ledger K V M O) (run : ℕ) → NoneOutOf l run → (at : RunAt K V M O) → Runs l run at → at.out ≡ None
   none_given l run x at r = x at.c at.n (record { number = run; started = at.started; out = at.out }) (was_at l run at r) refl

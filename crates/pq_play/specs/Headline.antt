@@ -1,7 +1,7 @@
 -- The headline: what holds of the world after each event.
 use Rattle.std.specs.Prelude.{ℕ, ◌≡◌, List, length, slice_get, Some}
-use Rattle.pq_inputs.specs.Sources.{Sources}
 use Rattle.pq_rules.specs.declared.turn.Answer.{Answer}
+use Rattle.pq_core.specs.Points.{Point}
 use Rattle.pq_core.specs.Replies.{ReplyView}
 use Rattle.pq_core.specs.Outboxes.{Listed}
 use Rattle.pq_core.specs.Ledger.{Ledger, IsClosed}
@@ -14,11 +14,11 @@ use Rattle.pq_play.specs.World.{World}
 -- is the answer of its key from scratch at the sources of the revision that it names, not older
 -- than the request; or it is cancelled, where an edit was accepted after the run's start; or it is
 -- starved, where `starve` was called for the request
-pub record Headline {K V : Type 0} (means : Sources → K → Answer K V → Type 0) (w : World K V) : Type 0 where
-  pub each : (c i : ℕ) (taken : List (ReplyView K V)) (reply : ReplyView K V) → slice_get w.taken c ≡ Some taken → slice_get taken i ≡ Some reply → IsRight means w.ledger c i reply
+pub record Headline {K V : Type 0} (means : Point → Point → K → Answer K V → Type 0) (w : World K V) : Type 0 where
+  pub each : (c i : ℕ) (taken : List (ReplyView K V Point)) (reply : ReplyView K V Point) → slice_get w.taken c ≡ Some taken → slice_get taken i ≡ Some reply → IsRight means w.ledger c i reply
   pub clients : length w.taken ≡ length w.ledger.clients
 
 -- `LeavesClosed l m` is that each client that was closed in `l` is closed in `m`, and that its
 -- outbox is the same: nothing has entered it
-abbrev pub LeavesClosed : {K V : Type 0} → Ledger K V (Listed K V) → Ledger K V (Listed K V) → Type 0
+abbrev pub LeavesClosed : {K V : Type 0} → Ledger K V Point (Listed K V Point) → Ledger K V Point (Listed K V Point) → Type 0
 LeavesClosed l m = (c : ℕ) (shut : IsClosed l c) → (after : IsClosed m c) × (after.client.outbox ≡ shut.client.outbox)

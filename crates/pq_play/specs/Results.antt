@@ -1,5 +1,6 @@
 -- What playing a list of events gives.
 use Rattle.std.specs.Prelude.{ℕ, List, map}
+use Rattle.pq_core.specs.Points.{Point}
 use Rattle.pq_core.specs.Replies.{ReplyView}
 use Rattle.pq_core.specs.Ledger.{Entry, Client}
 use Rattle.pq_core.specs.declared.request.Request.{Request}
@@ -10,15 +11,15 @@ use Rattle.pq_play.specs.World.{World}
 -- replies that it has taken, in order, and the last revision
 pub record PlayedView (K V : Type 0) : Type 0 where
   pub accepted : List (List (Request K))
-  pub taken : List (List (ReplyView K V))
+  pub taken : List (List (ReplyView K V Point))
   pub revision : ℕ
 
 -- `request_of entry` is the request of `entry`
-abbrev pub request_of : {K V : Type 0} → Entry K V → Request K
+abbrev pub request_of : {K V : Type 0} → Entry K V Point → Request K
 request_of entry = entry.request
 
 -- `accepted_of client` is the requests that were accepted from `client`, in order
-abbrev pub accepted_of : {K V : Type 0} → Client K V (Listed K V) → List (Request K)
+abbrev pub accepted_of : {K V : Type 0} → Client K V Point (Listed K V Point) → List (Request K)
 accepted_of client = map request_of client.entries
 
 -- `played_of w` is what is played in the world `w`

@@ -5,6 +5,7 @@ use Rattle.std.specs.declared.cmp.Ordering.{Ordering}
 use Rattle.pq_inputs.specs.declared.fault.InputFault.{InputFault}
 use Rattle.pq_inputs.specs.declared.fault.InputFault.TheVariants.{TextTooLong, TooManyFiles, RevisionsUsedUp, Memory as InputMemory}
 use Rattle.pq_rules.specs.Turns.{Machine}
+use Rattle.pq_core.specs.Points.{Point}
 use Rattle.pq_core.specs.Replies.{ReplyView}
 use Rattle.pq_core.specs.Works.{DoneView, WorkView}
 use Rattle.pq_core.specs.Outboxes.{Listed, taken_front, HasNoRoom, HasLostEnd, TakesNext}
@@ -23,7 +24,7 @@ use Rattle.pq_core.specs.declared.fault.LookFault.{LookFault}
 use Rattle.pq_core.specs.declared.fault.LookFault.TheVariants.{NoRun}
 use Rattle.pq_core.specs.declared.moves.Move.{Move}
 use Rattle.pq_core.specs.declared.moves.Released.{Released}
-use Rattle.pq_play.specs.World.{World, replies_of}
+use Rattle.pq_play.specs.World.{World, replies_of, own_point}
 use Rattle.pq_play.specs.Headline.{Headline, LeavesClosed}
 use Rattle.pq_play.specs.declared.event.Event.{Event}
 use Rattle.pq_play.specs.declared.event.Event.TheVariants.{Open, Accept, Edit, Start, Step, Give, Starve, Release, Take, Close}
@@ -73,7 +74,7 @@ LookAnswered (Err fault) = fault ≡ NoRun
 -- ---- what the clients take
 
 -- `empty_list room` is an outbox into which nothing was put, with room for `room` replies
-abbrev pub empty_list : {K V : Type 0} → ℕ → Listed K V
+abbrev pub empty_list : {K V : Type 0} → ℕ → Listed K V Point
 empty_list room = record { replies = []; taken = 0; room = room }
 
 -- `taken_opened taken answer` is what the clients have taken after a client was to be opened
@@ -85,11 +86,11 @@ taken_opened taken (Err refused) = taken
 -- not taken: out of the core's outbox while it is open, else out of the outbox that came back at
 -- its close
 pub record TakesOne {K V : Type 0} (c : ℕ) (w v : World K V) : Type 0 where
-  pub client : Client K V (Listed K V)
+  pub client : Client K V Point (Listed K V Point)
   pub client_here : slice_get w.ledger.clients c ≡ Some client
-  pub taken : List (ReplyView K V)
+  pub taken : List (ReplyView K V Point)
   pub taken_here : slice_get w.taken c ≡ Some taken
-  pub after_it : List (ReplyView K V)
+  pub after_it : List (ReplyView K V Point)
   pub next : TakesNext (replies_of client.outbox) taken after_it
   pub taken_after : v.taken ≡ slice_set w.taken c after_it
   pub open_so : client.is_open ≡ true → TakesOut {A = AllocError} replies_of taken_front c (Ok true) w.ledger v.ledger
@@ -98,7 +99,7 @@ pub record TakesOne {K V : Type 0} (c : ℕ) (w v : World K V) : Type 0 where
 -- `TakesNone c w v` is that no client has the number `c`, or that it has taken all that was put to
 -- it, and that the world stays
 pub record TakesNone {K V : Type 0} (c : ℕ) (w v : World K V) : Type 0 where
-  pub none : (client : Client K V (Listed K V)) (taken : List (ReplyView K V)) → slice_get w.ledger.clients c ≡ Some client → slice_get w.taken c ≡ Some taken → length (replies_of client.outbox) ≤ length taken
+  pub none : (client : Client K V Point (Listed K V Point)) (taken : List (ReplyView K V Point)) → slice_get w.ledger.clients c ≡ Some client → slice_get w.taken c ≡ Some taken → length (replies_of client.outbox) ≤ length taken
   pub same : v ≡ w
 
 -- ---- giving
@@ -107,7 +108,7 @@ pub record TakesNone {K V : Type 0} (c : ℕ) (w v : World K V) : Type 0 where
 -- goes on or stops. A result of the revision now is one of `rules` over the sources now
 pub record GivesOne {R K V : Type 0} (P : Type 0) (rules : R) (run : ℕ) (w v : World K V) : Type 0 where
   pub done : DoneView R K P V
-  pub at : RunAt K V (Listed K V)
+  pub at : RunAt K V Point (Listed K V Point)
   pub runs : Runs w.ledger run at
   pub is_of : IsOf run at done
   pub made : IsMade rules w.ledger.inputs done
@@ -117,7 +118,7 @@ pub record GivesOne {R K V : Type 0} (P : Type 0) (rules : R) (run : ℕ) (w v :
 
 -- `GivesNone run w v` is that no work of `run` is out, and that the world stays
 pub record GivesNone {K V : Type 0} (run : ℕ) (w v : World K V) : Type 0 where
-  pub none : (at : RunAt K V (Listed K V)) → Runs w.ledger run at → at.out ≡ None
+  pub none : (at : RunAt K V Point (Listed K V Point)) → Runs w.ledger run at → at.out ≡ None
   pub same : v ≡ w
 
 -- ---- steps
@@ -127,7 +128,7 @@ pub record GivesNone {K V : Type 0} (run : ℕ) (w v : World K V) : Type 0 where
 -- `room` replies
 abbrev pub Steps : {R K P V : Type 0} → ℕ → (K → K → Ordering) → Machine K P V → R → Event K → World K V → World K V → Type 0
 Steps {R} {K} {P} {V} room order machine rules Open w v =
-    (answer : Result ℕ (OpenRefused (Listed K V))) × OpenAnswered answer × Opens (empty_list room) answer w.ledger v.ledger
+    (answer : Result ℕ (OpenRefused (Listed K V Point))) × OpenAnswered answer × Opens (empty_list room) answer w.ledger v.ledger
     × (v.taken ≡ taken_opened w.taken answer)
 Steps {R} {K} {P} {V} room order machine rules (Accept c request) w v =
     (answer : Result ℕ (AcceptRefused K)) × AcceptAnswered answer × Accepts replies_of c request answer w.ledger v.ledger × (v.taken ≡ w.taken)
@@ -135,14 +136,14 @@ Steps room order machine rules (Edit c change) w v =
     (answer : Result ℕ EditRefused) × EditAnswered answer × Edits c change answer w.ledger v.ledger × (v.taken ≡ w.taken)
 Steps room order machine rules Start w v = (answer : Option ℕ) × Starts answer w.ledger v.ledger × (v.taken ≡ w.taken)
 Steps {R} {K} {P} {V} room order machine rules (Step run) w v =
-    (answer : Result (Move (WorkView R K P V)) LookFault) × LookAnswered answer × Looks order machine rules run answer w.ledger v.ledger × (v.taken ≡ w.taken)
+    (answer : Result (Move (WorkView R K P V)) LookFault) × LookAnswered answer × Looks order machine own_point rules run answer w.ledger v.ledger × (v.taken ≡ w.taken)
 Steps {R} {K} {P} {V} room order machine rules (Give run) w v = GivesOne P rules run w v ⊎ GivesNone run w v
 Steps room order machine rules (Starve run) w v = (answer : Bool) × Starves run answer w.ledger v.ledger × (v.taken ≡ w.taken)
 Steps room order machine rules (Release c) w v =
     (answer : Released) × Releases replies_of taken_front HasNoRoom HasLostEnd c answer w.ledger v.ledger × (v.taken ≡ w.taken)
 Steps room order machine rules (Take c) w v = TakesOne c w v ⊎ TakesNone c w v
 Steps {R} {K} {P} {V} room order machine rules (Close c) w v =
-    (answer : Option (Listed K V)) × Closes c answer w.ledger v.ledger × (v.taken ≡ w.taken)
+    (answer : Option (Listed K V Point)) × Closes c answer w.ledger v.ledger × (v.taken ≡ w.taken)
 
 -- `LeadsTo room order machine rules events w v` is that `events` lead from `w` to `v`, one step
 -- each. After each event the headline holds, and each client that was closed before it has the same
@@ -150,4 +151,4 @@ Steps {R} {K} {P} {V} room order machine rules (Close c) w v =
 abbrev pub LeadsTo : {R K P V : Type 0} → ℕ → (K → K → Ordering) → Machine K P V → R → List (Event K) → World K V → World K V → Type 0
 LeadsTo room order machine rules [] w v = v ≡ w
 LeadsTo {R} {K} {P} {V} room order machine rules (event ∷ events) w v =
-    (u : World K V) × Steps room order machine rules event w u × Headline (answer_by order machine) u × LeavesClosed w.ledger u.ledger × LeadsTo room order machine rules events u v
+    (u : World K V) × Steps room order machine rules event w u × Headline (answer_by order machine own_point) u × LeavesClosed w.ledger u.ledger × LeadsTo room order machine rules events u v

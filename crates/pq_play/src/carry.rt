@@ -1,7 +1,7 @@
 //! One event: the call of a core, and what is kept of it.
 ghost use Rattle.std.specs.Prelude.{ℕ, IfOk};
 ghost use Rattle.pq_core.specs.Cores.{StandsFor};
-ghost use Rattle.pq_play.specs.World.{World, replies_of};
+ghost use Rattle.pq_play.specs.World.{World, replies_of, own_point};
 ghost use Rattle.pq_play.specs.aux.Running.{done_of};
 ghost use Rattle.pq_play.specs.aux.Playing.{Stood, Carries};
 ghost use Rattle.pq_play.specs.declared.event.Event.TheVariants.{Open, Accept, Edit, Start, Step, Give, Starve, Release, Take, Close};
@@ -11,10 +11,18 @@ use crate::dones::{Dones, keep_move, take_done};
 use crate::event::Event;
 use crate::seat::{Seat, keep_outbox, keep_request, take_left};
 use pq_core::{
-    Change, ClientId, Core, ListOutbox, Memory, Request, RunId, copy_change, copy_request,
+    Change, ClientId, Core, ListOutbox, Memory, PlainStamp, Request, RunId, copy_change,
+    copy_request,
 };
 use pq_rules::Rules;
 use std::alloc::Global;
+
+/// A core with plain stamps, whose outboxes are lists.
+pub(crate) type ListCore<R> = Core<
+    R,
+    PlainStamp,
+    ListOutbox<<R as Rules>::Key, <R as Rules>::Value, PlainStamp>,
+>;
 
 /// What is kept while events are played: of each client its requests, and its outbox after its
 /// close; of each run whose work is out the result.
@@ -28,11 +36,11 @@ pub(crate) struct Sheet<R: Rules> {
 fn open<R: Rules>(
     alloc: Global,
     rules: &R,
-    core: &mut Core<R, ListOutbox<R::Key, R::Value>>,
+    core: &mut ListCore<R>,
     sheet: &mut Sheet<R>,
     room: usize,
 ) -> Result<(), Memory>
-    ensures { IfOk result (λ _. Carries room R.Key.cmp (R.machine rules.now) rules.now Open core.old.rules (StandsFor R.Key.cmp (R.machine rules.now) replies_of core.old) sheet.old.seats.items (done_of sheet.old.dones) core.new.rules (StandsFor R.Key.cmp (R.machine rules.now) replies_of core.new) sheet.new.seats.items (done_of sheet.new.dones)) }
+    ensures { IfOk result (λ _. Carries room R.Key.cmp (R.machine rules.now) rules.now Open core.old.rules (StandsFor R.Key.cmp (R.machine rules.now) own_point replies_of core.old) sheet.old.seats.items (done_of sheet.old.dones) core.new.rules (StandsFor R.Key.cmp (R.machine rules.now) own_point replies_of core.new) sheet.new.seats.items (done_of sheet.new.dones)) }
 {
     let outbox = ListOutbox::new(alloc, room)?;
     let answer = core.open_client(alloc, outbox);
@@ -52,13 +60,13 @@ fn open<R: Rules>(
 fn accept<R: Rules>(
     alloc: Global,
     rules: &R,
-    core: &mut Core<R, ListOutbox<R::Key, R::Value>>,
+    core: &mut ListCore<R>,
     sheet: &mut Sheet<R>,
     client: ClientId,
     request: &Request<R::Key>,
 ) -> Result<(), Memory>
-    requires { (w : World R.Key R.Value) × Stood R.Key.cmp (R.machine rules.now) rules.now core.old.rules (StandsFor R.Key.cmp (R.machine rules.now) replies_of core.old) w sheet.old.seats.items (done_of sheet.old.dones) }
-    ensures { IfOk result (λ _. (room : ℕ) → Carries room R.Key.cmp (R.machine rules.now) rules.now (Accept client request.now) core.old.rules (StandsFor R.Key.cmp (R.machine rules.now) replies_of core.old) sheet.old.seats.items (done_of sheet.old.dones) core.new.rules (StandsFor R.Key.cmp (R.machine rules.now) replies_of core.new) sheet.new.seats.items (done_of sheet.new.dones)) }
+    requires { (w : World R.Key R.Value) × Stood R.Key.cmp (R.machine rules.now) rules.now core.old.rules (StandsFor R.Key.cmp (R.machine rules.now) own_point replies_of core.old) w sheet.old.seats.items (done_of sheet.old.dones) }
+    ensures { IfOk result (λ _. (room : ℕ) → Carries room R.Key.cmp (R.machine rules.now) rules.now (Accept client request.now) core.old.rules (StandsFor R.Key.cmp (R.machine rules.now) own_point replies_of core.old) sheet.old.seats.items (done_of sheet.old.dones) core.new.rules (StandsFor R.Key.cmp (R.machine rules.now) own_point replies_of core.new) sheet.new.seats.items (done_of sheet.new.dones)) }
 {
     let given = copy_request(alloc, rules, request)?;
     let answer = core.accept(client, given);
@@ -73,16 +81,18 @@ fn accept<R: Rules>(
 
 /// Makes a copy of `change`.
 fn edit<R: Rules>(
+    alloc: Global,
     rules: &R,
-    core: &mut Core<R, ListOutbox<R::Key, R::Value>>,
+    core: &mut ListCore<R>,
     sheet: &mut Sheet<R>,
     client: ClientId,
     change: &Change,
 ) -> Result<(), Memory>
-    ensures { IfOk result (λ _. (room : ℕ) → Carries room R.Key.cmp (R.machine rules.now) rules.now (Edit client change.now) core.old.rules (StandsFor R.Key.cmp (R.machine rules.now) replies_of core.old) sheet.old.seats.items (done_of sheet.old.dones) core.new.rules (StandsFor R.Key.cmp (R.machine rules.now) replies_of core.new) sheet.new.seats.items (done_of sheet.new.dones)) }
+    ensures { IfOk result (λ _. (room : ℕ) → Carries room R.Key.cmp (R.machine rules.now) rules.now (Edit client change.now) core.old.rules (StandsFor R.Key.cmp (R.machine rules.now) own_point replies_of core.old) sheet.old.seats.items (done_of sheet.old.dones) core.new.rules (StandsFor R.Key.cmp (R.machine rules.now) own_point replies_of core.new) sheet.new.seats.items (done_of sheet.new.dones)) }
 {
     let given = copy_change(change)?;
-    let answer = core.edit(client, given);
+    let stamp = PlainStamp::after(alloc, core.inputs(), &given)?;
+    let answer = core.edit(client, given, stamp);
     if !edit_answered(&answer) {
         return Err(Memory);
     }
@@ -90,12 +100,8 @@ fn edit<R: Rules>(
 }
 
 /// Starts a request that waits.
-fn start<R: Rules>(
-    rules: &R,
-    core: &mut Core<R, ListOutbox<R::Key, R::Value>>,
-    sheet: &mut Sheet<R>,
-)
-    ensures { (room : ℕ) → Carries room R.Key.cmp (R.machine rules.now) rules.now Start core.old.rules (StandsFor R.Key.cmp (R.machine rules.now) replies_of core.old) sheet.old.seats.items (done_of sheet.old.dones) core.new.rules (StandsFor R.Key.cmp (R.machine rules.now) replies_of core.new) sheet.new.seats.items (done_of sheet.new.dones) }
+fn start<R: Rules>(rules: &R, core: &mut ListCore<R>, sheet: &mut Sheet<R>)
+    ensures { (room : ℕ) → Carries room R.Key.cmp (R.machine rules.now) rules.now Start core.old.rules (StandsFor R.Key.cmp (R.machine rules.now) own_point replies_of core.old) sheet.old.seats.items (done_of sheet.old.dones) core.new.rules (StandsFor R.Key.cmp (R.machine rules.now) own_point replies_of core.new) sheet.new.seats.items (done_of sheet.new.dones) }
 {
     let _run = core.start();
 }
@@ -104,11 +110,11 @@ fn start<R: Rules>(
 fn step<R: Rules>(
     alloc: Global,
     rules: &R,
-    core: &mut Core<R, ListOutbox<R::Key, R::Value>>,
+    core: &mut ListCore<R>,
     sheet: &mut Sheet<R>,
     run: RunId,
 ) -> Result<(), Memory>
-    ensures { IfOk result (λ _. (room : ℕ) → Carries room R.Key.cmp (R.machine rules.now) rules.now (Step run) core.old.rules (StandsFor R.Key.cmp (R.machine rules.now) replies_of core.old) sheet.old.seats.items (done_of sheet.old.dones) core.new.rules (StandsFor R.Key.cmp (R.machine rules.now) replies_of core.new) sheet.new.seats.items (done_of sheet.new.dones)) }
+    ensures { IfOk result (λ _. (room : ℕ) → Carries room R.Key.cmp (R.machine rules.now) rules.now (Step run) core.old.rules (StandsFor R.Key.cmp (R.machine rules.now) own_point replies_of core.old) sheet.old.seats.items (done_of sheet.old.dones) core.new.rules (StandsFor R.Key.cmp (R.machine rules.now) own_point replies_of core.new) sheet.new.seats.items (done_of sheet.new.dones)) }
 {
     let answer = core.look(alloc, run);
     if !look_answered(&answer) {
@@ -125,12 +131,12 @@ fn step<R: Rules>(
 fn give<R: Rules>(
     alloc: Global,
     rules: &R,
-    core: &mut Core<R, ListOutbox<R::Key, R::Value>>,
+    core: &mut ListCore<R>,
     sheet: &mut Sheet<R>,
     run: RunId,
 ) -> Result<(), Memory>
-    requires { (w : World R.Key R.Value) × Stood R.Key.cmp (R.machine rules.now) rules.now core.old.rules (StandsFor R.Key.cmp (R.machine rules.now) replies_of core.old) w sheet.old.seats.items (done_of sheet.old.dones) }
-    ensures { IfOk result (λ _. (room : ℕ) → Carries room R.Key.cmp (R.machine rules.now) rules.now (Give run) core.old.rules (StandsFor R.Key.cmp (R.machine rules.now) replies_of core.old) sheet.old.seats.items (done_of sheet.old.dones) core.new.rules (StandsFor R.Key.cmp (R.machine rules.now) replies_of core.new) sheet.new.seats.items (done_of sheet.new.dones)) }
+    requires { (w : World R.Key R.Value) × Stood R.Key.cmp (R.machine rules.now) rules.now core.old.rules (StandsFor R.Key.cmp (R.machine rules.now) own_point replies_of core.old) w sheet.old.seats.items (done_of sheet.old.dones) }
+    ensures { IfOk result (λ _. (room : ℕ) → Carries room R.Key.cmp (R.machine rules.now) rules.now (Give run) core.old.rules (StandsFor R.Key.cmp (R.machine rules.now) own_point replies_of core.old) sheet.old.seats.items (done_of sheet.old.dones) core.new.rules (StandsFor R.Key.cmp (R.machine rules.now) own_point replies_of core.new) sheet.new.seats.items (done_of sheet.new.dones)) }
 {
     match take_done(&mut sheet.dones, run) {
         Some(done) => match core.give(alloc, run, done) {
@@ -142,26 +148,16 @@ fn give<R: Rules>(
 }
 
 /// Starves `run`. Of a run that is over nothing is kept.
-fn starve<R: Rules>(
-    rules: &R,
-    core: &mut Core<R, ListOutbox<R::Key, R::Value>>,
-    sheet: &mut Sheet<R>,
-    run: RunId,
-)
-    ensures { (room : ℕ) → Carries room R.Key.cmp (R.machine rules.now) rules.now (Starve run) core.old.rules (StandsFor R.Key.cmp (R.machine rules.now) replies_of core.old) sheet.old.seats.items (done_of sheet.old.dones) core.new.rules (StandsFor R.Key.cmp (R.machine rules.now) replies_of core.new) sheet.new.seats.items (done_of sheet.new.dones) }
+fn starve<R: Rules>(rules: &R, core: &mut ListCore<R>, sheet: &mut Sheet<R>, run: RunId)
+    ensures { (room : ℕ) → Carries room R.Key.cmp (R.machine rules.now) rules.now (Starve run) core.old.rules (StandsFor R.Key.cmp (R.machine rules.now) own_point replies_of core.old) sheet.old.seats.items (done_of sheet.old.dones) core.new.rules (StandsFor R.Key.cmp (R.machine rules.now) own_point replies_of core.new) sheet.new.seats.items (done_of sheet.new.dones) }
 {
     let _was_run = core.starve(run);
     let _done = take_done(&mut sheet.dones, run);
 }
 
 /// Puts the next reply to `client` into its outbox.
-fn release<R: Rules>(
-    rules: &R,
-    core: &mut Core<R, ListOutbox<R::Key, R::Value>>,
-    sheet: &mut Sheet<R>,
-    client: ClientId,
-)
-    ensures { (room : ℕ) → Carries room R.Key.cmp (R.machine rules.now) rules.now (Release client) core.old.rules (StandsFor R.Key.cmp (R.machine rules.now) replies_of core.old) sheet.old.seats.items (done_of sheet.old.dones) core.new.rules (StandsFor R.Key.cmp (R.machine rules.now) replies_of core.new) sheet.new.seats.items (done_of sheet.new.dones) }
+fn release<R: Rules>(rules: &R, core: &mut ListCore<R>, sheet: &mut Sheet<R>, client: ClientId)
+    ensures { (room : ℕ) → Carries room R.Key.cmp (R.machine rules.now) rules.now (Release client) core.old.rules (StandsFor R.Key.cmp (R.machine rules.now) own_point replies_of core.old) sheet.old.seats.items (done_of sheet.old.dones) core.new.rules (StandsFor R.Key.cmp (R.machine rules.now) own_point replies_of core.new) sheet.new.seats.items (done_of sheet.new.dones) }
 {
     let _released = core.release(client);
 }
@@ -169,17 +165,17 @@ fn release<R: Rules>(
 /// Takes the next reply to `client`: out of its outbox in the core, or out of the one that is kept.
 fn take<R: Rules>(
     rules: &R,
-    core: &mut Core<R, ListOutbox<R::Key, R::Value>>,
+    core: &mut ListCore<R>,
     sheet: &mut Sheet<R>,
     client: ClientId,
 ) -> Result<(), Memory>
-    ensures { IfOk result (λ _. (room : ℕ) → Carries room R.Key.cmp (R.machine rules.now) rules.now (Take client) core.old.rules (StandsFor R.Key.cmp (R.machine rules.now) replies_of core.old) sheet.old.seats.items (done_of sheet.old.dones) core.new.rules (StandsFor R.Key.cmp (R.machine rules.now) replies_of core.new) sheet.new.seats.items (done_of sheet.new.dones)) }
+    ensures { IfOk result (λ _. (room : ℕ) → Carries room R.Key.cmp (R.machine rules.now) rules.now (Take client) core.old.rules (StandsFor R.Key.cmp (R.machine rules.now) own_point replies_of core.old) sheet.old.seats.items (done_of sheet.old.dones) core.new.rules (StandsFor R.Key.cmp (R.machine rules.now) own_point replies_of core.new) sheet.new.seats.items (done_of sheet.new.dones)) }
 {
     let out = core.take(client)?;
     if out {
         return Ok(());
     }
-    let left = take_left(&mut sheet.seats, client)?;
+    let left = take_left::<R>(&mut sheet.seats, client)?;
     if left {
         return Ok(());
     }
@@ -189,12 +185,12 @@ fn take<R: Rules>(
 /// Closes `client`, and keeps its outbox.
 pub(crate) fn close<R: Rules>(
     rules: &R,
-    core: &mut Core<R, ListOutbox<R::Key, R::Value>>,
+    core: &mut ListCore<R>,
     sheet: &mut Sheet<R>,
     client: ClientId,
 )
-    requires { (w : World R.Key R.Value) × Stood R.Key.cmp (R.machine rules.now) rules.now core.old.rules (StandsFor R.Key.cmp (R.machine rules.now) replies_of core.old) w sheet.old.seats.items (done_of sheet.old.dones) }
-    ensures { (room : ℕ) → Carries room R.Key.cmp (R.machine rules.now) rules.now (Close client) core.old.rules (StandsFor R.Key.cmp (R.machine rules.now) replies_of core.old) sheet.old.seats.items (done_of sheet.old.dones) core.new.rules (StandsFor R.Key.cmp (R.machine rules.now) replies_of core.new) sheet.new.seats.items (done_of sheet.new.dones) }
+    requires { (w : World R.Key R.Value) × Stood R.Key.cmp (R.machine rules.now) rules.now core.old.rules (StandsFor R.Key.cmp (R.machine rules.now) own_point replies_of core.old) w sheet.old.seats.items (done_of sheet.old.dones) }
+    ensures { (room : ℕ) → Carries room R.Key.cmp (R.machine rules.now) rules.now (Close client) core.old.rules (StandsFor R.Key.cmp (R.machine rules.now) own_point replies_of core.old) sheet.old.seats.items (done_of sheet.old.dones) core.new.rules (StandsFor R.Key.cmp (R.machine rules.now) own_point replies_of core.new) sheet.new.seats.items (done_of sheet.new.dones) }
 {
     match core.close_client(client) {
         Some(outbox) => keep_outbox(&mut sheet.seats, client, outbox),
@@ -206,18 +202,18 @@ pub(crate) fn close<R: Rules>(
 pub(crate) fn carry<R: Rules>(
     alloc: Global,
     rules: &R,
-    core: &mut Core<R, ListOutbox<R::Key, R::Value>>,
+    core: &mut ListCore<R>,
     sheet: &mut Sheet<R>,
     room: usize,
     event: &Event<R::Key>,
 ) -> Result<(), Memory>
-    requires { (w : World R.Key R.Value) × Stood R.Key.cmp (R.machine rules.now) rules.now core.old.rules (StandsFor R.Key.cmp (R.machine rules.now) replies_of core.old) w sheet.old.seats.items (done_of sheet.old.dones) }
-    ensures { IfOk result (λ _. Carries room R.Key.cmp (R.machine rules.now) rules.now event.now core.old.rules (StandsFor R.Key.cmp (R.machine rules.now) replies_of core.old) sheet.old.seats.items (done_of sheet.old.dones) core.new.rules (StandsFor R.Key.cmp (R.machine rules.now) replies_of core.new) sheet.new.seats.items (done_of sheet.new.dones)) }
+    requires { (w : World R.Key R.Value) × Stood R.Key.cmp (R.machine rules.now) rules.now core.old.rules (StandsFor R.Key.cmp (R.machine rules.now) own_point replies_of core.old) w sheet.old.seats.items (done_of sheet.old.dones) }
+    ensures { IfOk result (λ _. Carries room R.Key.cmp (R.machine rules.now) rules.now event.now core.old.rules (StandsFor R.Key.cmp (R.machine rules.now) own_point replies_of core.old) sheet.old.seats.items (done_of sheet.old.dones) core.new.rules (StandsFor R.Key.cmp (R.machine rules.now) own_point replies_of core.new) sheet.new.seats.items (done_of sheet.new.dones)) }
 {
     match event {
         Event::Open => open(alloc, rules, core, sheet, room),
         Event::Accept(client, request) => accept(alloc, rules, core, sheet, *client, request),
-        Event::Edit(client, change) => edit(rules, core, sheet, *client, change),
+        Event::Edit(client, change) => edit(alloc, rules, core, sheet, *client, change),
         Event::Start => {
             start(rules, core, sheet);
             Ok(())

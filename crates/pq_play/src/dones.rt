@@ -2,16 +2,19 @@
 ghost use Rattle.std.specs.Prelude.{◌≡◌, OnOk, None, Some};
 ghost use Rattle.pq_play.specs.aux.Running.{done_of, IsPut, KeepsMove};
 
-use pq_core::{Done, Memory, Move, RunId, Work};
+use pq_core::{Done, Memory, Move, PlainStamp, RunId, Work};
 use pq_rules::Rules;
 use std::alloc::Global;
 use std::collections::BTreeMap;
 
 /// The results of the work that is out, by the numbers of their runs.
-pub(crate) type Dones<R> = BTreeMap<u64, Done<R>>;
+pub(crate) type Dones<R> = BTreeMap<u64, Done<R, PlainStamp>>;
 
 /// Keeps the result of work.
-pub(crate) fn keep_done<R: Rules>(dones: &mut Dones<R>, done: Done<R>) -> Result<(), Memory>
+pub(crate) fn keep_done<R: Rules>(
+    dones: &mut Dones<R>,
+    done: Done<R, PlainStamp>,
+) -> Result<(), Memory>
     ensures { OnOk result (IsPut (done_of dones.old) (done_of dones.new) done.run (Some done)) }
 {
     match dones.insert(done.run().number(), done) {
@@ -21,7 +24,7 @@ pub(crate) fn keep_done<R: Rules>(dones: &mut Dones<R>, done: Done<R>) -> Result
 }
 
 /// Takes the result that is kept for `run`, if there is one.
-pub(crate) fn take_done<R: Rules>(dones: &mut Dones<R>, run: RunId) -> Option<Done<R>>
+pub(crate) fn take_done<R: Rules>(dones: &mut Dones<R>, run: RunId) -> Option<Done<R, PlainStamp>>
     ensures value { result ≡ done_of dones.old run }
     ensures gone { IsPut (done_of dones.old) (done_of dones.new) run None }
 {
@@ -34,7 +37,7 @@ pub(crate) fn keep_move<R: Rules>(
     alloc: Global,
     dones: &mut Dones<R>,
     run: RunId,
-    step: Move<Work<R>>,
+    step: Move<Work<R, PlainStamp>>,
 ) -> Result<(), Memory>
     ensures { OnOk result (KeepsMove run step (done_of dones.old) (done_of dones.new)) }
 {

@@ -1,5 +1,5 @@
 //! What playing a list of events gives.
-use pq_core::{Reply, Request};
+use pq_core::{PlainStamp, Reply, Request};
 use pq_inputs::Revision;
 use std::marker::Model;
 
@@ -10,7 +10,7 @@ pub struct Played<K, V> {
     /// The requests that were accepted from each client.
     pub accepted: Vec<Vec<Request<K>>>,
     /// The replies that each client has taken.
-    pub taken: Vec<Vec<Reply<K, V>>>,
+    pub taken: Vec<Vec<Reply<K, V, PlainStamp>>>,
     /// The last revision.
     pub revision: Revision,
 }

@@ -1,18 +1,18 @@
 //! A core under a list of events.
 ghost use Rattle.std.specs.Prelude.{◌≡◌, IfOk, map};
 ghost use Rattle.pq_core.specs.Cores.{StandsFor};
-ghost use Rattle.pq_play.specs.World.{World, beginning, replies_of};
+ghost use Rattle.pq_play.specs.World.{World, beginning, replies_of, own_point};
 ghost use Rattle.pq_play.specs.Steps.{LeadsTo};
 ghost use Rattle.pq_play.specs.Results.{played_of};
 ghost use Rattle.pq_play.specs.aux.Seats.{seat_accepted, seat_taken};
 ghost use Rattle.pq_play.specs.aux.Running.{done_of};
 ghost use Rattle.pq_play.specs.aux.Playing.{Stood, Led, GathersAll};
 
-use crate::carry::{Sheet, carry, close};
+use crate::carry::{ListCore, Sheet, carry, close};
 use crate::event::Event;
 use crate::played::Played;
 use crate::seat::Seat;
-use pq_core::{ClientId, Core, ListOutbox, Memory};
+use pq_core::{ClientId, Core, Memory, PlainStamp};
 use pq_inputs::{Inputs, Revision};
 use pq_rules::Rules;
 use std::alloc::Global;
@@ -22,13 +22,13 @@ use std::collections::BTreeMap;
 fn carry_all<R: Rules>(
     alloc: Global,
     rules: &R,
-    core: &mut Core<R, ListOutbox<R::Key, R::Value>>,
+    core: &mut ListCore<R>,
     sheet: &mut Sheet<R>,
     room: usize,
     events: &[Event<R::Key>],
 ) -> Result<(), Memory>
-    requires { (w : World R.Key R.Value) × Stood R.Key.cmp (R.machine rules.now) rules.now core.old.rules (StandsFor R.Key.cmp (R.machine rules.now) replies_of core.old) w sheet.old.seats.items (done_of sheet.old.dones) }
-    ensures { IfOk result (λ _. (w : World R.Key R.Value) → Stood R.Key.cmp (R.machine rules.now) rules.now core.old.rules (StandsFor R.Key.cmp (R.machine rules.now) replies_of core.old) w sheet.old.seats.items (done_of sheet.old.dones) → Led room R.Key.cmp (R.machine rules.now) rules.now events.now w core.new.rules (StandsFor R.Key.cmp (R.machine rules.now) replies_of core.new) sheet.new.seats.items (done_of sheet.new.dones)) }
+    requires { (w : World R.Key R.Value) × Stood R.Key.cmp (R.machine rules.now) rules.now core.old.rules (StandsFor R.Key.cmp (R.machine rules.now) own_point replies_of core.old) w sheet.old.seats.items (done_of sheet.old.dones) }
+    ensures { IfOk result (λ _. (w : World R.Key R.Value) → Stood R.Key.cmp (R.machine rules.now) rules.now core.old.rules (StandsFor R.Key.cmp (R.machine rules.now) own_point replies_of core.old) w sheet.old.seats.items (done_of sheet.old.dones) → Led room R.Key.cmp (R.machine rules.now) rules.now events.now w core.new.rules (StandsFor R.Key.cmp (R.machine rules.now) own_point replies_of core.new) sheet.new.seats.items (done_of sheet.new.dones)) }
 {
     'events: for event in events {
         carry(alloc, rules, core, sheet, room, event)?;
@@ -37,13 +37,9 @@ fn carry_all<R: Rules>(
 }
 
 /// Closes all clients, so that their outboxes are kept.
-fn close_all<R: Rules>(
-    rules: &R,
-    core: &mut Core<R, ListOutbox<R::Key, R::Value>>,
-    sheet: &mut Sheet<R>,
-)
-    requires { (w : World R.Key R.Value) × Stood R.Key.cmp (R.machine rules.now) rules.now core.old.rules (StandsFor R.Key.cmp (R.machine rules.now) replies_of core.old) w sheet.old.seats.items (done_of sheet.old.dones) }
-    ensures { (w : World R.Key R.Value) → Stood R.Key.cmp (R.machine rules.now) rules.now core.old.rules (StandsFor R.Key.cmp (R.machine rules.now) replies_of core.old) w sheet.old.seats.items (done_of sheet.old.dones) → GathersAll w sheet.new.seats.items }
+fn close_all<R: Rules>(rules: &R, core: &mut ListCore<R>, sheet: &mut Sheet<R>)
+    requires { (w : World R.Key R.Value) × Stood R.Key.cmp (R.machine rules.now) rules.now core.old.rules (StandsFor R.Key.cmp (R.machine rules.now) own_point replies_of core.old) w sheet.old.seats.items (done_of sheet.old.dones) }
+    ensures { (w : World R.Key R.Value) → Stood R.Key.cmp (R.machine rules.now) rules.now core.old.rules (StandsFor R.Key.cmp (R.machine rules.now) own_point replies_of core.old) w sheet.old.seats.items (done_of sheet.old.dones) → GathersAll w sheet.new.seats.items }
 {
     let count = sheet.seats.len();
     'clients: for place in 0..count {
@@ -89,8 +85,9 @@ pub fn play<R: Rules>(
 ) -> Result<Played<R::Key, R::Value>, Memory>
     ensures { IfOk result (λ played. (w : World R.Key R.Value) × LeadsTo room R.Key.cmp (R.machine rules) rules events.now beginning w × (played ≡ played_of w)) }
 {
-    let inputs = Inputs::new(alloc)?;
-    let mut core: Core<R, ListOutbox<R::Key, R::Value>> = Core::new(alloc, rules, inputs);
+    let fresh = Inputs::new(alloc)?;
+    let stamp = PlainStamp::of(alloc, &fresh)?;
+    let mut core: ListCore<R> = Core::new(alloc, rules, fresh, stamp);
     let mut sheet = Sheet {
         seats: Vec::new(alloc),
         dones: BTreeMap::new(alloc),

@@ -3,7 +3,7 @@ ghost use Rattle.std.specs.Prelude.{◌≡◌, ◌<◌, true, false, IfOk, OnOk,
 ghost use Rattle.pq_core.specs.Outboxes.{taken_front};
 ghost use Rattle.pq_play.specs.aux.Seats.{free_seat, with_request, with_left, seat_taken, SeatTakes, SeatLeaves, SetsSeat, TakesLeft, LeavesNone};
 
-use pq_core::{ClientId, ListOutbox, Memory, Reply, Request, Taking, copy_request};
+use pq_core::{ClientId, ListOutbox, Memory, PlainStamp, Reply, Request, Taking, copy_request};
 use pq_rules::Rules;
 use std::alloc::Global;
 use std::marker::Model;
@@ -12,7 +12,7 @@ use std::marker::Model;
 #[derive(Drop)]
 pub(crate) struct Seat<K, V> {
     pub(crate) accepted: Vec<Request<K>>,
-    pub(crate) left: Option<ListOutbox<K, V>>,
+    pub(crate) left: Option<ListOutbox<K, V, PlainStamp>>,
 }
 
 impl<K, V> Model for Seat<K, V> {
@@ -43,25 +43,14 @@ impl<K: Drop, V: Drop> Seat<K, V> {
     }
 
     /// Keeps the outbox that came back.
-    pub(crate) fn leave(&mut self, outbox: ListOutbox<K, V>)
+    pub(crate) fn leave(&mut self, outbox: ListOutbox<K, V, PlainStamp>)
         ensures { self.new ≡ with_left self.old outbox }
     {
         self.left = Some(outbox);
     }
 
-    /// Takes the next reply out of the outbox that is kept. Returns whether there was one.
-    pub(crate) fn take(&mut self) -> Result<bool, Memory>
-        ensures taken { IfOk result (λ there. there ≡ true → SeatTakes self.old self.new) }
-        ensures none { IfOk result (λ there. there ≡ false → SeatLeaves self.old self.new) }
-    {
-        match &mut self.left {
-            Some(outbox) => outbox.take(),
-            None => Ok(false),
-        }
-    }
-
     /// The requests, and the replies that were taken out of the outbox that is kept.
-    pub(crate) fn into_lists(self, alloc: Global) -> (Vec<Request<K>>, Vec<Reply<K, V>>)
+    pub(crate) fn into_lists(self, alloc: Global) -> (Vec<Request<K>>, Vec<Reply<K, V, PlainStamp>>)
         ensures { (result.0.items ≡ self.accepted) × (result.1.items ≡ seat_taken self) }
     {
         let Seat { accepted, left } = self;
@@ -72,8 +61,19 @@ impl<K: Drop, V: Drop> Seat<K, V> {
     }
 }
 
+/// Takes the next reply out of the outbox that is kept in `seat`. Returns whether there was one.
+fn take_kept<R: Rules>(seat: &mut Seat<R::Key, R::Value>) -> Result<bool, Memory>
+    ensures taken { IfOk result (λ there. there ≡ true → SeatTakes seat.old seat.new) }
+    ensures none { IfOk result (λ there. there ≡ false → SeatLeaves seat.old seat.new) }
+{
+    match &mut seat.left {
+        Some(outbox) => Taking::<R, PlainStamp>::take(outbox),
+        None => Ok(false),
+    }
+}
+
 /// The replies that were taken out of `outbox`.
-fn taken_of<K: Drop, V: Drop>(outbox: ListOutbox<K, V>) -> Vec<Reply<K, V>>
+fn taken_of<K: Drop, V: Drop>(outbox: ListOutbox<K, V, PlainStamp>) -> Vec<Reply<K, V, PlainStamp>>
     ensures { result.items ≡ taken_front outbox }
 {
     let (mut replies, taken) = outbox.into_parts();
@@ -100,7 +100,7 @@ pub(crate) fn keep_request<R: Rules>(
 pub(crate) fn keep_outbox<K: Drop, V: Drop>(
     seats: &mut Vec<Seat<K, V>>,
     client: ClientId,
-    outbox: ListOutbox<K, V>,
+    outbox: ListOutbox<K, V, PlainStamp>,
 )
     requires { client < length seats.old.items }
     ensures { SetsSeat seats.old.items seats.new.items client (λ seat. with_left seat outbox) }
@@ -109,8 +109,8 @@ pub(crate) fn keep_outbox<K: Drop, V: Drop>(
 }
 
 /// Takes the next reply out of the outbox that is kept of `client`. Returns whether there was one.
-pub(crate) fn take_left<K: Drop, V: Drop>(
-    seats: &mut Vec<Seat<K, V>>,
+pub(crate) fn take_left<R: Rules>(
+    seats: &mut Vec<Seat<R::Key, R::Value>>,
     client: ClientId,
 ) -> Result<bool, Memory>
     ensures taken { IfOk result (λ there. there ≡ true → TakesLeft seats.old.items seats.new.items client) }
@@ -120,5 +120,5 @@ pub(crate) fn take_left<K: Drop, V: Drop>(
     if place >= seats.len() {
         return Ok(false);
     }
-    seats[place].take()
+    take_kept::<R>(&mut seats[place])
 }

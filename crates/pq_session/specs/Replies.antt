@@ -37,12 +37,12 @@ fixed_text label (Demand key) = null_text label
 
 -- `outcome_text root label want revision outcome` is the text of the reply to a request that ended
 -- in `outcome` at `revision`.
-abbrev pub outcome_text : List ℕ → LabelModel → Want ProtoKey → ℕ → Outcome ProtoKey ProtoValue → List ℕ
-outcome_text root label want revision (Answered answer) = answer_text root label revision answer
+abbrev pub outcome_text : {M : Type 0} → List ℕ → LabelModel → Want ProtoKey → ℕ → Outcome ProtoKey ProtoValue M → List ℕ
+outcome_text root label want revision (Answered answer stamp) = answer_text root label revision answer
 outcome_text root label want revision Plain = fixed_text label want
 outcome_text root label want revision (Cancelled started seen) = cancelled_text label started seen
 outcome_text root label want revision Starved = out_of_memory_text label
 
 -- `reply_text root reply` is the text of `reply` in a session with the root `root`.
-abbrev pub reply_text : List ℕ → ReplyView ProtoKey ProtoValue → List ℕ
+abbrev pub reply_text : {M : Type 0} → List ℕ → ReplyView ProtoKey ProtoValue M → List ℕ
 reply_text root reply = outcome_text root (label_model reply.request.label) reply.request.want reply.revision reply.outcome

@@ -14,7 +14,7 @@ use crate::checks::{check_number, check_page, check_row_count, split_row, text_o
 use answers::answer;
 use calls::Calls;
 use post::Post;
-use pq_core::Core;
+use pq_core::{Core, PlainStamp};
 use pq_inputs::Inputs;
 use pq_rules::{Rules, SumsKey, SumsValue};
 use std::cell::Cell;
@@ -57,10 +57,11 @@ fn check_script_by<R: Rules<Key = SumsKey, Value = SumsValue>>(
     script: &str,
 )
 where
-    Core<R, Post>: Calls,
+    Core<R, PlainStamp, Post>: Calls,
 {
     let inputs = Inputs::new(rt.alloc()).expect(rt, "memory");
-    let mut core: Core<R, Post> = Core::new(rt.alloc(), rules, inputs);
+    let stamp = PlainStamp::of(rt.alloc(), &inputs).expect(rt, "memory");
+    let mut core: Core<R, PlainStamp, Post> = Core::new(rt.alloc(), rules, inputs, stamp);
     check_lines(rt, &mut core, starts, script);
 }
 

@@ -9,7 +9,7 @@ use super::cores::lines::{
     Sample, add_replies, add_request, change_of, client_of, number_of, request_of,
 };
 use crate::checks::check_page;
-use pq_core::{Reply, Request, RunId};
+use pq_core::{PlainStamp, Reply, Request, RunId};
 use pq_play::{Event, Played, play};
 use pq_rules::{Sums, SumsKey, SumsValue};
 use std::process::Abort;
@@ -87,7 +87,7 @@ fn add_accepted<K: Sample>(page: &mut Page, accepted: &[Vec<Request<K>>]) {
 }
 
 /// Writes the replies that each client took.
-fn add_taken<K: Sample>(page: &mut Page, taken: &[Vec<Reply<K, K::Value>>]) {
+fn add_taken<K: Sample>(page: &mut Page, taken: &[Vec<Reply<K, K::Value, PlainStamp>>]) {
     for replies in taken {
         page.add("taken ");
         add_replies::<K>(page, replies.as_slice());

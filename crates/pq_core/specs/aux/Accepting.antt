@@ -10,22 +10,22 @@ use Rattle.pq_core.specs.declared.fault.AcceptFault.{AcceptFault}
 use Rattle.pq_core.specs.declared.fault.AcceptFault.TheVariants.{NoClient, Closed, WindowFull, Memory}
 
 -- `IsFullLane lane` is that the window of `lane` is full, or that its numbers are used up
-abbrev pub IsFullLane : {K V O : Type 0} → LaneView K V O → Type 0
+abbrev pub IsFullLane : {K V M O : Type 0} → LaneView K V M O → Type 0
 IsFullLane lane = (window ≤ length lane.owed) ⊎ (2 ^ 64 ≤ lane.put + length lane.owed + 1)
 
 -- `MayNot h c fault` is that the client `c` may not post a request, because of `fault`
-abbrev pub MayNot : {K P V O : Type 0} → Held K P V O → ℕ → AcceptFault → Type 0
+abbrev pub MayNot : {K P V M O : Type 0} → Held K P V M O → ℕ → AcceptFault → Type 0
 MayNot h c NoClient = h.clients ≤ c
 MayNot h c Closed = (c < h.clients) × (found h.lanes c ≡ None)
-MayNot {K} {P} {V} {O} h c WindowFull = (lane : LaneView K V O) × (found h.lanes c ≡ Some lane) × IsFullLane lane
+MayNot {K} {P} {V} {M} {O} h c WindowFull = (lane : LaneView K V M O) × (found h.lanes c ≡ Some lane) × IsFullLane lane
 MayNot h c Memory = ⊥
 
 -- `MayPost h c` is that the client `c` may post a request
-abbrev pub MayPost : {K P V O : Type 0} → Held K P V O → ℕ → Type 0
-MayPost {K} {P} {V} {O} h c = (lane : LaneView K V O) × (found h.lanes c ≡ Some lane) × (IsFullLane lane → ⊥)
+abbrev pub MayPost : {K P V M O : Type 0} → Held K P V M O → ℕ → Type 0
+MayPost {K} {P} {V} {M} {O} h c = (lane : LaneView K V M O) × (found h.lanes c ≡ Some lane) × (IsFullLane lane → ⊥)
 
 -- `MayNotEdit h c fault` is that the client `c` may not edit, because of `fault`
-abbrev pub MayNotEdit : {K P V O : Type 0} → Held K P V O → ℕ → EditFault → Type 0
+abbrev pub MayNotEdit : {K P V M O : Type 0} → Held K P V M O → ℕ → EditFault → Type 0
 MayNotEdit h c EditNoClient = h.clients ≤ c
 MayNotEdit h c EditClosed = (c < h.clients) × (found h.lanes c ≡ None)
 MayNotEdit h c (Input fault) = ⊥

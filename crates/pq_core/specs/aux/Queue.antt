@@ -12,8 +12,8 @@ abbrev pub is_of_other : ℕ → ℕ × ℕ → Bool
 is_of_other c seat = not (eqb seat.0 c)
 
 -- `WaitsIn lanes c n request` is that `request`, the request `n` of the client `c`, waits
-pub record WaitsIn {K V O : Type 0} (lanes : List (Place (LaneView K V O))) (c n : ℕ) (request : Request K) : Type 0 where
-  pub lane : LaneView K V O
+pub record WaitsIn {K V M O : Type 0} (lanes : List (Place (LaneView K V M O))) (c n : ℕ) (request : Request K) : Type 0 where
+  pub lane : LaneView K V M O
   pub here : found lanes c ≡ Some lane
   pub waits : IsOwed lane n (OwedWaiting request)
 
@@ -24,7 +24,7 @@ IsOnce (x ∷ xs) = (In x xs → ⊥) × IsOnce xs
 
 -- `IsQueue lanes queue` is that `queue` is of the requests that wait in `lanes`, each by its client
 -- and number, and each once
-pub record IsQueue {K V O : Type 0} (lanes : List (Place (LaneView K V O))) (queue : List (ℕ × ℕ)) : Type 0 where
+pub record IsQueue {K V M O : Type 0} (lanes : List (Place (LaneView K V M O))) (queue : List (ℕ × ℕ)) : Type 0 where
   pub waits : (c n : ℕ) → In (c, n) queue → (request : Request K) × WaitsIn lanes c n request
   pub queued : (c n : ℕ) (request : Request K) → WaitsIn lanes c n request → In (c, n) queue
   pub once : IsOnce queue

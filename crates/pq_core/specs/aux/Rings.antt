@@ -1,5 +1,5 @@
 -- Auxiliary: the frames of the keys of a ring, in the runs that hold these keys.
-use Rattle.std.specs.Prelude.{ℕ, ◌≡◌, ◌⊎◌, List, take, Some, None}
+use Rattle.std.specs.Prelude.{ℕ, ◌≡◌, ◌⊎◌, List, ◌∷◌, ◌++◌, take, Some, None}
 use Rattle.pq_rules.specs.Relations.{In}
 use Rattle.pq_memo.specs.declared.frame.Frame.{Frame}
 use Rattle.pq_claims.specs.Claims.{Hold, Holds, hold_of}
@@ -28,6 +28,8 @@ pub record LeavesRun {K P : Type 0} (run : ℕ) (key : K) (stack left : List (Fr
   pub fewer : (k : K) → In k (hold_of after run).keys → In k (hold_of before run).keys
   pub awake : (hold_of after run).wait ≡ None
   pub others : OthersHold run before after
+  -- if the run held `key`, those that left are `key` and those that it claimed after
+  pub split : In key (hold_of before run).keys → (more : List K) × ((hold_of before run).keys ≡ (hold_of after run).keys ++ key ∷ more)
 
 -- `IsCut claims was now run` is that of the frames of `run`, whose top was a frame, the last have left,
 -- and that it waits for no key; it was `was`, and is `now`
@@ -47,3 +49,5 @@ pub record KeyLeaves {K P : Type 0} (key : K) (before after : List (ℕ × Hold 
   pub fewer : (r : ℕ) (k : K) → Holds after r k → Holds before r k
   pub waits : (r : ℕ) (k : K) → (hold_of after r).wait ≡ Some k → (hold_of before r).wait ≡ Some k
   pub each : (r : ℕ) → (found new r ≡ found old r) ⊎ ((was : RunView K P) × (now : RunView K P) × (found old r ≡ Some was) × (found new r ≡ Some now) × IsCut after was now r)
+  -- of the keys of a run none left, or `key` and those that it claimed after
+  pub split : (r : ℕ) → ((hold_of after r).keys ≡ (hold_of before r).keys) ⊎ ((more : List K) × ((hold_of before r).keys ≡ (hold_of after r).keys ++ key ∷ more))

@@ -2,8 +2,9 @@
 --
 -- `L` is the type of lanes, and `AsLane lane client` is that `lane` is kept of the open `client`.
 use Rattle.std.specs.Prelude.{ℕ, ◌≡◌, ◌<◌, true, false, List, length, slice_get, Option, Some, None}
-use Rattle.pq_inputs.specs.Sources.{Sources, Table}
+use Rattle.pq_inputs.specs.Sources.{Table}
 use Rattle.pq_rules.specs.declared.turn.Answer.{Answer}
+use Rattle.pq_core.specs.Points.{Point}
 use Rattle.pq_core.specs.Replies.{ReplyView}
 use Rattle.pq_core.specs.Ledger.{Out, Place, Waiting, Running, Ready, Put, Dropped, Entry, Client, Ledger}
 use Rattle.pq_core.specs.Moves.{open_count}
@@ -30,7 +31,7 @@ pub record Fields (K L : Type 0) : Type 0 where
 
 -- `EntryStands f c n entry place` is what the core keeps of the request `n` of the client `c` in
 -- `place`
-abbrev pub EntryStands : {K V L : Type 0} → Fields K L → ℕ → ℕ → Entry K V → Place K V → Type 0
+abbrev pub EntryStands : {K V M L : Type 0} → Fields K L → ℕ → ℕ → Entry K V M → Place K V M → Type 0
 EntryStands f c n entry Waiting = Unit {0}
 EntryStands f c n entry (Running r s o) =
     (r < f.started) × (f.runs r ≡ Some (record { client = c; number = n; request = entry.request; started = s; out = o }))
@@ -39,30 +40,30 @@ EntryStands f c n entry Put = Unit {0}
 EntryStands f c n entry Dropped = Unit {0}
 
 -- `ClientStands AsLane f c client` is what the core keeps of the client `c`
-pub record ClientStands {K V L O : Type 0} (AsLane : L → Client K V O → Type 0) (f : Fields K L) (c : ℕ) (client : Client K V O) : Type 0 where
+pub record ClientStands {K V M L O : Type 0} (AsLane : L → Client K V M O → Type 0) (f : Fields K L) (c : ℕ) (client : Client K V M O) : Type 0 where
   pub lane : client.is_open ≡ true → (lane : L) × (f.lanes c ≡ Some lane) × AsLane lane client
   pub shut : client.is_open ≡ false → f.lanes c ≡ None
   -- of a closed client no request waits
-  pub dropped : client.is_open ≡ false → (n : ℕ) (entry : Entry K V) → slice_get client.entries n ≡ Some entry → entry.place ≡ Waiting → ⊥
-  pub entries : (n : ℕ) (entry : Entry K V) → slice_get client.entries n ≡ Some entry → EntryStands f c n entry entry.place
+  pub dropped : client.is_open ≡ false → (n : ℕ) (entry : Entry K V M) → slice_get client.entries n ≡ Some entry → entry.place ≡ Waiting → ⊥
+  pub entries : (n : ℕ) (entry : Entry K V M) → slice_get client.entries n ≡ Some entry → EntryStands f c n entry entry.place
 
 -- `HasRun l r run` is that `run` is the run `r` of the ledger
-pub record HasRun {K V O : Type 0} (l : Ledger K V O) (r : ℕ) (run : RunSeen K) : Type 0 where
-  pub client : Client K V O
-  pub entry : Entry K V
+pub record HasRun {K V M O : Type 0} (l : Ledger K V M O) (r : ℕ) (run : RunSeen K) : Type 0 where
+  pub client : Client K V M O
+  pub entry : Entry K V M
   pub client_here : slice_get l.clients run.client ≡ Some client
   pub here : slice_get client.entries run.number ≡ Some entry
   pub runs : entry.place ≡ Running r run.started run.out
   pub request : run.request ≡ entry.request
 
 -- `Stands AsLane means puts f l` is that a core with the fields `f` stands for the ledger `l`
-pub record Stands {K V L O : Type 0} (AsLane : L → Client K V O → Type 0) (means : Sources → K → Answer K V → Type 0) (puts : O → List (ReplyView K V))
-    (f : Fields K L) (l : Ledger K V O) : Type 0 where
+pub record Stands {K V M L O : Type 0} (AsLane : L → Client K V M O → Type 0) (means : M → Point → K → Answer K V → Type 0) (puts : O → List (ReplyView K V M))
+    (f : Fields K L) (l : Ledger K V M O) : Type 0 where
   pub inputs : l.inputs ≡ f.inputs
   pub clients : length l.clients ≡ f.clients
   pub opened : open_count l.clients ≡ f.opened
   pub started : l.runs ≡ f.started
   pub within : (c : ℕ) (lane : L) → f.lanes c ≡ Some lane → c < f.clients
-  pub each : (c : ℕ) (client : Client K V O) → slice_get l.clients c ≡ Some client → ClientStands AsLane f c client
+  pub each : (c : ℕ) (client : Client K V M O) → slice_get l.clients c ≡ Some client → ClientStands AsLane f c client
   pub runs : (r : ℕ) (run : RunSeen K) → f.runs r ≡ Some run → HasRun l r run
   pub kept : Kept means puts l

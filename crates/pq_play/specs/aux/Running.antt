@@ -15,7 +15,7 @@ pub record Run (K : Type 0) : Type 0 where
   pub out : Option (Out K)
 
 -- `run_in place` is the run of a request in `place`
-abbrev pub run_in : {K V : Type 0} → Place K V → Option (Run K)
+abbrev pub run_in : {K V M : Type 0} → Place K V M → Option (Run K)
 run_in Waiting = None
 run_in (Running run started out) = Some (record { number = run; started = started; out = out })
 run_in (Ready reply) = None
@@ -23,27 +23,27 @@ run_in Put = None
 run_in Dropped = None
 
 -- `run_of entry` is the run of `entry`
-abbrev pub run_of : {K V : Type 0} → Option (Entry K V) → Option (Run K)
+abbrev pub run_of : {K V M : Type 0} → Option (Entry K V M) → Option (Run K)
 run_of None = None
 run_of (Some entry) = run_in entry.place
 
 -- `run_among client n` is the run of the request `n` of `client`
-abbrev pub run_among : {K V O : Type 0} → Option (Client K V O) → ℕ → Option (Run K)
+abbrev pub run_among : {K V M O : Type 0} → Option (Client K V M O) → ℕ → Option (Run K)
 run_among None n = None
 run_among (Some client) n = run_of (slice_get client.entries n)
 
 -- `run_at clients c n` is the run of the request `n` of the client `c`
-abbrev pub run_at : {K V O : Type 0} → List (Client K V O) → ℕ → ℕ → Option (Run K)
+abbrev pub run_at : {K V M O : Type 0} → List (Client K V M O) → ℕ → ℕ → Option (Run K)
 run_at clients c n = run_among (slice_get clients c) n
 
 -- `RunsKept l` is that runs are numbered from 0 on, each once
-pub record RunsKept {K V O : Type 0} (l : Ledger K V O) : Type 0 where
+pub record RunsKept {K V M O : Type 0} (l : Ledger K V M O) : Type 0 where
   pub below : (c n : ℕ) (a : Run K) → run_at l.clients c n ≡ Some a → a.number < l.runs
   pub once : (c n d k : ℕ) (a b : Run K) → run_at l.clients c n ≡ Some a → run_at l.clients d k ≡ Some b → a.number ≡ b.number → (c ≡ d) × (n ≡ k)
 
 -- `IsKeptFor rules l r done` is that `done` is the result of the work of the run `r` that is out,
 -- of `rules` over the sources of the revision of its start
-pub record IsKeptFor {R K P V O : Type 0} (rules : R) (l : Ledger K V O) (r : ℕ) (done : DoneView R K P V) : Type 0 where
+pub record IsKeptFor {R K P V M O : Type 0} (rules : R) (l : Ledger K V M O) (r : ℕ) (done : DoneView R K P V) : Type 0 where
   pub c : ℕ
   pub n : ℕ
   pub a : Run K
@@ -56,8 +56,8 @@ pub record IsKeptFor {R K P V O : Type 0} (rules : R) (l : Ledger K V O) (r : �
   pub files : slice_get l.inputs.history done.started ≡ Some done.files
 
 -- `OutOf rules l r kept` is that the result `kept` is that of the work of the run `r` that is out
-abbrev pub OutOf : {R K P V O : Type 0} → R → Ledger K V O → ℕ → Option (DoneView R K P V) → Type 0
-OutOf {R} {K} {P} {V} {O} rules l r None = (c n : ℕ) (a : Run K) → run_at l.clients c n ≡ Some a → a.number ≡ r → a.out ≡ None
+abbrev pub OutOf : {R K P V M O : Type 0} → R → Ledger K V M O → ℕ → Option (DoneView R K P V) → Type 0
+OutOf {R} {K} {P} {V} {M} {O} rules l r None = (c n : ℕ) (a : Run K) → run_at l.clients c n ≡ Some a → a.number ≡ r → a.out ≡ None
 OutOf rules l r (Some done) = IsKeptFor rules l r done
 
 -- `done_of map r` is the result that is kept for the run `r`

@@ -99,22 +99,23 @@ pub(crate) fn answer_text(
 /// An answer is printed by the kind of its value: the report of the diagnostics, with the revision
 /// as its `resultId`; the list of the symbols; the location of the definition, or null; the
 /// descriptor, with the revision. A plain reply has the text of its request. A cancelled one is the
-/// error -32801 with the two revisions, and a starved one the error -32603.
+/// error -32801 with the two revisions, and a starved one the error -32603. The stamp of an answer is
+/// not printed.
 ///
 /// Diagnostics and locations are printed into the reply. A text of an answer is copied into it, and
 /// not read again. Only `Memory` is an error, after
 /// an allocation failure.
-pub fn reply_text(
+pub fn reply_text<M>(
     alloc: Global,
     root: &Root,
-    reply: &Reply<ProtoKey, ProtoValue>,
+    reply: &Reply<ProtoKey, ProtoValue, M>,
 ) -> Result<String, AllocError>
     ensures { IfOk result (λ s. string_bytes s ≡ text_of_reply root.now reply.now) }
 {
     let request = reply.request();
     let label = &request.label;
     match (reply.outcome(), &request.want) {
-        (Outcome::Answered(answer), _) => {
+        (Outcome::Answered(answer, _), _) => {
             answer_text(alloc, root, label, reply.revision().number(), answer.get())
         }
         (Outcome::Plain, Want::Fixed(text)) => String::from_str(alloc, text.as_str()),

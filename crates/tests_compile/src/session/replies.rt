@@ -2,7 +2,7 @@
 //!
 //! Those of answered requests are in the stored sessions.
 use crate::checks::{check_text, check_that};
-use pq_core::{ClientId, Label, Number, Reply, Request, Want};
+use pq_core::{ClientId, Label, Number, PlainStamp, Reply, Request, Want};
 use pq_inputs::{Inputs, Revision};
 use pq_names::Text;
 use pq_proto::{ProtoKey, ProtoValue};
@@ -14,6 +14,9 @@ use test_support::is_set;
 fn client() -> ClientId {
     ClientId::new(0)
 }
+
+/// A reply with a plain stamp.
+type PlainReply = Reply<ProtoKey, ProtoValue, PlainStamp>;
 
 /// The number of each request.
 fn number() -> Number {
@@ -39,7 +42,7 @@ fn root_of(rt: &(impl Abort + AllocGlobal)) -> Root {
 }
 
 /// Checks the text of a reply to a client whose root is `/p`.
-fn check_reply(rt: &(impl Abort + AllocGlobal), reply: &Reply<ProtoKey, ProtoValue>, want: &str) {
+fn check_reply(rt: &(impl Abort + AllocGlobal), reply: &PlainReply, want: &str) {
     let root = root_of(rt);
     let found = reply_text(rt.alloc(), &root, reply).expect(rt, "memory");
     check_text(rt, found.as_str(), want, want);
@@ -64,7 +67,7 @@ fn cancelled(
     request: Request<ProtoKey>,
     started: Revision,
     seen: Revision,
-) -> Option<Reply<ProtoKey, ProtoValue>> {
+) -> Option<PlainReply> {
     if started < seen {
         Some(Reply::cancelled(client(), number(), request, started, seen))
     } else {
@@ -90,7 +93,7 @@ fn a_cancelled_request(rt: HostRuntime) {
 #[test]
 fn a_starved_request(rt: HostRuntime) {
     let inputs = no_files(&rt);
-    let reply = Reply::starved(client(), number(), diagnostics(&rt), inputs.now());
+    let reply: PlainReply = Reply::starved(client(), number(), diagnostics(&rt), inputs.now());
     check_reply(
         &rt,
         &reply,
@@ -104,6 +107,6 @@ fn a_fixed_text(rt: HostRuntime) {
     let want = Want::Fixed(text(&rt, "{}"));
     let label = Label::None;
     let request = Request { label, want };
-    let reply = Reply::plain(client(), number(), request, inputs.now());
+    let reply: PlainReply = Reply::plain(client(), number(), request, inputs.now());
     check_reply(&rt, &reply, "{}");
 }

@@ -9,7 +9,7 @@ use super::shown::{
     add_accepted, add_again, add_closed, add_edited, add_give, add_look, add_opened, add_owner,
     add_run, add_start,
 };
-use pq_core::{Change, ClientId, Core, Done, Move, Released, Request, RunId, Work};
+use pq_core::{Change, ClientId, Core, Done, Move, PlainStamp, Released, Request, RunId, Work};
 use pq_rules::{Memory, Rules, SumsKey, SumsValue};
 use std::alloc::Global;
 use test_support::{Counted, Page};
@@ -66,8 +66,8 @@ pub(super) trait Calls {
 fn carried<R: Rules<Key = SumsKey, Value = SumsValue>>(
     alloc: Global,
     log: &mut Page,
-    work: Work<R>,
-) -> Result<Done<R>, Memory>
+    work: Work<R, PlainStamp>,
+) -> Result<Done<R, PlainStamp>, Memory>
     ensures { IfOk result (λ done. done ≡ work.done) }
 {
     add_start(log, &work);
@@ -77,7 +77,7 @@ fn carried<R: Rules<Key = SumsKey, Value = SumsValue>>(
     }
 }
 
-impl<'a> Calls for Core<Counted<'a>, Post> {
+impl<'a> Calls for Core<Counted<'a>, PlainStamp, Post> {
     fn opened(&mut self, page: &mut Page, room: usize, left: usize) {
         match Post::new(page.alloc, room, left) {
             Ok(outbox) => add_opened(page, self.open_client(page.alloc, outbox)),
@@ -90,7 +90,10 @@ impl<'a> Calls for Core<Counted<'a>, Post> {
     }
 
     fn edited(&mut self, page: &mut Page, client: ClientId, change: Change) {
-        add_edited(page, self.edit(client, change));
+        match PlainStamp::after(page.alloc, self.inputs(), &change) {
+            Ok(stamp) => add_edited(page, self.edit(client, change, stamp)),
+            Err(_) => page.cut(),
+        }
     }
 
     fn started(&mut self, page: &mut Page) {
@@ -130,9 +133,12 @@ impl<'a> Calls for Core<Counted<'a>, Post> {
     fn given_late(&mut self, page: &mut Page, log: &mut Page, run: RunId, change: Change) {
         match self.look(page.alloc, run) {
             Ok(Move::Carry(work)) => match carried(page.alloc, log, work) {
-                Ok(done) => match self.edit(ClientId::new(0), change) {
-                    Ok(_) => add_give(page, self.give(page.alloc, run, done)),
-                    refused => add_edited(page, refused),
+                Ok(done) => match PlainStamp::after(page.alloc, self.inputs(), &change) {
+                    Ok(stamp) => match self.edit(ClientId::new(0), change, stamp) {
+                        Ok(_) => add_give(page, self.give(page.alloc, run, done)),
+                        refused => add_edited(page, refused),
+                    },
+                    Err(_) => page.cut(),
                 },
                 Err(_) => page.cut(),
             },

@@ -4,8 +4,8 @@
 //! `DURABILITY NAME=TEXT`, or `DURABILITY NAME` where the file becomes absent. A reply is
 //! `NUMBER REQUEST @REVISION OUTCOME`.
 use crate::checks::split_row;
-use pq_core::{Change, ClientId, Label, Outcome, Reply, Request, Want};
-use pq_inputs::Inputs;
+use pq_core::{Change, ClientId, Label, Outcome, PlainStamp, Reply, Request, Stamp, Want};
+use pq_inputs::{Inputs, Revision};
 use pq_rules::{Answer, Memory, Text};
 use std::alloc::Global;
 use std::process::Abort;
@@ -126,11 +126,20 @@ pub(super) fn add_two(page: &mut Page, first: u64, second: u64) {
 }
 
 /// Writes how a request ended: `answered ANSWER`, `plain`, `cancelled STARTED SEEN` or `starved`.
-fn add_outcome<K: Sample>(page: &mut Page, outcome: &Outcome<K, K::Value>) {
+/// Where the stamp of an answer is of another revision than `now`, it writes `stamped REVISION`.
+fn add_outcome<K: Sample>(
+    page: &mut Page,
+    now: Revision,
+    outcome: &Outcome<K, K::Value, PlainStamp>,
+) {
     match outcome {
-        Outcome::Answered(answer) => {
+        Outcome::Answered(answer, stamp) => {
             page.add("answered ");
             K::show_answer(page, answer.get());
+            if stamp.revision() != now {
+                page.add(" stamped ");
+                page.wide(stamp.revision().number());
+            }
         }
         Outcome::Plain => page.add("plain"),
         Outcome::Cancelled { started, seen } => {
@@ -142,18 +151,18 @@ fn add_outcome<K: Sample>(page: &mut Page, outcome: &Outcome<K, K::Value>) {
 }
 
 /// Writes a reply as a line.
-pub(crate) fn add_reply<K: Sample>(page: &mut Page, reply: &Reply<K, K::Value>) {
+pub(crate) fn add_reply<K: Sample>(page: &mut Page, reply: &Reply<K, K::Value, PlainStamp>) {
     page.wide(reply.number().number());
     page.add(" ");
     add_request(page, reply.request());
     page.add(" @");
     page.wide(reply.revision().number());
     page.add(" ");
-    add_outcome::<K>(page, reply.outcome());
+    add_outcome::<K>(page, reply.revision(), reply.outcome());
 }
 
 /// Writes replies as lines, each with a bar after it.
-pub(crate) fn add_replies<K: Sample>(page: &mut Page, replies: &[Reply<K, K::Value>]) {
+pub(crate) fn add_replies<K: Sample>(page: &mut Page, replies: &[Reply<K, K::Value, PlainStamp>]) {
     for reply in replies {
         add_reply::<K>(page, reply);
         page.add("|");

@@ -1,14 +1,14 @@
 //! An outbox whose taking end can go away.
 ghost use Rattle.std.specs.Prelude.{◌≡◌, [], IfOk};
 
-use pq_core::{ListOutbox, Memory, Outbox, PutFault, Reply, Taking};
-use pq_rules::{SumsKey, SumsValue};
+use pq_core::{ListOutbox, Memory, Outbox, PlainStamp, PutFault, Reply, Taking};
+use pq_rules::{Rules, SumsKey, SumsValue};
 use std::alloc::Global;
 
 /// A list of limited room. Its taking end is gone after a number of puts.
 #[derive(Drop)]
 pub(super) struct Post {
-    list: ListOutbox<SumsKey, SumsValue>,
+    list: ListOutbox<SumsKey, SumsValue, PlainStamp>,
     left: usize,
 }
 
@@ -22,13 +22,13 @@ impl Post {
     }
 
     /// The replies that were put, and the count of those that were taken.
-    pub(super) fn into_parts(self) -> (Vec<Reply<SumsKey, SumsValue>>, usize) {
+    pub(super) fn into_parts(self) -> (Vec<Reply<SumsKey, SumsValue, PlainStamp>>, usize) {
         let Post { list, .. } = self;
         list.into_parts()
     }
 }
 
-impl Outbox<SumsKey, SumsValue> for Post {
+impl<R: Rules<Key = SumsKey, Value = SumsValue>> Outbox<R, PlainStamp> for Post {
     ghost use Rattle.std.specs.Prelude.{◌≡◌, ◌++◌, ◌∷◌, [], OnOk, OnErr, IfErr};
     ghost use Rattle.pq_core.specs.Outboxes.{handed_back, IsFull, IsGone, taken_front, HasNoRoom};
 
@@ -40,7 +40,10 @@ impl Outbox<SumsKey, SumsValue> for Post {
 
     ghost was_gone = { λ post. post.left ≡ 0 };
 
-    fn put(&mut self, reply: Reply<SumsKey, SumsValue>) -> Result<(), PutFault<SumsKey, SumsValue>>
+    fn put(
+        &mut self,
+        reply: Reply<SumsKey, SumsValue, PlainStamp>,
+    ) -> Result<(), PutFault<SumsKey, SumsValue, PlainStamp>>
         ensures put { OnOk result (self.new.list.replies ≡ self.old.list.replies ++ reply ∷ []) }
         ensures refused { OnErr result (self.new.list.replies ≡ self.old.list.replies) }
         ensures takes { taken_front self.new.list ≡ taken_front self.old.list }
@@ -51,14 +54,14 @@ impl Outbox<SumsKey, SumsValue> for Post {
         if self.left == 0 {
             return Err(PutFault::Gone(reply));
         }
-        self.list.put(reply)?;
+        Outbox::<R, PlainStamp>::put(&mut self.list, reply)?;
         self.left -= 1;
         Ok(())
     }
 }
 
-impl Taking<SumsKey, SumsValue> for Post {
+impl<R: Rules<Key = SumsKey, Value = SumsValue>> Taking<R, PlainStamp> for Post {
     fn take(&mut self) -> Result<bool, Memory> {
-        self.list.take()
+        Taking::<R, PlainStamp>::take(&mut self.list)
     }
 }

@@ -3,7 +3,7 @@ use super::lines::{Sample, add_replies, add_two};
 use super::post::Post;
 use pq_core::{
     AcceptRefused, ClientId, Done, EditRefused, GiveFault, GiveRefused, LookFault, Move, Number,
-    OpenRefused, Released, RunId, Work,
+    OpenRefused, PlainStamp, Released, RunId, Work,
 };
 use pq_inputs::Revision;
 use pq_memo::Why;
@@ -95,7 +95,10 @@ fn add_why(page: &mut Page, why: &Option<Why<SumsKey>>) {
 }
 
 /// Writes work as `KEY WHY`.
-fn add_work<R: Rules<Key = SumsKey, Value = SumsValue>>(page: &mut Page, work: &Work<R>) {
+fn add_work<R: Rules<Key = SumsKey, Value = SumsValue>>(
+    page: &mut Page,
+    work: &Work<R, PlainStamp>,
+) {
     work.key().show(page);
     page.add(" ");
     add_why(page, work.why());
@@ -104,7 +107,7 @@ fn add_work<R: Rules<Key = SumsKey, Value = SumsValue>>(page: &mut Page, work: &
 /// Adds `KEY WHY;` to `log` where work starts a rule.
 pub(super) fn add_start<R: Rules<Key = SumsKey, Value = SumsValue>>(
     log: &mut Page,
-    work: &Work<R>,
+    work: &Work<R, PlainStamp>,
 ) {
     if work.why().is_some() {
         add_work(log, work);
@@ -124,7 +127,10 @@ fn move_word<W>(step: &Move<W>) -> &'static str {
 }
 
 /// Writes what a step came to. Work is as [`add_work`] writes it.
-fn add_move<R: Rules<Key = SumsKey, Value = SumsValue>>(page: &mut Page, step: &Move<Work<R>>) {
+fn add_move<R: Rules<Key = SumsKey, Value = SumsValue>>(
+    page: &mut Page,
+    step: &Move<Work<R, PlainStamp>>,
+) {
     match step {
         Move::Carry(work) => add_work(page, work),
         Move::Blocked(run) => {
@@ -138,7 +144,7 @@ fn add_move<R: Rules<Key = SumsKey, Value = SumsValue>>(page: &mut Page, step: &
 /// Writes what a look came to. Work is lost.
 pub(super) fn add_look<R: Rules<Key = SumsKey, Value = SumsValue>>(
     page: &mut Page,
-    answer: Result<Move<Work<R>>, LookFault>,
+    answer: Result<Move<Work<R, PlainStamp>>, LookFault>,
 ) {
     match answer {
         Ok(step) => add_move(page, &step),
@@ -149,7 +155,7 @@ pub(super) fn add_look<R: Rules<Key = SumsKey, Value = SumsValue>>(
 /// Writes what the giving of a result came to.
 pub(super) fn add_give<R: Rules<Key = SumsKey, Value = SumsValue>>(
     page: &mut Page,
-    answer: Result<Move<Work<R>>, GiveRefused<Done<R>>>,
+    answer: Result<Move<Work<R, PlainStamp>>, GiveRefused<Done<R, PlainStamp>>>,
 ) {
     match answer {
         Ok(step) => add_move(page, &step),
@@ -161,7 +167,7 @@ pub(super) fn add_give<R: Rules<Key = SumsKey, Value = SumsValue>>(
 pub(super) fn add_again<R: Rules<Key = SumsKey, Value = SumsValue>>(
     page: &mut Page,
     fault: GiveFault,
-    answer: Result<Move<Work<R>>, GiveRefused<Done<R>>>,
+    answer: Result<Move<Work<R, PlainStamp>>, GiveRefused<Done<R, PlainStamp>>>,
 ) {
     add_fault(page, fault);
     page.add("; ");

@@ -3,7 +3,7 @@ ghost use Rattle.std.specs.Prelude.{◌≡◌, ◌∷◌, [], length};
 
 use crate::checks::{check_page, check_row_count, split_row};
 use crate::cores::lines::{add_reply, number_of, request_of};
-use pq_core::{ClientId, Number, Outbox, PutFault, Reply, Request};
+use pq_core::{ClientId, Number, Outbox, PlainStamp, PutFault, Reply, Request};
 use pq_inputs::{Inputs, Revision};
 use pq_mail::{LaneEnd, MailEnd, Receipt, TakeEnd, outbox};
 use pq_rules::{Sums, SumsKey, SumsValue};
@@ -16,24 +16,25 @@ use test_support::Page;
 #[derive(Drop)]
 struct Ends<H: Wait> {
     lane: Option<Lane<H>>,
-    take: Option<TakeEnd<Sums>>,
+    take: Option<TakeEnd<Sums, PlainStamp>>,
 }
 
 /// The end of an outbox that puts, and the count of replies that it has put.
 #[derive(Drop)]
 struct Lane<H: Wait> {
-    end: LaneEnd<SumsKey, SumsValue, H>,
+    end: LaneEnd<Sums, PlainStamp, H>,
     count: u64,
 }
 
 impl<H: Wait> Model for Lane<H> {
     ghost use Rattle.std.specs.Prelude.{◌≡◌, length};
+    ghost use Rattle.pq_core.specs.Points.{Point};
     ghost use Rattle.pq_core.specs.Replies.{ReplyView};
     ghost use Rattle.pq_mail.specs.Mailbox.{Side};
     ghost use Rattle.pq_rules.specs.declared.sums.SumsKey.{SumsKey};
     ghost use Rattle.pq_rules.specs.declared.sums.SumsValue.{SumsValue};
 
-    ghost Value = { Side (ReplyView SumsKey SumsValue) };
+    ghost Value = { Side (ReplyView SumsKey SumsValue Point) };
 
     ghost view = { λ l. l.end };
 
@@ -61,7 +62,7 @@ impl<H: Wait + Drop> Lane<H> {
 }
 
 /// Writes why a reply was refused, and the number of that which came back.
-fn add_back(page: &mut Page, word: &str, reply: &Reply<SumsKey, SumsValue>) {
+fn add_back(page: &mut Page, word: &str, reply: &Reply<SumsKey, SumsValue, PlainStamp>) {
     page.add(word);
     page.wide(reply.number().number());
 }
@@ -71,12 +72,12 @@ fn add_back(page: &mut Page, word: &str, reply: &Reply<SumsKey, SumsValue>) {
 fn add_taken(
     rt: &(impl Abort + AllocGlobal + Wait),
     page: &mut Page,
-    end: &mut TakeEnd<Sums>,
+    end: &mut TakeEnd<Sums, PlainStamp>,
     text: &str,
 ) {
     let receipt = receipt_of(rt, text);
     match end.next(rt, &receipt) {
-        Ok(reply) => add_reply(page, &reply),
+        Ok(reply) => add_reply(page, reply.reply()),
         Err(MailEnd::Ended) => page.add("ended"),
         Err(MailEnd::Stranger) => page.add("stranger"),
     }

@@ -8,6 +8,7 @@ use Rattle.pq_memo.proofs.Advancing.{one_table}
 use Rattle.pq_memo.proofs.Wrote.{wrote_ring}
 use Rattle.pq_core.specs.aux.Runs.{RunsKept}
 use Rattle.pq_core.proofs.RingRuns.{ring_stale, ring_top}
+use Rattle.pq_core.proofs.RingBegun.{all_part, at_in, next_part, on_up, still_on}
 use Rattle.pq_core.proofs.RingLeaving.{IsLeaving, drop_next, drop_none, leaving_first, leaving_last, leaving_next, ring_renewed, seen_left}
 use Rattle.pq_core.proofs.closing.close_ring.Goals as goal
 
@@ -32,6 +33,8 @@ keys-init g c =
       λ r. refl,
       λ n a. a,
       (let l : c.args.runs.now.room ≤ c.args.runs.now.room = omega arith in l),
+      λ k b. inl b,
+      all_part c.args.claims.now,
     )
 
 pub leave_key-requires-clause-tops : goal.leave_key-requires-clause-tops
@@ -50,6 +53,10 @@ keys-preserved g c =
           c.leave_key.ensures.left r ∙ i.1 r,
       λ n a. c.leave_key.ensures.above n (i.2 n a),
       (let a : c.args.runs.now.room ≤ c.keys.runs.room = i.3 in let b : c.keys.runs.room ≤ c.leave_key.new.runs.room = c.leave_key.ensures.room in let l : c.args.runs.now.room ≤ c.leave_key.new.runs.room = omega arith in l),
+      still_on g.R.Key.Ord.cmp c.args.claims.now c.args.id c.requires.closes.3.next c.args.ring.now c.claims_are_sound.ensures.sound c.requires.closes.3.closed.round c.keys.claims c.leave_key.new.claims c.keys.runs.items c.leave_key.new.runs.items c.index-ring-i.result
+          c.leave_key.ensures.left i.5 c.args.inputs.now.revision (at_in c.args.ring.now c.keys.i c.index-ring-i.result c.keys-test.true c.index-ring-i.is) i.0.claimed c.args.runs.now.items i.4,
+      next_part g.R.Key.Ord.cmp c.args.claims.now c.args.id c.requires.closes.3.next c.args.ring.now c.claims_are_sound.ensures.sound c.requires.closes.3.closed.round c.keys.claims c.leave_key.new.claims c.keys.runs.items c.leave_key.new.runs.items c.index-ring-i.result
+          c.leave_key.ensures.left i.5,
     )
 
 pub returns-clause-renewed : goal.returns-clause-renewed
@@ -66,3 +73,13 @@ pub returns-clause-runs_kept : goal.returns-clause-runs_kept
 returns-clause-runs_kept g c =
     leaving_last g.R.Key.Ord.cmp (g.R.Rules.machine c.args.memos.now.rules) c.args.inputs.now (memo_at g.R.Key.Ord.cmp c.publish_ring.new.memos.places) c.keys.claims c.keys.runs.items (drop c.keys.i c.args.ring.now)
     (drop_none c.args.ring.now c.keys.i c.keys-test.false) c.keys.invariant.0
+
+pub returns-in_err-publish_ring-clause-begun : goal.returns-in_err-publish_ring-clause-begun
+returns-in_err-publish_ring-clause-begun g c = λ k b. inl b
+
+pub returns-clause-begun : goal.returns-clause-begun
+returns-clause-begun g c =
+    let p = c.in_ok-publish_ring.ensures.published in
+    let wrote = subst (λ (ks : List g.row.R-Key.Denot). Wrote c.args.inputs.now.revision (memo_at g.R.Key.Ord.cmp c.args.memos.now.places) (memo_at g.R.Key.Ord.cmp c.publish_ring.new.memos.places) ks) p.2
+    (wrote_ring c.args.inputs.now.revision (memo_at g.R.Key.Ord.cmp c.args.memos.now.places) (memo_at g.R.Key.Ord.cmp c.publish_ring.new.memos.places) p.0 p.1 p.3) in
+    on_up (g.R.Rules.machine c.args.memos.now.rules) c.args.inputs.now.revision (memo_at g.R.Key.Ord.cmp c.args.memos.now.places) (memo_at g.R.Key.Ord.cmp c.publish_ring.new.memos.places) c.args.ring.now c.args.runs.now.items c.keys.runs.items wrote c.keys.invariant.4

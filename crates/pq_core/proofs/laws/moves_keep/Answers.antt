@@ -4,7 +4,7 @@ use Rattle.pq_core.proofs.laws.moves_keep.Goals as goal
 
 pub returns : goal.returns
 returns g c =
-    let means = answer_by g.R.Key.Ord.cmp (g.R.Rules.machine c.args._rules.now) in
+    let means = answer_by g.R.Key.Ord.cmp (g.R.Rules.machine c.args._rules.now) g.M.Stamp.point in
     let puts = g.O.Outbox.puts in
     record {
       opens = λ outbox answer l m e k s. kept_opens means puts outbox answer l m e k s;

@@ -1,11 +1,11 @@
 use Rattle.pq_play.specs.aux.Running.{done_of}
 use Rattle.pq_core.specs.Cores.{StandsFor}
 use Rattle.pq_play.proofs.Ruled.{by_rules}
-use Rattle.pq_play.specs.World.{replies_of}
+use Rattle.pq_play.specs.World.{replies_of, own_point}
 use Rattle.pq_play.proofs.Carrying.{carried_release}
 use Rattle.pq_play.proofs.carry.release.Goals as goal
 
 pub returns : goal.returns
 returns g c = λ room w s.
-    carried_release room g.R.Key.Ord.cmp (g.R.Rules.machine c.args.rules.now) c.args.rules.now c.args.core.now.rules c.release-released.new.self.rules (StandsFor g.R.Key.Ord.cmp (g.R.Rules.machine c.args.rules.now) replies_of c.args.core.now) (StandsFor g.R.Key.Ord.cmp (g.R.Rules.machine c.args.rules.now) replies_of c.release-released.new.self) w c.args.sheet.now.seats.items (done_of c.args.sheet.now.dones) s c.release-released.ensures.rules
+    carried_release room g.R.Key.Ord.cmp (g.R.Rules.machine c.args.rules.now) c.args.rules.now c.args.core.now.rules c.release-released.new.self.rules (StandsFor g.R.Key.Ord.cmp (g.R.Rules.machine c.args.rules.now) own_point replies_of c.args.core.now) (StandsFor g.R.Key.Ord.cmp (g.R.Rules.machine c.args.rules.now) own_point replies_of c.release-released.new.self) w c.args.sheet.now.seats.items (done_of c.args.sheet.now.dones) s c.release-released.ensures.rules
     c.args.client c.release-released.result (by_rules g.R.Key.Ord.cmp g.R.Rules.machine c.args.core.now.rules c.args.rules.now s.own_same _ c.args.core.now c.release-released.new.self w.ledger c.release-released.ensures.moved s.stands)

@@ -11,5 +11,5 @@ returns-clause-none g c =
     let place = c.number-place.result in
     let there : slice_get seats place ≡ Some c.index_mut.result.now =
     slice_get_read seats c.len.result place c.index_mut.result.now (c.len.ensures ∙ c.args.seats.now.ok.0) c.if-place-len.false c.index_mut.ensures.value in
-    IfOk-weaker c.take.result _ _ (λ b h e.
-    subst (λ (i : ℕ). LeavesNone seats (slice_set seats place c.take.new.self) i) c.number-place.ensures (left_none seats place c.index_mut.result.now c.take.new.self there (h e))) c.take.ensures.none
+    IfOk-weaker c.take_kept.result _ _ (λ b h e.
+    subst (λ (i : ℕ). LeavesNone seats (slice_set seats place c.take_kept.new.seat) i) c.number-place.ensures (left_none seats place c.index_mut.result.now c.take_kept.new.seat there (h e))) c.take_kept.ensures.none

@@ -5,17 +5,20 @@ use Rattle.pq_core.proofs.RunsKept.{same_runs}
 use Rattle.pq_core.proofs.CoreOpening.{unmoved}
 use Rattle.pq_core.proofs.CoreAccepting.{accept_refusal_so, may_post, accept_moved, queue_room, not_full, false_true}
 use Rattle.pq_core.proofs.Queued.{queue_same, queue_pushed, queue_fixed}
+use Rattle.pq_rules.proofs.Weight.{Exact}
+use Rattle.pq_memo.specs.Table.{memo_at}
+use Rattle.pq_core.proofs.CoreCounting.{same_counted}
 use Rattle.pq_core.proofs.cores.Core.accept.Goals as goal
 
 pub returns-in-Some-clause-moved : goal.returns-in-Some-clause-moved
 returns-in-Some-clause-moved g c =
     let refused : MayNot (held (record { rules = c.self.inside.memos.rules; places = c.self.inside.memos.places; inputs = c.self.inside.inputs; lanes = c.self.inside.lanes; opened = c.self.inside.opened; clients = c.self.inside.clients; waiting = c.self.inside.waiting.items; runs = c.self.inside.runs; started = c.self.inside.started; claims = c.self.inside.claims })) c.args.client c.in-Some.fault =
-    subst (λ (v : CoreView g.row.R.Denot g.row.R-Key.Denot g.row.R-Part.Denot g.row.R-Value.Denot g.row.O.Denot). MayNot (held v) c.args.client c.in-Some.fault) (sym c.self.view_is)
+    subst (λ (v : CoreView g.row.R.Denot g.row.R-Key.Denot g.row.R-Part.Denot g.row.R-Value.Denot g.row.M.Denot g.row.O.Denot). MayNot (held v) c.args.client c.in-Some.fault) (sym c.self.view_is)
     (rw c.number.ensures at (c.in-Some.ensures {u = tt}).refused) in
     rw (← c.self.view_is)
     (λ l s. (
       l,
-      (refl, accept_refusal_so g.R.Key.Ord.cmp (g.R.Rules.machine c.self.inside.memos.rules) g.O.Outbox.puts _ l c.args.client c.in-Some.fault s refused, refl),
+      (refl, accept_refusal_so g.R.Key.Ord.cmp (g.R.Rules.machine c.self.inside.memos.rules) g.M.Stamp.point g.O.Outbox.puts _ l c.args.client c.in-Some.fault s refused, refl),
       s,
     ))
 
@@ -23,6 +26,7 @@ pub invariant_of-self : goal.invariant_of-self
 invariant_of-self g c =
     let w = c.self.invariant in
     record {
+      stamped = c.self.invariant.stamped;
       kept = w.kept;
       lanes_above = w.lanes_above;
       runs_above = c.make_room.ensures.runs.above c.self.inside.started w.runs_above;
@@ -34,7 +38,7 @@ invariant_of-self g c =
       runs = same_runs _ _ _ _ _ _ _ c.make_room.ensures.runs.found w.runs;
       ledger = (
         w.ledger.0,
-        unmoved g.R.Key.Ord.cmp (g.R.Rules.machine c.self.inside.memos.rules) g.O.Outbox.puts _ _ w.ledger.0
+        unmoved g.R.Key.Ord.cmp (g.R.Rules.machine c.self.inside.memos.rules) g.M.Stamp.point g.O.Outbox.puts _ _ w.ledger.0
             (record {
               inputs = refl;
               lanes = λ k. refl;
@@ -50,13 +54,13 @@ invariant_of-self g c =
 pub returns-then-is_err-clause-moved : goal.returns-then-is_err-clause-moved
 returns-then-is_err-clause-moved g c =
     let may : MayPost (held (record { rules = c.self.inside.memos.rules; places = c.self.inside.memos.places; inputs = c.self.inside.inputs; lanes = c.self.inside.lanes; opened = c.self.inside.opened; clients = c.self.inside.clients; waiting = c.self.inside.waiting.items; runs = c.self.inside.runs; started = c.self.inside.started; claims = c.self.inside.claims })) c.args.client =
-    subst (λ (v : CoreView g.row.R.Denot g.row.R-Key.Denot g.row.R-Part.Denot g.row.R-Value.Denot g.row.O.Denot). MayPost (held v) c.args.client) (sym c.self.view_is)
+    subst (λ (v : CoreView g.row.R.Denot g.row.R-Key.Denot g.row.R-Part.Denot g.row.R-Value.Denot g.row.M.Denot g.row.O.Denot). MayPost (held v) c.args.client) (sym c.self.view_is)
     (rw c.number.ensures at (c.in_default.ensures {u = tt}).may) in
     rw (← c.self.view_is)
     (λ l s. (
       l,
-      (refl, may_post g.R.Key.Ord.cmp (g.R.Rules.machine c.self.inside.memos.rules) g.O.Outbox.puts _ l c.args.client s may, refl),
-      unmoved g.R.Key.Ord.cmp (g.R.Rules.machine c.self.inside.memos.rules) g.O.Outbox.puts _ _ l
+      (refl, may_post g.R.Key.Ord.cmp (g.R.Rules.machine c.self.inside.memos.rules) g.M.Stamp.point g.O.Outbox.puts _ l c.args.client s may, refl),
+      unmoved g.R.Key.Ord.cmp (g.R.Rules.machine c.self.inside.memos.rules) g.M.Stamp.point g.O.Outbox.puts _ _ l
           (record {
             inputs = refl;
             lanes = λ k. refl;
@@ -72,17 +76,18 @@ pub invariant_of-self-then-waits : goal.invariant_of-self-then-waits
 invariant_of-self-then-waits g c =
     let w = c.self.invariant in
     let may : MayPost (held (record { rules = c.self.inside.memos.rules; places = c.self.inside.memos.places; inputs = c.self.inside.inputs; lanes = c.self.inside.lanes; opened = c.self.inside.opened; clients = c.self.inside.clients; waiting = c.self.inside.waiting.items; runs = c.self.inside.runs; started = c.self.inside.started; claims = c.self.inside.claims })) c.args.client =
-    subst (λ (v : CoreView g.row.R.Denot g.row.R-Key.Denot g.row.R-Part.Denot g.row.R-Value.Denot g.row.O.Denot). MayPost (held v) c.args.client) (sym c.self.view_is) (rw c.number.ensures at (c.in_default.ensures {u = tt}).may) in
+    subst (λ (v : CoreView g.row.R.Denot g.row.R-Key.Denot g.row.R-Part.Denot g.row.R-Value.Denot g.row.M.Denot g.row.O.Denot). MayPost (held v) c.args.client) (sym c.self.view_is) (rw c.number.ensures at (c.in_default.ensures {u = tt}).may) in
     let told = (c.in-Ok.ensures {u = tt}).accepted in
     let pushed : c.push_back_reserved.new.self.items ≡ c.self.inside.waiting.items ++ (c.args.client, c.in-Ok.number) ∷ [] =
     rw c.make_room.ensures.queue at (rw c.number-then-waits-2.ensures at (rw c.number-then-waits.ensures at c.push_back_reserved.ensures.items)) in
-    let moved = accept_moved g.R.Key.Ord.cmp (g.R.Rules.machine c.self.inside.memos.rules) g.O.Outbox.puts
+    let moved = accept_moved g.R.Key.Ord.cmp (g.R.Rules.machine c.self.inside.memos.rules) g.M.Stamp.point g.O.Outbox.puts
     (held (record { rules = c.self.inside.memos.rules; places = c.self.inside.memos.places; inputs = c.self.inside.inputs; lanes = c.self.inside.lanes; opened = c.self.inside.opened; clients = c.self.inside.clients; waiting = c.self.inside.waiting.items; runs = c.self.inside.runs; started = c.self.inside.started; claims = c.self.inside.claims }))
     (record { inputs = c.self.inside.inputs; lanes = c.accept_in.new.lanes.items; opened = c.self.inside.opened; clients = c.self.inside.clients; runs = c.make_room.new.runs.items; started = c.self.inside.started })
     c.args.client c.in-Ok.number c.now-revision.result c.args.request told.0 w.ledger.0 told.1
     (not_full (held (record { rules = c.self.inside.memos.rules; places = c.self.inside.memos.places; inputs = c.self.inside.inputs; lanes = c.self.inside.lanes; opened = c.self.inside.opened; clients = c.self.inside.clients; waiting = c.self.inside.waiting.items; runs = c.self.inside.runs; started = c.self.inside.started; claims = c.self.inside.claims })) c.args.client told.0 may told.1) told.3.found told.2 c.now-revision.ensures.now refl refl refl c.make_room.ensures.runs.found refl
     w.ledger.1 in
     record {
+      stamped = c.self.invariant.stamped;
       kept = w.kept;
       lanes_above = told.3.above c.self.inside.clients w.lanes_above;
       runs_above = c.make_room.ensures.runs.above c.self.inside.started w.runs_above;
@@ -96,10 +101,10 @@ invariant_of-self-then-waits g c =
 pub returns-then-waits-clause-moved : goal.returns-then-waits-clause-moved
 returns-then-waits-clause-moved g c =
     let may : MayPost (held (record { rules = c.self.inside.memos.rules; places = c.self.inside.memos.places; inputs = c.self.inside.inputs; lanes = c.self.inside.lanes; opened = c.self.inside.opened; clients = c.self.inside.clients; waiting = c.self.inside.waiting.items; runs = c.self.inside.runs; started = c.self.inside.started; claims = c.self.inside.claims })) c.args.client =
-    subst (λ (v : CoreView g.row.R.Denot g.row.R-Key.Denot g.row.R-Part.Denot g.row.R-Value.Denot g.row.O.Denot). MayPost (held v) c.args.client) (sym c.self.view_is) (rw c.number.ensures at (c.in_default.ensures {u = tt}).may) in
+    subst (λ (v : CoreView g.row.R.Denot g.row.R-Key.Denot g.row.R-Part.Denot g.row.R-Value.Denot g.row.M.Denot g.row.O.Denot). MayPost (held v) c.args.client) (sym c.self.view_is) (rw c.number.ensures at (c.in_default.ensures {u = tt}).may) in
     let told = (c.in-Ok.ensures {u = tt}).accepted in
     rw (← c.self.view_is)
-    (λ l s. accept_moved g.R.Key.Ord.cmp (g.R.Rules.machine c.self.inside.memos.rules) g.O.Outbox.puts
+    (λ l s. accept_moved g.R.Key.Ord.cmp (g.R.Rules.machine c.self.inside.memos.rules) g.M.Stamp.point g.O.Outbox.puts
     (held (record { rules = c.self.inside.memos.rules; places = c.self.inside.memos.places; inputs = c.self.inside.inputs; lanes = c.self.inside.lanes; opened = c.self.inside.opened; clients = c.self.inside.clients; waiting = c.self.inside.waiting.items; runs = c.self.inside.runs; started = c.self.inside.started; claims = c.self.inside.claims }))
     (record { inputs = c.self.inside.inputs; lanes = c.accept_in.new.lanes.items; opened = c.self.inside.opened; clients = c.self.inside.clients; runs = c.make_room.new.runs.items; started = c.self.inside.started })
     c.args.client c.in-Ok.number c.now-revision.result c.args.request told.0 l told.1
@@ -110,15 +115,16 @@ pub invariant_of-self-else-waits : goal.invariant_of-self-else-waits
 invariant_of-self-else-waits g c =
     let w = c.self.invariant in
     let may : MayPost (held (record { rules = c.self.inside.memos.rules; places = c.self.inside.memos.places; inputs = c.self.inside.inputs; lanes = c.self.inside.lanes; opened = c.self.inside.opened; clients = c.self.inside.clients; waiting = c.self.inside.waiting.items; runs = c.self.inside.runs; started = c.self.inside.started; claims = c.self.inside.claims })) c.args.client =
-    subst (λ (v : CoreView g.row.R.Denot g.row.R-Key.Denot g.row.R-Part.Denot g.row.R-Value.Denot g.row.O.Denot). MayPost (held v) c.args.client) (sym c.self.view_is) (rw c.number.ensures at (c.in_default.ensures {u = tt}).may) in
+    subst (λ (v : CoreView g.row.R.Denot g.row.R-Key.Denot g.row.R-Part.Denot g.row.R-Value.Denot g.row.M.Denot g.row.O.Denot). MayPost (held v) c.args.client) (sym c.self.view_is) (rw c.number.ensures at (c.in_default.ensures {u = tt}).may) in
     let told = (c.in-Ok.ensures {u = tt}).accepted in
-    let moved = accept_moved g.R.Key.Ord.cmp (g.R.Rules.machine c.self.inside.memos.rules) g.O.Outbox.puts
+    let moved = accept_moved g.R.Key.Ord.cmp (g.R.Rules.machine c.self.inside.memos.rules) g.M.Stamp.point g.O.Outbox.puts
     (held (record { rules = c.self.inside.memos.rules; places = c.self.inside.memos.places; inputs = c.self.inside.inputs; lanes = c.self.inside.lanes; opened = c.self.inside.opened; clients = c.self.inside.clients; waiting = c.self.inside.waiting.items; runs = c.self.inside.runs; started = c.self.inside.started; claims = c.self.inside.claims }))
     (record { inputs = c.self.inside.inputs; lanes = c.accept_in.new.lanes.items; opened = c.self.inside.opened; clients = c.self.inside.clients; runs = c.make_room.new.runs.items; started = c.self.inside.started })
     c.args.client c.in-Ok.number c.now-revision.result c.args.request told.0 w.ledger.0 told.1
     (not_full (held (record { rules = c.self.inside.memos.rules; places = c.self.inside.memos.places; inputs = c.self.inside.inputs; lanes = c.self.inside.lanes; opened = c.self.inside.opened; clients = c.self.inside.clients; waiting = c.self.inside.waiting.items; runs = c.self.inside.runs; started = c.self.inside.started; claims = c.self.inside.claims })) c.args.client told.0 may told.1) told.3.found told.2 c.now-revision.ensures.now refl refl refl c.make_room.ensures.runs.found refl
     w.ledger.1 in
     record {
+      stamped = c.self.invariant.stamped;
       kept = w.kept;
       lanes_above = told.3.above c.self.inside.clients w.lanes_above;
       runs_above = c.make_room.ensures.runs.above c.self.inside.started w.runs_above;
@@ -137,10 +143,10 @@ invariant_of-self-else-waits g c =
 pub returns-in-Ok-clause-moved : goal.returns-in-Ok-clause-moved
 returns-in-Ok-clause-moved g c =
     let may : MayPost (held (record { rules = c.self.inside.memos.rules; places = c.self.inside.memos.places; inputs = c.self.inside.inputs; lanes = c.self.inside.lanes; opened = c.self.inside.opened; clients = c.self.inside.clients; waiting = c.self.inside.waiting.items; runs = c.self.inside.runs; started = c.self.inside.started; claims = c.self.inside.claims })) c.args.client =
-    subst (λ (v : CoreView g.row.R.Denot g.row.R-Key.Denot g.row.R-Part.Denot g.row.R-Value.Denot g.row.O.Denot). MayPost (held v) c.args.client) (sym c.self.view_is) (rw c.number.ensures at (c.in_default.ensures {u = tt}).may) in
+    subst (λ (v : CoreView g.row.R.Denot g.row.R-Key.Denot g.row.R-Part.Denot g.row.R-Value.Denot g.row.M.Denot g.row.O.Denot). MayPost (held v) c.args.client) (sym c.self.view_is) (rw c.number.ensures at (c.in_default.ensures {u = tt}).may) in
     let told = (c.in-Ok.ensures {u = tt}).accepted in
     rw (← c.self.view_is)
-    (λ l s. accept_moved g.R.Key.Ord.cmp (g.R.Rules.machine c.self.inside.memos.rules) g.O.Outbox.puts
+    (λ l s. accept_moved g.R.Key.Ord.cmp (g.R.Rules.machine c.self.inside.memos.rules) g.M.Stamp.point g.O.Outbox.puts
     (held (record { rules = c.self.inside.memos.rules; places = c.self.inside.memos.places; inputs = c.self.inside.inputs; lanes = c.self.inside.lanes; opened = c.self.inside.opened; clients = c.self.inside.clients; waiting = c.self.inside.waiting.items; runs = c.self.inside.runs; started = c.self.inside.started; claims = c.self.inside.claims }))
     (record { inputs = c.self.inside.inputs; lanes = c.accept_in.new.lanes.items; opened = c.self.inside.opened; clients = c.self.inside.clients; runs = c.make_room.new.runs.items; started = c.self.inside.started })
     c.args.client c.in-Ok.number c.now-revision.result c.args.request told.0 l told.1
@@ -152,6 +158,7 @@ invariant_of-self-in-Err g c =
     let w = c.self.invariant in
     let same = (c.in-Err.ensures {u = tt}).refused in
     record {
+      stamped = c.self.invariant.stamped;
       kept = w.kept;
       lanes_above = same.above c.self.inside.clients w.lanes_above;
       runs_above = c.make_room.ensures.runs.above c.self.inside.started w.runs_above;
@@ -163,7 +170,7 @@ invariant_of-self-in-Err g c =
       runs = same_runs _ _ _ _ _ _ _ c.make_room.ensures.runs.found w.runs;
       ledger = (
         w.ledger.0,
-        unmoved g.R.Key.Ord.cmp (g.R.Rules.machine c.self.inside.memos.rules) g.O.Outbox.puts _ _ w.ledger.0
+        unmoved g.R.Key.Ord.cmp (g.R.Rules.machine c.self.inside.memos.rules) g.M.Stamp.point g.O.Outbox.puts _ _ w.ledger.0
             (record {
               inputs = refl;
               lanes = λ k. same.found k;
@@ -179,13 +186,13 @@ invariant_of-self-in-Err g c =
 pub returns-in-Err-clause-moved : goal.returns-in-Err-clause-moved
 returns-in-Err-clause-moved g c =
     let may : MayPost (held (record { rules = c.self.inside.memos.rules; places = c.self.inside.memos.places; inputs = c.self.inside.inputs; lanes = c.self.inside.lanes; opened = c.self.inside.opened; clients = c.self.inside.clients; waiting = c.self.inside.waiting.items; runs = c.self.inside.runs; started = c.self.inside.started; claims = c.self.inside.claims })) c.args.client =
-    subst (λ (v : CoreView g.row.R.Denot g.row.R-Key.Denot g.row.R-Part.Denot g.row.R-Value.Denot g.row.O.Denot). MayPost (held v) c.args.client) (sym c.self.view_is) (rw c.number.ensures at (c.in_default.ensures {u = tt}).may) in
+    subst (λ (v : CoreView g.row.R.Denot g.row.R-Key.Denot g.row.R-Part.Denot g.row.R-Value.Denot g.row.M.Denot g.row.O.Denot). MayPost (held v) c.args.client) (sym c.self.view_is) (rw c.number.ensures at (c.in_default.ensures {u = tt}).may) in
     let same = (c.in-Err.ensures {u = tt}).refused in
     rw (← c.self.view_is)
     (λ l s. (
       l,
-      ((c.in-Err.ensures {u = tt}).back, may_post g.R.Key.Ord.cmp (g.R.Rules.machine c.self.inside.memos.rules) g.O.Outbox.puts _ l c.args.client s may, refl),
-      unmoved g.R.Key.Ord.cmp (g.R.Rules.machine c.self.inside.memos.rules) g.O.Outbox.puts _ _ l
+      ((c.in-Err.ensures {u = tt}).back, may_post g.R.Key.Ord.cmp (g.R.Rules.machine c.self.inside.memos.rules) g.M.Stamp.point g.O.Outbox.puts _ l c.args.client s may, refl),
+      unmoved g.R.Key.Ord.cmp (g.R.Rules.machine c.self.inside.memos.rules) g.M.Stamp.point g.O.Outbox.puts _ _ l
           (record {
             inputs = refl;
             lanes = λ k. same.found k;
@@ -196,3 +203,27 @@ returns-in-Err-clause-moved g c =
           })
           s,
     ))
+
+pub returns-in-Some-clause-counted : goal.returns-in-Some-clause-counted
+returns-in-Some-clause-counted g c =
+    rw (← c.self.view_is) (λ log x. x)
+
+pub returns-then-is_err-clause-counted : goal.returns-then-is_err-clause-counted
+returns-then-is_err-clause-counted g c =
+    let exact : Exact g.R.Key.Ord.cmp = record { total = g.met.R.Key.Ord.total; exact = (g.met.R.Rules.lawful c.self.inside.memos.rules []).exact } in
+    rw (← c.self.view_is) (λ log x. same_counted g.R.Key.Ord.cmp exact (g.R.Rules.machine c.self.inside.memos.rules) c.self.inside.inputs log (memo_at g.R.Key.Ord.cmp c.self.inside.memos.places) c.self.inside.runs.items c.make_room.new.runs.items c.make_room.ensures.runs.found x)
+
+pub returns-then-waits-clause-counted : goal.returns-then-waits-clause-counted
+returns-then-waits-clause-counted g c =
+    let exact : Exact g.R.Key.Ord.cmp = record { total = g.met.R.Key.Ord.total; exact = (g.met.R.Rules.lawful c.self.inside.memos.rules []).exact } in
+    rw (← c.self.view_is) (λ log x. same_counted g.R.Key.Ord.cmp exact (g.R.Rules.machine c.self.inside.memos.rules) c.self.inside.inputs log (memo_at g.R.Key.Ord.cmp c.self.inside.memos.places) c.self.inside.runs.items c.make_room.new.runs.items c.make_room.ensures.runs.found x)
+
+pub returns-in-Ok-clause-counted : goal.returns-in-Ok-clause-counted
+returns-in-Ok-clause-counted g c =
+    let exact : Exact g.R.Key.Ord.cmp = record { total = g.met.R.Key.Ord.total; exact = (g.met.R.Rules.lawful c.self.inside.memos.rules []).exact } in
+    rw (← c.self.view_is) (λ log x. same_counted g.R.Key.Ord.cmp exact (g.R.Rules.machine c.self.inside.memos.rules) c.self.inside.inputs log (memo_at g.R.Key.Ord.cmp c.self.inside.memos.places) c.self.inside.runs.items c.make_room.new.runs.items c.make_room.ensures.runs.found x)
+
+pub returns-in-Err-clause-counted : goal.returns-in-Err-clause-counted
+returns-in-Err-clause-counted g c =
+    let exact : Exact g.R.Key.Ord.cmp = record { total = g.met.R.Key.Ord.total; exact = (g.met.R.Rules.lawful c.self.inside.memos.rules []).exact } in
+    rw (← c.self.view_is) (λ log x. same_counted g.R.Key.Ord.cmp exact (g.R.Rules.machine c.self.inside.memos.rules) c.self.inside.inputs log (memo_at g.R.Key.Ord.cmp c.self.inside.memos.places) c.self.inside.runs.items c.make_room.new.runs.items c.make_room.ensures.runs.found x)

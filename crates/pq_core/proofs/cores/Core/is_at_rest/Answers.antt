@@ -8,7 +8,7 @@ returns-then-not-is_empty g c =
     rw (← c.self.view_is)
     (λ l s. (
       λ t. absurd (cc),
-      λ rest. absurd (waits_not_rest g.R.Key.Ord.cmp (g.R.Rules.machine c.self.inside.memos.rules) g.O.Outbox.puts _ c.self.inside.waiting.items l c.self.invariant.queue
+      λ rest. absurd (waits_not_rest g.R.Key.Ord.cmp (g.R.Rules.machine c.self.inside.memos.rules) g.M.Stamp.point g.O.Outbox.puts _ c.self.inside.waiting.items l c.self.invariant.queue
           (λ none. not_both c.is_empty.result c.if-not-is_empty.true
           (c.is_empty.ensures ∙ eq-eqb _ 0 (c.self.inside.waiting.ok.0 ∙ ap (λ (xs : List (ℕ × ℕ)). length xs) none))) s rest),
     ))
@@ -18,7 +18,7 @@ returns-then-not-is_empty-2 g c =
     rw (← c.self.view_is)
     (λ l s. (
       λ t. absurd (cc),
-      λ rest. absurd (runs_not_rest g.R.Key.Ord.cmp (g.R.Rules.machine c.self.inside.memos.rules) g.O.Outbox.puts _ l s
+      λ rest. absurd (runs_not_rest g.R.Key.Ord.cmp (g.R.Rules.machine c.self.inside.memos.rules) g.M.Stamp.point g.O.Outbox.puts _ l s
           (λ none. not_both c.is_empty-2.result c.if-not-is_empty-2.true (c.is_empty-2.ensures.1 none)) rest),
     ))
 
@@ -26,10 +26,10 @@ pub returns : goal.returns
 returns g c =
     rw (← c.self.view_is)
     (λ l s. (
-      λ t. all_rest g.R.Key.Ord.cmp (g.R.Rules.machine c.self.inside.memos.rules) g.O.Outbox.puts _ c.self.inside.lanes l refl s
+      λ t. all_rest g.R.Key.Ord.cmp (g.R.Rules.machine c.self.inside.memos.rules) g.M.Stamp.point g.O.Outbox.puts _ c.self.inside.lanes l refl s
           (rw (no_length c.self.inside.waiting.items (sym c.self.inside.waiting.ok.0 ∙ eqb-true _ 0 (sym c.is_empty.ensures ∙ c.if-not-is_empty.false))) at c.self.invariant.queue)
           (c.is_empty-2.ensures.0 c.if-not-is_empty-2.false)
           (λ w. not_both c.has_ready.result (not_true c.has_ready.result t) (c.has_ready.ensures.1 w)),
       λ rest. true_not c.has_ready.result
-          (λ e. ready_not_rest g.R.Key.Ord.cmp (g.R.Rules.machine c.self.inside.memos.rules) g.O.Outbox.puts _ c.self.inside.lanes l refl s (c.has_ready.ensures.0 e) rest),
+          (λ e. ready_not_rest g.R.Key.Ord.cmp (g.R.Rules.machine c.self.inside.memos.rules) g.M.Stamp.point g.O.Outbox.puts _ c.self.inside.lanes l refl s (c.has_ready.ensures.0 e) rest),
     ))

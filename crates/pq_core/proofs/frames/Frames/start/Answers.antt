@@ -1,4 +1,4 @@
-use Rattle.std.proofs.Common.{List, inr, sym, subst}
+use Rattle.std.proofs.Common.{List, refl, inr, sym, subst}
 use Rattle.pq_memo.specs.Table.{memo_at, HasIn}
 use Rattle.pq_memo.specs.Frames.{Came}
 use Rattle.pq_core.proofs.frames.Frames.start.Goals as goal
@@ -14,3 +14,6 @@ returns-clause-frames_kept g c = (
         (c.turns_are_right.ensures.starts c.args.inputs.now c.requires.kept c.args.key c.args.why c.requires.because),
   ),
 )
+
+pub returns-clause-away : goal.returns-clause-away
+returns-clause-away g c = (record { key = c.args.key; reads = c.new-reads.result }, refl, refl)

@@ -1,4 +1,4 @@
-use Rattle.std.proofs.Common.{[], Option, IfOk, sym, subst, inr}
+use Rattle.std.proofs.Common.{[], Option, IfOk, sym, ◌∙◌, subst, inl, inr}
 use Rattle.pq_rules.proofs.Weight.{Exact}
 use Rattle.pq_memo.specs.Sound.{Memo}
 use Rattle.pq_memo.specs.Table.{memo_at, HasIn}
@@ -11,6 +11,7 @@ use Rattle.pq_core.specs.aux.Runs.{KeptBelow, HandedOut, HasAdvanced}
 use Rattle.pq_core.proofs.Renewed.{renewed_same, renewed_finished, up_waits, frames_still}
 use Rattle.pq_core.proofs.Framed.{lowered, below_as, frame_as, has_read}
 use Rattle.pq_core.proofs.Stepping.{awake_stands, handed_stale, holds_last, left_stale, same_unwritten, stale_last, woken_stands, wrote_own}
+use Rattle.pq_core.proofs.RulesBegun.{away_begun, back_begun, going_first, left_begun, needs_begun, out_key, waited_first, walked_first}
 use Rattle.pq_core.proofs.frames.Frames.step.Goals as goal
 
 pub start-requires-clause-below : goal.start-requires-clause-below
@@ -191,3 +192,42 @@ returns-in-Err-clause-waits g c = awake_stands g.R.Key.Ord.cmp (g.R.Rules.machin
 
 pub returns-in-Err-clause-written : goal.returns-in-Err-clause-written
 returns-in-Err-clause-written g c = same_unwritten c.args.claims.now c.args.id (memo_at g.R.Key.Ord.cmp c.args.memos.now.places) (memo_at g.R.Key.Ord.cmp c.step.new.self.places) c.in-Err.ensures.refused
+
+pub returns-in-Ok-Finished-clause-begun : goal.returns-in-Ok-Finished-clause-begun
+returns-in-Ok-Finished-clause-begun g c =
+    let laws = g.met.R.Rules.lawful c.args.memos.now.rules [] in
+    let exact : Exact g.R.Key.Ord.cmp = record { total = g.met.R.Key.Ord.total; exact = laws.exact } in
+    let s = rw c.in-Ok-Finished.field-0-is at c.in-Ok-Finished.ensures.step in
+    let wrote = wrote_finished g.R.Key.Ord.cmp exact (g.R.Rules.machine c.args.memos.now.rules) c.args.inputs.now c.args.memos.now.places c.args.frame.key c.step.new.self.places
+    (stale_last (g.R.Rules.machine c.args.memos.now.rules) c.args.inputs.now.revision (memo_at g.R.Key.Ord.cmp c.args.memos.now.places) (frame_keys c.args.self.now.stack) c.args.frame.key c.requires.stale) s in
+    left_begun (g.R.Rules.machine c.args.memos.now.rules) c.args.inputs.now.revision (memo_at g.R.Key.Ord.cmp c.args.memos.now.places) (memo_at g.R.Key.Ord.cmp c.step.new.self.places) c.args.self.now.stack c.leave.new.self.stack c.args.frame c.leave.new.self.top c.leave.ensures.lowered wrote
+
+pub returns-in-Ok-Needs-clause-begun : goal.returns-in-Ok-Needs-clause-begun
+returns-in-Ok-Needs-clause-begun g c =
+    let s = rw c.in-Ok-Needs.field-0-is at c.in-Ok-Needs.ensures.step in
+    λ k b. inl (c.wait.ensures.begun k (needs_begun c.args.self.now.stack c.args.frame c.in-Ok-Needs.frame s.1 s.2 k b))
+
+pub returns-in-Ok-Needs-clause-first : goal.returns-in-Ok-Needs-clause-first
+returns-in-Ok-Needs-clause-first g c = waited_first c.args.self.now.stack (At c.args.frame) c.wait.result c.wait.ensures.none
+
+pub returns-in-Ok-Starts-clause-begun : goal.returns-in-Ok-Starts-clause-begun
+returns-in-Ok-Starts-clause-begun g c =
+    let s = rw c.in-Ok-Starts.field-0-is at c.in-Ok-Starts.ensures.step in
+    λ k b. inl (away_begun c.args.self.now.stack c.start.new.self.stack c.args.frame c.start.new.self.top c.in-Ok-Starts.key c.start.ensures.stack c.start.ensures.away s.1 k b)
+
+pub returns-in-Ok-Starts-clause-first : goal.returns-in-Ok-Starts-clause-first
+returns-in-Ok-Starts-clause-first g c =
+    let s = rw c.in-Ok-Starts.field-0-is at c.in-Ok-Starts.ensures.step in
+    walked_first c.args.self.now.stack c.args.frame c.start.result.done.key c.start.result.why s.2 c.requires.below.apart
+    (out_key c.start.new.self.top c.in-Ok-Starts.key _ c.start.ensures.away c.start.ensures.handed.out ∙ s.1)
+
+pub returns-in-Ok-GoesOn-clause-begun : goal.returns-in-Ok-GoesOn-clause-begun
+returns-in-Ok-GoesOn-clause-begun g c =
+    let s = rw c.in-Ok-GoesOn.field-0-is at c.in-Ok-GoesOn.ensures.step in
+    λ k b. inl (away_begun c.args.self.now.stack c.go_on.new.self.stack c.args.frame c.go_on.new.self.top c.in-Ok-GoesOn.key c.go_on.ensures.stack c.go_on.ensures.away s.1 k b)
+
+pub returns-in-Ok-GoesOn-clause-first : goal.returns-in-Ok-GoesOn-clause-first
+returns-in-Ok-GoesOn-clause-first g c = going_first c.args.self.now.stack (At c.args.frame) c.go_on.result.done.key c.go_on.result.why c.go_on.ensures.going
+
+pub returns-in-Err-clause-begun : goal.returns-in-Err-clause-begun
+returns-in-Err-clause-begun g c = λ k b. inl (back_begun c.args.self.now.stack c.args.frame c.in-Err.frame c.in-Err.ensures.returned.0 c.in-Err.ensures.returned.1 k b)

@@ -1,4 +1,4 @@
-use Rattle.std.proofs.Common.{[], List, sym, ◌∙◌, ap, subst, inr}
+use Rattle.std.proofs.Common.{[], List, refl, sym, ◌∙◌, ap, subst, inl, inr}
 use Rattle.pq_rules.specs.declared.turn.Turn.{Turn}
 use Rattle.pq_rules.specs.declared.turn.Answer.TheVariants.{Value}
 use Rattle.pq_rules.proofs.Order.{strict}
@@ -13,6 +13,7 @@ use Rattle.pq_core.proofs.Framed.{lowered, below_as}
 use Rattle.pq_core.proofs.Lists.{none_some}
 use Rattle.pq_core.proofs.OneTurn.{took}
 use Rattle.pq_core.proofs.Stepping.{awake_stands, handed_stale, holds_last, left_stale, same_unwritten, stale_last, woken_stands, wrote_own}
+use Rattle.pq_core.proofs.RulesBegun.{asked_begun, refused_begun, taken_begun}
 use Rattle.pq_core.proofs.frames.Frames.take.Goals as goal
 
 pub returns-in-Ask-clause-frames_kept : goal.returns-in-Ask-clause-frames_kept
@@ -118,3 +119,17 @@ returns-in-Err-clause-waits g c = awake_stands g.R.Key.Ord.cmp (g.R.Rules.machin
 
 pub returns-in-Err-clause-written : goal.returns-in-Err-clause-written
 returns-in-Err-clause-written g c = same_unwritten c.args.claims.now c.args.id (memo_at g.R.Key.Ord.cmp c.args.memos.now.places) (memo_at g.R.Key.Ord.cmp c.publish_value.new.memos.places) c.in-Err.ensures.refused
+
+pub returns-in-Ask-clause-begun : goal.returns-in-Ask-clause-begun
+returns-in-Ask-clause-begun g c = λ k b. inl (asked_begun c.args.self.now.stack c.args.pending _ (λ w. w) refl k b)
+
+pub returns-in-Ok-clause-begun : goal.returns-in-Ok-clause-begun
+returns-in-Ok-clause-begun g c =
+    let laws = g.met.R.Rules.lawful c.args.memos.now.rules [] in
+    let exact : Exact g.R.Key.Ord.cmp = record { total = g.met.R.Key.Ord.total; exact = laws.exact } in
+    let stale = stale_last (g.R.Rules.machine c.args.memos.now.rules) c.args.inputs.now.revision (memo_at g.R.Key.Ord.cmp c.args.memos.now.places) (frame_keys c.args.self.now.stack) c.args.pending.key c.requires.stale in
+    taken_begun (g.R.Rules.machine c.args.memos.now.rules) c.args.inputs.now.revision (memo_at g.R.Key.Ord.cmp c.args.memos.now.places) (memo_at g.R.Key.Ord.cmp c.publish_value.new.memos.places) c.args.self.now.stack c.leave.new.self.stack c.args.pending c.leave.new.self.top c.leave.ensures.lowered
+    (wrote_finished g.R.Key.Ord.cmp exact (g.R.Rules.machine c.args.memos.now.rules) c.args.inputs.now c.args.memos.now.places c.args.pending.key c.publish_value.new.memos.places stale (inr (inr (Value c.in-Done.value, c.args.pending.reads.items, c.in-Ok.ensures.published))))
+
+pub returns-in-Err-clause-begun : goal.returns-in-Err-clause-begun
+returns-in-Err-clause-begun g c = λ k b. inl (refused_begun c.args.self.now.stack c.args.pending c.in-Err.pending c.in-Err.ensures.returned.0 k b)

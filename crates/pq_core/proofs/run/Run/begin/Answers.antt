@@ -6,6 +6,7 @@ use Rattle.pq_core.specs.aux.Runs.{out_at}
 use Rattle.pq_core.proofs.Claiming.{claimed_others, got_keys, held_keys, held_up, others_then}
 use Rattle.pq_core.proofs.Stepping.{empty_stands, none_closed, unwritten_then}
 use Rattle.pq_core.proofs.Beginning.{first_held, first_kept, first_stale, none_held}
+use Rattle.pq_core.proofs.RulesBegun.{none_begun, none_looks}
 use Rattle.pq_core.proofs.run.Run.begin.Goals as goal
 
 pub advance-requires-clause-frames_kept : goal.advance-requires-clause-frames_kept
@@ -66,3 +67,27 @@ unreachable-requires g c =
     let told = rw c.in-Ring.is at (c.in_ok-claim.ensures {u = tt}).claimed in
     none_closed g.R.Key.Ord.cmp c.args.claims.now c.args.id c.in_ok-key.key c.in-Ring.field-0.items
     (none_held (hold_of c.args.claims.now c.args.id).keys c.args.self.now.stack c.args.self.now.top c.requires.empty.0 c.requires.empty.1 c.requires.claimed) told.0
+
+pub returns-in_err-answer-clause-begun : goal.returns-in_err-answer-clause-begun
+returns-in_err-answer-clause-begun g c = λ k b. absurd (none_begun c.args.self.now.stack c.args.self.now.top c.requires.empty.0 c.requires.empty.1 k b)
+
+pub returns-in-Some-clause-begun : goal.returns-in-Some-clause-begun
+returns-in-Some-clause-begun g c = λ k b. absurd (none_begun c.args.self.now.stack c.args.self.now.top c.requires.empty.0 c.requires.empty.1 k b)
+
+pub returns-in_err-key-clause-begun : goal.returns-in_err-key-clause-begun
+returns-in_err-key-clause-begun g c = λ k b. absurd (none_begun c.args.self.now.stack c.args.self.now.top c.requires.empty.0 c.requires.empty.1 k b)
+
+pub returns-in_err-claim-clause-begun : goal.returns-in_err-claim-clause-begun
+returns-in_err-claim-clause-begun g c = λ k b. absurd (none_begun c.args.self.now.stack c.args.self.now.top c.requires.empty.0 c.requires.empty.1 k b)
+
+pub returns-in-Got-clause-begun : goal.returns-in-Got-clause-begun
+returns-in-Got-clause-begun g c = λ k b. absurd (none_begun c.args.self.now.stack c.args.self.now.top c.requires.empty.0 c.requires.empty.1 k b)
+
+pub returns-in-HeldBy-clause-begun : goal.returns-in-HeldBy-clause-begun
+returns-in-HeldBy-clause-begun g c = λ k b. absurd (none_begun c.args.self.now.stack c.args.self.now.top c.requires.empty.0 c.requires.empty.1 k b)
+
+pub returns-in-Some-clause-first : goal.returns-in-Some-clause-first
+returns-in-Some-clause-first g c = λ k b. none_begun c.args.self.now.stack c.args.self.now.top c.requires.empty.0 c.requires.empty.1 k b
+
+pub returns-in-Got-clause-first : goal.returns-in-Got-clause-first
+returns-in-Got-clause-first g c = none_looks c.args.self.now.stack c.args.self.now.top c.requires.empty.0 c.requires.empty.1 c.advance.result

@@ -1,0 +1,108 @@
+-- How often a rule is started: at most once in a revision, and once more for each run that was
+-- stopped or starved while it held the key.
+--
+-- A log has the rules that were started, and the keys that were held by the runs that were stopped
+-- or starved. No core keeps a log: contracts alone speak of it. What a call adds to it is a function
+-- of its answer and of the core before the call (`log_moved`, `log_starved`); all other calls add
+-- nothing. The empty log is counted for a new core, and each call keeps that (`IsCountedFor`). So the
+-- bound of `IsCounted` holds of the log of every list of calls.
+use Rattle.std.specs.Prelude.{ℕ, ◌≡◌, ◌+◌, ◌≤◌, ◌⊎◌, ◌&&◌, Bool, true, false, eqb, List, [], ◌∷◌, ◌++◌, map, Option, Some, None, Result, Ok, Err}
+use Rattle.std.specs.Ordering.{is_eq}
+use Rattle.std.specs.declared.cmp.Ordering.{Ordering}
+use Rattle.pq_rules.specs.Relations.{Each}
+use Rattle.pq_rules.specs.Turns.{Machine}
+use Rattle.pq_memo.specs.declared.look.Why.{Why}
+use Rattle.pq_memo.specs.Look.{IsUpToDate}
+use Rattle.pq_memo.specs.Table.{memo_at, HasIn}
+use Rattle.pq_claims.specs.Claims.{hold_of}
+use Rattle.pq_core.specs.Works.{WorkView}
+use Rattle.pq_core.specs.Cores.{CoreView}
+use Rattle.pq_core.specs.declared.moves.Move.{Move}
+use Rattle.pq_core.specs.declared.moves.Move.TheVariants.{Carry, Blocked, Stepped, Answered, Stopped}
+use Rattle.pq_core.specs.aux.Rising.{found}
+use Rattle.pq_core.specs.aux.Runs.{RunView}
+use Rattle.pq_core.specs.aux.Begun.{IsBegunIn}
+
+-- `Event K` is that `run`, which was started at `revision`, started the rule of `key`, or held `key`
+-- when it was stopped or starved
+pub record Event (K : Type 0) : Type 0 where
+  pub run : ℕ
+  pub key : K
+  pub revision : ℕ
+
+-- `Log K` is the rules that were started, and the keys that were held by the runs that were stopped
+-- or starved, in the order of events
+pub record Log (K : Type 0) : Type 0 where
+  pub starts : List (Event K)
+  pub lost : List (Event K)
+
+-- `no_log` is the log before any call
+abbrev pub no_log : {K : Type 0} → Log K
+no_log = record { starts = []; lost = [] }
+
+-- ---- what a call adds
+
+-- `events_of run revision keys` is an event of `run` for each of `keys`
+abbrev pub events_of : {K : Type 0} → ℕ → ℕ → List K → List (Event K)
+events_of run revision keys = map (λ k. record { run = run; key = k; revision = revision }) keys
+
+-- `log_work event why log` is `log` after work was handed out: if the work names a cause `why`, its
+-- rule is started, and `event` is among the starts
+abbrev pub log_work : {K : Type 0} → Event K → Option (Why K) → Log K → Log K
+log_work event None log = log
+log_work event (Some why) log = record { starts = log.starts ++ event ∷ []; lost = log.lost }
+
+-- `log_end run there keys log` is `log` after the end of `run`, which was `there` and held `keys`:
+-- these are lost
+abbrev pub log_end : {K P : Type 0} → ℕ → Option (RunView K P) → List K → Log K → Log K
+log_end run None keys log = log
+log_end run (Some there) keys log = record { starts = log.starts; lost = log.lost ++ events_of run there.started keys }
+
+-- `log_moved core run answer log` is `log` after `run` was looked at, or a result was given to it.
+-- `core` is the core before the call. Work that starts a rule adds a start at the revision now. A
+-- run that is stopped adds the keys that it held to those lost, at the revision of its start.
+abbrev pub log_moved : {R K P V M O E : Type 0} → CoreView R K P V M O → ℕ → Result (Move (WorkView R K P V)) E → Log K → Log K
+log_moved core run (Ok (Carry work)) log = log_work (record { run = run; key = work.done.key; revision = core.inputs.revision }) work.why log
+log_moved core run (Ok (Blocked other)) log = log
+log_moved core run (Ok Stepped) log = log
+log_moved core run (Ok Answered) log = log
+log_moved core run (Ok Stopped) log = log_end run (found core.runs.items run) (hold_of core.claims run).keys log
+log_moved core run (Err fault) log = log
+
+-- `log_starved core run answer log` is `log` after `run` was starved, if the answer is that it was a
+-- run. `core` is the core before the call.
+abbrev pub log_starved : {R K P V M O : Type 0} → CoreView R K P V M O → ℕ → Bool → Log K → Log K
+log_starved core run true log = log_end run (found core.runs.items run) (hold_of core.claims run).keys log
+log_starved core run false log = log
+
+-- ---- the bound
+
+-- `one_if test` is 1 if `test` is true, else 0
+abbrev pub one_if : Bool → ℕ
+one_if true = 1
+one_if false = 0
+
+-- `count order revision key events` is how many of `events` are of `key` and of a run that was
+-- started at `revision`
+unfoldable pub count : {K : Type 0} → (K → K → Ordering) → ℕ → K → List (Event K) → ℕ
+count order revision key [] = 0
+count order revision key (e ∷ es) = one_if (is_eq (order key e.key) && eqb e.revision revision) + count order revision key es
+
+-- `IsCounted order now taken log` is that in each revision a key's rule was started once at most,
+-- and once more for each run that was stopped or starved while it held the key; and that the rule of
+-- a key that is not `taken` in the revision `now` may be started once more
+pub record IsCounted {K : Type 0} (order : K → K → Ordering) (now : ℕ) (taken : K → Type 0) (log : Log K) : Type 0 where
+  pub earlier : Each (λ e. e.revision ≤ now) log.starts
+  pub each : (revision : ℕ) (key : K) → count order revision key log.starts ≤ count order revision key log.lost + 1
+  pub latest : (key : K) → (count order now key log.starts ≤ count order now key log.lost) ⊎ taken key
+
+-- `IsTaken order m core k` is that `k` is up to date now, or that a run that was started at the
+-- revision now has begun the rule of `k`
+abbrev pub IsTaken : {R K P V M O : Type 0} → (K → K → Ordering) → Machine K P V → CoreView R K P V M O → K → Type 0
+IsTaken order m core k =
+    IsUpToDate m core.inputs.revision (HasIn (memo_at order core.places)) k ⊎ IsBegunIn core.inputs.revision core.runs.items k
+
+-- `IsCountedFor order m core log` is that the starts of `log` are bounded, where the last call left
+-- `core`
+abbrev pub IsCountedFor : {R K P V M O : Type 0} → (K → K → Ordering) → Machine K P V → CoreView R K P V M O → Log K → Type 0
+IsCountedFor order m core log = IsCounted order core.inputs.revision (λ k. IsTaken order m core k) log
