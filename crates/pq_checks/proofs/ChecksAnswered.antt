@@ -36,7 +36,7 @@ use Rattle.pq_checks.specs.declared.diagnostic.Diagnosed.{Diagnosed}
 use Rattle.pq_checks.specs.declared.diagnostics.DiagnosticsPart.{DiagnosticsPart}
 use Rattle.pq_checks.specs.declared.diagnostics.DiagnosticsPart.TheVariants.{ReadChecks, ReadFile}
 use Rattle.pq_checks.specs.declared.surroundings.Imported.{Imported}
-use Rattle.pq_checks.proofs.Answered.{Asks, HasAnswer, has_answer}
+use Rattle.pq_checks.proofs.EachAnswered.{Asks, HasAnswer, has_answer}
 use Rattle.pq_checks.proofs.ChecksMeaning.{checks_are, diagnostics_are}
 use Rattle.pq_checks.proofs.Existence.{linked_or_ring, resolved_exist, scope_exists}
 

@@ -24,6 +24,6 @@ pub mod DiagnosticsGiven
 pub mod TableRows
 pub mod ByAnswers
 pub mod ChecksMeaning
-pub mod Answered
+pub mod EachAnswered
 pub mod Existence
 pub mod ChecksAnswered

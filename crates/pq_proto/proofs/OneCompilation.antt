@@ -24,7 +24,7 @@ use Rattle.pq_schema.specs.declared.resolved.ResolvedReference.{ResolvedReferenc
 use Rattle.pq_checks.specs.ChecksSum.{ChecksMeans}
 use Rattle.pq_checks.specs.Compile.{AreFaults}
 use Rattle.pq_checks.specs.declared.fault.Fault.{Fault}
-use Rattle.pq_checks.proofs.Answered.{Asks, has_answer}
+use Rattle.pq_checks.proofs.EachAnswered.{Asks, has_answer}
 use Rattle.pq_checks.proofs.ChecksAnswered.{checks_answer as answer_of_checks, diagnostics_answer as answer_of_diagnostics}
 use Rattle.pq_checks.proofs.Existence.{linked_or_ring, resolved_exist, scope_exists}
 use Rattle.pq_proto.specs.Compile.{Compiles, IsDefinition, IsDescriptor, definition_by, descriptor_by, has_tree, is_failed, offset_at, read_in, symbols_of}
