@@ -24,7 +24,7 @@ use Rattle.pq_schema.specs.Compile.{defs_at, AreResolved}
 use Rattle.pq_schema.specs.SchemaSum.{SchemaSum, SchemaMeans}
 use Rattle.pq_schema.proofs.BadFiles.{ring_bad}
 use Rattle.pq_checks.specs.Answers.{CheckWords, AsksStates, AsksNext, AsksLinks, if_ring, surroundings_by}
-use Rattle.pq_checks.specs.ChecksSum.{ChecksSum, ChecksMeans, words_of}
+use Rattle.pq_checks.specs.ChecksSum.{ChecksSum, words_of}
 use Rattle.pq_checks.specs.Compile.{AreSurroundings, IsRingAt, file_faults, AreFaults}
 use Rattle.pq_checks.specs.Diagnostics.{diagnosed, AreDiagnostics}
 use Rattle.pq_checks.specs.Surroundings.{state_of, other_files}
@@ -204,7 +204,7 @@ module _ {K P V : Type 0} (m : Instance K P V) (files : Sources) (s : SchemaSum 
       let first : NextOf g (imported g f) next = subst (λ (hs : List (List ℕ)). NextOf g hs next) same (next_is is es next asks told) in
       subst (λ (o : Option (List (List ℕ))). IsRingAt g f o next) (sym some) (ring_at g f l.0 next ring first)
 
-  checks_are : (f : List ℕ) (a : Answer K V) → Means m (c.checks f) a → (fs : List Fault) × (a ≡ Value (c.checks_value fs)) × AreFaults files f fs
+  pub checks_are : (f : List ℕ) (a : Answer K V) → Means m (c.checks f) a → (fs : List Fault) × (a ≡ Value (c.checks_value fs)) × AreFaults files f fs
   checks_are f a h =
       let r = lower_runs m c.checks c.checks_part c.checks_value check_level (check_starts s.items) advances c.checks_embeds (omega arith) lower f a h in
       let x = r.1 in
@@ -259,7 +259,7 @@ module _ {K P V : Type 0} (m : Instance K P V) (files : Sources) (s : SchemaSum 
   below x l [] k q r = l k q r
   below x l (e ∷ es) k q r = below (turns r.0 e.1) (turns_below r.0 e.1) es k q r.2
 
-  diagnostics_are : (f : List ℕ) (a : Answer K V) → Means m (c.diagnostics f) a → (d : Diagnosed) × (a ≡ Value (c.diagnostics_value d)) × AreDiagnostics files f d
+  pub diagnostics_are : (f : List ℕ) (a : Answer K V) → Means m (c.diagnostics f) a → (d : Diagnosed) × (a ≡ Value (c.diagnostics_value d)) × AreDiagnostics files f d
   diagnostics_are f a h =
       let r = lower_runs m c.diagnostics c.diagnostics_part c.diagnostics_value diagnostics_level (diagnostics_starts c.checks) turns c.diagnostics_embeds (omega arith)
       (λ x es k q. below (diagnostics_starts c.checks x) (starts_below x) es k q) f a h in
@@ -269,6 +269,3 @@ module _ {K P V : Type 0} (m : Instance K P V) (files : Sources) (s : SchemaSum 
       let faults : c.checked_read given.0 ≡ x.0 = ap c.checked_read x.1 ∙ c.checked_back x.0 in
       let file = parsed_is f given.1 told.1.0 in
       (r.1, r.3, (x.0, x.2, given.3 ∙ ap (λ (fs : List Fault). diagnosed fs (s.parsed_read given.1)) faults ∙ ap (diagnosed x.0) file))
-
-  pub checks_mean : ChecksMeans m files s c
-  checks_mean = record { checks = checks_are; diagnostics = diagnostics_are }

@@ -24,3 +24,6 @@ pub mod DiagnosticsGiven
 pub mod TableRows
 pub mod ByAnswers
 pub mod ChecksMeaning
+pub mod EachAnswered
+pub mod Existence
+pub mod ChecksAnswered

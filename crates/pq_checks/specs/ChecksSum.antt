@@ -1,6 +1,6 @@
 -- Sums of queries that embed the queries of a file's checks and diagnostics beside those of a
 -- schema, and what their keys mean. The public law `checks_in_rules` says this of every such sum.
-use Rattle.std.specs.Prelude.{ℕ, ◌≡◌, List, map, Option, Some, None}
+use Rattle.std.specs.Prelude.{ℕ, ◌≡◌, ◌↔◌, List, map, Option, Some, None}
 use Rattle.pq_inputs.specs.Sources.{Sources}
 use Rattle.pq_rules.specs.declared.turn.Answer.{Answer}
 use Rattle.pq_rules.specs.declared.turn.Answer.TheVariants.{Value, Cycle}
@@ -61,8 +61,8 @@ pub record ChecksSum {K P V : Type 0} (m : Instance K P V) (files : Sources) (s 
   pub checks_embeds : Embeds m checks checks_part checks_value check_level (check_starts s.items) (λ q a. check_advances (words_of s referred_read ring_files) q a)
   pub diagnostics_embeds : Embeds m diagnostics diagnostics_part diagnostics_value diagnostics_level (diagnostics_starts checks) (λ q a. diagnostics_advances s.parse (checked_read a) (s.parsed_read a) q)
 
--- `ChecksMeans m files s c` is that each answer of the checks and of the diagnostics of a file is
--- what the sources say of the errors of that file
+-- `ChecksMeans m files s c` is that the answers of the checks and of the diagnostics of a file are
+-- what the sources say of its errors: `Means m key a` holds exactly of these answers `a`
 pub record ChecksMeans {K P V : Type 0} (m : Instance K P V) (files : Sources) (s : SchemaSum m files) (c : ChecksSum m files s) : Type 0 where
-  pub checks : (f : List ℕ) (a : Answer K V) → Means m (c.checks f) a → (fs : List Fault) × (a ≡ Value (c.checks_value fs)) × AreFaults files f fs
-  pub diagnostics : (f : List ℕ) (a : Answer K V) → Means m (c.diagnostics f) a → (d : Diagnosed) × (a ≡ Value (c.diagnostics_value d)) × AreDiagnostics files f d
+  pub checks : (f : List ℕ) (a : Answer K V) → Means m (c.checks f) a ↔ ((fs : List Fault) × (a ≡ Value (c.checks_value fs)) × AreFaults files f fs)
+  pub diagnostics : (f : List ℕ) (a : Answer K V) → Means m (c.diagnostics f) a ↔ ((d : Diagnosed) × (a ≡ Value (c.diagnostics_value d)) × AreDiagnostics files f d)

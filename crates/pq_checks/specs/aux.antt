@@ -10,3 +10,4 @@ pub mod DiagnosticsTurns
 pub mod Gathering
 pub mod Queries
 pub mod Falls
+pub mod CheckKinds

@@ -1,8 +1,8 @@
--- Laws of the import graph: a file is not both good and bad, and each sufficient bound on the walks
--- of a file gives the same links.
-use Rattle.std.proofs.Common.{◌≡◌, ℕ, zero, suc, ◌≤◌, List, [], ◌∷◌, map, Option, Some, None, unwrap_or, refl, sym, ap, subst, ◌∙◌, inl, inr, arith}
+-- Laws of the import graph: a file is not both good and bad, its first bad import is one, and each
+-- sufficient bound on the walks of a file gives the same links.
+use Rattle.std.proofs.Common.{◌≡◌, ℕ, zero, suc, ◌≤◌, List, [], ◌∷◌, ◌++◌, map, Option, Some, None, unwrap_or, refl, sym, ap, subst, ◌∙◌, inl, inr, arith}
 use Rattle.pq_rules.specs.Relations.{Each, In}
-use Rattle.pq_links.specs.ImportGraph.{Graph, file_of, imported, Walks, EndsWithin}
+use Rattle.pq_links.specs.ImportGraph.{Graph, file_of, imported, Walks, EndsWithin, IsBad, IsGood, IsNext}
 use Rattle.pq_links.specs.Visibility.{links_by, links_or_none, links_within}
 use Rattle.pq_links.specs.declared.links.Import.{Import}
 use Rattle.pq_links.specs.declared.links.Links.{Links}
@@ -50,3 +50,21 @@ ends_or_walks g (suc n) f e w = ends_or_walks g n w.0 (at (imported g f) e w.1) 
     at [] e i = absurd i
     at (x ∷ xs) e (inl p) = subst (EndsWithin g n) (sym p) e.0
     at (x ∷ xs) e (inr i) = at xs e.1 i
+
+-- ---- the first bad import is one
+
+pub good_bad : (g : Graph) (f : List ℕ) → IsGood g f → IsBad g f → ⊥
+good_bad g f good bad = ends_or_walks g good.0 f good.1 (bad good.0)
+
+first_bad : (g : Graph) (before after before' after' : List (List ℕ)) (h h' : List ℕ) → before ++ h ∷ after ≡ before' ++ h' ∷ after'
+    → Each (IsGood g) before → IsBad g h → Each (IsGood g) before' → IsBad g h' → h ≡ h'
+first_bad g [] after [] after' h h' e good bad good' bad' = cc
+first_bad g [] after (y ∷ ys) after' h h' e good bad good' bad' =
+    let is : h ≡ y = cc in absurd (good_bad g y good'.0 (subst (IsBad g) is bad))
+first_bad g (x ∷ xs) after [] after' h h' e good bad good' bad' =
+    let is : h' ≡ x = cc in absurd (good_bad g x good.0 (subst (IsBad g) is bad'))
+first_bad g (x ∷ xs) after (y ∷ ys) after' h h' e good bad good' bad' =
+    let on : xs ++ h ∷ after ≡ ys ++ h' ∷ after' = cc in first_bad g xs after ys after' h h' on good.1 bad good'.1 bad'
+
+pub next_one : (g : Graph) (f h h' : List ℕ) → IsNext g f h → IsNext g f h' → h ≡ h'
+next_one g f h h' i j = first_bad g i.0 i.1 j.0 j.1 h h' (sym i.2 ∙ j.2) i.3 i.4 j.3 j.4

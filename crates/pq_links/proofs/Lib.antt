@@ -3,9 +3,12 @@ pub mod AddSteps
 pub mod OnceOnly
 pub mod ImportSteps
 pub mod JoinSteps
+pub mod Leads
+pub mod ReadTexts
 pub mod ByAnswers
 pub mod Equality
 pub mod GraphLemmas
+pub mod GraphDecided
 pub mod NameKinds
 pub mod Reached
 pub mod PartSpans

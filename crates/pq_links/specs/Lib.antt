@@ -1,5 +1,6 @@
 pub mod Once
 pub mod ImportGraph
+pub mod Leading
 pub mod Visibility
 pub mod Bare
 pub mod Files

@@ -3,26 +3,40 @@
 //! Each of the first four is of every sum of queries `S`, and of every list `es` of questions with
 //! their answers by which the query's own rule runs from its start to a value. It says what the
 //! questions were, in order, and that the value is the definition, applied to what these answers
-//! say. The last is of the answers in a rule set.
-ghost use Rattle.std.specs.Prelude.{List, ℕ, Option};
+//! say. `links_in_rules` is of the answers in a rule set. The last two say by the walks of imports
+//! and by the grammar what the definitions of links and of a file as it is read compute.
+ghost use Rattle.std.specs.List.{IsDistinct};
+ghost use Rattle.std.specs.Prelude.{◌≡◌, ◌↔◌, IsSome, List, ℕ, Option, Some, bytes_eq};
+ghost use Rattle.pq_lex.specs.aux.LineMarks.{lines_of};
+ghost use Rattle.pq_lex.specs.declared.token.Span.{Span};
+ghost use Rattle.pq_syntax.specs.FaultPlace.{FaultStands, IsTree};
+ghost use Rattle.pq_syntax.specs.declared.fault.Code.{Code};
+ghost use Rattle.pq_syntax.specs.declared.fault.Parsed.TheVariants.{Fault, Tree};
+ghost use Rattle.pq_syntax.specs.declared.tree.Node.{Node};
 ghost use Rattle.pq_rules.specs.declared.turn.Turn.TheVariants.{Done};
 ghost use Rattle.pq_inputs.specs.Sources.{Sources};
 ghost use Rattle.pq_rules.specs.declared.turn.Answer.{Answer};
 ghost use Rattle.pq_rules.specs.Embedding.{Runs};
+ghost use Rattle.pq_rules.specs.Relations.{In};
 ghost use Rattle.pq_rules.specs.Turns.{over};
 ghost use Rattle.pq_rules.specs.Value.{Means};
 ghost use Rattle.pq_links.specs.Answers.{IsParsedBy, AreItemsBy, AreImportsBy, AreLinksBy};
+ghost use Rattle.pq_links.specs.Files.{read_file};
 ghost use Rattle.pq_links.specs.ImportGraph.{Graph};
+ghost use Rattle.pq_links.specs.Leading.{IsInView, LeadsPublicly, LeadsTo};
 ghost use Rattle.pq_links.specs.LinkedKeys.{EmbedsLinks, LinkedIs};
+ghost use Rattle.pq_links.specs.Visibility.{AreLinks};
 ghost use Rattle.pq_links.specs.aux.Queries.{parse_starts, parse_advances, items_starts, items_advances, imports_starts, imports_advances, linked_starts, linked_advances};
 ghost use Rattle.pq_links.specs.declared.file_items.FileItems.{FileItems};
 ghost use Rattle.pq_links.specs.declared.files.ParsedFile.{ParsedFile};
+ghost use Rattle.pq_links.specs.declared.files.ParsedFile.TheVariants.{Present};
 ghost use Rattle.pq_links.specs.declared.linked.Linking.{Linking};
 ghost use Rattle.pq_links.specs.declared.links.Import.{Import};
 ghost use Rattle.pq_links.specs.declared.links.Links.{Links};
 
 use crate::keys::LinkKeys;
 use pq_rules::Rules;
+use pq_syntax::{each_parse, one_fault, one_tree};
 
 /// The parse of a file asks its text, and ends in what a file with that text is read as.
 pub fn parse_by_answers<S: LinkKeys>()
@@ -53,3 +67,24 @@ pub fn links_in_rules<R: Rules>(_rules: &R)
     ensures means { (files : Sources) (g : Graph) (imports linked : List ℕ → R.Key) (part : Linking → R.Part) (value : Links → R.Value) (imports_read : Answer R.Key R.Value → Option (List Import)) (links_read : Answer R.Key R.Value → Links) (level : ℕ) → EmbedsLinks (over R.Key.cmp (R.machine _rules.now) files) g imports linked part value imports_read links_read level → (f : List ℕ) (a : Answer R.Key R.Value) → Means (over R.Key.cmp (R.machine _rules.now) files) (linked f) a → LinkedIs g linked value f a }
     ensures answers { (files : Sources) (g : Graph) (imports linked : List ℕ → R.Key) (part : Linking → R.Part) (value : Links → R.Value) (imports_read : Answer R.Key R.Value → Option (List Import)) (links_read : Answer R.Key R.Value → Links) (level : ℕ) → EmbedsLinks (over R.Key.cmp (R.machine _rules.now) files) g imports linked part value imports_read links_read level → ((f : List ℕ) → (a : Answer R.Key R.Value) × Means (over R.Key.cmp (R.machine _rules.now) files) (imports f) a) → (f : List ℕ) (a : Answer R.Key R.Value) → LinkedIs g linked value f a → Means (over R.Key.cmp (R.machine _rules.now) files) (linked f) a }
 {}
+
+/// A good file reaches exactly the present files that walks of imports lead to, and exports those
+/// that walks of public imports lead to. It sees itself and what its imports export. Each of the
+/// three lists has each name once.
+pub fn reach_is_walks()
+    ensures reach { (g : Graph) (f h : List ℕ) (l : Links) → AreLinks g f l → In h l.reach ↔ (IsSome (g h) × LeadsTo g f h) }
+    ensures exports { (g : Graph) (f h : List ℕ) (l : Links) → AreLinks g f l → In h l.exports ↔ (IsSome (g h) × LeadsPublicly g f h) }
+    ensures visible { (g : Graph) (f h : List ℕ) (l : Links) → AreLinks g f l → In h l.visible ↔ (IsSome (g h) × IsInView g f h) }
+    ensures once { (g : Graph) (f : List ℕ) (l : Links) → AreLinks g f l → IsDistinct bytes_eq l.reach × IsDistinct bytes_eq l.exports × IsDistinct bytes_eq l.visible }
+{}
+
+/// A text is read as a tree exactly if that is its tree by the grammar, and as an error exactly if
+/// that is its first error. The law `places_of_text` of `pq_proto` says the same of its lines.
+pub fn read_by_grammar()
+    ensures tree { (text : List ℕ) (nodes : List Node) → (read_file (Some text) ≡ Present (Tree nodes) (lines_of text)) ↔ IsTree text nodes }
+    ensures fault { (text : List ℕ) (span : Span) (code : Code) → (read_file (Some text) ≡ Present (Fault span code) (lines_of text)) ↔ FaultStands text span code }
+{
+    each_parse();
+    one_tree();
+    one_fault();
+}

@@ -32,6 +32,7 @@ pub use items_query::ItemsQuery;
 pub use keys::LinkKeys;
 pub use laws::{
     imports_by_answers, items_by_answers, links_by_answers, links_in_rules, parse_by_answers,
+    reach_is_walks, read_by_grammar,
 };
 pub use linked::{Joined, LinkedQuery, Linking};
 pub use links::{Import, Links};

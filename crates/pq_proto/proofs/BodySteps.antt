@@ -25,13 +25,13 @@ body_deeper d n s ss more =
     let not_same : nat_eq s.depth d ≡ false = grind (arith, nat_tests) in
     cond-false (nat_lt s.depth d) _ _ not_less ∙ cond-false (nat_eq s.depth d) _ _ not_same
 
-less : (d n : ℕ) (s : Node) (ss : List Node) → s.depth < d → body_at d n (s ∷ ss) ≡ Empty
+pub less : (d n : ℕ) (s : Node) (ss : List Node) → s.depth < d → body_at d n (s ∷ ss) ≡ Empty
 unfolding body_at
 less d n s ss h =
     let is_less : nat_lt s.depth d ≡ true = grind (arith, nat_tests) in
     cond-true (nat_lt s.depth d) _ _ is_less
 
-same : (d n : ℕ) (s : Node) (ss : List Node) → s.depth ≡ d
+pub same : (d n : ℕ) (s : Node) (ss : List Node) → s.depth ≡ d
     → body_at d n (s ∷ ss) ≡ Holds (record { number = n; node = s }) (body_at (suc d) (suc n) ss) (body_at d (suc n) ss)
 unfolding body_at
 same d n s ss h =

@@ -1,14 +1,13 @@
 pub mod Rows
 pub mod BodySteps
+pub mod TreeDepths
+pub mod PlacedBodies
 pub mod SizeSteps
 pub mod ListSteps
 pub mod ReferenceSteps
 pub mod FirstSteps
 pub mod NumberTexts
-pub mod GraphDecided
-pub mod Existence
 pub mod ProtoMeaning
-pub mod Answered
 pub mod ByAnswers
 pub mod KeyNumbers
 pub mod OneCompilation

@@ -48,7 +48,7 @@ use Rattle.pq_proto.specs.declared.definition.TypeItem.{TypeItem}
 use Rattle.pq_proto.specs.declared.value.Location.{Location}
 use Rattle.pq_proto.specs.declared.value.ProtoValue.{ProtoValue}
 use Rattle.pq_proto.specs.declared.value.ProtoValue.TheVariants as values
-use Rattle.pq_proto.proofs.Existence.{resolved_exist}
+use Rattle.pq_checks.proofs.Existence.{resolved_exist}
 
 abbrev A : Type 0
 A = Answer ProtoKey ProtoValue
@@ -255,7 +255,7 @@ module _ (order : ProtoKey → ProtoKey → Ordering) (files : Sources)
         let r = lower_runs m (λ x. keys.Descriptor x) (λ q. Describing q) (λ v. values.Descriptor v) output_level descriptor_starts descriptor_advances descriptor_embeds (omega arith)
         (λ x es k q. runs_low descriptor_advances descriptor_low (descriptor_starts x) (ask_low (keys.Checks x) (descriptors.ReadChecks x) (omega arith)) es k q) f a h in
         let o = read_one descriptor_advances (keys.Checks f) (descriptors.ReadChecks f) r.0 r.1 r.2 r.4 in
-        let d = u.checks f o.0 o.2 in
+        let d = (u.checks f o.0).0 o.2 in
         let on : Runs descriptor_advances (bare_turn f (is_failed d.0)) o.1 (Done r.1) =
         subst (λ (b : A). Runs descriptor_advances (bare_turn f (is_failed (faults_read b))) o.1 (Done r.1)) {y = Value (values.Checks d.0)} d.1 o.3 in
         (r.1, r.3, checked_is f d.0 (is_failed d.0) refl d.2 o.1 r.1 on o.4)
@@ -336,8 +336,8 @@ module _ (order : ProtoKey → ProtoKey → Ordering) (files : Sources)
     means_compiles (keys.Defs f) a h = (t.defs f a).0 h
     means_compiles (keys.Scope f) a h = (t.scope f a).0 h
     means_compiles (keys.Resolved f) a h = (t.resolved f a).0 h
-    means_compiles (keys.Checks f) a h = u.checks f a h
-    means_compiles (keys.Diagnostics f) a h = u.diagnostics f a h
+    means_compiles (keys.Checks f) a h = (u.checks f a).0 h
+    means_compiles (keys.Diagnostics f) a h = (u.diagnostics f a).0 h
     means_compiles (keys.Descriptor f) a h = descriptor_is f a h
     means_compiles (keys.Symbols f) a h = symbols_are f a h
     means_compiles (keys.Definition f place) a h = definition_is f place a h

@@ -12,7 +12,7 @@ use Rattle.pq_rules.proofs.Rings.{Strict}
 use Rattle.pq_schema.specs.SchemaSum.{SchemaMeans}
 use Rattle.pq_schema.proofs.SchemaMeaning.{schema_means}
 use Rattle.pq_checks.specs.ChecksSum.{ChecksMeans}
-use Rattle.pq_checks.proofs.ChecksMeaning.{checks_mean}
+use Rattle.pq_checks.proofs.ChecksAnswered.{checks_mean}
 use Rattle.pq_proto.specs.Compile.{Compiles}
 use Rattle.pq_proto.specs.aux.RuleSet.{proto_rules}
 use Rattle.pq_proto.specs.contracts.key.ProtoKeyOrd.TheImpl as key_order

@@ -2,7 +2,7 @@
 -- or a method is the list of the statements directly in it, each with its own body.
 use Rattle.std.specs.Prelude.{ℕ, suc, nat_lt, nat_eq, cond, List, [], ◌∷◌, ◌++◌}
 use Rattle.pq_syntax.specs.declared.tree.Node.{Node}
-use Rattle.pq_syntax.specs.Places.{Item}
+use Rattle.pq_syntax.specs.Places.{Item, Place}
 
 -- `Holds item inside later` is the body that begins with `item`, whose own body is `inside`;
 -- `later` is the rest of the body. `Empty` has no statement.
@@ -29,3 +29,10 @@ body_of nodes = body_at 0 0 nodes
 unfoldable pub each : {A : Type 0} → (Item → Body → List A) → Body → List A
 each f Empty = []
 each f (Holds item inside later) = f item inside ++ each f later
+
+-- `placed_in around body` lists the places of the statements of `body` and of the bodies within it,
+-- in text order, where `around` lists the items that contain `body`, the innermost first
+unfoldable pub placed_in : List Item → Body → List Place
+placed_in around Empty = []
+placed_in around (Holds item inside later) =
+    record { item = item; within = around } ∷ (placed_in (item ∷ around) inside ++ placed_in around later)

@@ -8,6 +8,5 @@ pub mod Views
 pub mod Outputs
 pub mod KeyOrder
 pub mod RuleSet
-pub mod CheckKinds
 pub mod ProtoLaws
 pub mod Exact

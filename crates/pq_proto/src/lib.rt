@@ -22,6 +22,7 @@ mod printing;
 mod queries;
 mod rules;
 mod symbols;
+mod text_laws;
 mod value;
 
 pub use definition::{TypeItem, definition_at};
@@ -39,4 +40,5 @@ pub use rules::laws::{
 pub use rules::{ProtoPart, ProtoRules};
 pub use std::alloc::AllocError as Memory;
 pub use symbols::symbols_text;
+pub use text_laws::{bodies_are_places, places_of_text};
 pub use value::{Location, ProtoValue};

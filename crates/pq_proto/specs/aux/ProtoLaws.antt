@@ -46,7 +46,7 @@ use Rattle.pq_links.specs.Place.{place}
 use Rattle.pq_links.specs.declared.places.Part.TheVariants as part
 use Rattle.pq_proto.specs.Compile.{has_tree, is_failed, offset_at}
 use Rattle.pq_proto.specs.Definition.{definition_at, type_item, holds}
-use Rattle.pq_proto.specs.aux.CheckKinds.{AsksIn, CheckPartIn, check_starts_in, check_advances_in}
+use Rattle.pq_checks.specs.aux.CheckKinds.{AsksIn, CheckPartIn, check_starts_in, check_advances_in}
 use Rattle.pq_proto.specs.Levels.{level_of}
 use Rattle.pq_proto.specs.aux.Outputs.{faults_read, items_read, parsed_read, resolved_read, bare_turn, tree_turn, descriptor_advances, descriptor_left, descriptor_falls, references_turn, target_turn, definition_advances, definition_left, definition_falls}
 use Rattle.pq_proto.specs.aux.RuleSet.{text_read, imports_read, links_read, defs_read, scope_read, check_words, proto_file, proto_start, proto_advance, proto_left, proto_rules, descriptor_turn, definition_turn, own_name, keys_of, proto_reach}
@@ -226,7 +226,7 @@ mentioned_in : (ns : List (List ℕ)) (is : Option (List Import)) → ((w : List
 mentioned_in ns None sub = tt
 mentioned_in ns (Some is) sub = each_sub (map file_of is) ns sub
 
-pub file_mentions : (files : Sources) (name w : List ℕ) → In w (mentioned (file_in files name).text) → In w (all_mentioned files)
+file_mentions : (files : Sources) (name w : List ℕ) → In w (mentioned (file_in files name).text) → In w (all_mentioned files)
 unfolding file_in
 file_mentions [] name w i = i
 file_mentions (x ∷ xs) name w i = elim (cases_Bool (bytes_eq x.0 name)) [

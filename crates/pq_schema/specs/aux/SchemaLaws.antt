@@ -81,7 +81,7 @@ imports_in : (ns : List (List ℕ)) (is : Option (List Import)) → ((w : List �
 imports_in ns None sub = tt
 imports_in ns (Some is) sub = each_sub (map file_of is) ns sub
 
-file_mentions : (files : Sources) (name w : List ℕ) → In w (mentioned (file_in files name).text) → In w (all_mentioned files)
+pub file_mentions : (files : Sources) (name w : List ℕ) → In w (mentioned (file_in files name).text) → In w (all_mentioned files)
 unfolding file_in
 file_mentions [] name w i = i
 file_mentions (x ∷ xs) name w i = elim (cases_Bool (bytes_eq x.0 name)) [

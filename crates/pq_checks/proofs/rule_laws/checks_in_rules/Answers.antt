@@ -1,6 +1,6 @@
 use Rattle.pq_rules.specs.Turns.{over}
 use Rattle.pq_schema.proofs.SchemaMeaning.{schema_means}
-use Rattle.pq_checks.proofs.ChecksMeaning.{checks_mean}
+use Rattle.pq_checks.proofs.ChecksAnswered.{checks_mean}
 use Rattle.pq_checks.proofs.rule_laws.checks_in_rules.Goals as goal
 
 pub returns : goal.returns
