@@ -1,4 +1,4 @@
-use Rattle.std.proofs.Common.{◌≡◌, ◌+◌, ◌<◌, List, length, sym, ◌∙◌, ap, arith}
+use Rattle.std.proofs.Common.{List, length, ◌∙◌, ap, arith}
 use Rattle.pq_core.proofs.Lists.{get_within}
 use Rattle.pq_core.proofs.Writes.{drop_long}
 use Rattle.pq_core.specs.declared.lane.Owed.{Owed}
