@@ -68,6 +68,25 @@ def long_part(n):
     return one_file(compile.deep_package(1, n // 10)[0].replace("package a", "package " + "a" * n).replace("N x", "M x"))
 
 
+def half_package(part, name, apart=False):
+    """Texts of n bytes: half is a package of such parts, the rest references to a name, each in a message of its own or not."""
+    def text(n):
+        start = HEAD + "package " + ".".join([part(n)] * (n // 2 // (len(part(n)) + 1))) + ";"
+        field = ("message M%(n)d{" + name + " x=1;}") if apart else (name + " x%(n)d=%(field)d;")
+        fields = itertools.takewhile(lambda at: at[0] < n, accumulated(field, len(start)))
+        inner = "".join(more for _, more in fields)
+        return one_file(start + (inner if apart else "message M{" + inner + "}"))
+    return text
+
+
+def accumulated(field, length):
+    """The texts of fields, each with the length of what ends in it."""
+    for i in itertools.count(1):
+        more = field % {"n": i, "field": number(i)}
+        length += len(more)
+        yield length, more
+
+
 def equal_messages(n):
     """n equal messages in a package of 10 n bytes: each error has the full name."""
     return one_file(HEAD + "package " + "a" * (10 * n) + ";" + "message M{}" * n)
@@ -311,6 +330,11 @@ TEXTS = [of_compile(*case) for case in compile.CASES] + [
     Shape("a package of n parts, n references found", lambda n: package(n, n, True), 100),
     Shape("a package of n parts, n references to nothing", lambda n: package(n, n, False), 50),
     Shape("a package of one part of n bytes, n / 10 references", long_part, 2_500),
+    Shape("n bytes: half a package of short parts, references to nothing", half_package(lambda n: "a", "N"), 250_000),
+    Shape("n bytes: half a package of one part, references to nothing", half_package(lambda n: "a" * (n // 2 - 1), "N"), 250_000),
+    Shape("n bytes: half a package of 17 parts, references to nothing", half_package(lambda n: "a" * (n // 34 - 1), "N"), 250_000),
+    Shape("n bytes: half a package, messages of one reference to nothing", half_package(lambda n: "a", "N", True), 250_000),
+    Shape("n bytes: half a package, references found", half_package(lambda n: "a", "M"), 25_000),
     Shape("n equal messages in a package of 10 n bytes", equal_messages, 250, REPLIED),
     Shape("n references in a package of 10 n bytes: descriptors", long_names, 250, REPLIED),
     Shape("messages", lambda n: repeated("message M%(n)d{}", n), 1_000),

@@ -107,7 +107,7 @@ kept_step keep inner scope old new whole at is so_far =
 
 -- ---- the files near the scopes with a mark
 
-near_scope : (near : List ℕ) (files : List FileDefs) (root s n : List ℕ)
+pub near_scope : (near : List ℕ) (files : List FileDefs) (root s n : List ℕ)
     → is_among s (scopes root) ≡ true → IsPlain n → AreNear near files (scopes root) → AreNear near files (around (leading s ++ n))
 near_scope near files root [] n among plain are =
     subst (λ (ps : List (List ℕ)). AreNear near files (ps ++ [] ∷ [])) (sym (no_dot n plain))

@@ -29,7 +29,7 @@ or_right true b h = refl
 or_right false b h = h
 
 -- what begins with a text goes on after it
-starts_split : (p q : List ℕ) → starts_with nat_eq p q ≡ true → (t : List ℕ) × (p ≡ q ++ t)
+pub starts_split : (p q : List ℕ) → starts_with nat_eq p q ≡ true → (t : List ℕ) × (p ≡ q ++ t)
 starts_split p [] h = (p, refl)
 starts_split [] (c ∷ cs) h = absurd (true≢false (sym h))
 starts_split (x ∷ xs) (c ∷ cs) h =

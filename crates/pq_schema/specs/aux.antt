@@ -17,6 +17,7 @@ pub mod NearFiles
 pub mod RightIn
 pub mod Along
 pub mod Spots
+pub mod Inside
 pub mod Outward
 pub mod SameScopes
 pub mod EqualScopes

@@ -2,12 +2,13 @@
 //!
 //! A look-up asks only the files whose package the name can be in (`by_package`). These are found
 //! once for all the names that a reference is looked up by.
-ghost use Rattle.std.specs.Prelude.{◌≡◌, ◌++◌, ◌∷◌, [], IfOk, cond, filter};
+ghost use Rattle.std.specs.Prelude.{◌≡◌, ◌≤◌, ◌++◌, ◌∷◌, [], IfOk, cond, filter};
 ghost use Rattle.std.specs.Option.{option_copied};
 ghost use Rattle.pq_schema.specs.Resolution.{meaning, is_package};
 ghost use Rattle.pq_rules.specs.Relations.{Each};
 ghost use Rattle.pq_schema.specs.aux.FirstOf.{first_of, other_with, is_other_at};
 ghost use Rattle.pq_schema.specs.aux.Grouping.{AreNear, IsBelow, IsIndex, around};
+ghost use Rattle.pq_schema.specs.aux.Inside.{AreShort};
 ghost use Rattle.pq_schema.specs.aux.NearFiles.{AreOthers};
 ghost use Rattle.pq_schema.specs.aux.Hits.{meaning_at};
 ghost use Rattle.pq_schema.specs.aux.Scopes.{chain};
@@ -63,24 +64,47 @@ fn others_of(
     Ok(others)
 }
 
+/// The larger one of `a` and `b`.
+fn larger(a: usize, b: usize) -> usize
+    ensures first { a ≤ result }
+    ensures second { b ≤ result }
+{
+    if a < b { b } else { a }
+}
+
+/// The most bytes that the package of one of `files` has.
+fn longest_of(files: &[FileDefs]) -> usize
+    ensures longest { AreShort result files.now }
+{
+    let mut longest = 0usize;
+    'files: for i in 0..files.len() {
+        let count = files[i].defs.get().package_name().len();
+        longest = larger(longest, count);
+    }
+    longest
+}
+
 /// Files in order, with their definitions. Contracts see the list.
 #[derive(Drop)]
 pub(crate) struct Files {
     files: Vec<FileDefs>,
     /// The packages of the files, sorted.
     packages: Vec<Entry>,
+    /// The most bytes that a package has.
+    longest: usize,
 }
 
 impl Model for Files {
     ghost use Rattle.std.specs.Prelude.{List};
     ghost use Rattle.pq_schema.specs.declared.scope.FileDefs.{FileDefs};
     ghost use Rattle.pq_schema.specs.aux.Grouping.{IsIndex};
+    ghost use Rattle.pq_schema.specs.aux.Inside.{AreShort};
 
     ghost Value = { List FileDefs };
 
     ghost view = { λ f. f.files.items };
 
-    ghost invariant = { λ f. IsIndex f.packages.items f.files.items };
+    ghost invariant = { λ f. IsIndex f.packages.items f.files.items × AreShort f.longest f.files.items };
 }
 
 impl Files {
@@ -89,7 +113,12 @@ impl Files {
         ensures files { IfOk result (λ f. f ≡ files.items) }
     {
         let packages = packages_of(alloc, files.as_slice())?;
-        Ok(Files { files, packages })
+        let longest = longest_of(files.as_slice());
+        Ok(Files {
+            files,
+            packages,
+            longest,
+        })
     }
 
     /// The files, in order.
@@ -120,11 +149,11 @@ impl Files {
 
     /// The first definition with the full name `name`: the files in order, then each in text order.
     /// `near` has the places of the files that can have the name.
-    pub(crate) fn definition(&self, near: &[usize], name: &str) -> Option<Place<'_>>
+    pub(crate) fn definition(&self, near: &[usize], name: &Spelled<'_>) -> Option<Place<'_>>
         requires near { AreNear near.now self.now (around name.now) }
         ensures first { meaning_at result ≡ meaning self.now name.now }
     {
-        first_definition(&self.files, near, &Spelled::new(&[], name))
+        first_definition(&self.files, near, name)
     }
 
     /// The places of the files but of the file `file`, whose package is `within`, a prefix of it
@@ -156,14 +185,26 @@ impl Files {
         Ok(file_of(found))
     }
 
-    /// Whether `name` is a package of the files, or the part of one before a dot.
-    pub(crate) fn is_package(&self, name: &str) -> bool
-        ensures is { result ≡ is_package self.now name.now }
+    /// Whether the name in `text` is a package of the files, or the part of one before a dot.
+    fn has(&self, text: &str) -> bool
+        ensures is { result ≡ is_package self.now text.now }
     {
-        if name.is_empty() {
+        if text.is_empty() {
             return false;
         }
-        has_package(&self.packages, name)
+        has_package(&self.packages, text)
+    }
+
+    /// Whether `name` is a package of the files, or the part of one before a dot. A name that is no
+    /// longer than all packages is written to `buffer`.
+    pub(crate) fn is_package(&self, buffer: &mut String, name: &Spelled<'_>) -> Result<bool, Memory>
+        ensures is { IfOk result (λ b. b ≡ is_package self.now name.now) }
+    {
+        if name.is_longer(self.longest) {
+            return Ok(false);
+        }
+        name.write_to(buffer)?;
+        Ok(self.has(buffer.as_str()))
     }
 
     /// The packages of the files, sorted.

@@ -229,7 +229,7 @@ pub(crate) fn with_dot(alloc: Global, name: &str) -> Result<Text, Memory>
 }
 
 /// Appends the bytes of `parts` to `text`.
-fn push_parts(text: &mut String, parts: &[Text]) -> Result<(), Memory>
+pub(crate) fn push_parts(text: &mut String, parts: &[Text]) -> Result<(), Memory>
     ensures bytes { OnOk result (string_bytes text.new ≡ string_bytes text.old ++ concat parts.now) }
 {
     'parts: for part in parts {

@@ -34,6 +34,7 @@ mod full_name;
 mod index;
 mod keys;
 mod laws;
+mod lead;
 mod lookup;
 mod map_entries;
 mod named;

@@ -24,7 +24,9 @@ use std::marker::Model;
 #[derive(Drop)]
 pub(crate) struct Lookup<'a> {
     files: &'a Files,
-    /// The places of all files, where there is an index.
+    /// Whether all files are asked, whatever the name.
+    asks_all: bool,
+    /// The places of all files, where all are asked or there is an index.
     all: Vec<usize>,
     /// The index of all files, where it was worth making.
     names: Option<Vec<Named<'a>>>,
@@ -34,12 +36,14 @@ impl<'a> Model for Lookup<'a> {
     ghost use Rattle.std.specs.Prelude.{List};
     ghost use Rattle.pq_schema.specs.declared.scope.FileDefs.{FileDefs};
     ghost use Rattle.pq_schema.specs.aux.NearNames.{AreNames, HasAll};
+    ghost use Rattle.pq_schema.specs.aux.Inside.{AsksAll};
 
     ghost Value = { List FileDefs };
 
     ghost view = { λ l. l.files.now };
 
-    ghost invariant = { λ l. AreNames l.names l.files.now l.all.items × HasAll l.names l.all.items l.files.now };
+    ghost invariant = { λ l. AreNames l.names l.files.now l.all.items × HasAll l.names l.all.items l.files.now
+        × AsksAll l.asks_all l.all.items l.files.now };
 }
 
 /// The numbers below `count`, in order.
@@ -72,6 +76,9 @@ pub(crate) fn most_of_one(packages: &[Entry]) -> usize {
     most
 }
 
+/// The most files that are all asked for each name.
+const FEW: usize = 2;
+
 /// How many searches of a file the index takes for each definition.
 const SEARCHES: usize = 2;
 
@@ -82,9 +89,23 @@ impl<'a> Lookup<'a> {
     {
         Lookup {
             files,
+            asks_all: false,
             all: Vec::new(alloc),
             names: None,
         }
+    }
+
+    /// The files `files`, which are so few that all are asked.
+    fn few(alloc: Global, files: &'a Files) -> Result<Lookup<'a>, Memory>
+        ensures files { IfOk result (λ l. l ≡ files.now) }
+    {
+        let all = all_places(alloc, files.as_slice().len())?;
+        Ok(Lookup {
+            files,
+            asks_all: true,
+            all,
+            names: None,
+        })
     }
 
     /// The files `files`, whose look-ups take about `searches` searches of one file where there is no
@@ -97,6 +118,9 @@ impl<'a> Lookup<'a> {
         ensures files { IfOk result (λ l. l ≡ files.now) }
     {
         let count = files.as_slice().len();
+        if count <= FEW {
+            return Lookup::few(alloc, files);
+        }
         if searches < count {
             return Ok(Lookup::plain(alloc, files));
         }
@@ -108,19 +132,17 @@ impl<'a> Lookup<'a> {
         let names = names_of(alloc, files.as_slice(), &all, definitions)?;
         Ok(Lookup {
             files,
+            asks_all: true,
             all,
             names: Some(names),
         })
     }
 
-    /// The places of all files, where there is an index.
+    /// The places of all files, where all are asked or there is an index.
     pub(crate) fn all(&self) -> Option<&[usize]>
         ensures all { IfSome result (λ ks. (roots : List (List ℕ)) → AreNear ks.now self.now roots) }
     {
-        match &self.names {
-            Some(_) => Some(&self.all),
-            None => None,
-        }
+        if self.asks_all { Some(&self.all) } else { None }
     }
 
     /// The places of the files whose package is `within`, a prefix of it before a dot, or empty, in
@@ -134,23 +156,21 @@ impl<'a> Lookup<'a> {
 
     /// The first definition with the full name `name`: the files in order, then each in text order.
     /// `near` has the places of the files that can have the name.
-    pub(crate) fn definition(&self, near: &[usize], name: &str) -> Option<Place<'a>>
+    pub(crate) fn definition(&self, near: &[usize], name: &Spelled<'_>) -> Option<Place<'a>>
         requires near { AreNear near.now self.now (around name.now) }
         ensures first { meaning_at result ≡ meaning self.now name.now }
     {
         match &self.names {
-            Some(_) => {
-                let name = Spelled::new(&[], name);
-                first_listed(self.files.files(), &self.all, &self.names, &name)
-            }
+            Some(_) => first_listed(self.files.files(), &self.all, &self.names, name),
             None => self.files.definition(near, name),
         }
     }
 
-    /// Whether `name` is a package of the files, or the part of one before a dot.
-    pub(crate) fn is_package(&self, name: &str) -> bool
-        ensures is { result ≡ is_package self.now name.now }
+    /// Whether `name` is a package of the files, or the part of one before a dot. A name that may be
+    /// one is written to `buffer`.
+    pub(crate) fn is_package(&self, buffer: &mut String, name: &Spelled<'_>) -> Result<bool, Memory>
+        ensures is { IfOk result (λ b. b ≡ is_package self.now name.now) }
     {
-        self.files.is_package(name)
+        self.files.is_package(buffer, name)
     }
 }

@@ -3,7 +3,7 @@
 //! The scopes of a package, from it outwards, are searched for each reference of a file. Of these
 //! only a few have definitions (`spots`), and a table knows in which of them a name is a package
 //! (`along`). So a search costs what these few scopes cost, however many parts the package has.
-ghost use Rattle.std.specs.Prelude.{◌≡◌, ◌<◌, ◌++◌, IfOk, IfSome, Some, find, length, option_map, string_bytes, take};
+ghost use Rattle.std.specs.Prelude.{◌≡◌, ◌<◌, ◌++◌, IfOk, IfSome, find, length, option_map, take};
 ghost use Rattle.std.specs.Option.{option_copied};
 ghost use Rattle.std.specs.Str.{IsCharBoundary};
 ghost use Rattle.pq_rules.specs.Relations.{Each};
@@ -11,12 +11,13 @@ ghost use Rattle.pq_schema.specs.Resolution.{dotted, meaning, scopes, single};
 ghost use Rattle.pq_schema.specs.aux.Grouping.{AreNear, around};
 ghost use Rattle.pq_schema.specs.aux.Hits.{found_at};
 ghost use Rattle.pq_schema.specs.aux.Outward.{IsOutward, beyond, defined, found_from, in_spots, opens};
-ghost use Rattle.pq_schema.specs.aux.Scopes.{chain};
 ghost use Rattle.pq_schema.specs.aux.Spots.{IsPlain};
 
 use crate::along::Along;
+use crate::lead::{lead_text, spell};
 use crate::lookup::Lookup;
-use crate::search::{Hit, find_any, has_names, hit_at, qualify, unless_type};
+use crate::search::{Hit, find_any, has_names, hit_at, unless_type};
+use crate::spelled::Spelled;
 use pq_names::{Memory, Text};
 use std::alloc::Global;
 
@@ -24,41 +25,17 @@ use std::alloc::Global;
 #[derive(Clone, Copy)]
 pub(crate) struct Outward<'a> {
     pub(crate) root: &'a str,
+    /// What is before a name in the package.
+    pub(crate) lead: &'a Text,
     /// In which scopes a name is a package.
     pub(crate) along: &'a Along<'a>,
     /// The scopes in which a definition can be, each with its dot, the innermost first.
     pub(crate) spots: &'a [Text],
 }
 
-/// `outward`, if the scopes from `inner` outwards are those of its package.
-pub(crate) fn from_here<'a>(
-    outward: Option<Outward<'a>>,
-    inner: Option<&str>,
-) -> Option<Outward<'a>>
-    ensures same { IfSome result (λ o. outward.entry ≡ Some o) }
-    ensures scopes { IfSome result (λ o. chain (option_copied inner.entry) ≡ scopes o.root.now) }
-{
-    let outward = outward?;
-    let is_here = match inner {
-        Some(scope) => !scope.is_empty() && scope == outward.root,
-        None => outward.root.is_empty(),
-    };
-    if is_here { Some(outward) } else { None }
-}
-
-/// Writes the full name of `name` in the scope `spot`, which has its dot, to `buffer`.
-fn spell(buffer: &mut String, spot: &Text, name: &str) -> Result<(), Memory>
-    ensures name { IfOk result (λ _. string_bytes buffer.new ≡ spot.now ++ name.now) }
-{
-    buffer.clear();
-    buffer.push_str(spot.as_str())?;
-    buffer.push_str(name)?;
-    Ok(())
-}
-
 /// What the full name `name` is found as in `files`, where packages do not count. `near` has the
 /// places of the files that can have the name.
-fn find_defined<'a>(files: &Lookup<'a>, near: &[usize], name: &str) -> Hit<'a>
+fn find_defined<'a>(files: &Lookup<'a>, near: &[usize], name: &Spelled<'_>) -> Hit<'a>
     requires near { AreNear near.now files.now (around name.now) }
     ensures is { found_at result ≡ defined files.now name.now }
 {
@@ -70,7 +47,7 @@ fn find_defined<'a>(files: &Lookup<'a>, near: &[usize], name: &str) -> Hit<'a>
 
 /// Whether the full name `name` is that of a definition that can have names in it. `near` has the
 /// places of the files that can have the name.
-fn is_open(files: &Lookup<'_>, near: &[usize], name: &str) -> bool
+fn is_open(files: &Lookup<'_>, near: &[usize], name: &Spelled<'_>) -> bool
     requires near { AreNear near.now files.now (around name.now) }
     ensures is { result ≡ opens (meaning files.now name.now) }
 {
@@ -81,51 +58,43 @@ fn is_open(files: &Lookup<'_>, near: &[usize], name: &str) -> bool
 }
 
 /// What the name `name` is found as in the scopes `spots`, where packages do not count.
-fn find_in_spots<'a>(
-    buffer: &mut String,
-    files: &Lookup<'a>,
-    near: &[usize],
-    spots: &[Text],
-    name: &str,
-) -> Result<Hit<'a>, Memory>
+fn find_in_spots<'a>(files: &Lookup<'a>, near: &[usize], spots: &[Text], name: &str) -> Hit<'a>
     requires near { Each (λ s. AreNear near.now files.now (around (s ++ name.now))) spots.now }
-    ensures is { IfOk result (λ hit. found_at hit ≡ in_spots files.now spots.now name.now) }
+    ensures is { found_at result ≡ in_spots files.now spots.now name.now }
 {
     let mut best = Hit::Nothing;
     'spots: for spot in spots {
-        spell(buffer, spot, name)?;
-        best = unless_type(best, find_defined(files, near, buffer.as_str()));
+        let full = spell(spot, name);
+        best = unless_type(best, find_defined(files, near, &full));
         if let Hit::Type(_) = best {
-            return Ok(best);
+            return best;
         }
     }
-    Ok(best)
+    best
 }
 
 /// What the name `name`, which has no dot, is found as from the scopes of the package outwards.
 /// `near` has the places of the files whose package is one of these scopes.
 pub(crate) fn single_outward<'a>(
-    buffer: &mut String,
     files: &Lookup<'a>,
     near: &[usize],
     outward: Outward<'_>,
     name: &str,
-) -> Result<Hit<'a>, Memory>
+) -> Hit<'a>
     requires near { AreNear near.now files.now (scopes outward.root.now) }
     requires outward { IsOutward files.now outward.along.now outward.root.now outward.spots.now }
     requires some { 0 < length name.now }
     requires plain { IsPlain name.now }
-    ensures is { IfOk result
-        (λ hit. found_at hit ≡ single files.now (scopes outward.entry.root.now) name.now) }
+    ensures is { found_at result ≡ single files.now (scopes outward.entry.root.now) name.now }
 {
-    match find_in_spots(buffer, files, near, outward.spots, name)? {
-        Hit::Type(place) => Ok(Hit::Type(place)),
-        Hit::Other => Ok(Hit::Other),
+    match find_in_spots(files, near, outward.spots, name) {
+        Hit::Type(place) => Hit::Type(place),
+        Hit::Other => Hit::Other,
         Hit::Nothing => {
             if outward.along.innermost(name).is_some() {
-                Ok(Hit::Other)
+                Hit::Other
             } else {
-                Ok(Hit::Nothing)
+                Hit::Nothing
             }
         }
     }
@@ -133,23 +102,22 @@ pub(crate) fn single_outward<'a>(
 
 /// The first of the scopes `spots` in which `name` is a definition that can have names in it.
 fn open_spot<'b>(
-    buffer: &mut String,
     files: &Lookup<'_>,
     near: &[usize],
     spots: &'b [Text],
     name: &str,
-) -> Result<Option<&'b Text>, Memory>
+) -> Option<&'b Text>
     requires near { Each (λ s. AreNear near.now files.now (around (s ++ name.now))) spots.now }
-    ensures first { IfOk result (λ o. option_copied o
-        ≡ find (λ s. opens (meaning files.now (s ++ name.now))) spots.now) }
+    ensures first { option_copied result
+        ≡ find (λ s. opens (meaning files.now (s ++ name.now))) spots.now }
 {
     'spots: for spot in spots {
-        spell(buffer, spot, name)?;
-        if is_open(files, near, buffer.as_str()) {
-            return Ok(Some(spot));
+        let full = spell(spot, name);
+        if is_open(files, near, &full) {
+            return Some(spot);
         }
     }
-    Ok(None)
+    None
 }
 
 /// `spot`, unless the scope of `place` bytes is as long or longer.
@@ -185,8 +153,8 @@ fn find_from<'a>(
 {
     match count {
         Some(count) => {
-            qualify(buffer, &root[..count], name)?;
-            find_any(alloc, files, buffer.as_str())
+            let lead = lead_text(alloc, &root[..count])?;
+            find_any(alloc, buffer, files, &spell(&lead, name))
         }
         None => Ok(Hit::Nothing),
     }
@@ -211,12 +179,9 @@ pub(crate) fn dotted_outward<'a>(
         ≡ dotted files.now (scopes outward.entry.root.now) first.now name.now) }
 {
     let package = outward.along.innermost(first);
-    let spot = open_spot(buffer, files, near, outward.spots, first)?;
+    let spot = open_spot(files, near, outward.spots, first);
     match beyond(spot, package) {
-        Some(spot) => {
-            spell(buffer, spot, name)?;
-            find_any(alloc, files, buffer.as_str())
-        }
+        Some(spot) => find_any(alloc, buffer, files, &spell(spot, name)),
         None => find_from(alloc, buffer, files, outward.root, package, name),
     }
 }

@@ -6,10 +6,9 @@ ghost use Rattle.pq_schema.specs.declared.resolution.ResolveFault.TheVariants.{M
 
 use crate::definitions::DefinitionKind;
 use crate::full_name::FullName;
-use crate::lookup::Lookup;
 use crate::named::Place;
 use crate::scope::Scope;
-use crate::search::{Outcome, look_up, near_scopes};
+use crate::search::{Outcome, look_up};
 use pq_names::{Memory, Text};
 use std::alloc::{AllocError, Global};
 
@@ -76,9 +75,7 @@ pub fn resolve(
     ensures resolved { (result ≡ Err ResolveFault.Memory)
         ⊎ (result ≡ resolved scope.now within.now name.now) }
 {
-    let visible = Lookup::plain(alloc, scope.visible_files());
-    let near = near_scopes(alloc, &visible, within)?;
-    match look_up(alloc, scope, &near, within, name)? {
+    match look_up(alloc, scope, within, name)? {
         Outcome::Type(place) => Ok(target_at(place)?),
         Outcome::NotFound => Err(ResolveFault::NotFound),
         Outcome::NotVisible(file) => Err(ResolveFault::NotVisible(file.copy()?)),

@@ -1,13 +1,16 @@
 //! The query of a file's resolved references, generic over the sum of queries in which it is used.
-ghost use Rattle.std.specs.Prelude.{◌≡◌, ◌⊎◌, ◌≤◌, ◌++◌, ◌∷◌, false, get_or, length, map, drop, IfOk, option_copied, unwrap_or};
+ghost use Rattle.std.specs.Prelude.{◌≡◌, ◌≢◌, ◌⊎◌, ◌≤◌, ◌++◌, ◌∷◌, ℕ, List, None, false, get_or, length, map, drop, IfOk, IfSome, option_copied, unwrap_or};
 ghost use Rattle.pq_rules.specs.declared.turn.Turn.TheVariants.{Ask};
 ghost use Rattle.pq_links.specs.Files.{nodes_in};
 ghost use Rattle.pq_links.specs.declared.file_items.FileItems.TheVariants.{Absent};
-ghost use Rattle.pq_schema.specs.Compile.{resolved_in};
+ghost use Rattle.pq_schema.specs.Definitions.{package_of, qualified};
 ghost use Rattle.pq_schema.specs.Resolution.{lookup_by, scopes};
 ghost use Rattle.pq_schema.specs.aux.Grouping.{AreNear};
 ghost use Rattle.pq_schema.specs.aux.Hits.{found_at};
-ghost use Rattle.pq_schema.specs.aux.Outward.{AreThere, IsOutward, found_in, is_nothing, resolved_as};
+ghost use Rattle.pq_schema.specs.aux.Inside.{AreInner, found_moved, inside, resolved_moved, short_for};
+ghost use Rattle.pq_schema.specs.aux.NameParts.{leading};
+ghost use Rattle.pq_schema.specs.aux.Outward.{AreThere, IsOutward, is_nothing, resolved_as};
+ghost use Rattle.pq_schema.specs.aux.Scopes.{before};
 ghost use Rattle.pq_schema.specs.aux.Queries.{resolved_level, resolved_starts, resolved_by, resolved_advances, resolved_left};
 ghost use Rattle.pq_schema.specs.aux.Falls.{resolved_falls};
 ghost use Rattle.pq_schema.specs.declared.resolved.ResolvedPart.TheVariants.{ReadTree};
@@ -17,18 +20,19 @@ use crate::along::Along;
 use crate::defined::statements;
 use crate::files::Files;
 use crate::keys::SchemaKeys;
+use crate::lead::{Lead, inner_leads, lead_text};
 use crate::lookup::{Lookup, most_of_one};
 use crate::nesting::innermost;
 use crate::outline::package_of;
 use crate::outward::Outward;
-use crate::references::{Reference, references_in};
+use crate::references::{Reference, references_from};
 use crate::resolution::{Resolution, resolution_at};
 use crate::scope::Scope;
-use crate::search::{Hit, find, near_scopes, outcome_of};
+use crate::search::{Hit, find, near_scopes, outcome_of, qualify};
 use crate::spots::spots_of;
 use pq_links::{FileItems, TypePart};
 use pq_rules::{Memory, Query, Shared, Text, Turn};
-use pq_syntax::Items;
+use pq_syntax::{Items, Node};
 use std::alloc::Global;
 use std::marker::PhantomData;
 
@@ -66,58 +70,138 @@ impl<S> ResolvedQuery<S> {
     }
 }
 
-/// What `reference` is found as in `files`. `within` is the text of its scope, and `near` has the
-/// places of the files whose package is one of the scopes of `within`.
+/// What `reference`, in a file of the package of `outward`, is found as in `files`. `within` is the
+/// text of its scope without the package. `inner` has what is before a name in each of its scopes
+/// inside the package, and `near` the places of the files whose package is one of its scopes.
 fn find_one<'a>(
     alloc: Global,
     buffer: &mut String,
     files: &Lookup<'a>,
     near: &[usize],
     outward: Outward<'_>,
+    inner: &[Lead],
     within: &str,
     reference: &Reference,
 ) -> Result<Hit<'a>, Memory>
-    requires near { AreNear near.now files.now (scopes within.now) }
+    requires near { AreNear near.now files.now (scopes (inside outward.root.now within.now)) }
     requires outward { IsOutward files.now outward.along.now outward.root.now outward.spots.now }
+    requires inner { AreInner inner.now outward.root.now within.now }
     requires within { within.now ≡ reference.now.within }
-    ensures is { IfOk result (λ hit. found_at hit ≡ found_in files.now reference.now) }
+    ensures is { IfOk result (λ hit. found_at hit ≡ found_moved files.now outward.entry.root.now reference.now) }
 {
     let name = reference.name.as_str();
-    find(alloc, buffer, files, near, Some(outward), within, name)
+    find(alloc, buffer, files, near, outward, inner, name)
 }
 
 /// Adds what `first` is found as in `files`, and what those of `others` are before the first that is
-/// used in another scope. Answers the number of these others. `within` is the text of the scope, and
-/// `near` has the places of the files whose package is one of the scopes of `within`.
+/// used in another scope. Answers the number of these others. `within` is the text of the scope
+/// without the package. `inner` has what is before a name in each of its scopes inside the package,
+/// and `near` the places of the files whose package is one of its scopes.
 fn find_near<'a>(
     alloc: Global,
     files: &Lookup<'a>,
     near: &[usize],
     outward: Outward<'_>,
+    inner: &[Lead],
     within: &str,
     first: &Reference,
     others: &[Reference],
     hits: &mut Vec<Hit<'a>>,
 ) -> Result<usize, Memory>
-    requires near { AreNear near.now files.now (scopes within.now) }
+    requires near { AreNear near.now files.now (scopes (inside outward.root.now within.now)) }
     requires outward { IsOutward files.now outward.along.now outward.root.now outward.spots.now }
+    requires inner { AreInner inner.now outward.root.now within.now }
     requires within { within.now ≡ first.now.within }
     ensures within { IfOk result (λ n. n ≤ length others.now) }
-    ensures found { IfOk result (λ n. map found_at hits.new.items ++ map (found_in files.now) (drop n others.now)
-        ≡ map found_at hits.old.items ++ found_in files.now first.now ∷ map (found_in files.now) others.now) }
+    ensures found { IfOk result (λ n. map found_at hits.new.items ++ map (found_moved files.now outward.entry.root.now) (drop n others.now)
+        ≡ map found_at hits.old.items ++ found_moved files.now outward.entry.root.now first.now
+        ∷ map (found_moved files.now outward.entry.root.now) others.now) }
 {
     let mut buffer = String::new(alloc);
-    let hit = find_one(alloc, &mut buffer, files, near, outward, within, first)?;
+    let hit = find_one(
+        alloc,
+        &mut buffer,
+        files,
+        near,
+        outward,
+        inner,
+        within,
+        first,
+    )?;
     hits.push(hit)?;
     'others: for i in 0..others.len() {
         let other = &others[i];
         if other.within != first.within {
             return Ok(i);
         }
-        let hit = find_one(alloc, &mut buffer, files, near, outward, within, other)?;
+        let hit = find_one(
+            alloc,
+            &mut buffer,
+            files,
+            near,
+            outward,
+            inner,
+            within,
+            other,
+        )?;
         hits.push(hit)?;
     }
     Ok(others.len())
+}
+
+/// The scope `within` of a file of the package `-` without its package. The package itself has none.
+fn without_package(within: &str) -> Option<&str>
+    ensures some { IfSome result (λ w. within.now ≡ 45 ∷ 46 ∷ w.now) }
+    ensures none { result ≡ None → (w : List ℕ) → within.now ≢ 45 ∷ 46 ∷ w }
+{
+    match within.strip_prefix('-') {
+        Some(rest) => rest.strip_prefix('.'),
+        None => None,
+    }
+}
+
+/// The innermost of the scopes that are inside the package `root`, without it, of a reference in
+/// `within`, where the file has a package of one byte for its own.
+fn first_inside<'b>(root: &str, within: &'b str) -> Option<&'b str>
+    ensures scopes { scopes (inside root.now within.now)
+        ≡ map (qualified root.now) (before (option_copied result)) ++ scopes root.now }
+{
+    if root.is_empty() {
+        innermost(within)
+    } else {
+        without_package(within)
+    }
+}
+
+/// What is before a name in each of the scopes of `within` that are inside the package of `outward`.
+fn leads_of(alloc: Global, outward: Outward<'_>, within: &str) -> Result<Vec<Lead>, Memory>
+    requires lead { outward.lead.now ≡ leading outward.root.now }
+    ensures inner { IfOk result (λ v. AreInner v.items outward.entry.root.now within.now) }
+{
+    inner_leads(alloc, outward.lead, first_inside(outward.root, within))
+}
+
+/// The places of those of `files` whose package is one of the scopes of a reference in `within`, in a
+/// file of the package `root`.
+fn near_inside(
+    alloc: Global,
+    files: &Lookup<'_>,
+    root: &str,
+    within: &str,
+) -> Result<Vec<usize>, Memory>
+    ensures near { IfOk result (λ v. AreNear v.items files.now (scopes (inside root.now within.now))) }
+{
+    if root.is_empty() {
+        return near_scopes(alloc, files, within);
+    }
+    match without_package(within) {
+        Some(scope) => {
+            let mut text = String::new(alloc);
+            qualify(&mut text, root, scope)?;
+            near_scopes(alloc, files, text.as_str())
+        }
+        None => near_scopes(alloc, files, root),
+    }
 }
 
 /// Adds what `first` is found as in `files`, and what those of `others` are before the first that is
@@ -131,18 +215,25 @@ fn find_run<'a>(
     others: &[Reference],
     hits: &mut Vec<Hit<'a>>,
 ) -> Result<usize, Memory>
+    requires lead { outward.lead.now ≡ leading outward.root.now }
     requires outward { IsOutward files.now outward.along.now outward.root.now outward.spots.now }
     ensures within { IfOk result (λ n. n ≤ length others.now) }
-    ensures found { IfOk result (λ n. map found_at hits.new.items ++ map (found_in files.now) (drop n others.now)
-        ≡ map found_at hits.old.items ++ found_in files.now first.now ∷ map (found_in files.now) others.now) }
+    ensures found { IfOk result (λ n. map found_at hits.new.items ++ map (found_moved files.now outward.entry.root.now) (drop n others.now)
+        ≡ map found_at hits.old.items ++ found_moved files.now outward.entry.root.now first.now
+        ∷ map (found_moved files.now outward.entry.root.now) others.now) }
 {
     let within = first.within.text(alloc)?;
     let within = within.as_str();
+    let inner = leads_of(alloc, outward, within)?;
     match files.all() {
-        Some(all) => find_near(alloc, files, all, outward, within, first, others, hits),
+        Some(all) => find_near(
+            alloc, files, all, outward, &inner, within, first, others, hits,
+        ),
         None => {
-            let near = near_scopes(alloc, files, within)?;
-            find_near(alloc, files, &near, outward, within, first, others, hits)
+            let near = near_inside(alloc, files, outward.root, within)?;
+            find_near(
+                alloc, files, &near, outward, &inner, within, first, others, hits,
+            )
         }
     }
 }
@@ -174,16 +265,17 @@ fn lookup_for<'a>(
     Lookup::new(alloc, files, searches_of(references, near, most))
 }
 
-/// What each of `references` is found as in `files`.
+/// What each of `references`, whose scopes are without the package, is found as in `files`.
 fn find_all<'a>(
     alloc: Global,
     files: &Lookup<'a>,
     outward: Outward<'_>,
     references: &[Reference],
 ) -> Result<Vec<Hit<'a>>, Memory>
+    requires lead { outward.lead.now ≡ leading outward.root.now }
     requires outward { IsOutward files.now outward.along.now outward.root.now outward.spots.now }
     ensures found { IfOk result
-        (λ v. map found_at v.items ≡ map (found_in files.now) references.now) }
+        (λ v. map found_at v.items ≡ map (found_moved files.now outward.entry.root.now) references.now) }
 {
     let mut hits = Vec::new(alloc);
     let mut left = references;
@@ -195,21 +287,23 @@ fn find_all<'a>(
 }
 
 /// What each of `references`, which are used in a file of the package `root`, is found as in
-/// `files`.
-fn find_each<'a>(
+/// `files`. Their scopes are without the package.
+pub(crate) fn find_each<'a>(
     alloc: Global,
     files: &'a Files,
     root: &str,
     references: &[Reference],
 ) -> Result<Vec<Hit<'a>>, Memory>
     ensures found { IfOk result
-        (λ v. map found_at v.items ≡ map (found_in files.now) references.now) }
+        (λ v. map found_at v.items ≡ map (found_moved files.now root.now) references.now) }
 {
     let lookup = lookup_for(alloc, files, root, references)?;
     let along = Along::new(alloc, files, root)?;
     let spots = spots_of(alloc, files, root)?;
+    let lead = lead_text(alloc, root)?;
     let outward = Outward {
         root,
+        lead: &lead,
         along: &along,
         spots: &spots,
     };
@@ -244,7 +338,7 @@ fn find_missing<'a>(
     references: &[Reference],
     visible: &[Hit<'_>],
 ) -> Result<Vec<Hit<'a>>, Memory>
-    ensures found { IfOk result (λ v. (map found_at v.items ≡ map (found_in scope.now.reach) references.now)
+    ensures found { IfOk result (λ v. (map found_at v.items ≡ map (found_moved scope.now.reach root.now) references.now)
         ⊎ AreThere visible.now) }
 {
     if is_missing(visible) {
@@ -254,7 +348,7 @@ fn find_missing<'a>(
 }
 
 /// The hit at `index`, or nothing past the end of `hits`.
-fn hit_or_nothing<'a>(hits: &[Hit<'a>], index: usize) -> Hit<'a>
+pub(crate) fn hit_or_nothing<'a>(hits: &[Hit<'a>], index: usize) -> Hit<'a>
     ensures is { result ≡ get_or hits.now index Nothing }
 {
     match hits.get(index) {
@@ -281,7 +375,7 @@ fn resolve_at(
 }
 
 /// The references `references`, which are used in a file of the package `root`, each with what it
-/// resolves to in `scope`. The files that are reached are searched only where the visible files
+/// resolves to in `scope`. Their scopes are without the package. The files that are reached are searched only where the visible files
 /// lack one.
 fn resolve_each(
     alloc: Global,
@@ -289,7 +383,7 @@ fn resolve_each(
     root: &str,
     references: &[Reference],
 ) -> Result<Items<ResolvedReference>, Memory>
-    ensures resolved { IfOk result (λ rs. rs ≡ map (resolved_in scope.now) references.now) }
+    ensures resolved { IfOk result (λ rs. rs ≡ map (resolved_moved scope.now root.now) references.now) }
 {
     if references.is_empty() {
         return Ok(Items::new(Vec::new(alloc)));
@@ -305,6 +399,33 @@ fn resolve_each(
     Ok(Items::new(resolved))
 }
 
+/// A package of at most one byte, which is empty where `root` is.
+pub(crate) fn short_for(alloc: Global, root: &str) -> Result<Text, Memory>
+    ensures short { IfOk result (λ t. t ≡ short_for root.now) }
+{
+    if root.is_empty() {
+        Text::new(alloc, "")
+    } else {
+        Text::new(alloc, "-")
+    }
+}
+
+/// The resolved references of a file of the package `root` with the statements `nodes` and the scope
+/// `scope`. The scope of each is made without the package, which all of them share.
+fn resolve_nodes(
+    alloc: Global,
+    scope: &Scope,
+    root: &str,
+    nodes: &[Node],
+) -> Result<Items<ResolvedReference>, Memory>
+    requires root { root.now ≡ package_of nodes.now }
+    ensures resolved { IfOk result (λ rs. rs ≡ resolved_by scope.now nodes.now) }
+{
+    let short = short_for(alloc, root)?;
+    let references = references_from(alloc, &short, nodes)?;
+    resolve_each(alloc, scope, root, &references)
+}
+
 /// The resolved references of a file with the scope `scope` that is `items` without spans.
 fn resolve_file(
     alloc: Global,
@@ -313,9 +434,9 @@ fn resolve_file(
 ) -> Result<Shared<Items<ResolvedReference>>, Memory>
     ensures resolved { IfOk result (λ rs. rs ≡ resolved_by scope.now (nodes_in (unwrap_or (option_copied items.entry) Absent))) }
 {
-    let found = references_in(alloc, statements(items))?;
-    let root = package_of(alloc, statements(items))?;
-    let resolved = resolve_each(alloc, scope, root.as_str(), found.as_slice())?;
+    let nodes = statements(items);
+    let root = package_of(alloc, nodes)?;
+    let resolved = resolve_nodes(alloc, scope, root.as_str(), nodes)?;
     Shared::new(alloc, resolved)
 }
 

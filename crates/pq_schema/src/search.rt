@@ -1,24 +1,37 @@
 //! The search for a name from the innermost scope outwards.
 //! (proto3 language specification, "Packages and Name Resolution".)
 //!
-//! Each scope costs one look-up of a full name, which is built in a buffer that the scopes share.
-//! The files that can have one of these names are found once.
-ghost use Rattle.std.specs.Prelude.{◌≡◌, ◌≢◌, ℕ, ◌<◌, IfOk, IfSome, get_or, length, string_bytes};
+//! Each scope costs one look-up of a full name, which is spelled in pieces, without a copy of the
+//! scope. The files that can have one of these names are found once.
+ghost use Rattle.std.specs.Prelude.{◌≡◌, ◌++◌, ℕ, List, ◌<◌, IfOk, length, map, string_bytes};
+ghost use Rattle.pq_rules.specs.Relations.{Each};
 ghost use Rattle.pq_schema.specs.Definitions.{qualified};
 ghost use Rattle.pq_schema.specs.Resolution.{found, found_as, has_names, decides, unless_type, single, dotted, scopes, search, lookup, lookup_by};
 ghost use Rattle.pq_schema.specs.aux.Grouping.{AreNear, around};
 ghost use Rattle.pq_schema.specs.aux.Hits.{found_at, lookup_at};
+ghost use Rattle.pq_schema.specs.aux.Inside.{dotted_from, short_for, single_from};
+ghost use Rattle.pq_schema.specs.aux.NameParts.{leading};
 ghost use Rattle.pq_schema.specs.aux.Outward.{IsOutward};
+ghost use Rattle.pq_schema.specs.aux.Spots.{IsPlain};
 
 use crate::definitions::DefinitionKind;
 use crate::files::Files;
+use crate::full_name::FullName;
+use crate::lead::Lead;
 use crate::lookup::Lookup;
 use crate::named::Place;
-use crate::nesting::{innermost, outer, scope_or_empty};
-use crate::outward::{Outward, dotted_outward, from_here, single_outward};
+use crate::nesting::{innermost, outer};
+use crate::outward::{Outward, dotted_outward, single_outward};
+use crate::references::Reference;
+use crate::resolved::{find_each, hit_or_nothing, short_for};
 use crate::scope::Scope;
+use crate::spelled::Spelled;
+use pq_links::TypePart;
 use pq_names::{Memory, Text};
+use pq_rules::Shared;
+use pq_syntax::Items;
 use std::alloc::Global;
+use std::slice;
 
 /// What a search ends in: a type, another definition or a package, or nothing.
 #[derive(Clone, Copy)]
@@ -59,44 +72,66 @@ pub(crate) fn has_names(kind: DefinitionKind) -> bool
 
 /// What the full name `name` is found as in `files`. `near` has the places of the files that can
 /// have the name.
-fn find_full<'a>(files: &Lookup<'a>, near: &[usize], name: &str) -> Hit<'a>
+fn find_full<'a>(
+    buffer: &mut String,
+    files: &Lookup<'a>,
+    near: &[usize],
+    name: &Spelled<'_>,
+) -> Result<Hit<'a>, Memory>
     requires near { AreNear near.now files.now (around name.now) }
-    ensures is { found_at result ≡ found files.now name.now }
+    ensures is { IfOk result (λ hit. found_at hit ≡ found files.now name.now) }
 {
     match files.definition(near, name) {
-        Some(place) => hit_at(place),
+        Some(place) => Ok(hit_at(place)),
         None => {
-            if files.is_package(name) {
-                Hit::Other
+            if files.is_package(buffer, name)? {
+                Ok(Hit::Other)
             } else {
-                Hit::Nothing
+                Ok(Hit::Nothing)
             }
         }
     }
 }
 
 /// What the full name `name` is found as in `files`.
-pub(crate) fn find_any<'a>(alloc: Global, files: &Lookup<'a>, name: &str) -> Result<Hit<'a>, Memory>
+pub(crate) fn find_any<'a>(
+    alloc: Global,
+    buffer: &mut String,
+    files: &Lookup<'a>,
+    name: &Spelled<'_>,
+) -> Result<Hit<'a>, Memory>
     ensures is { IfOk result (λ hit. found_at hit ≡ found files.now name.now) }
 {
     match files.all() {
-        Some(all) => Ok(find_full(files, all, name)),
+        Some(all) => find_full(buffer, files, all, name),
         None => {
-            let near = files.near(alloc, outer(name))?;
-            Ok(find_full(files, &near, name))
+            let mut text = String::new(alloc);
+            name.write_to(&mut text)?;
+            let near = files.near(alloc, outer(text.as_str()))?;
+            find_full(buffer, files, &near, name)
         }
     }
 }
 
 /// Whether the full name `name` decides for a dotted name whose first part it is. `near` has the
 /// places of the files that can have the name.
-fn decides(files: &Lookup<'_>, near: &[usize], name: &str) -> bool
+fn decides(
+    buffer: &mut String,
+    files: &Lookup<'_>,
+    near: &[usize],
+    name: &Spelled<'_>,
+) -> Result<bool, Memory>
     requires near { AreNear near.now files.now (around name.now) }
-    ensures is { result ≡ decides files.now name.now }
+    ensures is { IfOk result (λ b. b ≡ decides files.now name.now) }
 {
     match files.definition(near, name) {
-        Some(place) => has_names(place.definition.kind) || files.is_package(name),
-        None => files.is_package(name),
+        Some(place) => {
+            if has_names(place.definition.kind) {
+                return Ok(true);
+            }
+            files.is_package(buffer, name)
+        }
+        None => files.is_package(buffer, name),
     }
 }
 
@@ -113,6 +148,101 @@ pub(crate) fn unless_type<'a>(inner: Hit<'a>, outer: Hit<'a>) -> Hit<'a>
     }
 }
 
+/// What the name `name`, which has no dot, is found as from the scopes `inner` and then from those of
+/// the package of `outward`. `near` has the places of the files that can have it there.
+fn find_single<'a>(
+    buffer: &mut String,
+    files: &Lookup<'a>,
+    near: &[usize],
+    outward: Outward<'_>,
+    inner: &[Lead],
+    name: &str,
+) -> Result<Hit<'a>, Memory>
+    requires near { AreNear near.now files.now (scopes outward.root.now) }
+    requires inner { Each (λ l. AreNear near.now files.now (around (l ++ name.now))) inner.now }
+    requires outward { IsOutward files.now outward.along.now outward.root.now outward.spots.now }
+    requires some { 0 < length name.now }
+    requires plain { IsPlain name.now }
+    ensures is { IfOk result (λ hit. found_at hit
+        ≡ single_from files.now inner.now (single files.now (scopes outward.entry.root.now) name.now) name.now) }
+{
+    let mut best = Hit::Nothing;
+    'scopes: for i in 0..inner.len() {
+        let lead = &inner[i];
+        let full = lead.spell(name);
+        best = unless_type(best, find_full(buffer, files, near, &full)?);
+        if let Hit::Type(_) = best {
+            return Ok(best);
+        }
+    }
+    let further = single_outward(files, near, outward, name);
+    Ok(unless_type(best, further))
+}
+
+/// What the name `name`, whose part before its first dot is `first`, is found as from the scopes
+/// `inner` and then from those of the package of `outward`. `near` has the places of the files that
+/// can have `first` there.
+fn find_dotted<'a>(
+    alloc: Global,
+    buffer: &mut String,
+    files: &Lookup<'a>,
+    near: &[usize],
+    outward: Outward<'_>,
+    inner: &[Lead],
+    first: &str,
+    name: &str,
+) -> Result<Hit<'a>, Memory>
+    requires near { AreNear near.now files.now (scopes outward.root.now) }
+    requires inner { Each (λ l. AreNear near.now files.now (around (l ++ first.now))) inner.now }
+    requires outward { IsOutward files.now outward.along.now outward.root.now outward.spots.now }
+    requires some { 0 < length first.now }
+    requires plain { IsPlain first.now }
+    ensures is { IfOk result (λ hit. found_at hit ≡ dotted_from files.now inner.now
+        (dotted files.now (scopes outward.entry.root.now) first.now name.now) first.now name.now) }
+{
+    'scopes: for i in 0..inner.len() {
+        let lead = &inner[i];
+        let full = lead.spell(first);
+        if decides(buffer, files, near, &full)? {
+            let whole = lead.spell(name);
+            return find_any(alloc, buffer, files, &whole);
+        }
+    }
+    dotted_outward(alloc, buffer, files, near, outward, first, name)
+}
+
+/// What the name `name` is found as from the scopes `inner`, of which each has what is before a name
+/// in it, and then from those of the package of `outward`. `near` has the places of the files whose
+/// package is one of these scopes.
+pub(crate) fn find<'a>(
+    alloc: Global,
+    buffer: &mut String,
+    files: &Lookup<'a>,
+    near: &[usize],
+    outward: Outward<'_>,
+    inner: &[Lead],
+    name: &str,
+) -> Result<Hit<'a>, Memory>
+    requires near { AreNear near.now files.now (scopes outward.root.now) }
+    requires inner { (n : List ℕ) → IsPlain n → Each (λ l. AreNear near.now files.now (around (l ++ n))) inner.now }
+    requires outward { IsOutward files.now outward.along.now outward.root.now outward.spots.now }
+    ensures is { IfOk result (λ hit. (ss : List (List ℕ)) → inner.now ≡ map leading ss
+        → found_at hit ≡ search files.now (ss ++ scopes outward.entry.root.now) name.now) }
+{
+    if name.is_empty() {
+        return Ok(Hit::Nothing);
+    }
+    match name.strip_prefix('.') {
+        Some(full) => find_any(alloc, buffer, files, &Spelled::new(&[], full)),
+        None => match name.split_once('.') {
+            Some((first, _)) => {
+                find_dotted(alloc, buffer, files, near, outward, inner, first, name)
+            }
+            None => find_single(buffer, files, near, outward, inner, name),
+        },
+    }
+}
+
 /// Writes the full name of `name` in the scope `scope` to `buffer`.
 pub(crate) fn qualify(buffer: &mut String, scope: &str, name: &str) -> Result<(), Memory>
     ensures name { IfOk result (λ _. string_bytes buffer.new ≡ qualified scope.now name.now) }
@@ -126,108 +256,6 @@ pub(crate) fn qualify(buffer: &mut String, scope: &str, name: &str) -> Result<()
     Ok(())
 }
 
-/// What the name `name`, which has no dot, is found as from the scopes of `within`. `near` has the
-/// places of the files whose package is one of these scopes.
-fn find_single<'a>(
-    buffer: &mut String,
-    files: &Lookup<'a>,
-    near: &[usize],
-    outward: Option<Outward<'_>>,
-    within: &str,
-    name: &str,
-) -> Result<Hit<'a>, Memory>
-    requires near { AreNear near.now files.now (scopes within.now) }
-    requires outward { IfSome outward (λ o. IsOutward files.now o.along.now o.root.now o.spots.now) }
-    requires some { 0 < length name.now }
-    requires plain { (i : ℕ) → i < length name.now → get_or name.now i 0 ≢ 46 }
-    ensures is { IfOk result (λ hit. found_at hit ≡ single files.now (scopes within.now) name.now) }
-{
-    let mut best = Hit::Nothing;
-    let mut inner = innermost(within);
-    'scopes: loop {
-        if let Some(outward) = from_here(outward, inner) {
-            let further = single_outward(buffer, files, near, outward, name)?;
-            return Ok(unless_type(best, further));
-        }
-        qualify(buffer, scope_or_empty(inner), name)?;
-        best = unless_type(best, find_full(files, near, buffer.as_str()));
-        if let Hit::Type(_) = best {
-            return Ok(best);
-        }
-        match inner {
-            Some(scope) => inner = outer(scope),
-            None => return Ok(best),
-        }
-    }
-}
-
-/// What the name `name`, whose part before its first dot is `first`, is found as from the scopes of
-/// `within`. `near` has the places of the files whose package is one of these scopes.
-fn find_dotted<'a>(
-    alloc: Global,
-    buffer: &mut String,
-    files: &Lookup<'a>,
-    near: &[usize],
-    outward: Option<Outward<'_>>,
-    within: &str,
-    first: &str,
-    name: &str,
-) -> Result<Hit<'a>, Memory>
-    requires near { AreNear near.now files.now (scopes within.now) }
-    requires outward { IfSome outward (λ o. IsOutward files.now o.along.now o.root.now o.spots.now) }
-    requires some { 0 < length first.now }
-    requires plain { (i : ℕ) → i < length first.now → get_or first.now i 0 ≢ 46 }
-    ensures is { IfOk result
-        (λ hit. found_at hit ≡ dotted files.now (scopes within.now) first.now name.now) }
-{
-    let mut inner = innermost(within);
-    'scopes: loop {
-        if let Some(outward) = from_here(outward, inner) {
-            return dotted_outward(alloc, buffer, files, near, outward, first, name);
-        }
-        let scope = scope_or_empty(inner);
-        qualify(buffer, scope, first)?;
-        if decides(files, near, buffer.as_str()) {
-            qualify(buffer, scope, name)?;
-            return find_any(alloc, files, buffer.as_str());
-        }
-        match inner {
-            Some(scope) => inner = outer(scope),
-            None => return Ok(Hit::Nothing),
-        }
-    }
-}
-
-/// What the name `name` is found as from the scopes of `within`. `near` has the places of the files
-/// whose package is one of these scopes. Of the scopes of the package of `outward` only those are
-/// asked in which a definition can be.
-pub(crate) fn find<'a>(
-    alloc: Global,
-    buffer: &mut String,
-    files: &Lookup<'a>,
-    near: &[usize],
-    outward: Option<Outward<'_>>,
-    within: &str,
-    name: &str,
-) -> Result<Hit<'a>, Memory>
-    requires near { AreNear near.now files.now (scopes within.now) }
-    requires outward { IfSome outward (λ o. IsOutward files.now o.along.now o.root.now o.spots.now) }
-    ensures is { IfOk result (λ hit. found_at hit ≡ search files.now (scopes within.now) name.now) }
-{
-    if name.is_empty() {
-        return Ok(Hit::Nothing);
-    }
-    match name.strip_prefix('.') {
-        Some(full) => find_any(alloc, files, full),
-        None => match name.split_once('.') {
-            Some((first, _)) => {
-                find_dotted(alloc, buffer, files, near, outward, within, first, name)
-            }
-            None => find_single(buffer, files, near, outward, within, name),
-        },
-    }
-}
-
 /// The places of those of `files` whose package is one of the scopes of `within`.
 pub(crate) fn near_scopes(
     alloc: Global,
@@ -239,50 +267,47 @@ pub(crate) fn near_scopes(
     files.near(alloc, innermost(within))
 }
 
-/// What the name `name` is found as from the scopes of `within` in the files that are reached.
-fn find_reached<'a>(
+/// The reference to `name` in `within`, as one of a file of that package, whose package has one byte.
+fn reference_in(alloc: Global, within: &str, name: &str) -> Result<Reference, Memory>
+    ensures within { IfOk result (λ r. r.within ≡ short_for within.now) }
+    ensures name { IfOk result (λ r. r.name ≡ name.now) }
+{
+    let scope = Shared::new(alloc, Items::new(Vec::new(alloc)))?;
+    Ok(Reference {
+        item: 0,
+        part: TypePart::Type,
+        within: FullName::after(scope, short_for(alloc, within)?),
+        name: Text::new(alloc, name)?,
+    })
+}
+
+/// What the name `name` is found as from the scopes of `within` in `files`.
+fn find_within<'a>(
     alloc: Global,
-    buffer: &mut String,
     files: &'a Files,
     within: &str,
     name: &str,
 ) -> Result<Hit<'a>, Memory>
     ensures is { IfOk result (λ hit. found_at hit ≡ search files.now (scopes within.now) name.now) }
 {
-    let files = Lookup::plain(alloc, files);
-    let near = near_scopes(alloc, &files, within)?;
-    find(alloc, buffer, &files, &near, None, within, name)
+    let reference = reference_in(alloc, within, name)?;
+    let hits = find_each(alloc, files, within, slice::from_ref(&reference))?;
+    Ok(hit_or_nothing(&hits, 0))
 }
 
 /// What `name` resolves to in the message, service or package `within` of a file with the scope
-/// `scope`. The files that are reached are searched only where the visible files have nothing.
-/// `near` has the places of the visible files whose package is one of the scopes of `within`.
+/// `scope`.
 pub(crate) fn look_up<'a>(
     alloc: Global,
     scope: &'a Scope,
-    near: &[usize],
     within: &str,
     name: &str,
 ) -> Result<Outcome<'a>, Memory>
-    requires near { AreNear near.now scope.now.visible (scopes within.now) }
     ensures is { IfOk result (λ o. lookup_at o ≡ lookup scope.now within.now name.now) }
 {
-    let visible = Lookup::plain(alloc, scope.visible_files());
-    let mut buffer = String::new(alloc);
-    match find(alloc, &mut buffer, &visible, near, None, within, name)? {
-        Hit::Type(place) => Ok(Outcome::Type(place)),
-        Hit::Other => Ok(Outcome::NotAType),
-        Hit::Nothing => match find_reached(
-            alloc,
-            &mut buffer,
-            scope.reached_files(),
-            within,
-            name,
-        )? {
-            Hit::Type(place) => Ok(Outcome::NotVisible(place.file)),
-            _ => Ok(Outcome::NotFound),
-        },
-    }
+    let visible = find_within(alloc, scope.visible_files(), within, name)?;
+    let reached = find_within(alloc, scope.reached_files(), within, name)?;
+    Ok(outcome_of(visible, reached))
 }
 
 /// What a name resolves to that is found as `visible` in the visible files and as `reached` in those

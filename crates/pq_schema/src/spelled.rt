@@ -3,13 +3,14 @@
 //! Two names are compared from their last bytes to their first. Pieces that end in the same bytes
 //! are compared many bytes at a time, and only the piece in which the names differ is read byte by
 //! byte. A code is made of the last bytes of a name.
-ghost use Rattle.std.specs.Prelude.{◌≡◌, ◌≤◌, ◌<◌, ◌-◌, ℕ, List, [], ◌∷◌, ◌++◌, ◌==◌, IfErr, IfOk, IfSome, None, Some, bytes_eq, length, option_to_list};
+ghost use Rattle.std.specs.Prelude.{◌≡◌, ◌≤◌, ◌<◌, ◌-◌, ℕ, List, [], ◌∷◌, ◌++◌, ◌==◌, IfErr, IfOk, IfSome, None, Some, bytes_eq, length, option_to_list, string_bytes, true};
 ghost use Rattle.std.specs.List.{concat};
 ghost use Rattle.pq_schema.specs.aux.NameParts.{name_order};
 ghost use Rattle.pq_schema.specs.aux.NameCodes.{coded, code_of};
 ghost use Rattle.pq_schema.specs.aux.Spots.{IsPlain};
 
-use pq_names::Text;
+use crate::full_name::push_parts;
+use pq_names::{Memory, Text};
 use std::cmp::Ordering;
 use std::marker::Model;
 
@@ -76,6 +77,23 @@ impl<'a> Spelled<'a> {
         ensures is { result ≡ (length self.now == 0) }
     {
         self.split_last().is_none()
+    }
+
+    /// Whether the name has more than `most` bytes.
+    pub(crate) fn is_longer(&self, most: usize) -> bool
+        ensures longer { result ≡ true → most < length self.now }
+    {
+        self.rest().count_within(most).is_none()
+    }
+
+    /// Writes the name to `text`, in place of what is there.
+    pub(crate) fn write_to(&self, text: &mut String) -> Result<(), Memory>
+        ensures bytes { IfOk result (λ _. string_bytes text.new ≡ self.now) }
+    {
+        text.clear();
+        push_parts(text, self.parts)?;
+        text.push_str(self.text)?;
+        Ok(())
     }
 
     /// The code of the name, which is made of at most its last 32 bytes.

@@ -10,7 +10,8 @@ ghost use Rattle.pq_schema.specs.aux.Spots.{AreMarked, AreSpots, FilesMarked, Is
 
 use crate::definitions::Definition;
 use crate::files::Files;
-use crate::full_name::{FullName, with_dot};
+use crate::full_name::FullName;
+use crate::lead::lead_text;
 use crate::nesting::{innermost, outer, scope_or_empty};
 use crate::scope::FileDefs;
 use pq_names::{Memory, Text};
@@ -79,11 +80,7 @@ fn add_spot(alloc: Global, marks: &[bool], scope: &str, spots: &mut Vec<Text>) -
         Some(true) => {}
         _ => return Ok(()),
     }
-    if scope.is_empty() {
-        spots.push(Text::new(alloc, "")?)?;
-    } else {
-        spots.push(with_dot(alloc, scope)?)?;
-    }
+    spots.push(lead_text(alloc, scope)?)?;
     Ok(())
 }
 

@@ -10,10 +10,9 @@ pub returns-in-Type : goal.returns-in-Type
 returns-in-Type c =
     let files = c.args.files.now in
     let name = c.args.name.now in
-    let text : c.as_str.result.now ≡ c.spot-item.result ++ name = c.as_str.ensures.value ∙ c.in_ok-spell.ensures.name in
     record {
       is = sym (spots_step files name c.args.spots.now c.spots.spot-index c.spot-item.result (found_at c.spots.best) (found_at c.find_defined.result) (found_at c.unless_type-best.result) _
-          c.spots-test.true (sym c.spot-item.is) (c.find_defined.ensures.is ∙ ap (λ (n : List ℕ). defined files n) text) c.unless_type-best.ensures.is c.spots.invariant
+          c.spots-test.true (sym c.spot-item.is) (c.find_defined.ensures.is ∙ ap (λ (n : List ℕ). defined files n) c.spell-full.ensures.name) c.unless_type-best.ensures.is c.spots.invariant
           ∙ stays_type (found_at c.unless_type-best.result) (in_spots files (drop (c.spots.spot-index + 1) c.args.spots.now) name) c.in-Type.field-0.file.now c.in-Type.field-0.definition.now
           (ap (λ (h : Hit). found_at h) c.in-Type.is));
     }
@@ -22,9 +21,8 @@ pub spots-preserved : goal.spots-preserved
 spots-preserved c =
     let files = c.args.files.now in
     let name = c.args.name.now in
-    let text : c.as_str.result.now ≡ c.spot-item.result ++ name = c.as_str.ensures.value ∙ c.in_ok-spell.ensures.name in
     spots_step files name c.args.spots.now c.spots.spot-index c.spot-item.result (found_at c.spots.best) (found_at c.find_defined.result) (found_at c.unless_type-best.result) _
-    c.spots-test.true (sym c.spot-item.is) (c.find_defined.ensures.is ∙ ap (λ (n : List ℕ). defined files n) text) c.unless_type-best.ensures.is c.spots.invariant
+    c.spots-test.true (sym c.spot-item.is) (c.find_defined.ensures.is ∙ ap (λ (n : List ℕ). defined files n) c.spell-full.ensures.name) c.unless_type-best.ensures.is c.spots.invariant
 
 pub returns : goal.returns
 returns c = record {

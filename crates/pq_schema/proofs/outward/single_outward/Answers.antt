@@ -12,27 +12,27 @@ find_in_spots-requires c =
 pub returns-in-Type : goal.returns-in-Type
 returns-in-Type c =
     record {
-      is = single_type c.args.files.now c.args.outward.root.now c.args.outward.spots.now c.args.name.now (found_at c.in_ok-place.field-0) c.in-Type.place.file.now c.in-Type.place.definition.now
-          c.requires.outward.are_spots c.requires.plain c.in_ok-place.ensures.is (ap (λ (h : Hit). found_at h) c.in-Type.is);
+      is = single_type c.args.files.now c.args.outward.root.now c.args.outward.spots.now c.args.name.now (found_at c.find_in_spots.result) c.in-Type.place.file.now c.in-Type.place.definition.now
+          c.requires.outward.are_spots c.requires.plain c.find_in_spots.ensures.is (ap (λ (h : Hit). found_at h) c.in-Type.is);
     }
 
 pub returns-in-Other : goal.returns-in-Other
 returns-in-Other c =
     record {
-      is = single_other c.args.files.now c.args.outward.root.now c.args.outward.spots.now c.args.name.now (found_at c.in_ok-place.field-0)
-          c.requires.outward.are_spots c.requires.plain c.in_ok-place.ensures.is (ap (λ (h : Hit). found_at h) c.in-Other.is);
+      is = single_other c.args.files.now c.args.outward.root.now c.args.outward.spots.now c.args.name.now (found_at c.find_in_spots.result)
+          c.requires.outward.are_spots c.requires.plain c.find_in_spots.ensures.is (ap (λ (h : Hit). found_at h) c.in-Other.is);
     }
 
 pub returns-then-is_some : goal.returns-then-is_some
 returns-then-is_some c =
     record {
-      is = single_nothing c.args.files.now c.args.outward.along.now c.args.outward.root.now c.args.outward.spots.now c.args.name.now (found_at c.in_ok-place.field-0) c.innermost.result _
-          c.requires.outward c.requires.plain c.in_ok-place.ensures.is (ap (λ (h : Hit). found_at h) c.in-Nothing.is) c.innermost.ensures c.if-is_some.ensures;
+      is = single_nothing c.args.files.now c.args.outward.along.now c.args.outward.root.now c.args.outward.spots.now c.args.name.now (found_at c.find_in_spots.result) c.innermost.result _
+          c.requires.outward c.requires.plain c.find_in_spots.ensures.is (ap (λ (h : Hit). found_at h) c.in-Nothing.is) c.innermost.ensures c.if-is_some.ensures;
     }
 
 pub returns-else-is_some : goal.returns-else-is_some
 returns-else-is_some c =
     record {
-      is = single_nothing c.args.files.now c.args.outward.along.now c.args.outward.root.now c.args.outward.spots.now c.args.name.now (found_at c.in_ok-place.field-0) c.innermost.result _
-          c.requires.outward c.requires.plain c.in_ok-place.ensures.is (ap (λ (h : Hit). found_at h) c.in-Nothing.is) c.innermost.ensures c.if-is_some.ensures;
+      is = single_nothing c.args.files.now c.args.outward.along.now c.args.outward.root.now c.args.outward.spots.now c.args.name.now (found_at c.find_in_spots.result) c.innermost.result _
+          c.requires.outward c.requires.plain c.find_in_spots.ensures.is (ap (λ (h : Hit). found_at h) c.in-Nothing.is) c.innermost.ensures c.if-is_some.ensures;
     }

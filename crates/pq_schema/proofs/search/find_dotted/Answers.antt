@@ -1,66 +1,55 @@
-use Rattle.std.proofs.Common.{◌≡◌, List, ℕ, Option, Bor, true, false, refl, sym, ap, ◌∙◌}
-use Rattle.std.specs.Option.{option_copied}
-use Rattle.pq_schema.specs.Definitions.{qualified}
-use Rattle.pq_schema.specs.Resolution.{found, dotted, decides}
-use Rattle.pq_schema.specs.aux.Hits.{found_at}
-use Rattle.pq_schema.specs.aux.Scopes.{first_of}
-use Rattle.pq_schema.proofs.Walks.{dotted_found, dotted_none, further, no_further}
+use Rattle.std.proofs.Common.{◌≡◌, ◌++◌, List, ℕ, Bool, true, false, cond, sym, ap, subst, ◌∙◌}
+use Rattle.std.specs.Prelude.{drop}
 use Rattle.std.proofs.lemmas.Result.{IfOk-weaker}
-use Rattle.pq_schema.proofs.Near.{near_further, near_name}
+use Rattle.pq_schema.specs.Resolution.{decides, dotted, found, scopes}
+use Rattle.pq_schema.specs.aux.Grouping.{AreNear, around}
+use Rattle.pq_schema.specs.aux.Hits.{found_at}
+use Rattle.pq_schema.proofs.Inside.{dotted_end, dotted_step, each_at}
 use Rattle.pq_schema.proofs.search.find_dotted.Goals as goal
 
 pub decides-requires : goal.decides-requires
 decides-requires c =
-    let name = c.args.first.now in
-    let inner = option_copied c.scopes.inner in
-    let text : c.as_str.result.now ≡ qualified (first_of inner) name =
-    c.as_str.ensures.value ∙ c.in_ok-qualify.ensures.name ∙ ap (λ (s : List ℕ). qualified s name) c.scope_or_empty-scope.ensures.scope in
-    record { near = near_name c.args.near.now c.args.files.now inner name c.as_str.result.now c.requires.plain text c.scopes.invariant.near }
-
-pub returns-then-decides : goal.returns-then-decides
-returns-then-decides c =
+    let near = c.args.near.now in
     let files = c.args.files.now in
-    let inner = option_copied c.scopes.inner in
-    let first : c.as_str.result.now ≡ qualified (first_of inner) c.args.first.now =
-    c.as_str.ensures.value ∙ c.in_ok-qualify.ensures.name ∙ ap (λ (s : List ℕ). qualified s c.args.first.now) c.scope_or_empty-scope.ensures.scope in
-    let whole : c.as_str-then-decides.result.now ≡ qualified (first_of inner) c.args.name.now =
-    c.as_str-then-decides.ensures.value ∙ c.in_ok-qualify-2.ensures.name ∙ ap (λ (s : List ℕ). qualified s c.args.name.now) c.scope_or_empty-scope.ensures.scope in
+    let first = c.args.first.now in
+    let l = c.index-inner-i.result in
+    let here = each_at (λ (x : List ℕ). AreNear near files (around (x ++ first))) c.args.inner.now c.scopes.i l c.requires.inner c.scopes-test.true in
+    record {
+      near = subst (λ (n : List ℕ). AreNear near files (around n)) (sym c.spell-full.ensures.name)
+          (subst (λ (x : List ℕ). AreNear near files (around (x ++ first))) (sym c.index-inner-i.is) here);
+    }
+
+pub returns-then-branch : goal.returns-then-branch
+returns-then-branch c =
+    let files = c.args.files.now in
+    let first = c.args.first.now in
+    let name = c.args.name.now in
+    let l = c.index-inner-i.result in
+    let step = dotted_step files first name c.args.inner.now c.scopes.i l true (dotted files (scopes c.args.outward.root.now) first name) _
+    c.scopes-test.true (sym c.index-inner-i.is)
+    (sym c.if-branch.true ∙ c.in_ok-decides.ensures.is ∙ ap (λ (n : List ℕ). decides files n) c.spell-full.ensures.name) c.scopes.invariant in
     record {
       is = IfOk-weaker c.find_any.result _ _
-          (λ hit h. sym (c.scopes.invariant.found
-          ∙ dotted_found files inner c.args.first.now c.args.name.now true (found_at hit)
-          (sym c.if-decides.true ∙ c.decides.ensures.is ∙ ap (λ (n : List ℕ). decides files n) first)
-          (h ∙ ap (λ (n : List ℕ). found files n) whole)))
+          (λ hit h. h ∙ ap (λ (n : List ℕ). found files n) c.spell-whole.ensures.name ∙ sym step)
           c.find_any.ensures.is;
     }
 
 pub scopes-preserved : goal.scopes-preserved
 scopes-preserved c =
     let files = c.args.files.now in
-    let inner = option_copied c.scopes.inner in
-    let first : c.as_str.result.now ≡ qualified (first_of inner) c.args.first.now =
-    c.as_str.ensures.value ∙ c.in_ok-qualify.ensures.name ∙ ap (λ (s : List ℕ). qualified s c.args.first.now) c.scope_or_empty-scope.ensures.scope in
-    let next = option_copied c.outer-inner.result in
-    let out = further inner next c.in-Some-inner.scope.now (ap (λ (o : Option (Bor (List ℕ))). option_copied o) c.in-Some-inner.is) c.outer-inner.ensures.prefixes in
-    record {
-      found = c.scopes.invariant.found
-          ∙ dotted_found files inner c.args.first.now c.args.name.now false (found files (qualified (first_of inner) c.args.name.now))
-          (sym c.if-decides.false ∙ c.decides.ensures.is ∙ ap (λ (n : List ℕ). decides files n) first) refl
-          ∙ ap (λ (ss : List (List ℕ)). dotted files ss c.args.first.now c.args.name.now) out;
-      near = near_further c.args.near.now files inner next out c.scopes.invariant.near;
-    }
+    let first = c.args.first.now in
+    let name = c.args.name.now in
+    dotted_step files first name c.args.inner.now c.scopes.i c.index-inner-i.result false (dotted files (scopes c.args.outward.root.now) first name) _
+    c.scopes-test.true (sym c.index-inner-i.is)
+    (sym c.if-branch.false ∙ c.in_ok-decides.ensures.is ∙ ap (λ (n : List ℕ). decides files n) c.spell-full.ensures.name) c.scopes.invariant
 
-pub returns-in-None : goal.returns-in-None
-returns-in-None c =
+pub returns : goal.returns
+returns c =
     let files = c.args.files.now in
-    let inner = option_copied c.scopes.inner in
-    let first : c.as_str.result.now ≡ qualified (first_of inner) c.args.first.now =
-    c.as_str.ensures.value ∙ c.in_ok-qualify.ensures.name ∙ ap (λ (s : List ℕ). qualified s c.args.first.now) c.scope_or_empty-scope.ensures.scope in
+    let first = c.args.first.now in
+    let name = c.args.name.now in
     record {
-      is = sym (c.scopes.invariant.found
-          ∙ dotted_found files inner c.args.first.now c.args.name.now false (found files (qualified (first_of inner) c.args.name.now))
-          (sym c.if-decides.false ∙ c.decides.ensures.is ∙ ap (λ (n : List ℕ). decides files n) first) refl
-          ∙ ap (λ (ss : List (List ℕ)). dotted files ss c.args.first.now c.args.name.now)
-          (no_further inner (ap (λ (o : Option (Bor (List ℕ))). option_copied o) c.in-None.is))
-          ∙ dotted_none files c.args.first.now c.args.name.now);
+      is = IfOk-weaker c.dotted_outward.result _ _
+          (λ hit h. h ∙ sym (dotted_end files first name c.args.inner.now c.scopes.i (dotted files (scopes c.args.outward.root.now) first name) _ c.scopes-test.false c.scopes.invariant))
+          c.dotted_outward.ensures.is;
     }

@@ -1,33 +1,37 @@
-use Rattle.std.proofs.Common.{◌≡◌, List, ℕ, Option, Bor, sym, ap, ◌∙◌}
-use Rattle.std.specs.Option.{option_copied}
-use Rattle.pq_schema.specs.Definitions.{qualified}
+use Rattle.std.proofs.Common.{◌≡◌, ◌++◌, ◌+◌, List, ℕ, sym, ap, subst, ◌∙◌}
+use Rattle.std.specs.Prelude.{drop}
 use Rattle.pq_schema.specs.Resolution.{Found, found, single, scopes, unless_type}
+use Rattle.pq_schema.specs.aux.Grouping.{AreNear, around}
 use Rattle.pq_schema.specs.aux.Hits.{found_at}
-use Rattle.pq_schema.specs.aux.Scopes.{first_of, after_first}
+use Rattle.pq_schema.specs.aux.Inside.{single_from}
 use Rattle.pq_schema.specs.declared.search.Hit.{Hit}
-use Rattle.pq_schema.proofs.Walks.{single_more, single_none, nothing_further, stays_type, further, no_further}
-use Rattle.pq_schema.proofs.Near.{near_further, near_name}
+use Rattle.pq_schema.proofs.Inside.{each_at, single_end, single_step}
+use Rattle.pq_schema.proofs.Walks.{stays_type}
 use Rattle.pq_schema.proofs.search.find_single.Goals as goal
 
 pub find_full-requires : goal.find_full-requires
 find_full-requires c =
+    let near = c.args.near.now in
+    let files = c.args.files.now in
     let name = c.args.name.now in
-    let inner = option_copied c.scopes.inner in
-    let text : c.as_str.result.now ≡ qualified (first_of inner) name =
-    c.as_str.ensures.value ∙ c.in_ok-qualify.ensures.name ∙ ap (λ (s : List ℕ). qualified s name) c.scope_or_empty.ensures.scope in
-    record { near = near_name c.args.near.now c.args.files.now inner name c.as_str.result.now c.requires.plain text c.scopes.invariant.near }
+    let l = c.index-inner-i.result in
+    let here = each_at (λ (x : List ℕ). AreNear near files (around (x ++ name))) c.args.inner.now c.scopes.i l c.requires.inner c.scopes-test.true in
+    record {
+      near = subst (λ (n : List ℕ). AreNear near files (around n)) (sym c.spell-full.ensures.name)
+          (subst (λ (x : List ℕ). AreNear near files (around (x ++ name))) (sym c.index-inner-i.is) here);
+    }
 
 pub returns-in-Type : goal.returns-in-Type
 returns-in-Type c =
     let files = c.args.files.now in
     let name = c.args.name.now in
-    let inner = option_copied c.scopes.inner in
-    let text : c.as_str.result.now ≡ qualified (first_of inner) name =
-    c.as_str.ensures.value ∙ c.in_ok-qualify.ensures.name ∙ ap (λ (s : List ℕ). qualified s name) c.scope_or_empty.ensures.scope in
+    let inner = c.args.inner.now in
+    let outer = single files (scopes c.args.outward.root.now) name in
+    let best = found_at c.unless_type-best.result in
     record {
-      is = sym (single_more files inner name (single files (scopes c.args.within.now) name) (found_at c.scopes.best) (found_at c.find_full.result) (found_at c.unless_type-best.result)
-          c.scopes.invariant.found (c.find_full.ensures.is ∙ ap (λ (n : List ℕ). found files n) text) c.unless_type-best.ensures.is
-          ∙ stays_type (found_at c.unless_type-best.result) (single files (after_first inner) name) c.in-Type.field-0.file.now c.in-Type.field-0.definition.now
+      is = sym (single_step files name inner c.scopes.i c.index-inner-i.result (found_at c.scopes.best) (found_at c.in_ok-find_full.field-0) best outer _
+          c.scopes-test.true (sym c.index-inner-i.is) (c.in_ok-find_full.ensures.is ∙ ap (λ (n : List ℕ). found files n) c.spell-full.ensures.name) c.unless_type-best.ensures.is c.scopes.invariant
+          ∙ stays_type best (single_from files (drop (c.scopes.i + 1) inner) outer name) c.in-Type.field-0.file.now c.in-Type.field-0.definition.now
           (ap (λ (h : Hit). found_at h) c.in-Type.is));
     }
 
@@ -35,31 +39,17 @@ pub scopes-preserved : goal.scopes-preserved
 scopes-preserved c =
     let files = c.args.files.now in
     let name = c.args.name.now in
-    let inner = option_copied c.scopes.inner in
-    let text : c.as_str.result.now ≡ qualified (first_of inner) name =
-    c.as_str.ensures.value ∙ c.in_ok-qualify.ensures.name ∙ ap (λ (s : List ℕ). qualified s name) c.scope_or_empty.ensures.scope in
-    let next = option_copied c.outer-inner.result in
-    let out = further inner next c.in-Some-inner.scope.now (ap (λ (o : Option (Bor (List ℕ))). option_copied o) c.in-Some-inner.is) c.outer-inner.ensures.prefixes in
-    record {
-      found = single_more files inner name (single files (scopes c.args.within.now) name) (found_at c.scopes.best) (found_at c.find_full.result) (found_at c.unless_type-best.result)
-          c.scopes.invariant.found (c.find_full.ensures.is ∙ ap (λ (n : List ℕ). found files n) text) c.unless_type-best.ensures.is
-          ∙ ap (λ (ss : List (List ℕ)). unless_type (found_at c.unless_type-best.result) (single files ss name)) out;
-      near = near_further c.args.near.now files inner next out c.scopes.invariant.near;
-    }
+    single_step files name c.args.inner.now c.scopes.i c.index-inner-i.result (found_at c.scopes.best) (found_at c.in_ok-find_full.field-0) (found_at c.unless_type-best.result)
+    (single files (scopes c.args.outward.root.now) name) _
+    c.scopes-test.true (sym c.index-inner-i.is) (c.in_ok-find_full.ensures.is ∙ ap (λ (n : List ℕ). found files n) c.spell-full.ensures.name) c.unless_type-best.ensures.is c.scopes.invariant
 
-pub returns-in-None : goal.returns-in-None
-returns-in-None c =
+pub returns : goal.returns
+returns c =
     let files = c.args.files.now in
     let name = c.args.name.now in
-    let inner = option_copied c.scopes.inner in
-    let best = found_at c.unless_type-best.result in
-    let text : c.as_str.result.now ≡ qualified (first_of inner) name =
-    c.as_str.ensures.value ∙ c.in_ok-qualify.ensures.name ∙ ap (λ (s : List ℕ). qualified s name) c.scope_or_empty.ensures.scope in
+    let best = found_at c.scopes.best in
     record {
-      is = sym (single_more files inner name (single files (scopes c.args.within.now) name) (found_at c.scopes.best) (found_at c.find_full.result) best
-          c.scopes.invariant.found (c.find_full.ensures.is ∙ ap (λ (n : List ℕ). found files n) text) c.unless_type-best.ensures.is
-          ∙ ap (λ (ss : List (List ℕ)). unless_type (found_at c.unless_type-best.result) (single files ss name))
-          (no_further inner (ap (λ (o : Option (Bor (List ℕ))). option_copied o) c.in-None.is))
-          ∙ ap (λ (f : Found). unless_type (found_at c.unless_type-best.result) f) (single_none files name)
-          ∙ nothing_further (found_at c.unless_type-best.result));
+      is = c.unless_type.ensures.is
+          ∙ ap (λ (f : Found). unless_type best f) c.single_outward-further.ensures.is
+          ∙ sym (single_end files name c.args.inner.now c.scopes.i best (single files (scopes c.args.outward.root.now) name) _ c.scopes-test.false c.scopes.invariant);
     }

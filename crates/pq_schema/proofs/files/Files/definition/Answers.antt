@@ -13,9 +13,8 @@ returns c =
     let name = c.args.name.now in
     record {
       first = near_meaning files near name c.first_definition.result
-          (subst (λ (fs : List FileDefs). AreNear near fs (around name)) (sym c.self.view_is) c.requires.near) c.self.invariant.below
+          (subst (λ (fs : List FileDefs). AreNear near fs (around name)) (sym c.self.view_is) c.requires.near) c.self.invariant.0.below
           (c.first_definition.ensures.first
-          ∙ ap (λ (n : List ℕ). first_near (definition_in n) c.deref.result.now near) c.new.ensures.pieces
           ∙ ap (λ (fs : List FileDefs). first_near (definition_in name) fs near) c.deref.ensures.value)
           ∙ ap (λ (fs : List FileDefs). meaning fs name) c.self.view_is;
     }

@@ -21,6 +21,6 @@ returns c =
           ∙ ap (λ (n : List ℕ). first_near (definition_in n) c.deref.result.now c.deref-2.result.now) c.new.ensures.pieces
           ∙ ap (λ (fs : List FileDefs). first_near (definition_in name) fs c.deref-2.result.now) c.deref.ensures.value
           ∙ ap (first_near (definition_in name) files) c.deref-2.ensures.value)
-          ∙ first_of_others others file name files are c.self.invariant.below
+          ∙ first_of_others others file name files are c.self.invariant.0.below
           ∙ ap (first_of (other_with file name)) c.self.view_is;
     }

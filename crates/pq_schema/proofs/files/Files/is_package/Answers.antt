@@ -1,22 +1,18 @@
-use Rattle.std.proofs.Common.{◌≡◌, ◌==◌, nat_eq, ℕ, List, false, length, sym, ap, ◌∙◌}
+use Rattle.std.proofs.Common.{◌≡◌, ℕ, List, sym, ap, ◌∙◌}
 use Rattle.pq_schema.specs.declared.scope.FileDefs.{FileDefs}
-use Rattle.std.specs.List.{list_any, starts_with}
-use Rattle.pq_schema.specs.aux.InPackage.{dotted}
 use Rattle.pq_schema.specs.Resolution.{is_package}
-use Rattle.pq_schema.proofs.Meanings.{package_empty}
-use Rattle.pq_schema.proofs.Grouping.{known_package}
+use Rattle.pq_schema.proofs.Inside.{too_long}
 use Rattle.pq_schema.proofs.files.Files.is_package.Goals as goal
 
-pub returns-then-is_empty : goal.returns-then-is_empty
-returns-then-is_empty c = record { is = sym (package_empty c.args.self.now c.args.name.now cc) }
+pub returns-then-is_longer : goal.returns-then-is_longer
+returns-then-is_longer c =
+    record {
+      is = sym (ap (λ (fs : List FileDefs). is_package fs c.args.name.now) (sym c.self.view_is)
+          ∙ too_long c.self.inside.longest c.self.inside.files.items c.args.name.now c.self.invariant.1 (c.is_longer.ensures.longer c.if-is_longer.true));
+    }
 
 pub returns : goal.returns
 returns c =
-    let name = c.args.name.now in
-    let some : (length name == 0) ≡ false = cc in
     record {
-      is = c.has_package.ensures.is
-          ∙ ap (λ (es : List (List ℕ × ℕ)). list_any (λ e. starts_with nat_eq e.0 (dotted name)) es) c.deref.ensures.value
-          ∙ known_package c.self.inside.files.items c.self.invariant name some
-          ∙ ap (λ (fs : List FileDefs). is_package fs name) c.self.view_is;
+      is = c.has.ensures.is ∙ ap (λ (n : List ℕ). is_package c.args.self.now n) (c.as_str.ensures.value ∙ c.in_ok-write_to.ensures.bytes);
     }

@@ -20,7 +20,7 @@ returns c =
             rising = c.sort_unstable.ensures.sorted;
             all = λ k f at among.
                 let there = c.in_ok-near.ensures.places f.defs.package_name k among
-                (subst (λ (es : List (List ℕ × ℕ)). Contains es (dotted f.defs.package_name, k)) (sym c.deref.ensures.value) (listed c.self.inside.files.items c.self.invariant k f at)) in
+                (subst (λ (es : List (List ℕ × ℕ)). Contains es (dotted f.defs.package_name, k)) (sym c.deref.ensures.value) (listed c.self.inside.files.items c.self.invariant.0 k f at)) in
                 contains_in k sorted (Contains-permutation near sorted k c.sort_unstable.ensures.permutation (in_contains k near there));
           });
     }

@@ -1,18 +1,15 @@
-use Rattle.std.proofs.Common.{ℕ, List, Option, sym, subst}
-use Rattle.std.specs.Prelude.{Vec}
-use Rattle.std.specs.declared.alloc.Global.{Global}
+use Rattle.std.proofs.Common.{ℕ, List, Bool, true, sym, subst}
 use Rattle.pq_schema.specs.declared.scope.FileDefs.{FileDefs}
 use Rattle.pq_schema.specs.aux.Grouping.{AreNear}
-use Rattle.pq_schema.specs.aux.NearNames.{HasAll}
-use Rattle.pq_schema.proofs.NearNames.{Entry}
+use Rattle.pq_schema.specs.aux.Inside.{AsksAll}
 use Rattle.pq_schema.proofs.lookup.Lookup.all.Goals as goal
 
-pub returns-in-Some : goal.returns-in-Some
-returns-in-Some c =
+pub returns-then-self : goal.returns-then-self
+returns-then-self c =
     let files = c.self.inside.files.now in
     let all = c.self.inside.all.items in
     let near : (roots : List (List ℕ)) → AreNear all files roots =
-    subst (λ (o : Option (Vec Entry Global)). HasAll o all files) c.in-Some.is c.self.invariant.1 in
+    subst (λ (b : Bool). AsksAll b all files) c.if-self.true c.self.invariant.2 in
     record {
       all = λ roots. subst (λ (ks : List ℕ). AreNear ks c.args.self.now roots) (sym c.deref.ensures.value)
           (subst (λ (fs : List FileDefs). AreNear all fs roots) c.self.view_is (near roots));

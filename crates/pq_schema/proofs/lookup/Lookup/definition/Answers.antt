@@ -33,7 +33,6 @@ returns-in-Some c =
     record {
       first = near_meaning files all name c.first_listed.result (near (around name)) c.files.ensures.below
           (c.first_listed.ensures.first
-          ∙ ap (λ (n : List ℕ). first_near (definition_in n) c.files.result.now c.deref.result.now) c.new-name.ensures.pieces
           ∙ ap (λ (fs : List FileDefs). first_near (definition_in name) fs c.deref.result.now) c.files.ensures.value
           ∙ ap (first_near (definition_in name) files) c.deref.ensures.value)
           ∙ ap (λ (fs : List FileDefs). meaning fs name) c.self.view_is;

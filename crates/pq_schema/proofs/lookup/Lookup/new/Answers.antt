@@ -10,4 +10,5 @@ invariant_of-result c =
       subst (λ (ks : List ℕ). IsNamesOf names files ks) c.deref-2.ensures.value
           (subst (λ (fs : List FileDefs). IsNamesOf names fs c.deref-2.result.now) c.as_slice-2.ensures.value c.in_ok-names.ensures.names),
       λ roots. c.in_ok-all.ensures.near files roots (ap length (sym c.as_slice-count.ensures.value)),
+      λ roots. c.in_ok-all.ensures.near files roots (ap length (sym c.as_slice-count.ensures.value)),
     )

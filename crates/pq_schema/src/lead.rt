@@ -1,0 +1,113 @@
+//! What is before a simple name in a scope: the scope with a dot after it, or nothing.
+//!
+//! The scopes of a file begin with its package, which can be as long as the file. So they share its
+//! bytes, and a full name in a scope is spelled in pieces, without a copy of the scope.
+ghost use Rattle.std.specs.Prelude.{◌≡◌, ◌++◌, ℕ, List, IfOk, map};
+ghost use Rattle.std.specs.Option.{option_copied};
+ghost use Rattle.pq_schema.specs.Definitions.{qualified};
+ghost use Rattle.pq_schema.specs.aux.NameParts.{leading};
+ghost use Rattle.pq_schema.specs.aux.Scopes.{before};
+
+use crate::full_name::with_dot;
+use crate::nesting::outer;
+use crate::spelled::Spelled;
+use pq_names::{Memory, Text};
+use std::alloc::Global;
+use std::marker::Model;
+use std::slice;
+
+/// What is before a simple name in a scope, in pieces. Contracts see its bytes.
+#[derive(Drop)]
+pub(crate) struct Lead {
+    parts: Vec<Text>,
+}
+
+impl Model for Lead {
+    ghost use Rattle.std.specs.Prelude.{List, ℕ};
+    ghost use Rattle.std.specs.List.{concat};
+
+    ghost Value = { List ℕ };
+
+    ghost view = { λ l. concat l.parts.items };
+}
+
+impl Lead {
+    /// The bytes of `text`.
+    pub(crate) fn of(alloc: Global, text: Text) -> Result<Lead, Memory>
+        ensures text { IfOk result (λ l. l ≡ text) }
+    {
+        let mut parts = Vec::with_capacity(alloc, 1)?;
+        parts.push(text)?;
+        Ok(Lead { parts })
+    }
+
+    /// The bytes of `first`, which is shared, and then those of `second`.
+    fn of_two(alloc: Global, first: &Text, second: Text) -> Result<Lead, Memory>
+        ensures text { IfOk result (λ l. l ≡ first.now ++ second) }
+    {
+        let mut parts = Vec::with_capacity(alloc, 2)?;
+        parts.push(first.copy()?)?;
+        parts.push(second)?;
+        Ok(Lead { parts })
+    }
+
+    /// The full name of `name` in the scope.
+    pub(crate) fn spell<'a>(&'a self, name: &'a str) -> Spelled<'a>
+        ensures name { result ≡ self.now ++ name.now }
+    {
+        Spelled::new(&self.parts, name)
+    }
+}
+
+/// The full name of `name` in a scope, where `lead` is what is before one in it.
+pub(crate) fn spell<'a>(lead: &'a Text, name: &'a str) -> Spelled<'a>
+    ensures name { result ≡ lead.now ++ name.now }
+{
+    Spelled::new(slice::from_ref(lead), name)
+}
+
+/// What is before a simple name in the scope `scope`.
+pub(crate) fn lead_text(alloc: Global, scope: &str) -> Result<Text, Memory>
+    ensures lead { IfOk result (λ t. t ≡ leading scope.now) }
+{
+    if scope.is_empty() {
+        Text::new(alloc, "")
+    } else {
+        with_dot(alloc, scope)
+    }
+}
+
+/// What is before a simple name in the scope `scope` of a file, where `lead` is before one in its
+/// package.
+fn inner_lead(alloc: Global, lead: &Text, scope: &str) -> Result<Lead, Memory>
+    ensures lead { IfOk result
+        (λ l. (root : List ℕ) → lead.now ≡ leading root → l ≡ leading (qualified root scope.now)) }
+{
+    if lead.as_str().is_empty() {
+        return Lead::of(alloc, lead_text(alloc, scope)?);
+    }
+    Lead::of_two(alloc, lead, with_dot(alloc, scope)?)
+}
+
+/// What is before a simple name in `next`, a scope of a file without its package, and in the scopes
+/// around it, the innermost first. `lead` is what is before one in the package of the file.
+pub(crate) fn inner_leads(
+    alloc: Global,
+    lead: &Text,
+    next: Option<&str>,
+) -> Result<Vec<Lead>, Memory>
+    ensures leads { IfOk result (λ v. (root : List ℕ) → lead.now ≡ leading root
+        → v.items ≡ map leading (map (qualified root) (before (option_copied next.entry)))) }
+{
+    let mut leads = Vec::new(alloc);
+    let mut inner = next;
+    'scopes: loop {
+        match inner {
+            Some(scope) => {
+                leads.push(inner_lead(alloc, lead, scope)?)?;
+                inner = outer(scope);
+            }
+            None => return Ok(leads),
+        }
+    }
+}
