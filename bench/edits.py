@@ -19,6 +19,7 @@ The verdict is one of:
     refused                 this script saw the refusal, and `clause` is what the checker said
     refused in the gate     `rt ci` refused it when it was in the gate; the clause was read from the contract, not seen
     refused in a review     a reviewer's check refused it, at `clause`
+    not tried               nothing is known of it yet
 
 The edits are tried in a copy of the repository, over the work that the last `rt check` of the crate kept: run `rt check`
 in the crate's folder first. Edits of different functions are tried together, in one `rt check --allow-holes`. A goal is
@@ -50,7 +51,7 @@ LISTS = os.path.join(HERE, "edits")
 PARTS = ["src", "specs", "proofs"]
 # what the checker says of a proof file that names what an edit took away
 BY_NAME = r"has no field|is not in scope|has no `|was not admitted"
-VERDICTS = ["refused", "refused in the gate", "refused in a review"]
+VERDICTS = ["refused", "refused in the gate", "refused in a review", "not tried"]
 
 
 class Edit:
