@@ -63,11 +63,7 @@ fn diagnostics(rt: &(impl Abort + AllocGlobal)) -> Request<ProtoKey> {
 }
 
 /// The reply to a request that was stopped, if `seen` is after `started`.
-fn cancelled(
-    request: Request<ProtoKey>,
-    started: Revision,
-    seen: Revision,
-) -> Option<PlainReply> {
+fn cancelled(request: Request<ProtoKey>, started: Revision, seen: Revision) -> Option<PlainReply> {
     if started < seen {
         Some(Reply::cancelled(client(), number(), request, started, seen))
     } else {
