@@ -143,6 +143,27 @@ def hub_comment(n):
     return edited(n, low, HUB, [hub(words) for words in COMMENTS], ask_each(n), 2)
 
 
+def moved_hub():
+    """A line put before everything in the file that all import, and that line taken away."""
+    return ["// Moved.\n" + hub(), hub()]
+
+
+def hub_moved(n):
+    """All text of the file that all import is moved; the diagnostics of the root are demanded. No rule of the root starts."""
+    return edited(n, low, HUB, moved_hub(), ask_root(n), 4)
+
+
+def hub_moved_each(n):
+    """All text of the file that all import is moved; the diagnostics of each other file are demanded."""
+    return edited(n, low, HUB, moved_hub(), ask_each(n), 4)
+
+
+def hub_moved_hub(n):
+    """All text of the file that all import is moved; its own diagnostics are demanded, which are put at their new places."""
+    before = tree(n) + ask_each(n) + ask(HUB)
+    return before + CUT + edits(low, HUB, moved_hub(), ask(HUB)), 6, 0
+
+
 def hub_edit(n):
     """A message of the file that all import; the diagnostics of all are demanded."""
     return edited(n, low, HUB, [hub(words) for words in messages()], ask_each(n), None)
@@ -206,6 +227,9 @@ CASES = [("first demand of the root, files set", "first", first_of_root),
          ("a message of a leaf, root demanded (2 edits)", "engine", leaf_edit_root),
          ("a message of the root, root demanded (2 edits)", "engine", root_edit),
          ("a comment of the hub, each demanded (2 edits)", "engine", hub_comment),
+         ("a line before all of the hub, root demanded (2 edits)", "engine", hub_moved),
+         ("a line before all of the hub, each demanded (2 edits)", "engine", hub_moved_each),
+         ("a line before all of the hub, hub demanded (2 edits)", "engine", hub_moved_hub),
          ("a message of the hub, each demanded (2 edits)", "engine", hub_edit),
          ("a message of the hub, root demanded (2 edits)", "engine", hub_edit_root),
          ("a comment of a High leaf, root demanded (2 edits)", "engine", high_comment),
