@@ -29,7 +29,7 @@ HANDLE = re.compile(r"\b(?:std::thread|std::net|Mutex|RwLock|Condvar|mpsc|TcpLis
 TESTS = re.compile(r"^(?:test_support|stored_sessions|tests_\w+)$")
 # These come and go: crates of tests, rows of cases, lists of wrong bodies.
 OPTIONAL = re.compile(r"^(?:cases/|bench/(?:edits|cases|session_cases|gate_|steps)|crates/(?:test_support|stored_sessions|tests_\w+)|crates/pq_server/(?:stdin|stdout))")
-TO_COME = {"pq_hall"}
+TO_COME = set()
 GATE_LINES = 60
 MACHINE = re.compile(r"(?<![\w.])/(?:home|work|opt|farm|tmp|root|mnt)/")
 PATH = re.compile(r"^(?:docs|bench|examples|cases|crates|bin|\.ci)/[\w./+-]*$")
