@@ -37,6 +37,7 @@ pub mod ScopeMeaning
 pub mod ResolvedMeaning
 pub mod Picked
 pub mod Pieces
+pub mod Alike
 pub mod SchemaMeaning
 pub mod ByAnswers
 pub mod RuleSetMeaning
