@@ -38,6 +38,7 @@ pub mod ResolvedMeaning
 pub mod Picked
 pub mod Pieces
 pub mod Alike
+pub mod SamePackage
 pub mod SchemaMeaning
 pub mod ByAnswers
 pub mod RuleSetMeaning

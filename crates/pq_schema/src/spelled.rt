@@ -3,12 +3,12 @@
 //! Two names are compared from their last bytes to their first. Pieces that end in the same bytes
 //! are compared many bytes at a time, and only the piece in which the names differ is read byte by
 //! byte. Names that are known to begin with the same bytes are compared after these first. A code
-//! is made of the last bytes of a name.
-ghost use Rattle.std.specs.Prelude.{◌≡◌, ◌≤◌, ◌<◌, ◌-◌, ℕ, List, [], ◌∷◌, ◌++◌, ◌==◌, IfErr, IfOk, IfSome, None, Some, bytes_eq, length, option_to_list, string_bytes, take, true};
+//! is made of the last bytes of a name and of their number.
+ghost use Rattle.std.specs.Prelude.{◌≡◌, ◌≤◌, ◌<◌, ◌-◌, ◌%◌, ◌^◌, ℕ, List, [], ◌∷◌, ◌++◌, ◌==◌, IfErr, IfOk, IfSome, None, Some, bytes_eq, length, option_to_list, string_bytes, take, true};
 ghost use Rattle.std.specs.List.{concat};
 ghost use Rattle.pq_schema.specs.aux.NameParts.{name_order};
 ghost use Rattle.pq_schema.specs.aux.Fronts.{IsBehind};
-ghost use Rattle.pq_schema.specs.aux.NameCodes.{coded, code_of};
+ghost use Rattle.pq_schema.specs.aux.NameCodes.{coded, code_of, tail_code};
 ghost use Rattle.pq_schema.specs.aux.Spots.{IsPlain};
 
 use crate::full_name::push_parts;
@@ -98,11 +98,12 @@ impl<'a> Spelled<'a> {
         Ok(())
     }
 
-    /// The code of the name, which is made of at most its last 32 bytes.
+    /// The code of the name, which is made of at most its last 32 bytes and of their number.
+    #[tactic(auto, unfolding(crate::specs::aux::NameCodes::code_of))]
     pub(crate) fn code(&self) -> u64
         ensures code { result ≡ code_of self.now }
     {
-        code_of_rest(self.rest())
+        coded(code_of_rest(self.rest()), count_of(self.parts, self.text))
     }
 
     /// The bytes of the name before its last dot; without a dot it has none.
@@ -388,9 +389,20 @@ pub(crate) fn coded(code: u64, part: u64) -> u64
     code.wrapping_mul(FACTOR).wrapping_add(part)
 }
 
-/// The code of `bytes`.
+/// The number of bytes of `parts` and `text`.
+fn count_of(parts: &[Text], text: &str) -> u64
+    ensures count { result ≡ length (concat parts.now ++ text.now) % 2 ^ 64 }
+{
+    let mut count = 0u64;
+    'parts: for i in 0..parts.len() {
+        count = count.wrapping_add(parts[i].as_str().len() as u64);
+    }
+    count.wrapping_add(text.len() as u64)
+}
+
+/// The code of the last bytes of `bytes`.
 fn code_of_rest(bytes: Rest<'_>) -> u64
-    ensures code { result ≡ code_of bytes.entry }
+    ensures code { result ≡ tail_code bytes.entry }
 {
     let mut rest = bytes;
     let mut code = 0u64;

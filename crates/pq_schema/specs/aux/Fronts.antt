@@ -46,3 +46,8 @@ pub record IsParted (entries : List (List ℕ × ℕ)) (name : List ℕ) (low hi
   pub within : high ≤ length entries
   pub less : (k : ℕ) → k < low → is_lt (code_order (get_or entries k ([], 0)).0 name) ≡ true
   pub others : (k : ℕ) → high ≤ k → k < length entries → is_lt (code_order (get_or entries k ([], 0)).0 name) ≡ false
+
+-- `IsSpotOf root spot` is that `spot`, if it has as many bytes, is what is before a simple name in
+-- the package `root`
+abbrev pub IsSpotOf : List ℕ → List ℕ → Type 0
+IsSpotOf root spot = length spot ≡ length (leading root) → spot ≡ leading root
