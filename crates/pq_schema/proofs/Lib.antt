@@ -37,6 +37,8 @@ pub mod ScopeMeaning
 pub mod ResolvedMeaning
 pub mod Picked
 pub mod Pieces
+pub mod Alike
+pub mod SamePackage
 pub mod SchemaMeaning
 pub mod ByAnswers
 pub mod RuleSetMeaning

@@ -121,7 +121,7 @@ near_scope near files root (c ∷ cs) n among plain are =
     (sym (ap prefixes (append_assoc (c ∷ cs) (codes ".") n) ∙ before_last (c ∷ cs) n plain))
     (record { rising = are.rising; all = λ k f at a. are.all k f at (scopes_through f.defs.package_name (c ∷ cs) root among a) })
 
-each_kept : (P : List ℕ → Type 0) (keep : List ℕ → Bool) (ss : List (List ℕ)) → ((s : List ℕ) → is_among s ss ≡ true → P (leading s)) → Each P (map leading (filter keep ss))
+pub each_kept : (P : List ℕ → Type 0) (keep : List ℕ → Bool) (ss : List (List ℕ)) → ((s : List ℕ) → is_among s ss ≡ true → P (leading s)) → Each P (map leading (filter keep ss))
 each_kept P keep [] h = tt
 each_kept P keep (s ∷ ss) h =
     let rest = each_kept P keep ss (λ x a. h x (or_right (bytes_eq s x) (is_among x ss) a)) in

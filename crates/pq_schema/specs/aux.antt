@@ -15,6 +15,7 @@ pub mod FirstOf
 pub mod NearNames
 pub mod NearFiles
 pub mod RightIn
+pub mod Fronts
 pub mod Along
 pub mod Spots
 pub mod Inside

@@ -21,10 +21,13 @@ ghost use Rattle.std.specs.List.Sorted.{IsSorted};
 ghost use Rattle.pq_schema.specs.Definitions.{qualified};
 ghost use Rattle.pq_schema.specs.Resolution.{is_package, scopes};
 ghost use Rattle.pq_schema.specs.aux.Along.{AllMeet, AreKept, HasMet, IsAlong, IsCovered, IsLastStart, IsPlain, IsSame, IsStart, MeetBeside, Meets};
+ghost use Rattle.pq_schema.specs.aux.Fronts.{AreRoots, CountsAt};
 ghost use Rattle.pq_schema.specs.aux.Grouping.{root_order};
+ghost use Rattle.pq_schema.specs.aux.NameParts.{leading};
 
 use crate::by_package::Entry;
 use crate::files::Files;
+use crate::scope::FileDefs;
 use pq_names::Memory;
 use std::alloc::Global;
 use std::cmp::Ordering;
@@ -267,6 +270,27 @@ fn last_start(parts: &[Met<'_>], name: &[u8]) -> Option<usize>
     Some(last.1)
 }
 
+/// Of each of `files`, whether its package is `root`.
+fn roots_of(alloc: Global, files: &[FileDefs], root: &str) -> Result<Vec<bool>, Memory>
+    ensures roots { IfOk result (λ v. AreRoots v.items files.now root.now) }
+{
+    let mut roots = Vec::with_capacity(alloc, files.len())?;
+    'files: for i in 0..files.len() {
+        roots.push(files[i].defs.get().package_name() == root)?;
+    }
+    Ok(roots)
+}
+
+/// The number of bytes before a simple name in the package `root`.
+fn lead_count(root: &str) -> usize
+    ensures count { result ≡ length (leading root.now) }
+{
+    if root.is_empty() {
+        return 0;
+    }
+    root.len() + 1
+}
+
 /// The packages that a search from the package `root` outwards meets. Contracts see the files and
 /// the package.
 #[derive(Drop)]
@@ -275,16 +299,25 @@ pub(crate) struct Along<'a> {
     root: &'a str,
     /// The parts that the packages of the files meet, sorted.
     parts: Vec<Met<'a>>,
+    /// Of each file, whether its package is `root`.
+    roots: Vec<bool>,
+    /// The number of bytes before a simple name in `root`.
+    count: usize,
 }
 
 impl<'a> Model for Along<'a> {
+    ghost use Rattle.std.specs.Prelude.{◌≡◌, length};
     ghost use Rattle.pq_schema.specs.aux.Along.{Contents, IsAlong};
+    ghost use Rattle.pq_schema.specs.aux.Fronts.{AreRoots};
+    ghost use Rattle.pq_schema.specs.aux.NameParts.{leading};
 
     ghost Value = { Contents };
 
     ghost view = { λ a. record { files = a.files.now; root = a.root.now } };
 
-    ghost invariant = { λ a. IsAlong a.parts.items a.files.now a.root.now };
+    ghost invariant = { λ a. IsAlong a.parts.items a.files.now a.root.now
+        × AreRoots a.roots.items a.files.now a.root.now
+        × (a.count ≡ length (leading a.root.now)) };
 }
 
 impl<'a> Along<'a> {
@@ -293,7 +326,32 @@ impl<'a> Along<'a> {
         ensures { IfOk result (λ a. a ≡ record { files = files.now; root = root.now }) }
     {
         let parts = table(alloc, files, root)?;
-        Ok(Along { files, root, parts })
+        let roots = roots_of(alloc, files.as_slice(), root)?;
+        Ok(Along {
+            files,
+            root,
+            parts,
+            roots,
+            count: lead_count(root),
+        })
+    }
+
+    /// The number of bytes before a simple name in `root`.
+    pub(crate) fn count(&self) -> usize
+        ensures count { result ≡ length (leading self.now.root) }
+    {
+        self.count
+    }
+
+    /// The number of bytes before a simple name in `root`, if that is the package of the file at
+    /// `place`, and 0 for another file.
+    pub(crate) fn count_at(&self, place: usize) -> usize
+        ensures count { CountsAt result self.now.files place self.now.root }
+    {
+        match self.roots.get(place) {
+            Some(true) => self.count,
+            _ => 0,
+        }
     }
 
     /// The length of the innermost of the scopes from `root` outwards in which `name` is a package.

@@ -1,9 +1,9 @@
 //! Full names with their codes, by which the index of definitions is sorted.
 //!
-//! A code is a number of 64 bits, made of at most the last 32 bytes of a name. Names whose codes
-//! differ are compared by these alone. Names with one code are compared by their bytes, so equal
-//! codes cost time and never change an answer.
-ghost use Rattle.std.specs.Prelude.{◌≡◌, bytes_eq};
+//! A code is a number of 64 bits, made of at most the last 32 bytes of a name and of the number of
+//! all its bytes. Names whose codes differ are compared by these alone. Names with one code are
+//! compared by their bytes, so equal codes cost time and never change an answer.
+ghost use Rattle.std.specs.Prelude.{◌≡◌, bytes_eq, take};
 ghost use Rattle.std.specs.Ordering.{as_partial_cmp, nat_cmp, ordering_then};
 ghost use Rattle.std.specs.Cmp.Rules.{comparing};
 ghost use Rattle.std.proofs.Common.{rules};
@@ -50,6 +50,27 @@ impl Coded {
             Ordering::Equal => self.name.compare_to(name),
             order => order,
         }
+    }
+
+    /// Compares the name with `name`, whose code is `code`, where both begin with the same `count`
+    /// bytes.
+    pub(crate) fn compare_alike(&self, code: u64, name: &Spelled<'_>, count: usize) -> Ordering
+        requires alike { take count self.now ≡ take count name.now }
+        ensures order { result ≡ ordering_then (nat_cmp (code_of self.now) code) (name_order self.now name.now) }
+    {
+        match self.code.cmp(&code) {
+            Ordering::Equal => self.name.compare_alike(name, count),
+            order => order,
+        }
+    }
+
+    /// Whether this is the name `name`, where both begin with the same `count` bytes.
+    #[tactic(auto, using(crate::specs::aux::NameOrder::names_tie))]
+    pub(crate) fn is_alike(&self, name: &Spelled<'_>, count: usize) -> bool
+        requires alike { take count self.now ≡ take count name.now }
+        ensures is { result ≡ bytes_eq self.now name.now }
+    {
+        self.name.compare_alike(name, count).is_eq()
     }
 
     /// Whether this is the name `name`.

@@ -6,6 +6,7 @@ ghost use Rattle.std.specs.Prelude.{◌≡◌, bytes_eq, find, IfOk, IsTrue};
 ghost use Rattle.std.specs.Option.{option_copied};
 ghost use Rattle.pq_schema.specs.Definitions.{defs_of};
 ghost use Rattle.pq_schema.specs.Repeated.{AreRepeated};
+ghost use Rattle.pq_schema.specs.aux.Fronts.{BeginAlike};
 ghost use Rattle.pq_schema.specs.aux.InPackage.{AllBelow, dotted};
 ghost use Rattle.pq_schema.specs.aux.Index.{IsIndexOf};
 
@@ -135,15 +136,25 @@ impl Defs {
             ≡ find (λ d. bytes_eq d.full_name full_name.now) self.now.definitions }
     {
         let name = Spelled::new(&[], full_name);
-        self.find_spelled(name)
+        self.find_spelled(&name)
     }
 
     /// The first definition with the full name `name`, by one binary search.
-    pub(crate) fn find_spelled(&self, name: Spelled<'_>) -> Option<&Definition>
+    pub(crate) fn find_spelled(&self, name: &Spelled<'_>) -> Option<&Definition>
         ensures first { option_copied result
-            ≡ find (λ d. bytes_eq d.full_name name.entry) self.now.definitions }
+            ≡ find (λ d. bytes_eq d.full_name name.now) self.now.definitions }
     {
-        first_named(&self.index, &self.definitions, name)
+        self.find_alike(name, 0)
+    }
+
+    /// The first definition with the full name `name`, by one binary search. The name and those of
+    /// all definitions begin with the same `count` bytes.
+    pub(crate) fn find_alike(&self, name: &Spelled<'_>, count: usize) -> Option<&Definition>
+        requires alike { BeginAlike count name.now self.now.definitions }
+        ensures first { option_copied result
+            ≡ find (λ d. bytes_eq d.full_name name.now) self.now.definitions }
+    {
+        first_named(&self.index, &self.definitions, name, count)
     }
 
     /// The full names in the order of the index, each with the place of its definition.

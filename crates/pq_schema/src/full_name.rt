@@ -4,7 +4,7 @@
 //! name keeps the parts of its scope behind one pointer, which all names of the scope share. Two
 //! names are compared from their last bytes to their first: names of one scope differ there, and
 //! the scope is not looked at.
-ghost use Rattle.std.specs.Prelude.{◌≡◌, ℕ, List, [], ◌∷◌, ◌++◌, ◌==◌, IfOk, OnOk, None, bytes_eq, codes, length, string_bytes, true};
+ghost use Rattle.std.specs.Prelude.{◌≡◌, ℕ, List, [], ◌∷◌, ◌++◌, ◌==◌, IfOk, OnOk, None, bytes_eq, codes, length, string_bytes, take, true};
 ghost use Rattle.std.specs.List.{concat};
 ghost use Rattle.std.specs.Cmp.Rules.{comparing};
 ghost use Rattle.std.specs.Ordering.{as_partial_cmp};
@@ -14,7 +14,7 @@ ghost use Rattle.pq_schema.specs.aux.NameCodes.{code_of};
 ghost use Rattle.pq_schema.specs.aux.RightIn.{IsRightIn, IsRoot};
 ghost use Rattle.pq_schema.specs.aux.Spots.{IsPlain};
 
-use crate::spelled::{Rest, Spelled, compare};
+use crate::spelled::{Rest, Spelled, compare, compare_alike};
 use pq_names::{Memory, Text};
 use pq_rules::Shared;
 use pq_syntax::Items;
@@ -95,7 +95,17 @@ impl FullName {
         compare(own, name)
     }
 
-    /// The code of the name, which is made of at most its last 32 bytes.
+    /// Compares the bytes of this name and of `name`, which begin with the same `count` bytes, from
+    /// the last to the first.
+    pub(crate) fn compare_alike(&self, name: &Spelled<'_>, count: usize) -> Ordering
+        requires alike { take count self.now ≡ take count name.now }
+        ensures order { result ≡ name_order self.now name.now }
+    {
+        let own = self.spelled();
+        compare_alike(&own, name, count)
+    }
+
+    /// The code of the name, which is made of at most its last 32 bytes and of their number.
     pub(crate) fn code(&self) -> u64
         ensures code { result ≡ code_of self.now }
     {

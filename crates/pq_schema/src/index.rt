@@ -8,11 +8,11 @@
 //! comparisons of names, whatever their codes.
 ghost use Rattle.std.specs.Prelude.{◌≡◌, ℕ, ◌<◌, ◌≤◌, true, false, length, get_or, [], find, bytes_eq, IfOk};
 ghost use Rattle.std.specs.Option.{option_copied};
-ghost use Rattle.std.specs.Ordering.{is_lt, nat_cmp, ordering_then};
+ghost use Rattle.std.specs.Ordering.{is_lt};
 ghost use Rattle.std.specs.List.Sorted.{IsSorted};
+ghost use Rattle.pq_schema.specs.aux.Fronts.{AreAlike};
 ghost use Rattle.pq_schema.specs.aux.Index.{IsIndexOf, entry_order, group_start};
-ghost use Rattle.pq_schema.specs.aux.NameCodes.{code_of, code_order};
-ghost use Rattle.pq_schema.specs.aux.NameParts.{name_order};
+ghost use Rattle.pq_schema.specs.aux.NameCodes.{code_order};
 ghost use Rattle.pq_schema.specs.Repeated.{AreRepeated};
 
 use crate::Memory;
@@ -37,21 +37,24 @@ pub(crate) fn index_of(
     Ok(index)
 }
 
-/// The first of `definitions` with the full name `name`.
+/// The first of `definitions` with the full name `name`. The name and all of theirs begin with the
+/// same `count` bytes.
 pub(crate) fn first_named<'a>(
     index: &[(Coded, usize)],
     definitions: &'a [Definition],
-    name: Spelled<'_>,
+    name: &Spelled<'_>,
+    count: usize,
 ) -> Option<&'a Definition>
-    requires { IsIndexOf index.now definitions.now }
-    ensures { option_copied result ≡ find (λ d. bytes_eq d.full_name name.entry) definitions.now }
+    requires index { IsIndexOf index.now definitions.now }
+    requires alike { AreAlike count name.now index.now }
+    ensures { option_copied result ≡ find (λ d. bytes_eq d.full_name name.now) definitions.now }
 {
-    let first = lower_bound(index, &name);
+    let first = lower_bound(index, name, count);
     if first == index.len() {
         return None;
     }
     let entry = &index[first];
-    if !entry.0.is(name) {
+    if !entry.0.is_alike(name, count) {
         return None;
     }
     let place = entry.1;
@@ -60,9 +63,11 @@ pub(crate) fn first_named<'a>(
     Some(&definitions[place])
 }
 
-/// The number of entries whose name comes before `name`.
-fn lower_bound(index: &[(Coded, usize)], name: &Spelled<'_>) -> usize
-    requires { IsSorted entry_order index.now }
+/// The number of entries whose name comes before `name`. It and all their names begin with the same
+/// `count` bytes.
+fn lower_bound(index: &[(Coded, usize)], name: &Spelled<'_>, count: usize) -> usize
+    requires sorted { IsSorted entry_order index.now }
+    requires alike { AreAlike count name.now index.now }
     ensures within { result ≤ length index.now }
     ensures less { (k : ℕ) → k < result →
         is_lt (code_order (get_or index.now k ([], 0)).0 name.now) ≡ true }
@@ -70,11 +75,17 @@ fn lower_bound(index: &[(Coded, usize)], name: &Spelled<'_>) -> usize
         is_lt (code_order (get_or index.now k ([], 0)).0 name.now) ≡ false }
 {
     let code = name.code();
-    index.partition_point(
-        |entry: &(Coded, usize)| -> bool
-            ensures { result ≡ is_lt (ordering_then (nat_cmp (code_of entry.now.0) code) (name_order entry.now.0 name.entry.now)) }
-        { entry.0.compare_to(code, name.copy()).is_lt() },
-    )
+    let mut low = 0;
+    let mut high = index.len();
+    'halves: while low < high {
+        let middle = low + (high - low) / 2;
+        if index[middle].0.compare_alike(code, name, count).is_lt() {
+            low = middle + 1;
+        } else {
+            high = middle;
+        }
+    }
+    low
 }
 
 /// The first entry with the name of the entry `i`, where `first` is that of the entry before it.

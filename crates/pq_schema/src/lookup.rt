@@ -7,10 +7,14 @@ ghost use Rattle.std.specs.Prelude.{◌≡◌, ℕ, List, length, IfOk, IfSome};
 ghost use Rattle.std.specs.Option.{option_copied};
 ghost use Rattle.pq_schema.specs.declared.scope.FileDefs.{FileDefs};
 ghost use Rattle.pq_schema.specs.Resolution.{is_package, meaning};
+ghost use Rattle.pq_schema.specs.aux.Fronts.{Begins};
 ghost use Rattle.pq_schema.specs.aux.Grouping.{AreNear, around};
 ghost use Rattle.pq_schema.specs.aux.Hits.{meaning_at};
+ghost use Rattle.pq_schema.specs.aux.NameParts.{leading};
 ghost use Rattle.pq_schema.specs.aux.Scopes.{chain};
 
+use crate::along::Along;
+use crate::below::first_below;
 use crate::by_package::Entry;
 use crate::files::Files;
 use crate::named::{Place, first_listed};
@@ -163,6 +167,25 @@ impl<'a> Lookup<'a> {
         match &self.names {
             Some(_) => first_listed(self.files.files(), &self.all, &self.names, name),
             None => self.files.definition(near, name),
+        }
+    }
+
+    /// The first definition with the full name `name`, as `definition` finds it. The name begins with
+    /// the package of `along`, which is mostly not read.
+    pub(crate) fn definition_below(
+        &self,
+        along: &Along<'_>,
+        near: &[usize],
+        name: &Spelled<'_>,
+    ) -> Option<Place<'a>>
+        requires near { AreNear near.now self.now (around name.now) }
+        requires files { along.now.files ≡ self.now }
+        requires front { Begins (leading along.now.root) name.now }
+        ensures first { meaning_at result ≡ meaning self.now name.now }
+    {
+        match &self.names {
+            Some(_) => first_listed(self.files.files(), &self.all, &self.names, name),
+            None => first_below(self.files.files(), along, near, name),
         }
     }
 

@@ -26,7 +26,7 @@ fn definition_at<'a>(files: &'a [FileDefs], place: usize, name: &Spelled<'_>) ->
     ensures is { placed result ≡ answer_at (definition_in name.now) files.now place }
 {
     let f = files.get(place)?;
-    let definition = f.defs.get().find_spelled(name.copy())?;
+    let definition = f.defs.get().find_spelled(name)?;
     Some(Place {
         file: &f.file,
         definition,

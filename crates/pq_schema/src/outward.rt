@@ -3,21 +3,22 @@
 //! The scopes of a package, from it outwards, are searched for each reference of a file. Of these
 //! only a few have definitions (`spots`), and a table knows in which of them a name is a package
 //! (`along`). So a search costs what these few scopes cost, however many parts the package has.
-ghost use Rattle.std.specs.Prelude.{◌≡◌, ◌<◌, ◌++◌, IfOk, IfSome, find, length, option_map, take};
+ghost use Rattle.std.specs.Prelude.{◌≡◌, ◌<◌, ◌++◌, false, IfOk, IfSome, find, length, option_map, take};
 ghost use Rattle.std.specs.Option.{option_copied};
 ghost use Rattle.std.specs.Str.{IsCharBoundary};
 ghost use Rattle.pq_rules.specs.Relations.{Each};
-ghost use Rattle.pq_schema.specs.Resolution.{dotted, meaning, scopes, single};
+ghost use Rattle.pq_schema.specs.Resolution.{dotted, found, found_by, meaning, scopes, single};
+ghost use Rattle.pq_schema.specs.aux.Fronts.{IsSpotOf};
 ghost use Rattle.pq_schema.specs.aux.Grouping.{AreNear, around};
-ghost use Rattle.pq_schema.specs.aux.Hits.{found_at};
-ghost use Rattle.pq_schema.specs.aux.Outward.{IsOutward, beyond, defined, found_from, in_spots, opens};
+ghost use Rattle.pq_schema.specs.aux.Hits.{found_at, meaning_at};
+ghost use Rattle.pq_schema.specs.aux.Outward.{IsOutward, beyond, found_from, in_spots, opens};
 ghost use Rattle.pq_schema.specs.aux.Spots.{IsPlain};
 
 use crate::along::Along;
 use crate::lead::{lead_text, spell};
 use crate::lookup::Lookup;
-use crate::search::{Hit, find_any, has_names, hit_at, unless_type};
-use crate::spelled::Spelled;
+use crate::named::Place;
+use crate::search::{Hit, find_any, find_below, has_names, hit_at, unless_type};
 use pq_names::{Memory, Text};
 use std::alloc::Global;
 
@@ -33,39 +34,85 @@ pub(crate) struct Outward<'a> {
     pub(crate) spots: &'a [Text],
 }
 
-/// What the full name `name` is found as in `files`, where packages do not count. `near` has the
+/// The first definition in `files` of the name `name`, which is in the scope `spot`. `near` has the
 /// places of the files that can have the name.
-fn find_defined<'a>(files: &Lookup<'a>, near: &[usize], name: &Spelled<'_>) -> Hit<'a>
-    requires near { AreNear near.now files.now (around name.now) }
-    ensures is { found_at result ≡ defined files.now name.now }
+fn look_in_spot<'a>(
+    files: &Lookup<'a>,
+    near: &[usize],
+    along: &Along<'_>,
+    spot: &Text,
+    name: &str,
+) -> Option<Place<'a>>
+    requires near { AreNear near.now files.now (around (spot.now ++ name.now)) }
+    requires files { along.now.files ≡ files.now }
+    requires spot { IsSpotOf along.now.root spot.now }
+    ensures first { meaning_at result ≡ meaning files.now (spot.now ++ name.now) }
 {
-    match files.definition(near, name) {
+    let full = spell(spot, name);
+    if spot.as_str().len() == along.count() {
+        return files.definition_below(along, near, &full);
+    }
+    files.definition(near, &full)
+}
+
+/// What the name `name`, which is in the scope `spot`, is found as in `files`.
+fn find_in_spot<'a>(
+    alloc: Global,
+    buffer: &mut String,
+    files: &Lookup<'a>,
+    along: &Along<'_>,
+    spot: &Text,
+    name: &str,
+) -> Result<Hit<'a>, Memory>
+    requires files { along.now.files ≡ files.now }
+    requires spot { IsSpotOf along.now.root spot.now }
+    ensures is { IfOk result (λ hit. found_at hit ≡ found files.now (spot.now ++ name.now)) }
+{
+    let full = spell(spot, name);
+    if spot.as_str().len() == along.count() {
+        return find_below(alloc, buffer, files, along, &full);
+    }
+    find_any(alloc, buffer, files, &full)
+}
+
+/// What a name whose first definition is at `place` is found as, where packages do not count.
+fn defined_at(place: Option<Place<'_>>) -> Hit<'_>
+    ensures is { found_at result ≡ found_by false (meaning_at place.entry) }
+{
+    match place {
         Some(place) => hit_at(place),
         None => Hit::Nothing,
     }
 }
 
-/// Whether the full name `name` is that of a definition that can have names in it. `near` has the
-/// places of the files that can have the name.
-fn is_open(files: &Lookup<'_>, near: &[usize], name: &Spelled<'_>) -> bool
-    requires near { AreNear near.now files.now (around name.now) }
-    ensures is { result ≡ opens (meaning files.now name.now) }
+/// Whether a name whose first definition is at `place` is that of a definition that can have names in
+/// it.
+fn is_open(place: Option<Place<'_>>) -> bool
+    ensures is { result ≡ opens (meaning_at place.entry) }
 {
-    match files.definition(near, name) {
+    match place {
         Some(place) => has_names(place.definition.kind),
         None => false,
     }
 }
 
 /// What the name `name` is found as in the scopes `spots`, where packages do not count.
-fn find_in_spots<'a>(files: &Lookup<'a>, near: &[usize], spots: &[Text], name: &str) -> Hit<'a>
+fn find_in_spots<'a>(
+    files: &Lookup<'a>,
+    near: &[usize],
+    along: &Along<'_>,
+    spots: &[Text],
+    name: &str,
+) -> Hit<'a>
     requires near { Each (λ s. AreNear near.now files.now (around (s ++ name.now))) spots.now }
+    requires files { along.now.files ≡ files.now }
+    requires spots { Each (IsSpotOf along.now.root) spots.now }
     ensures is { found_at result ≡ in_spots files.now spots.now name.now }
 {
     let mut best = Hit::Nothing;
     'spots: for spot in spots {
-        let full = spell(spot, name);
-        best = unless_type(best, find_defined(files, near, &full));
+        let place = look_in_spot(files, near, along, spot, name);
+        best = unless_type(best, defined_at(place));
         if let Hit::Type(_) = best {
             return best;
         }
@@ -87,7 +134,7 @@ pub(crate) fn single_outward<'a>(
     requires plain { IsPlain name.now }
     ensures is { found_at result ≡ single files.now (scopes outward.entry.root.now) name.now }
 {
-    match find_in_spots(files, near, outward.spots, name) {
+    match find_in_spots(files, near, outward.along, outward.spots, name) {
         Hit::Type(place) => Hit::Type(place),
         Hit::Other => Hit::Other,
         Hit::Nothing => {
@@ -104,16 +151,19 @@ pub(crate) fn single_outward<'a>(
 fn open_spot<'b>(
     files: &Lookup<'_>,
     near: &[usize],
+    along: &Along<'_>,
     spots: &'b [Text],
     name: &str,
 ) -> Option<&'b Text>
     requires near { Each (λ s. AreNear near.now files.now (around (s ++ name.now))) spots.now }
+    requires files { along.now.files ≡ files.now }
+    requires spots { Each (IsSpotOf along.now.root) spots.now }
     ensures first { option_copied result
         ≡ find (λ s. opens (meaning files.now (s ++ name.now))) spots.now }
 {
     'spots: for spot in spots {
-        let full = spell(spot, name);
-        if is_open(files, near, &full) {
+        let place = look_in_spot(files, near, along, spot, name);
+        if is_open(place) {
             return Some(spot);
         }
     }
@@ -179,9 +229,9 @@ pub(crate) fn dotted_outward<'a>(
         ≡ dotted files.now (scopes outward.entry.root.now) first.now name.now) }
 {
     let package = outward.along.innermost(first);
-    let spot = open_spot(files, near, outward.spots, first);
+    let spot = open_spot(files, near, outward.along, outward.spots, first);
     match beyond(spot, package) {
-        Some(spot) => find_any(alloc, buffer, files, &spell(spot, name)),
+        Some(spot) => find_in_spot(alloc, buffer, files, outward.along, spot, name),
         None => find_from(alloc, buffer, files, outward.root, package, name),
     }
 }

@@ -6,14 +6,16 @@
 ghost use Rattle.std.specs.Prelude.{◌≡◌, ◌++◌, ℕ, List, ◌<◌, IfOk, length, map, string_bytes};
 ghost use Rattle.pq_rules.specs.Relations.{Each};
 ghost use Rattle.pq_schema.specs.Definitions.{qualified};
-ghost use Rattle.pq_schema.specs.Resolution.{found, found_as, has_names, decides, unless_type, single, dotted, scopes, search, lookup, lookup_by};
+ghost use Rattle.pq_schema.specs.Resolution.{found, found_as, has_names, decides, meaning, unless_type, single, dotted, scopes, search, lookup, lookup_by};
+ghost use Rattle.pq_schema.specs.aux.Fronts.{Begins};
 ghost use Rattle.pq_schema.specs.aux.Grouping.{AreNear, around};
-ghost use Rattle.pq_schema.specs.aux.Hits.{found_at, lookup_at};
+ghost use Rattle.pq_schema.specs.aux.Hits.{found_at, lookup_at, meaning_at};
 ghost use Rattle.pq_schema.specs.aux.Inside.{dotted_from, short_for, single_from};
 ghost use Rattle.pq_schema.specs.aux.NameParts.{leading};
 ghost use Rattle.pq_schema.specs.aux.Outward.{IsOutward};
 ghost use Rattle.pq_schema.specs.aux.Spots.{IsPlain};
 
+use crate::along::Along;
 use crate::definitions::DefinitionKind;
 use crate::files::Files;
 use crate::full_name::FullName;
@@ -70,18 +72,17 @@ pub(crate) fn has_names(kind: DefinitionKind) -> bool
     )
 }
 
-/// What the full name `name` is found as in `files`. `near` has the places of the files that can
-/// have the name.
+/// What the full name `name`, whose first definition in `files` is at `place`, is found as.
 fn find_full<'a>(
     buffer: &mut String,
-    files: &Lookup<'a>,
-    near: &[usize],
+    files: &Lookup<'_>,
+    place: Option<Place<'a>>,
     name: &Spelled<'_>,
 ) -> Result<Hit<'a>, Memory>
-    requires near { AreNear near.now files.now (around name.now) }
+    requires place { meaning_at place ≡ meaning files.now name.now }
     ensures is { IfOk result (λ hit. found_at hit ≡ found files.now name.now) }
 {
-    match files.definition(near, name) {
+    match place {
         Some(place) => Ok(hit_at(place)),
         None => {
             if files.is_package(buffer, name)? {
@@ -103,28 +104,51 @@ pub(crate) fn find_any<'a>(
     ensures is { IfOk result (λ hit. found_at hit ≡ found files.now name.now) }
 {
     match files.all() {
-        Some(all) => find_full(buffer, files, all, name),
+        Some(all) => find_full(buffer, files, files.definition(all, name), name),
         None => {
             let mut text = String::new(alloc);
             name.write_to(&mut text)?;
             let near = files.near(alloc, outer(text.as_str()))?;
-            find_full(buffer, files, &near, name)
+            find_full(buffer, files, files.definition(&near, name), name)
         }
     }
 }
 
-/// Whether the full name `name` decides for a dotted name whose first part it is. `near` has the
-/// places of the files that can have the name.
+/// What the full name `name`, which begins with the package of `along`, is found as in `files`.
+pub(crate) fn find_below<'a>(
+    alloc: Global,
+    buffer: &mut String,
+    files: &Lookup<'a>,
+    along: &Along<'_>,
+    name: &Spelled<'_>,
+) -> Result<Hit<'a>, Memory>
+    requires files { along.now.files ≡ files.now }
+    requires front { Begins (leading along.now.root) name.now }
+    ensures is { IfOk result (λ hit. found_at hit ≡ found files.now name.now) }
+{
+    match files.all() {
+        Some(all) => find_full(
+            buffer,
+            files,
+            files.definition_below(along, all, name),
+            name,
+        ),
+        None => find_any(alloc, buffer, files, name),
+    }
+}
+
+/// Whether the full name `name`, whose first definition in `files` is at `place`, decides for a
+/// dotted name whose first part it is.
 fn decides(
     buffer: &mut String,
     files: &Lookup<'_>,
-    near: &[usize],
+    place: Option<Place<'_>>,
     name: &Spelled<'_>,
 ) -> Result<bool, Memory>
-    requires near { AreNear near.now files.now (around name.now) }
+    requires place { meaning_at place ≡ meaning files.now name.now }
     ensures is { IfOk result (λ b. b ≡ decides files.now name.now) }
 {
-    match files.definition(near, name) {
+    match place {
         Some(place) => {
             if has_names(place.definition.kind) {
                 return Ok(true);
@@ -160,6 +184,7 @@ fn find_single<'a>(
 ) -> Result<Hit<'a>, Memory>
     requires near { AreNear near.now files.now (scopes outward.root.now) }
     requires inner { Each (λ l. AreNear near.now files.now (around (l ++ name.now))) inner.now }
+    requires below { Each (λ l. Begins (leading outward.root.now) l) inner.now }
     requires outward { IsOutward files.now outward.along.now outward.root.now outward.spots.now }
     requires some { 0 < length name.now }
     requires plain { IsPlain name.now }
@@ -170,7 +195,8 @@ fn find_single<'a>(
     'scopes: for i in 0..inner.len() {
         let lead = &inner[i];
         let full = lead.spell(name);
-        best = unless_type(best, find_full(buffer, files, near, &full)?);
+        let place = files.definition_below(outward.along, near, &full);
+        best = unless_type(best, find_full(buffer, files, place, &full)?);
         if let Hit::Type(_) = best {
             return Ok(best);
         }
@@ -194,6 +220,7 @@ fn find_dotted<'a>(
 ) -> Result<Hit<'a>, Memory>
     requires near { AreNear near.now files.now (scopes outward.root.now) }
     requires inner { Each (λ l. AreNear near.now files.now (around (l ++ first.now))) inner.now }
+    requires below { Each (λ l. Begins (leading outward.root.now) l) inner.now }
     requires outward { IsOutward files.now outward.along.now outward.root.now outward.spots.now }
     requires some { 0 < length first.now }
     requires plain { IsPlain first.now }
@@ -203,9 +230,10 @@ fn find_dotted<'a>(
     'scopes: for i in 0..inner.len() {
         let lead = &inner[i];
         let full = lead.spell(first);
-        if decides(buffer, files, near, &full)? {
+        let place = files.definition_below(outward.along, near, &full);
+        if decides(buffer, files, place, &full)? {
             let whole = lead.spell(name);
-            return find_any(alloc, buffer, files, &whole);
+            return find_below(alloc, buffer, files, outward.along, &whole);
         }
     }
     dotted_outward(alloc, buffer, files, near, outward, first, name)
@@ -225,6 +253,7 @@ pub(crate) fn find<'a>(
 ) -> Result<Hit<'a>, Memory>
     requires near { AreNear near.now files.now (scopes outward.root.now) }
     requires inner { (n : List ℕ) → IsPlain n → Each (λ l. AreNear near.now files.now (around (l ++ n))) inner.now }
+    requires below { Each (λ l. Begins (leading outward.root.now) l) inner.now }
     requires outward { IsOutward files.now outward.along.now outward.root.now outward.spots.now }
     ensures is { IfOk result (λ hit. (ss : List (List ℕ)) → inner.now ≡ map leading ss
         → found_at hit ≡ search files.now (ss ++ scopes outward.entry.root.now) name.now) }

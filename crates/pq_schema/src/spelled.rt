@@ -2,11 +2,13 @@
 //!
 //! Two names are compared from their last bytes to their first. Pieces that end in the same bytes
 //! are compared many bytes at a time, and only the piece in which the names differ is read byte by
-//! byte. A code is made of the last bytes of a name.
-ghost use Rattle.std.specs.Prelude.{◌≡◌, ◌≤◌, ◌<◌, ◌-◌, ℕ, List, [], ◌∷◌, ◌++◌, ◌==◌, IfErr, IfOk, IfSome, None, Some, bytes_eq, length, option_to_list, string_bytes, true};
+//! byte. Names that are known to begin with the same bytes are compared after these first. A code
+//! is made of the last bytes of a name and of their number.
+ghost use Rattle.std.specs.Prelude.{◌≡◌, ◌≤◌, ◌<◌, ◌-◌, ◌%◌, ◌^◌, ℕ, List, [], ◌∷◌, ◌++◌, ◌==◌, IfErr, IfOk, IfSome, None, Some, bytes_eq, length, option_to_list, string_bytes, take, true};
 ghost use Rattle.std.specs.List.{concat};
 ghost use Rattle.pq_schema.specs.aux.NameParts.{name_order};
-ghost use Rattle.pq_schema.specs.aux.NameCodes.{coded, code_of};
+ghost use Rattle.pq_schema.specs.aux.Fronts.{IsBehind};
+ghost use Rattle.pq_schema.specs.aux.NameCodes.{coded, code_of, tail_code};
 ghost use Rattle.pq_schema.specs.aux.Spots.{IsPlain};
 
 use crate::full_name::push_parts;
@@ -96,11 +98,12 @@ impl<'a> Spelled<'a> {
         Ok(())
     }
 
-    /// The code of the name, which is made of at most its last 32 bytes.
+    /// The code of the name, which is made of at most its last 32 bytes and of their number.
+    #[tactic(auto, unfolding(crate::specs::aux::NameCodes::code_of))]
     pub(crate) fn code(&self) -> u64
         ensures code { result ≡ code_of self.now }
     {
-        code_of_rest(self.rest())
+        coded(code_of_rest(self.rest()), count_of(self.parts, self.text))
     }
 
     /// The bytes of the name before its last dot; without a dot it has none.
@@ -118,6 +121,19 @@ impl<'a> Spelled<'a> {
         }
     }
 
+    /// The name without its first `count` bytes, if a piece begins after these.
+    fn behind(&self, count: usize) -> Option<Spelled<'a>>
+        ensures rest { IfSome result (λ r. IsBehind count self.now r) }
+    {
+        match parts_behind(self.parts, count) {
+            Some(parts) => Some(Spelled {
+                parts,
+                text: self.text,
+            }),
+            None => None,
+        }
+    }
+
     /// The bytes, to be read from the last to the first.
     fn rest(&self) -> Rest<'a>
         ensures all { result ≡ self.now }
@@ -127,6 +143,28 @@ impl<'a> Spelled<'a> {
             text: self.text.as_bytes(),
         }
     }
+}
+
+/// Those of `parts` after the first `count` bytes, if a part begins or ends there.
+fn parts_behind(parts: &[Text], count: usize) -> Option<&[Text]>
+    ensures rest { IfSome result (λ ps. IsBehind count (concat parts.now) (concat ps.now)) }
+{
+    let mut others = parts;
+    let mut left = count;
+    'parts: while left > 0 {
+        match others.split_first() {
+            Some((part, after)) => {
+                let bytes = part.as_str().len();
+                if left < bytes {
+                    return None;
+                }
+                left -= bytes;
+                others = after;
+            }
+            None => return None,
+        }
+    }
+    Some(others)
 }
 
 /// What is before `end` in `text`, if `text` ends in it.
@@ -209,6 +247,33 @@ pub(crate) fn compare(a: Spelled<'_>, b: Spelled<'_>) -> Ordering
             Err(order) => return order,
         }
     }
+}
+
+/// Whether `a` and `b`, which begin with the same `count` bytes, are equal, by a comparison of what
+/// comes after these. Of some that are equal, the answer is `false`.
+fn are_same_behind(a: &Spelled<'_>, b: &Spelled<'_>, count: usize) -> bool
+    requires alike { take count a.now ≡ take count b.now }
+    ensures same { result ≡ true → a.now ≡ b.now }
+{
+    if count == 0 {
+        return false;
+    }
+    match (a.behind(count), b.behind(count)) {
+        (Some(left), Some(right)) => compare(left, right).is_eq(),
+        _ => false,
+    }
+}
+
+/// Compares the bytes of `a` and of `b`, which begin with the same `count` bytes, from the last to
+/// the first. Of equal names these first bytes are mostly not read.
+pub(crate) fn compare_alike(a: &Spelled<'_>, b: &Spelled<'_>, count: usize) -> Ordering
+    requires alike { take count a.now ≡ take count b.now }
+    ensures order { result ≡ name_order a.now b.now }
+{
+    if are_same_behind(a, b, count) {
+        return Ordering::Equal;
+    }
+    compare(a.copy(), b.copy())
 }
 
 /// The bytes of a text in parts that are left, to be read from the last to the first. Contracts see
@@ -324,9 +389,20 @@ pub(crate) fn coded(code: u64, part: u64) -> u64
     code.wrapping_mul(FACTOR).wrapping_add(part)
 }
 
-/// The code of `bytes`.
+/// The number of bytes of `parts` and `text`.
+fn count_of(parts: &[Text], text: &str) -> u64
+    ensures count { result ≡ length (concat parts.now ++ text.now) % 2 ^ 64 }
+{
+    let mut count = 0u64;
+    'parts: for i in 0..parts.len() {
+        count = count.wrapping_add(parts[i].as_str().len() as u64);
+    }
+    count.wrapping_add(text.len() as u64)
+}
+
+/// The code of the last bytes of `bytes`.
 fn code_of_rest(bytes: Rest<'_>) -> u64
-    ensures code { result ≡ code_of bytes.entry }
+    ensures code { result ≡ tail_code bytes.entry }
 {
     let mut rest = bytes;
     let mut code = 0u64;

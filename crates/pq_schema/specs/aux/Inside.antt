@@ -10,6 +10,7 @@ use Rattle.pq_schema.specs.Definitions.{qualified}
 use Rattle.pq_schema.specs.Resolution.{Found, decides, found, unless_type}
 use Rattle.pq_schema.specs.Resolution as resolution
 use Rattle.pq_schema.specs.ScopeContents.{Scope}
+use Rattle.pq_schema.specs.aux.Fronts.{Begins}
 use Rattle.pq_schema.specs.aux.Grouping.{AreNear}
 use Rattle.pq_schema.specs.aux.NameParts.{leading}
 use Rattle.pq_schema.specs.aux.Outward.{found_in}
@@ -41,10 +42,11 @@ abbrev pub resolved_moved : Scope → List ℕ → Reference → ResolvedReferen
 resolved_moved scope root r = resolved_in scope (moved root r)
 
 -- `AreInner leads root within` is that `leads` has what is before a name in each of the scopes of
--- `inside root within` that are not scopes of the package `root`
+-- `inside root within` that are not scopes of the package `root`. Each begins with the package.
 pub record AreInner (leads : List (List ℕ)) (root within : List ℕ) : Type 0 where
   pub scopes : List (List ℕ)
   pub are : leads ≡ map leading scopes
+  pub begin : Each (λ l. Begins (leading root) l) leads
   pub all : resolution.scopes (inside root within) ≡ scopes ++ resolution.scopes root
 
 -- `single_from files leads outer name` is what the name `name`, which has no dot, is found as in the

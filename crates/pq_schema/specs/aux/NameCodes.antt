@@ -1,5 +1,5 @@
 -- Auxiliary: codes of full names, and the order of names by their codes.
-use Rattle.std.specs.Prelude.{ℕ, ◌+◌, ◌*◌, ◌%◌, ◌^◌, List, [], ◌∷◌, reverse, take}
+use Rattle.std.specs.Prelude.{ℕ, ◌+◌, ◌*◌, ◌%◌, ◌^◌, List, [], ◌∷◌, length, reverse, take}
 use Rattle.std.specs.declared.cmp.Ordering.{Ordering}
 use Rattle.std.specs.Ordering.{nat_cmp, ordering_then}
 use Rattle.pq_schema.specs.aux.NameParts.{name_order}
@@ -13,9 +13,13 @@ unfoldable pub code_from : ℕ → List ℕ → ℕ
 code_from c [] = c
 code_from c (b ∷ bs) = code_from (coded c b) bs
 
--- `code_of name` is the code of the last 32 bytes of `name`, from the last to the first
+-- `tail_code name` is the code of the last 32 bytes of `name`, from the last to the first
+unfoldable pub tail_code : List ℕ → ℕ
+tail_code name = code_from 0 (take 32 (reverse name))
+
+-- `code_of name` is that code with the number of bytes of `name` after it
 unfoldable pub code_of : List ℕ → ℕ
-code_of name = code_from 0 (take 32 (reverse name))
+code_of name = coded (tail_code name) (length name % 2 ^ 64)
 
 -- `code_order a b` compares the names `a` and `b`: first their codes, then their bytes from the
 -- last to the first

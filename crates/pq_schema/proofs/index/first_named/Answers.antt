@@ -15,17 +15,17 @@ equals a b name same test = sym same ∙ (bytes_decides a name).0 (sym test)
 pub returns-then-first-index : goal.returns-then-first-index
 returns-then-first-index c =
     let end = c.if-first-index.true in
-    sym (miss c.args.index.now c.args.definitions.now c.requires c.args.name c.lower_bound-first.result c.lower_bound-first.ensures.less c.lower_bound-first.ensures.others
+    sym (miss c.args.index.now c.args.definitions.now c.requires.index c.args.name.now c.lower_bound-first.result c.lower_bound-first.ensures.less c.lower_bound-first.ensures.others
     (λ within is. absurd (omega arith)))
 
-pub returns-then-not-is : goal.returns-then-not-is
-returns-then-not-is c =
+pub returns-then-not-is_alike : goal.returns-then-not-is_alike
+returns-then-not-is_alike c =
     let es = c.args.index.now in
     let p = c.lower_bound-first.result in
     let e = c.index-index-first.result in
-    sym (miss es c.args.definitions.now c.requires c.args.name p c.lower_bound-first.ensures.less c.lower_bound-first.ensures.others
-    (λ within is. differs e.0 (get_or es p no_entry).0 c.args.name
-    (ap (λ (x : List ℕ × ℕ). x.0) (c.index-index-first.is ∙ get_or_default es p e no_entry within)) c.if-not-is.ensures.is is))
+    sym (miss es c.args.definitions.now c.requires.index c.args.name.now p c.lower_bound-first.ensures.less c.lower_bound-first.ensures.others
+    (λ within is. differs e.0 (get_or es p no_entry).0 c.args.name.now
+    (ap (λ (x : List ℕ × ℕ). x.0) (c.index-index-first.is ∙ get_or_default es p e no_entry within)) c.if-not-is_alike.ensures.is is))
 
 pub prove-unreachable-requires : goal.prove-unreachable-requires
 prove-unreachable-requires c =
@@ -36,8 +36,8 @@ prove-unreachable-requires c =
     let in_bounds = c.lower_bound-first.ensures.within in
     let within : p < length es = omega arith in
     let entry : c.index-index-first.result ≡ get_or es p no_entry = c.index-index-first.is ∙ get_or_default es p c.index-index-first.result no_entry within in
-    let is = equals c.index-index-first.result.0 (get_or es p no_entry).0 c.args.name (ap (λ (e : List ℕ × ℕ). e.0) entry) c.if-not-is.ensures.is in
-    let below = hit_within es ds c.requires c.args.name p c.lower_bound-first.ensures.less c.lower_bound-first.ensures.others within is in
+    let is = equals c.index-index-first.result.0 (get_or es p no_entry).0 c.args.name.now (ap (λ (e : List ℕ × ℕ). e.0) entry) c.if-not-is_alike.ensures.is in
+    let below = hit_within es ds c.requires.index c.args.name.now p c.lower_bound-first.ensures.less c.lower_bound-first.ensures.others within is in
     let place : c.index-index-first.result.1 ≡ (get_or es p no_entry).1 = ap (λ (e : List ℕ × ℕ). e.1) entry in
     let past : length ds ≤ c.index-index-first.result.1 = c.if-prove.true in
     absurd (omega arith)
@@ -51,7 +51,7 @@ returns c =
     let in_bounds = c.lower_bound-first.ensures.within in
     let within : p < length es = omega arith in
     let entry : c.index-index-first.result ≡ get_or es p no_entry = c.index-index-first.is ∙ get_or_default es p c.index-index-first.result no_entry within in
-    let is = equals c.index-index-first.result.0 (get_or es p no_entry).0 c.args.name (ap (λ (e : List ℕ × ℕ). e.0) entry) c.if-not-is.ensures.is in
+    let is = equals c.index-index-first.result.0 (get_or es p no_entry).0 c.args.name.now (ap (λ (e : List ℕ × ℕ). e.0) entry) c.if-not-is_alike.ensures.is in
     let d = c.index-definitions-place.result in
-    let found = hit es ds c.requires c.args.name p c.lower_bound-first.ensures.less c.lower_bound-first.ensures.others d within is in
+    let found = hit es ds c.requires.index c.args.name.now p c.lower_bound-first.ensures.less c.lower_bound-first.ensures.others d within is in
     ap Some (c.index-definitions-place.is ∙ ap (λ (e : List ℕ × ℕ). get_or ds e.1 d) entry) ∙ sym found

@@ -1,18 +1,30 @@
-use Rattle.std.proofs.Common.{ℕ, List, [], rules, arith}
-use Rattle.std.specs.Ordering.{is_lt}
-use Rattle.std.proofs.lemmas.List.Sorted.{IsPartitionPoint-from_clause}
-use Rattle.pq_schema.specs.aux.NameCodes.{code_order}
-use Rattle.pq_schema.specs.aux.CodeOrder.{codes_total}
-use Rattle.pq_schema.proofs.Rising.{parted}
+use Rattle.std.proofs.Common.{◌≡◌, ◌∙◌, ◌+◌, ◌-◌, ◌/◌, ◌<◌, ◌≤◌, ℕ, true, false, get_or, sym, ap, arith}
+use Rattle.std.specs.Ordering.{is_lt, nat_cmp, ordering_then}
+use Rattle.pq_schema.specs.aux.NameCodes.{code_of}
+use Rattle.pq_schema.specs.aux.NameParts.{name_order}
+use Rattle.pq_schema.proofs.Alike.{lower_half, upper_half}
 use Rattle.pq_schema.proofs.index.lower_bound.Goals as goal
 
-pub returns : goal.returns
-returns c =
-    let t = c.args.name.now in
-    let point = IsPartitionPoint-from_clause (λ (e : List ℕ × ℕ). is_lt (code_order e.0 t)) _ _ c.partition_point.ensures.partitioned
-    (parted code_order codes_total c.args.index.now c.requires t) (λ a r q k. search rules) in
-    record {
-      within = c.partition_point.ensures.bound;
-      less = λ k below. point.0 k ([], 0) (omega arith) below;
-      others = λ k from within. point.1 k ([], 0) from within;
-    }
+pub halves-preserved-then-is_lt : goal.halves-preserved-then-is_lt
+halves-preserved-then-is_lt c =
+    let low = c.halves.low in
+    let high = c.halves.high in
+    let name = c.args.name.now in
+    let more : low < high = c.halves-test.true in
+    let middle = low + (high - low) / 2 in
+    let own = (get_or c.args.index.now middle c.index-index-middle.result).0 in
+    lower_half c.args.index.now name low middle high c.index-index-middle.result c.requires.sorted (omega arith) c.halves.invariant (omega arith)
+    (sym c.if-is_lt.true ∙ c.is_lt.ensures ∙ ap is_lt (c.compare_alike.ensures.order)
+    ∙ ap (λ (k : ℕ). is_lt (ordering_then (nat_cmp (code_of own) k) (name_order own name))) c.code-code.ensures.code)
+
+pub halves-preserved : goal.halves-preserved
+halves-preserved c =
+    let low = c.halves.low in
+    let high = c.halves.high in
+    let name = c.args.name.now in
+    let more : low < high = c.halves-test.true in
+    let middle = low + (high - low) / 2 in
+    let own = (get_or c.args.index.now middle c.index-index-middle.result).0 in
+    upper_half c.args.index.now name low middle high c.index-index-middle.result c.requires.sorted (omega arith) c.halves.invariant (omega arith)
+    (sym c.if-is_lt.false ∙ c.is_lt.ensures ∙ ap is_lt (c.compare_alike.ensures.order)
+    ∙ ap (λ (k : ℕ). is_lt (ordering_then (nat_cmp (code_of own) k) (name_order own name))) c.code-code.ensures.code)

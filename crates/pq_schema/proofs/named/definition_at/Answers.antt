@@ -16,6 +16,5 @@ returns c =
     record {
       is = definition_there files c.args.place name f c.in_ok-definition.definition.now at
           (c.in_ok-definition.ensures.first
-          ∙ ap (λ (d : Defs). find (λ (x : Definition). bytes_eq x.full_name c.copy.result) d.definitions) c.get-2.ensures.value
-          ∙ ap (λ (n : List ℕ). find_in f n) c.copy.ensures.copy);
+          ∙ ap (λ (d : Defs). find (λ (x : Definition). bytes_eq x.full_name name) d.definitions) c.get-2.ensures.value);
     }

@@ -1,6 +1,7 @@
-use Rattle.std.proofs.Common.{◌≡◌, ◌++◌, ◌+◌, ℕ, List, drop, sym, ap, ◌∙◌}
+use Rattle.std.proofs.Common.{◌≡◌, ◌++◌, ◌+◌, ℕ, false, List, drop, sym, ap, ◌∙◌}
+use Rattle.pq_schema.specs.Resolution.{Meaning, found_by}
 use Rattle.pq_schema.specs.aux.Hits.{found_at}
-use Rattle.pq_schema.specs.aux.Outward.{defined, in_spots}
+use Rattle.pq_schema.specs.aux.Outward.{in_spots}
 use Rattle.pq_schema.specs.declared.search.Hit.{Hit}
 use Rattle.pq_schema.proofs.OutwardSearch.{spots_step, spots_end}
 use Rattle.pq_schema.proofs.Walks.{stays_type}
@@ -11,8 +12,8 @@ returns-in-Type c =
     let files = c.args.files.now in
     let name = c.args.name.now in
     record {
-      is = sym (spots_step files name c.args.spots.now c.spots.spot-index c.spot-item.result (found_at c.spots.best) (found_at c.find_defined.result) (found_at c.unless_type-best.result) _
-          c.spots-test.true (sym c.spot-item.is) (c.find_defined.ensures.is ∙ ap (λ (n : List ℕ). defined files n) c.spell-full.ensures.name) c.unless_type-best.ensures.is c.spots.invariant
+      is = sym (spots_step files name c.args.spots.now c.spots.spot-index c.spot-item.result (found_at c.spots.best) (found_at c.defined_at.result) (found_at c.unless_type-best.result) _
+          c.spots-test.true (sym c.spot-item.is) (c.defined_at.ensures.is ∙ ap (λ (m : Meaning). found_by false m) c.look_in_spot-place.ensures.first) c.unless_type-best.ensures.is c.spots.invariant
           ∙ stays_type (found_at c.unless_type-best.result) (in_spots files (drop (c.spots.spot-index + 1) c.args.spots.now) name) c.in-Type.field-0.file.now c.in-Type.field-0.definition.now
           (ap (λ (h : Hit). found_at h) c.in-Type.is));
     }
@@ -21,8 +22,8 @@ pub spots-preserved : goal.spots-preserved
 spots-preserved c =
     let files = c.args.files.now in
     let name = c.args.name.now in
-    spots_step files name c.args.spots.now c.spots.spot-index c.spot-item.result (found_at c.spots.best) (found_at c.find_defined.result) (found_at c.unless_type-best.result) _
-    c.spots-test.true (sym c.spot-item.is) (c.find_defined.ensures.is ∙ ap (λ (n : List ℕ). defined files n) c.spell-full.ensures.name) c.unless_type-best.ensures.is c.spots.invariant
+    spots_step files name c.args.spots.now c.spots.spot-index c.spot-item.result (found_at c.spots.best) (found_at c.defined_at.result) (found_at c.unless_type-best.result) _
+    c.spots-test.true (sym c.spot-item.is) (c.defined_at.ensures.is ∙ ap (λ (m : Meaning). found_by false m) c.look_in_spot-place.ensures.first) c.unless_type-best.ensures.is c.spots.invariant
 
 pub returns : goal.returns
 returns c = record {

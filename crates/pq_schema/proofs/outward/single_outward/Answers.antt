@@ -1,13 +1,23 @@
-use Rattle.std.proofs.Common.{◌≡◌, ap}
+use Rattle.std.proofs.Common.{◌≡◌, ℕ, List, sym, ap, subst}
+use Rattle.pq_rules.specs.Relations.{Each}
+use Rattle.pq_schema.specs.aux.Fronts.{IsSpotOf}
 use Rattle.pq_schema.specs.aux.Hits.{found_at}
 use Rattle.pq_schema.specs.declared.search.Hit.{Hit}
 use Rattle.pq_schema.proofs.Marks.{near_spots}
 use Rattle.pq_schema.proofs.OutwardSearch.{single_nothing, single_other, single_type}
+use Rattle.pq_schema.proofs.SamePackage.{spots_of}
 use Rattle.pq_schema.proofs.outward.single_outward.Goals as goal
 
 pub find_in_spots-requires : goal.find_in_spots-requires
 find_in_spots-requires c =
-    record { near = near_spots c.args.near.now c.args.files.now c.args.outward.root.now c.args.outward.spots.now c.args.name.now c.requires.outward.are_spots c.requires.plain c.requires.near }
+    let files = c.args.files.now in
+    let root = c.args.outward.root.now in
+    let spots = c.args.outward.spots.now in
+    record {
+      near = near_spots c.args.near.now files root spots c.args.name.now c.requires.outward.are_spots c.requires.plain c.requires.near;
+      files = c.requires.outward.of_files;
+      spots = subst (λ (r : List ℕ). Each (IsSpotOf r) spots) (sym c.requires.outward.of_root) (spots_of files root spots c.requires.outward.are_spots);
+    }
 
 pub returns-in-Type : goal.returns-in-Type
 returns-in-Type c =

@@ -15,6 +15,7 @@ find-requires c =
     record {
       near = near_outer near files inner root within c.requires.inner c.requires.near;
       inner = near_inner near files inner root within c.requires.inner c.requires.near;
+      below = c.requires.inner.begin;
       outward = c.requires.outward;
     }
 

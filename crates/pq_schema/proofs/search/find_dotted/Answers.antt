@@ -2,21 +2,43 @@ use Rattle.std.proofs.Common.{◌≡◌, ◌++◌, List, ℕ, Bool, true, false,
 use Rattle.std.specs.Prelude.{drop}
 use Rattle.std.proofs.lemmas.Result.{IfOk-weaker}
 use Rattle.pq_schema.specs.Resolution.{decides, dotted, found, scopes}
+use Rattle.pq_schema.specs.aux.Fronts.{Begins}
 use Rattle.pq_schema.specs.aux.Grouping.{AreNear, around}
 use Rattle.pq_schema.specs.aux.Hits.{found_at}
+use Rattle.pq_schema.specs.aux.NameParts.{leading}
 use Rattle.pq_schema.proofs.Inside.{dotted_end, dotted_step, each_at}
+use Rattle.pq_schema.proofs.SamePackage.{full_begins}
 use Rattle.pq_schema.proofs.search.find_dotted.Goals as goal
 
-pub decides-requires : goal.decides-requires
-decides-requires c =
+pub definition_below-place-requires : goal.definition_below-place-requires
+definition_below-place-requires c =
     let near = c.args.near.now in
     let files = c.args.files.now in
     let first = c.args.first.now in
+    let root = c.args.outward.root.now in
     let l = c.index-inner-i.result in
     let here = each_at (λ (x : List ℕ). AreNear near files (around (x ++ first))) c.args.inner.now c.scopes.i l c.requires.inner c.scopes-test.true in
+    let front = each_at (λ (x : List ℕ). Begins (leading root) x) c.args.inner.now c.scopes.i l c.requires.below c.scopes-test.true in
     record {
       near = subst (λ (n : List ℕ). AreNear near files (around n)) (sym c.spell-full.ensures.name)
           (subst (λ (x : List ℕ). AreNear near files (around (x ++ first))) (sym c.index-inner-i.is) here);
+      files = c.requires.outward.of_files;
+      front = full_begins root c.args.outward.along.now.root l first c.spell-full.result c.requires.outward.of_root c.spell-full.ensures.name
+          (subst (λ (x : List ℕ). Begins (leading root) x) (sym c.index-inner-i.is) front);
+    }
+
+pub decides-requires : goal.decides-requires
+decides-requires c = record { place = c.definition_below-place.ensures.first }
+
+pub find_below-requires : goal.find_below-requires
+find_below-requires c =
+    let root = c.args.outward.root.now in
+    let l = c.index-inner-i.result in
+    let front = each_at (λ (x : List ℕ). Begins (leading root) x) c.args.inner.now c.scopes.i l c.requires.below c.scopes-test.true in
+    record {
+      files = c.requires.outward.of_files;
+      front = full_begins root c.args.outward.along.now.root l c.args.name.now c.spell-whole.result c.requires.outward.of_root c.spell-whole.ensures.name
+          (subst (λ (x : List ℕ). Begins (leading root) x) (sym c.index-inner-i.is) front);
     }
 
 pub returns-then-branch : goal.returns-then-branch
@@ -29,9 +51,9 @@ returns-then-branch c =
     c.scopes-test.true (sym c.index-inner-i.is)
     (sym c.if-branch.true ∙ c.in_ok-decides.ensures.is ∙ ap (λ (n : List ℕ). decides files n) c.spell-full.ensures.name) c.scopes.invariant in
     record {
-      is = IfOk-weaker c.find_any.result _ _
+      is = IfOk-weaker c.find_below.result _ _
           (λ hit h. h ∙ ap (λ (n : List ℕ). found files n) c.spell-whole.ensures.name ∙ sym step)
-          c.find_any.ensures.is;
+          c.find_below.ensures.is;
     }
 
 pub scopes-preserved : goal.scopes-preserved

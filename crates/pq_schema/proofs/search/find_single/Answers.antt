@@ -1,25 +1,36 @@
 use Rattle.std.proofs.Common.{◌≡◌, ◌++◌, ◌+◌, List, ℕ, sym, ap, subst, ◌∙◌}
 use Rattle.std.specs.Prelude.{drop}
 use Rattle.pq_schema.specs.Resolution.{Found, found, single, scopes, unless_type}
+use Rattle.pq_schema.specs.aux.Fronts.{Begins}
 use Rattle.pq_schema.specs.aux.Grouping.{AreNear, around}
 use Rattle.pq_schema.specs.aux.Hits.{found_at}
 use Rattle.pq_schema.specs.aux.Inside.{single_from}
+use Rattle.pq_schema.specs.aux.NameParts.{leading}
 use Rattle.pq_schema.specs.declared.search.Hit.{Hit}
 use Rattle.pq_schema.proofs.Inside.{each_at, single_end, single_step}
+use Rattle.pq_schema.proofs.SamePackage.{full_begins}
 use Rattle.pq_schema.proofs.Walks.{stays_type}
 use Rattle.pq_schema.proofs.search.find_single.Goals as goal
 
-pub find_full-requires : goal.find_full-requires
-find_full-requires c =
+pub definition_below-place-requires : goal.definition_below-place-requires
+definition_below-place-requires c =
     let near = c.args.near.now in
     let files = c.args.files.now in
     let name = c.args.name.now in
+    let root = c.args.outward.root.now in
     let l = c.index-inner-i.result in
     let here = each_at (λ (x : List ℕ). AreNear near files (around (x ++ name))) c.args.inner.now c.scopes.i l c.requires.inner c.scopes-test.true in
+    let front = each_at (λ (x : List ℕ). Begins (leading root) x) c.args.inner.now c.scopes.i l c.requires.below c.scopes-test.true in
     record {
       near = subst (λ (n : List ℕ). AreNear near files (around n)) (sym c.spell-full.ensures.name)
           (subst (λ (x : List ℕ). AreNear near files (around (x ++ name))) (sym c.index-inner-i.is) here);
+      files = c.requires.outward.of_files;
+      front = full_begins root c.args.outward.along.now.root l name c.spell-full.result c.requires.outward.of_root c.spell-full.ensures.name
+          (subst (λ (x : List ℕ). Begins (leading root) x) (sym c.index-inner-i.is) front);
     }
+
+pub find_full-requires : goal.find_full-requires
+find_full-requires c = record { place = c.definition_below-place.ensures.first }
 
 pub returns-in-Type : goal.returns-in-Type
 returns-in-Type c =

@@ -18,7 +18,7 @@ returns-in-Some c =
     let parts = c.self.inside.parts.items in
     ap Some c.saturating_sub.ensures
     ∙ subst (λ (a : Contents). Some (c.in-Some.start - 1) ≡ option_map length (find (λ s. is_package a.files (qualified s name)) (scopes a.root))) c.self.view_is
-    (innermost_is parts c.self.inside.files.now c.self.inside.root.now name (Some c.in-Some.start) c.self.invariant
+    (innermost_is parts c.self.inside.files.now c.self.inside.root.now name (Some c.in-Some.start) c.self.invariant.0
     (record { some = c.requires.some; plain = c.requires.plain })
     (along_last c.deref.result.now parts c.as_bytes.result.now name c.last_start.result (Some c.in-Some.start) c.deref.ensures.value c.as_bytes.ensures.value c.in-Some.is c.last_start.ensures.last))
 
@@ -27,6 +27,6 @@ returns-in-None c =
     let name = c.args.name.now in
     let parts = c.self.inside.parts.items in
     subst (λ (a : Contents). None ≡ option_map length (find (λ s. is_package a.files (qualified s name)) (scopes a.root))) c.self.view_is
-    (innermost_is parts c.self.inside.files.now c.self.inside.root.now name None c.self.invariant
+    (innermost_is parts c.self.inside.files.now c.self.inside.root.now name None c.self.invariant.0
     (record { some = c.requires.some; plain = c.requires.plain })
     (along_last c.deref.result.now parts c.as_bytes.result.now name c.last_start.result None c.deref.ensures.value c.as_bytes.ensures.value c.in-None.is c.last_start.ensures.last))

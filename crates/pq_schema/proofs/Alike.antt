@@ -1,0 +1,105 @@
+-- Names that begin with the same bytes: they are equal where what comes after these is.
+use Rattle.std.proofs.Common.{◌≡◌, ◌⊎◌, ℕ, zero, suc, ◌+◌, ◌-◌, ◌<◌, ◌≤◌, Bool, true, false, true≢false, get_or, length, slice_get, take, List, [], ◌∷◌, ◌++◌, Some, refl, sym, ap, subst, ◌∙◌, inl, inr, arith, append_assoc}
+use Rattle.std.specs.Prelude.{Contains, codes}
+use Rattle.std.specs.List.{concat}
+use Rattle.std.specs.List.Sorted.{IsSorted}
+use Rattle.std.specs.Ordering.{is_lt}
+use Rattle.std.specs.declared.cmp.Ordering.TheVariants.{Equal}
+use Rattle.std.proofs.Math.Seq.{take-append_seam}
+use Rattle.std.proofs.lemmas.Bool.{cases_lt}
+use Rattle.std.proofs.lemmas.Cmp.{tied_itself}
+use Rattle.std.proofs.lemmas.List.{length-append, get_or_default}
+use Rattle.std.proofs.lemmas.List.Sorted.{Contains-permutation, IsPermutation-sym}
+use Rattle.pq_rules.specs.Relations.{Each}
+use Rattle.pq_schema.specs.declared.definitions.Definition.{Definition}
+use Rattle.pq_schema.specs.aux.CodeOrder.{codes_total}
+use Rattle.pq_schema.specs.aux.Fronts.{AreAlike, BeginAlike, IsBehind, IsParted}
+use Rattle.pq_schema.specs.aux.Index.{IsIndexOf, entries, entry_order}
+use Rattle.pq_schema.specs.aux.NameCodes.{code_order}
+use Rattle.pq_schema.specs.aux.NameOrder.{names_total}
+use Rattle.pq_schema.specs.aux.NameParts.{name_order}
+use Rattle.pq_schema.proofs.IndexLemmas.{no_entry}
+use Rattle.pq_schema.proofs.Rising.{parted}
+
+front_of : (n : ℕ) (a x : List ℕ) (h : IsBehind n a x) → take n a ≡ h.front
+front_of n a x h =
+    ap (λ (b : List ℕ). take n b) h.is
+    ∙ ap (λ (k : ℕ). take k (h.front ++ x)) (sym h.count)
+    ∙ take-append_seam h.front x
+
+-- equal fronts and equal rests
+pub behind_same : (n : ℕ) (a b x y : List ℕ) → IsBehind n a x → IsBehind n b y → take n a ≡ take n b → x ≡ y → a ≡ b
+behind_same n a b x y h k alike same =
+    let fronts : h.front ≡ k.front = sym (front_of n a x h) ∙ alike ∙ front_of n b y k in
+    h.is ∙ ap (λ (f : List ℕ). f ++ x) fronts ∙ ap (λ (r : List ℕ). k.front ++ r) same ∙ sym k.is
+
+pub order_same : (a b : List ℕ) → a ≡ b → Equal ≡ name_order a b
+order_same a b same = sym (ap (λ (n : List ℕ). name_order a n) (sym same) ∙ tied_itself names_total a)
+
+-- one more part
+pub front_more : (part rest : List ℕ) (others whole : List ℕ) (left count : ℕ) → length part ≤ left
+    → others ≡ part ++ rest
+    → (front : List ℕ) × (length front + left ≡ count) × (whole ≡ front ++ others)
+    → (front : List ℕ) × (length front + (left - length part) ≡ count) × (whole ≡ front ++ rest)
+front_more part rest others whole left count fits is f =
+    let sum = length-append f.0 part in
+    let before = f.1 in (
+      f.0 ++ part,
+      omega arith,
+      f.2 ∙ ap (λ (b : List ℕ). f.0 ++ b) is ∙ sym (append_assoc f.0 part rest),
+    )
+
+-- ---- the halves of a search
+
+pub lower_half : (index : List (List ℕ × ℕ)) (name : List ℕ) (low middle high : ℕ) (e : List ℕ × ℕ) → IsSorted entry_order index → middle < high
+    → IsParted index name low high → low ≤ middle → true ≡ is_lt (code_order (get_or index middle e).0 name) → IsParted index name (middle + 1) high
+lower_half index name low middle high e sorted within parts up less =
+    let inside : middle < length index = let h = parts.within in omega arith in
+    let here : is_lt (code_order (get_or index middle no_entry).0 name) ≡ true =
+    subst (λ (f : List ℕ × ℕ). is_lt (code_order f.0 name) ≡ true) (get_or_default index middle e no_entry inside) (sym less) in
+    record {
+      up = omega arith;
+      within = parts.within;
+      less = λ k below. parted code_order codes_total index sorted name k middle no_entry (omega arith) inside here;
+      others = parts.others;
+    }
+
+-- names after one that does not come before `name` do not either
+not_less : (index : List (List ℕ × ℕ)) (name : List ℕ) (middle k : ℕ) (b : Bool) → IsSorted entry_order index → middle ≤ k → k < length index
+    → is_lt (code_order (get_or index middle no_entry).0 name) ≡ false → is_lt (code_order (get_or index k no_entry).0 name) ≡ b → b ≡ false
+not_less index name middle k false sorted from to here e = refl
+not_less index name middle k true sorted from to here e =
+    absurd (true≢false (sym (parted code_order codes_total index sorted name middle k no_entry from to e) ∙ here))
+
+pub upper_half : (index : List (List ℕ × ℕ)) (name : List ℕ) (low middle high : ℕ) (e : List ℕ × ℕ) → IsSorted entry_order index → middle < high
+    → IsParted index name low high → low ≤ middle → false ≡ is_lt (code_order (get_or index middle e).0 name) → IsParted index name low middle
+upper_half index name low middle high e sorted within parts up less =
+    let inside : middle < length index = let h = parts.within in omega arith in
+    let here : is_lt (code_order (get_or index middle no_entry).0 name) ≡ false =
+    subst (λ (f : List ℕ × ℕ). is_lt (code_order f.0 name) ≡ false) (get_or_default index middle e no_entry inside) (sym less) in
+    record {
+      up = up;
+      within = let h = parts.within in omega arith;
+      less = parts.less;
+      others = λ k from to. not_less index name middle k (is_lt (code_order (get_or index k no_entry).0 name)) sorted from to here refl;
+    }
+
+-- ---- the entries of definitions
+
+entry_alike : (n m j : ℕ) (name own : List ℕ) (ds : List Definition) → BeginAlike n name ds → Contains (entries m ds) (own, j) → take n own ≡ take n name
+unfolding entries
+entry_alike n m j name own [] all (k, within, is) = absurd (omega arith)
+entry_alike n m j name own (d ∷ ds) all (zero, within, is) =
+    sym (ap (λ (e : List ℕ × ℕ). take n e.0) is) ∙ all.0
+entry_alike n m j name own (d ∷ ds) all (suc k, within, is) = entry_alike n (suc m) j name own ds all.1 (k, (omega arith), is)
+
+pub index_alike : (n : ℕ) (name : List ℕ) (index : List (List ℕ × ℕ)) (ds : List Definition) → IsIndexOf index ds → BeginAlike n name ds → AreAlike n name index
+index_alike n name index ds x all k within =
+    let e = get_or index k no_entry in
+    let there : Contains index e = (k, within, get_or_default index k e no_entry within) in
+    entry_alike n 0 e.1 name e.0 ds all (Contains-permutation index (entries 0 ds) e (IsPermutation-sym (entries 0 ds) index x.same) there)
+
+-- no byte is the same in all names
+pub none_alike : (name : List ℕ) (ds : List Definition) → BeginAlike 0 name ds
+none_alike name [] = tt
+none_alike name (d ∷ ds) = (refl, none_alike name ds)
