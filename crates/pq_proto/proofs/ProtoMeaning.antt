@@ -68,52 +68,19 @@ module _ (order : ProtoKey → ProtoKey → Ordering) (files : Sources)
   abbrev pub schema : SchemaSum m files
   schema = record {
     input = λ f. keys.Input f;
-    parse = λ f. keys.Parse f;
-    items = λ f. keys.Items f;
-    imports = λ f. keys.Imports f;
-    linked = λ f. keys.Linked f;
-    defs = λ f. keys.Defs f;
-    scope = λ f. keys.Scope f;
-    resolved = λ f. keys.Resolved f;
-    parse_part = λ q. Parsing;
-    items_part = λ q. Itemizing;
-    imports_part = λ q. Importing;
-    linked_part = λ q. LinkingFiles q;
-    defs_part = λ q. Defining;
-    scope_part = λ q. Scoping q;
-    resolved_part = λ q. Resolving q;
     text_value = λ x. values.Source x;
-    parse_value = λ x. values.Parse x;
-    items_value = λ x. values.Items x;
-    imports_value = λ x. values.Imports x;
-    linked_value = λ x. values.Linked x;
-    defs_value = λ x. values.Defs x;
-    scope_value = λ x. values.Scope x;
-    resolved_value = λ x. values.Resolved x;
     text_read = text_read;
-    parsed_read = parsed_read;
-    items_read = items_read;
-    imports_read = imports_read;
-    links_read = links_read;
-    defs_read = defs_read;
-    scope_read = scope_read;
     text_back = λ x. refl;
-    parsed_back = λ x. refl;
-    items_back = λ x. refl;
-    imports_back = λ x. refl;
-    links_back = λ x. refl;
-    defs_back = λ x. refl;
-    scope_back = λ x. refl;
-    ring_read = λ r. refl;
     input_level = λ f. refl;
     input_is = λ f. refl;
-    parse_embeds = record { level_is = λ x. refl; start_is = λ x. refl; advance_is = λ q a. refl };
-    items_embeds = record { level_is = λ x. refl; start_is = λ x. refl; advance_is = λ q a. refl };
-    imports_embeds = record { level_is = λ x. refl; start_is = λ x. refl; advance_is = λ q a. refl };
-    linked_embeds = record { level_is = λ x. refl; start_is = λ x. refl; advance_is = λ q a. refl };
-    defs_embeds = record { level_is = λ x. refl; start_is = λ x. refl; advance_is = λ q a. refl };
-    scope_embeds = record { level_is = λ x. refl; start_is = λ x. refl; advance_is = λ q a. refl };
-    resolved_embeds = record { level_is = λ x. refl; start_is = λ x. refl; advance_is = λ q a. refl };
+    parse = record { key = λ f. keys.Parse f; part = λ q. Parsing; value = λ x. values.Parse x; read = parsed_read; back = λ x. refl; embeds = record { level_is = λ x. refl; start_is = λ x. refl; advance_is = λ q a. refl } };
+    items = record { key = λ f. keys.Items f; part = λ q. Itemizing; value = λ x. values.Items x; read = items_read; back = λ x. refl; embeds = record { level_is = λ x. refl; start_is = λ x. refl; advance_is = λ q a. refl } };
+    imports = record { key = λ f. keys.Imports f; part = λ q. Importing; value = λ x. values.Imports x; read = imports_read; back = λ x. refl; embeds = record { level_is = λ x. refl; start_is = λ x. refl; advance_is = λ q a. refl } };
+    linked = record { key = λ f. keys.Linked f; part = λ q. LinkingFiles q; value = λ x. values.Linked x; read = links_read; back = λ x. refl; embeds = record { level_is = λ x. refl; start_is = λ x. refl; advance_is = λ q a. refl } };
+    defs = record { key = λ f. keys.Defs f; part = λ q. Defining; value = λ x. values.Defs x; read = defs_read; back = λ x. refl; embeds = record { level_is = λ x. refl; start_is = λ x. refl; advance_is = λ q a. refl } };
+    scope = record { key = λ f. keys.Scope f; part = λ q. Scoping q; value = λ x. values.Scope x; read = scope_read; back = λ x. refl; embeds = record { level_is = λ x. refl; start_is = λ x. refl; advance_is = λ q a. refl } };
+    resolved = record { key = λ f. keys.Resolved f; part = λ q. Resolving q; value = λ x. values.Resolved x; embeds = record { level_is = λ x. refl; start_is = λ x. refl; advance_is = λ q a. refl } };
+    ring_read = λ r. refl;
     one_link = one_link;
     order_is = order_is;
     strict = strict.not_both;
@@ -121,21 +88,13 @@ module _ (order : ProtoKey → ProtoKey → Ordering) (files : Sources)
 
   abbrev pub checks : ChecksSum m files schema
   checks = record {
-    checks = λ f. keys.Checks f;
-    checks_part = λ q. Checking q;
-    checks_value = λ x. values.Checks x;
-    diagnostics = λ f. keys.Diagnostics f;
-    diagnostics_part = λ q. Diagnosing q;
-    diagnostics_value = λ x. values.Diagnostics x;
     referred_read = resolved_read;
     ring_files = ring_read;
-    checked_read = faults_read;
     referred_back = λ x. refl;
     ring_back = λ ring. ap (λ xs. Some xs) (names_back ring);
     no_ring = λ l. refl;
-    checked_back = λ x. refl;
-    checks_embeds = record { level_is = λ x. refl; start_is = λ x. refl; advance_is = λ q a. refl };
-    diagnostics_embeds = record { level_is = λ x. refl; start_is = λ x. refl; advance_is = λ q a. refl };
+    checks = record { key = λ f. keys.Checks f; part = λ q. Checking q; value = λ x. values.Checks x; read = faults_read; back = λ x. refl; embeds = record { level_is = λ x. refl; start_is = λ x. refl; advance_is = λ q a. refl } };
+    diagnostics = record { key = λ f. keys.Diagnostics f; part = λ q. Diagnosing q; value = λ x. values.Diagnostics x; embeds = record { level_is = λ x. refl; start_is = λ x. refl; advance_is = λ q a. refl } };
   }
 
   -- ---- runs of right answers

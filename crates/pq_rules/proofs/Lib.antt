@@ -19,4 +19,5 @@ pub mod Glue
 pub mod Embedded
 pub mod Preserved
 pub mod OneRead
+pub mod AskedOnce
 pub mod LowerReads
