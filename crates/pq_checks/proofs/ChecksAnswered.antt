@@ -77,13 +77,13 @@ module _ {K P V : Type 0} (m : Instance K P V) (files : Sources) (s : SchemaSum 
 
   -- ---- what the sources say of the errors of a file is one
 
-  scope_one : (f : List ℕ) (x y : Scope) → IsScope files f x → IsScope files f y → x ≡ y
+  pub scope_one : (f : List ℕ) (x y : Scope) → IsScope files f x → IsScope files f y → x ≡ y
   scope_one f x y p q =
       let a : Answer K V = Value (s.scope.value x) in
       let b : Answer K V = Value (s.scope.value y) in
       sym (s.scope.back x) ∙ ap s.scope.read (one (s.scope.key f) a b ((t.scope f a).1 (x, refl, p)) ((t.scope f b).1 (y, refl, q))) ∙ s.scope.back y
 
-  resolved_one : (f : List ℕ) (x y : List ResolvedReference) → AreResolved files f x → AreResolved files f y → x ≡ y
+  pub resolved_one : (f : List ℕ) (x y : List ResolvedReference) → AreResolved files f x → AreResolved files f y → x ≡ y
   resolved_one f x y p q =
       let a : Answer K V = Value (s.resolved.value x) in
       let b : Answer K V = Value (s.resolved.value y) in
@@ -120,7 +120,7 @@ module _ {K P V : Type 0} (m : Instance K P V) (files : Sources) (s : SchemaSum 
       ∙ ap (λ z. around y.imported y.ring y.next y.definitions z x.references) others
       ∙ ap (λ z. around y.imported y.ring y.next y.definitions y.others z) (resolved_one f x.references y.references p.references_are q.references_are)
 
-  faults_one : (f : List ℕ) (x y : List Fault) → AreFaults files f x → AreFaults files f y → x ≡ y
+  pub faults_one : (f : List ℕ) (x y : List Fault) → AreFaults files f x → AreFaults files f y → x ≡ y
   faults_one f x y p q =
       p.2 ∙ ap (λ (z : Surroundings). file_faults z (items_in files f)) (surroundings_one f p.0 q.0 p.1 q.1) ∙ sym q.2
 
@@ -130,19 +130,19 @@ module _ {K P V : Type 0} (m : Instance K P V) (files : Sources) (s : SchemaSum 
   -- ---- each file has an answer
 
   -- `Answered k` is that the key `k` has an answer
-  abbrev Answered : K → Type 0
+  abbrev pub Answered : K → Type 0
   Answered k = (a : Answer K V) × Means m k a
 
-  linked_answer : (f : List ℕ) → Answered (s.linked.key f)
+  pub linked_answer : (f : List ℕ) → Answered (s.linked.key f)
   linked_answer f = elim (linked_or_ring files f) [
     | inl l ↦ let a : Answer K V = Value (s.linked.value l.0) in (a, (t.linked f a).1 (l.0, refl, l.1))
     | inr r ↦ let a : Answer K V = Cycle (map s.linked.key r.0) in (a, (t.linked f a).1 (r.0, refl, r.1))
   ]
 
-  scope_answer : (f : List ℕ) → Answered (s.scope.key f)
+  pub scope_answer : (f : List ℕ) → Answered (s.scope.key f)
   scope_answer f = let x = scope_exists files f in let a : Answer K V = Value (s.scope.value x.0) in (a, (t.scope f a).1 (x.0, refl, x.1))
 
-  resolved_answer : (f : List ℕ) → Answered (s.resolved.key f)
+  pub resolved_answer : (f : List ℕ) → Answered (s.resolved.key f)
   resolved_answer f = let x = resolved_exist files f in let a : Answer K V = Value (s.resolved.value x.0) in (a, (t.resolved f a).1 (x.0, refl, x.1))
 
   low : (k : K) (n : ℕ) → m.level k ≡ n → n < check_level → m.level k < check_level

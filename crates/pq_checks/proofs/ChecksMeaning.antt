@@ -11,7 +11,7 @@ use Rattle.pq_rules.specs.Turns.{Instance}
 use Rattle.pq_rules.specs.Relations.{Each, In, Chain, Leads, IsRing, LeadsInto}
 use Rattle.pq_rules.specs.Value.{Trace, Means}
 use Rattle.pq_rules.specs.Embedding.{Runs}
-use Rattle.pq_rules.proofs.LowerReads.{lower_runs}
+use Rattle.pq_rules.proofs.LowerReads.{AsksBelow, ask_below, done_below, runs_below, lower_runs}
 use Rattle.pq_rules.proofs.Rings.{each_in}
 use Rattle.pq_links.specs.Files.{read_in, items_in, graph_of}
 use Rattle.pq_links.specs.ImportGraph.{Graph, file_of, imported, IsGood, IsBad, IsNext, IsRingOf}
@@ -96,16 +96,10 @@ module _ {K P V : Type 0} (m : Instance K P V) (files : Sources) (s : SchemaSum 
   -- ---- the rule asks keys of lower levels alone
 
   abbrev IsLow : Turn K CheckPart (List Fault) → Type 0
-  IsLow x = (k : K) (q : CheckPart) → x ≡ Ask k q → m.level k < check_level
+  IsLow = AsksBelow m check_level
 
   low : (k : K) (n : ℕ) → m.level k ≡ n → n < check_level → m.level k < check_level
   low k n e l = subst (λ (i : ℕ). i < check_level) (sym e) l
-
-  ask_low : (j : K) (p : CheckPart) → m.level j < check_level → IsLow (Ask j p)
-  ask_low j p l k q e = let key : j ≡ k = cc in subst (λ (x : K). m.level x < check_level) key l
-
-  done_low : (x : List Fault) → IsLow (Done x)
-  done_low x k q e = cc
 
   items_low : (f : List ℕ) → m.level (s.items.key f) < check_level
   items_low f = low (s.items.key f) 2 (s.items.embeds.level_is f) (omega arith)
@@ -115,40 +109,35 @@ module _ {K P V : Type 0} (m : Instance K P V) (files : Sources) (s : SchemaSum 
 
   link_next_low : (k : Known) (ring : Option (List (List ℕ))) (first : Option Import) (left : List Import) (is : List Imported)
       → IsLow (placed k left is (link_next s.linked.key k ring first is))
-  link_next_low k (Some ring) (Some i) left is = ask_low (s.linked.key i.file) (ReadNext k k.linked.imports is) (linked_low i.file)
-  link_next_low k (Some ring) None left is = done_low _
-  link_next_low k None first left is = done_low _
+  link_next_low k (Some ring) (Some i) left is = ask_below m check_level (s.linked.key i.file) (ReadNext k k.linked.imports is) (linked_low i.file)
+  link_next_low k (Some ring) None left is = done_below m check_level _
+  link_next_low k None first left is = done_below m check_level _
 
   staged_low : (k : Known) (next : Option Import) (left : List Import) (is : List Imported) → IsLow (placed k left is (staged s.linked.key s.items.key k next is))
-  staged_low k (Some i) left is = ask_low (s.items.key i.file) (ReadState k left is) (items_low i.file)
+  staged_low k (Some i) left is = ask_below m check_level (s.items.key i.file) (ReadState k left is) (items_low i.file)
   staged_low k None left is = link_next_low k k.linked.ring (slice_get k.linked.imports 0) left is
 
   link_low : (k : Known) (i : Import) (second : Option Import) (ring : Option (List (List ℕ))) (left : List Import) (is : List Imported)
       → IsLow (link_placed k left is (link_follows s.linked.key k (Some i) second ring is))
-  link_low k i second (Some ring) left is = done_low _
-  link_low k i (Some j) None left is = ask_low (s.linked.key j.file) (ReadNext k left is) (linked_low j.file)
-  link_low k i None None left is = done_low _
+  link_low k i second (Some ring) left is = done_below m check_level _
+  link_low k i (Some j) None left is = ask_below m check_level (s.linked.key j.file) (ReadNext k left is) (linked_low j.file)
+  link_low k i None None left is = done_below m check_level _
 
   advance_low : (p : CheckPart) (a : Answer K V) → IsLow (advances p a)
-  advance_low (ReadItems f) a = ask_low (s.imports.key f) _ (low (s.imports.key f) 3 (s.imports.embeds.level_is f) (omega arith))
-  advance_low (ReadImports f p) a = ask_low (s.linked.key f) _ (linked_low f)
-  advance_low (ReadLinks f p is) a = ask_low (s.defs.key f) _ (low (s.defs.key f) 5 (s.defs.embeds.level_is f) (omega arith))
-  advance_low (ReadDefs l) a = ask_low (s.scope.key l.file) _ (low (s.scope.key l.file) 6 (s.scope.embeds.level_is l.file) (omega arith))
-  advance_low (ReadScope l d) a = ask_low (s.resolved.key l.file) _ (low (s.resolved.key l.file) 7 (s.resolved.embeds.level_is l.file) (omega arith))
+  advance_low (ReadItems f) a = ask_below m check_level (s.imports.key f) _ (low (s.imports.key f) 3 (s.imports.embeds.level_is f) (omega arith))
+  advance_low (ReadImports f p) a = ask_below m check_level (s.linked.key f) _ (linked_low f)
+  advance_low (ReadLinks f p is) a = ask_below m check_level (s.defs.key f) _ (low (s.defs.key f) 5 (s.defs.embeds.level_is f) (omega arith))
+  advance_low (ReadDefs l) a = ask_below m check_level (s.scope.key l.file) _ (low (s.scope.key l.file) 6 (s.scope.embeds.level_is l.file) (omega arith))
+  advance_low (ReadScope l d) a = ask_below m check_level (s.resolved.key l.file) _ (low (s.resolved.key l.file) 7 (s.resolved.embeds.level_is l.file) (omega arith))
   advance_low (ReadReferences l d sc) a =
       staged_low (record { linked = l; defs = d; scope = sc; references = c.referred_read a }) (slice_get l.imports 0) l.imports []
-  advance_low (ReadState k [] is) a = done_low _
+  advance_low (ReadState k [] is) a = done_below m check_level _
   advance_low (ReadState k (i ∷ left) is) a = staged_low k (slice_get left 0) left (with_state (Some i) (s.items.read a) is)
-  advance_low (ReadNext k [] is) a = done_low _
+  advance_low (ReadNext k [] is) a = done_below m check_level _
   advance_low (ReadNext k (i ∷ left) is) a = link_low k i (slice_get left 0) (c.ring_files a) left is
 
-  runs_low : (x : Turn K CheckPart (List Fault)) → IsLow x → (es : Trace K V) (k : K) (q : CheckPart) → Runs advances x es (Ask k q) → m.level k < check_level
-  unfolding Runs
-  runs_low x l [] k q r = l k q r
-  runs_low x l (e ∷ es) k q r = runs_low (advances r.0 e.1) (advance_low r.0 e.1) es k q r.2
-
   lower : (f : List ℕ) (es : Trace K V) (k : K) (q : CheckPart) → Runs advances (check_starts s.items.key f) es (Ask k q) → m.level k < check_level
-  lower f es k q r = runs_low (check_starts s.items.key f) (ask_low (s.items.key f) (ReadItems f) (items_low f)) es k q r
+  lower f = runs_below m check_level advances advance_low (check_starts s.items.key f) (ask_below m check_level (s.items.key f) (ReadItems f) (items_low f))
 
   -- ---- what right answers say
 
@@ -238,31 +227,17 @@ module _ {K P V : Type 0} (m : Instance K P V) (files : Sources) (s : SchemaSum 
   abbrev turns : DiagnosticsPart → Answer K V → Turn K DiagnosticsPart Diagnosed
   turns q a = diagnostics_advances s.parse.key (c.checks.read a) (s.parse.read a) q
 
-  abbrev IsBelow : Turn K DiagnosticsPart Diagnosed → Type 0
-  IsBelow x = (k : K) (q : DiagnosticsPart) → x ≡ Ask k q → m.level k < diagnostics_level
+  turns_below : (p : DiagnosticsPart) (a : Answer K V) → AsksBelow m diagnostics_level (turns p a)
+  turns_below (ReadChecks f) a = ask_below m diagnostics_level (s.parse.key f) _ (let one = s.parse.embeds.level_is f in omega arith)
+  turns_below (ReadParsed fs) a = done_below m diagnostics_level _
 
-  turns_below : (p : DiagnosticsPart) (a : Answer K V) → IsBelow (turns p a)
-  turns_below (ReadChecks f) a k q e =
-      let key : s.parse.key f ≡ k = cc in
-      let one = s.parse.embeds.level_is f in
-      subst (λ (x : K). m.level x < diagnostics_level) key (omega arith)
-  turns_below (ReadParsed fs) a k q e = cc
-
-  starts_below : (f : List ℕ) → IsBelow (diagnostics_starts c.checks.key f)
-  starts_below f k q e =
-      let key : c.checks.key f ≡ k = cc in
-      let eight = c.checks.embeds.level_is f in
-      subst (λ (x : K). m.level x < diagnostics_level) key (omega arith)
-
-  below : (x : Turn K DiagnosticsPart Diagnosed) → IsBelow x → (es : Trace K V) (k : K) (q : DiagnosticsPart) → Runs turns x es (Ask k q) → m.level k < diagnostics_level
-  unfolding Runs
-  below x l [] k q r = l k q r
-  below x l (e ∷ es) k q r = below (turns r.0 e.1) (turns_below r.0 e.1) es k q r.2
+  starts_below : (f : List ℕ) → AsksBelow m diagnostics_level (diagnostics_starts c.checks.key f)
+  starts_below f = ask_below m diagnostics_level (c.checks.key f) _ (let eight = c.checks.embeds.level_is f in omega arith)
 
   pub diagnostics_are : (f : List ℕ) (a : Answer K V) → Means m (c.diagnostics.key f) a → (d : Diagnosed) × (a ≡ Value (c.diagnostics.value d)) × AreDiagnostics files f d
   diagnostics_are f a h =
       let r = lower_runs m c.diagnostics.key c.diagnostics.part c.diagnostics.value diagnostics_level (diagnostics_starts c.checks.key) turns c.diagnostics.embeds (omega arith)
-      (λ x es k q. below (diagnostics_starts c.checks.key x) (starts_below x) es k q) f a h in
+      (λ x. runs_below m diagnostics_level turns turns_below (diagnostics_starts c.checks.key x) (starts_below x)) f a h in
       let given = diagnostics_given c.checks.key s.parse.key c.checks.read s.parse.read f r.0 r.1 r.2 in
       let told = subst (λ (xs : Trace K V). Each (λ e. Means m e.0 e.1) xs) given.2 r.4 in
       let x = checks_are f given.0 told.0 in
