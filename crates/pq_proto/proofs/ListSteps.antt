@@ -177,10 +177,6 @@ symbols_none place = refl
 pub link : {T : Type 0} (old mid new more rest : List T) → mid ≡ old ++ more → new ≡ mid ++ rest → new ≡ old ++ (more ++ rest)
 link {T} old mid new more rest first later = later ∙ ap (λ (ts : List T). ts ++ rest) first ∙ append_assoc old more rest
 
--- the same, with the lists left out
-pub adds : {T : Type 0} {old mid new more rest : List T} → mid ≡ old ++ more → new ≡ mid ++ rest → new ≡ old ++ (more ++ rest)
-adds {T} {old} {mid} {new} {more} {rest} first later = link old mid new more rest first later
-
 -- a list before `rest`
 pub list_then : (ds : List Data) (rest : List Token) → values_of ds ++ (end_array ∷ rest) ≡ items_tokens (items_outline (items_of ds)) ++ rest
 list_then ds rest = sym (ap (λ (ts : List Token). ts ++ rest) (list_tokens ds) ∙ append_assoc (values_of ds) (end_array ∷ []) rest)
