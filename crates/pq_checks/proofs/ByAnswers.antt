@@ -5,6 +5,7 @@ use Rattle.std.specs.Prelude.{slice_get, unwrap_or}
 use Rattle.pq_rules.specs.declared.turn.Turn.{Turn}
 use Rattle.pq_rules.specs.declared.turn.Turn.TheVariants.{Ask, Done}
 use Rattle.pq_rules.specs.Embedding.{Runs}
+use Rattle.pq_rules.proofs.Asked.{asked, ended}
 use Rattle.pq_links.specs.declared.links.Import.{Import}
 use Rattle.pq_checks.specs.Answers.{CheckWords, AsksStates, AsksNext, AsksLinks, AreChecksBy, if_ring}
 use Rattle.pq_checks.specs.Surroundings.{state_of}
@@ -21,23 +22,6 @@ module _ {K A : Type 0} (w : CheckWords K A) where
   abbrev pub advances : CheckPart → A → Turn K CheckPart (List Fault)
   advances q a = check_advances w q a
 
-  -- the run of a turn that asks: its first question, and the run of the rest
-  asked : (key : K) (part : CheckPart) (es : List (K × A)) (v : List Fault) → Runs advances (Ask key part) es (Done v)
-      → (a : A) × (rest : List (K × A)) × (es ≡ (key, a) ∷ rest) × Runs advances (advances part a) rest (Done v)
-  unfolding Runs
-  asked key part [] v r = cc
-  asked key part (e ∷ es) v r =
-      let asks = r.1 in
-      let key_is : e.0 ≡ key = cc in
-      let part_is : r.0 ≡ part = cc in
-      (e.1, es, ap (λ k. (k, e.1) ∷ es) key_is, subst (λ (q : CheckPart). Runs advances (advances q e.1) es (Done v)) part_is r.2)
-
-  -- the run of a turn that is done asks nothing
-  ended : (x v : List Fault) (es : List (K × A)) → Runs advances (Done x) es (Done v) → (es ≡ []) × (v ≡ x)
-  unfolding Runs
-  ended x v [] r = let is : v ≡ x = cc in (refl, is)
-  ended x v (e ∷ es) r = let none = r.1 in cc
-
   -- `NextIs k is imported es v` is that the questions `es` are those for the links of the imports
   -- `is` up to the first cycle, and that `v` is the checks by the next file that this gives
   abbrev NextIs : Known → List Import → List Imported → List (K × A) → List Fault → Type 0
@@ -48,13 +32,13 @@ module _ {K A : Type 0} (w : CheckWords K A) where
       → (Runs advances (link_placed k is imported (link_follows w.linked k (Some i) (slice_get is 0) None imported)) es (Done v) → NextIs k is imported es v)
       → Runs advances (link_placed k is imported (link_follows w.linked k (Some i) (slice_get is 0) ring imported)) es (Done v)
       → (next : Option (List ℕ)) × if_ring ring ((es ≡ []) × (next ≡ Some i.file)) (AsksNext w is es next) × (v ≡ checked_of k imported next)
-  stopped k i is imported es v (Some ring) on r = let end = ended (checked_of k imported (Some i.file)) v es r in (Some i.file, (end.0, refl), end.1)
+  stopped k i is imported es v (Some ring) on r = let end = ended advances (checked_of k imported (Some i.file)) v es r in (Some i.file, (end.0, refl), end.1)
   stopped k i is imported es v None on r = on r
 
   next_given : (k : Known) (i : Import) (is : List Import) (imported : List Imported) (es : List (K × A)) (v : List Fault)
       → Runs advances (link_placed k is imported (link_follows w.linked k (Some i) (slice_get is 0) None imported)) es (Done v) → NextIs k is imported es v
   unfolding Runs
-  next_given k i [] imported es v r = let end = ended (checked_of k imported None) v es r in (None, (end.0, refl), end.1)
+  next_given k i [] imported es v r = let end = ended advances (checked_of k imported None) v es r in (None, (end.0, refl), end.1)
   next_given k i (j ∷ is) imported [] v r = cc
   next_given k i (j ∷ is) imported (e ∷ es) v r =
       let asks = r.1 in
@@ -68,8 +52,8 @@ module _ {K A : Type 0} (w : CheckWords K A) where
       → Runs advances (placed k left imported (link_next w.linked k ring (slice_get is 0) imported)) es (Done v)
       → (next : Option (List ℕ)) × AsksLinks w ring is es next × (v ≡ checked_of k imported next)
   unfolding Runs
-  links_given k None is left same imported es v r = let end = ended (checked_of k imported None) v es r in (None, (end.0, refl), end.1)
-  links_given k (Some ring) [] left same imported es v r = let end = ended (checked_of k imported None) v es r in (None, (end.0, refl), end.1)
+  links_given k None is left same imported es v r = let end = ended advances (checked_of k imported None) v es r in (None, (end.0, refl), end.1)
+  links_given k (Some ring) [] left same imported es v r = let end = ended advances (checked_of k imported None) v es r in (None, (end.0, refl), end.1)
   links_given k (Some ring) (i ∷ is) left same imported [] v r = cc
   links_given k (Some ring) (i ∷ is) left same imported (e ∷ es) v r =
       let asks = r.1 in
@@ -98,15 +82,15 @@ module _ {K A : Type 0} (w : CheckWords K A) where
 
   pub checks_given : (f : List ℕ) (es : List (K × A)) (v : List Fault) → Runs advances (check_starts w.items f) es (Done v) → AreChecksBy w f es v
   checks_given f es v r =
-      let a = asked (w.items f) (ReadItems f) es v r in
+      let a = asked advances (w.items f) (ReadItems f) es v r in
       let p = w.itemed a.0 in
-      let b = asked (w.imports f) (ReadImports f p) a.1 v a.3 in
+      let b = asked advances (w.imports f) (ReadImports f p) a.1 v a.3 in
       let is = unwrap_or (w.imported b.0) [] in
-      let c = asked (w.linked f) (ReadLinks f p is) b.1 v b.3 in
+      let c = asked advances (w.linked f) (ReadLinks f p is) b.1 v b.3 in
       let l : LinkedFile = record { file = f; items = p; imports = is; ring = w.ring c.0 } in
-      let d = asked (w.defs f) (ReadDefs l) c.1 v c.3 in
-      let s = asked (w.scope f) (ReadScope l (w.defined d.0)) d.1 v d.3 in
-      let t = asked (w.resolved f) (ReadReferences l (w.defined d.0) (w.scoped s.0)) s.1 v s.3 in
+      let d = asked advances (w.defs f) (ReadDefs l) c.1 v c.3 in
+      let s = asked advances (w.scope f) (ReadScope l (w.defined d.0)) d.1 v d.3 in
+      let t = asked advances (w.resolved f) (ReadReferences l (w.defined d.0) (w.scoped s.0)) s.1 v s.3 in
       let k : Known = record { linked = l; defs = w.defined d.0; scope = w.scoped s.0; references = w.referred t.0 } in
       let end = states_given k is [] t.1 v t.3 in (
         a.0,

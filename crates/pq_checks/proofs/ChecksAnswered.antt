@@ -77,24 +77,24 @@ module _ {K P V : Type 0} (m : Instance K P V) (files : Sources) (s : SchemaSum 
 
   -- ---- what the sources say of the errors of a file is one
 
-  scope_one : (f : List ℕ) (x y : Scope) → IsScope files f x → IsScope files f y → x ≡ y
+  pub scope_one : (f : List ℕ) (x y : Scope) → IsScope files f x → IsScope files f y → x ≡ y
   scope_one f x y p q =
-      let a : Answer K V = Value (s.scope_value x) in
-      let b : Answer K V = Value (s.scope_value y) in
-      sym (s.scope_back x) ∙ ap s.scope_read (one (s.scope f) a b ((t.scope f a).1 (x, refl, p)) ((t.scope f b).1 (y, refl, q))) ∙ s.scope_back y
+      let a : Answer K V = Value (s.scope.value x) in
+      let b : Answer K V = Value (s.scope.value y) in
+      sym (s.scope.back x) ∙ ap s.scope.read (one (s.scope.key f) a b ((t.scope f a).1 (x, refl, p)) ((t.scope f b).1 (y, refl, q))) ∙ s.scope.back y
 
-  resolved_one : (f : List ℕ) (x y : List ResolvedReference) → AreResolved files f x → AreResolved files f y → x ≡ y
+  pub resolved_one : (f : List ℕ) (x y : List ResolvedReference) → AreResolved files f x → AreResolved files f y → x ≡ y
   resolved_one f x y p q =
-      let a : Answer K V = Value (s.resolved_value x) in
-      let b : Answer K V = Value (s.resolved_value y) in
-      sym (c.referred_back x) ∙ ap c.referred_read (one (s.resolved f) a b ((t.resolved f a).1 (x, refl, p)) ((t.resolved f b).1 (y, refl, q))) ∙ c.referred_back y
+      let a : Answer K V = Value (s.resolved.value x) in
+      let b : Answer K V = Value (s.resolved.value y) in
+      sym (c.referred_back x) ∙ ap c.referred_read (one (s.resolved.key f) a b ((t.resolved f a).1 (x, refl, p)) ((t.resolved f b).1 (y, refl, q))) ∙ c.referred_back y
 
   ring_one : (f : List ℕ) (x y : List (List ℕ)) → IsRingOf g f x → IsRingOf g f y → x ≡ y
   ring_one f x y p q =
-      let a : Answer K V = Cycle (map s.linked x) in
-      let b : Answer K V = Cycle (map s.linked y) in
+      let a : Answer K V = Cycle (map s.linked.key x) in
+      let b : Answer K V = Cycle (map s.linked.key y) in
       let same : Some x ≡ Some y =
-      sym (c.ring_back x) ∙ ap c.ring_files (one (s.linked f) a b ((t.linked f a).1 (x, refl, p)) ((t.linked f b).1 (y, refl, q))) ∙ c.ring_back y in
+      sym (c.ring_back x) ∙ ap c.ring_files (one (s.linked.key f) a b ((t.linked f a).1 (x, refl, p)) ((t.linked f b).1 (y, refl, q))) ∙ c.ring_back y in
       ap (λ (o : Option (List (List ℕ))). unwrap_or o []) same
 
   ring_at_one : (f : List ℕ) (r : Option (List (List ℕ))) (n : Option (List ℕ)) (r' : Option (List (List ℕ))) (n' : Option (List ℕ))
@@ -120,7 +120,7 @@ module _ {K P V : Type 0} (m : Instance K P V) (files : Sources) (s : SchemaSum 
       ∙ ap (λ z. around y.imported y.ring y.next y.definitions z x.references) others
       ∙ ap (λ z. around y.imported y.ring y.next y.definitions y.others z) (resolved_one f x.references y.references p.references_are q.references_are)
 
-  faults_one : (f : List ℕ) (x y : List Fault) → AreFaults files f x → AreFaults files f y → x ≡ y
+  pub faults_one : (f : List ℕ) (x y : List Fault) → AreFaults files f x → AreFaults files f y → x ≡ y
   faults_one f x y p q =
       p.2 ∙ ap (λ (z : Surroundings). file_faults z (items_in files f)) (surroundings_one f p.0 q.0 p.1 q.1) ∙ sym q.2
 
@@ -130,69 +130,69 @@ module _ {K P V : Type 0} (m : Instance K P V) (files : Sources) (s : SchemaSum 
   -- ---- each file has an answer
 
   -- `Answered k` is that the key `k` has an answer
-  abbrev Answered : K → Type 0
+  abbrev pub Answered : K → Type 0
   Answered k = (a : Answer K V) × Means m k a
 
-  linked_answer : (f : List ℕ) → Answered (s.linked f)
+  pub linked_answer : (f : List ℕ) → Answered (s.linked.key f)
   linked_answer f = elim (linked_or_ring files f) [
-    | inl l ↦ let a : Answer K V = Value (s.linked_value l.0) in (a, (t.linked f a).1 (l.0, refl, l.1))
-    | inr r ↦ let a : Answer K V = Cycle (map s.linked r.0) in (a, (t.linked f a).1 (r.0, refl, r.1))
+    | inl l ↦ let a : Answer K V = Value (s.linked.value l.0) in (a, (t.linked f a).1 (l.0, refl, l.1))
+    | inr r ↦ let a : Answer K V = Cycle (map s.linked.key r.0) in (a, (t.linked f a).1 (r.0, refl, r.1))
   ]
 
-  scope_answer : (f : List ℕ) → Answered (s.scope f)
-  scope_answer f = let x = scope_exists files f in let a : Answer K V = Value (s.scope_value x.0) in (a, (t.scope f a).1 (x.0, refl, x.1))
+  pub scope_answer : (f : List ℕ) → Answered (s.scope.key f)
+  scope_answer f = let x = scope_exists files f in let a : Answer K V = Value (s.scope.value x.0) in (a, (t.scope f a).1 (x.0, refl, x.1))
 
-  resolved_answer : (f : List ℕ) → Answered (s.resolved f)
-  resolved_answer f = let x = resolved_exist files f in let a : Answer K V = Value (s.resolved_value x.0) in (a, (t.resolved f a).1 (x.0, refl, x.1))
+  pub resolved_answer : (f : List ℕ) → Answered (s.resolved.key f)
+  resolved_answer f = let x = resolved_exist files f in let a : Answer K V = Value (s.resolved.value x.0) in (a, (t.resolved f a).1 (x.0, refl, x.1))
 
   low : (k : K) (n : ℕ) → m.level k ≡ n → n < check_level → m.level k < check_level
   low k n e l = subst (λ (i : ℕ). i < check_level) (sym e) l
 
   asks : AsksIn (HasAnswer m check_level) w Any
   asks = record {
-    items = λ f n. (low (s.items f) 2 (s.items_embeds.level_is f) (omega arith), (_, (t.items f _).1 refl));
-    imports = λ f n. (low (s.imports f) 3 (s.imports_embeds.level_is f) (omega arith), (_, (t.imports f _).1 refl));
-    linked = λ f n. (low (s.linked f) 4 (s.linked_embeds.level_is f) (omega arith), linked_answer f);
-    defs = λ f n. (low (s.defs f) 5 (s.defs_embeds.level_is f) (omega arith), (_, (t.defs f _).1 refl));
-    scope = λ f n. (low (s.scope f) 6 (s.scope_embeds.level_is f) (omega arith), scope_answer f);
-    resolved = λ f n. (low (s.resolved f) 7 (s.resolved_embeds.level_is f) (omega arith), resolved_answer f);
+    items = λ f n. (low (s.items.key f) 2 (s.items.embeds.level_is f) (omega arith), (_, (t.items f _).1 refl));
+    imports = λ f n. (low (s.imports.key f) 3 (s.imports.embeds.level_is f) (omega arith), (_, (t.imports f _).1 refl));
+    linked = λ f n. (low (s.linked.key f) 4 (s.linked.embeds.level_is f) (omega arith), linked_answer f);
+    defs = λ f n. (low (s.defs.key f) 5 (s.defs.embeds.level_is f) (omega arith), (_, (t.defs f _).1 refl));
+    scope = λ f n. (low (s.scope.key f) 6 (s.scope.embeds.level_is f) (omega arith), scope_answer f);
+    resolved = λ f n. (low (s.resolved.key f) 7 (s.resolved.embeds.level_is f) (omega arith), resolved_answer f);
   }
 
-  pub checks_answer : (f : List ℕ) → Answered (c.checks f)
+  pub checks_answer : (f : List ℕ) → Answered (c.checks.key f)
   checks_answer f =
-      has_answer m c.checks c.checks_part c.checks_value check_level (check_starts s.items) (λ q a. check_advances w q a) c.checks_embeds (omega arith)
+      has_answer m c.checks.key c.checks.part c.checks.value check_level (check_starts s.items.key) (λ q a. check_advances w q a) c.checks.embeds (omega arith)
       check_left (λ q a k r e. check_falls w a q k r e) (CheckPartIn Any)
       (λ x. check_starts_in (HasAnswer m check_level) w Any asks x tt)
-      (λ q a p. check_advances_in (HasAnswer m check_level) w Any asks q a (any_imports (s.imports_read a)) p) f
+      (λ q a p. check_advances_in (HasAnswer m check_level) w Any asks q a (any_imports (s.imports.read a)) p) f
 
   below : (k : K) (n : ℕ) → m.level k ≡ n → n < diagnostics_level → m.level k < diagnostics_level
   below k n e l = subst (λ (i : ℕ). i < diagnostics_level) (sym e) l
 
   diagnostics_asks : (q : DiagnosticsPart) (a : Answer K V)
-      → Asks m diagnostics_level (λ (x : DiagnosticsPart). Unit {0}) (diagnostics_advances s.parse (c.checked_read a) (s.parsed_read a) q)
-  diagnostics_asks (ReadChecks f) a = ((below (s.parse f) 1 (s.parse_embeds.level_is f) (omega arith), (_, (t.parse f _).1 refl)), tt)
+      → Asks m diagnostics_level (λ (x : DiagnosticsPart). Unit {0}) (diagnostics_advances s.parse.key (c.checks.read a) (s.parse.read a) q)
+  diagnostics_asks (ReadChecks f) a = ((below (s.parse.key f) 1 (s.parse.embeds.level_is f) (omega arith), (_, (t.parse f _).1 refl)), tt)
   diagnostics_asks (ReadFile fs) a = tt
 
-  pub diagnostics_answer : (f : List ℕ) → Answered (c.diagnostics f)
+  pub diagnostics_answer : (f : List ℕ) → Answered (c.diagnostics.key f)
   diagnostics_answer f =
-      has_answer m c.diagnostics c.diagnostics_part c.diagnostics_value diagnostics_level (diagnostics_starts c.checks)
-      (λ q a. diagnostics_advances s.parse (c.checked_read a) (s.parsed_read a) q) c.diagnostics_embeds (omega arith)
-      diagnostics_left (λ q a k r e. diagnostics_falls s.parse (c.checked_read a) (s.parsed_read a) q k r e) (λ q. Unit {0})
-      (λ x. ((below (c.checks x) check_level (c.checks_embeds.level_is x) (omega arith), checks_answer x), tt)) (λ q a p. diagnostics_asks q a) f
+      has_answer m c.diagnostics.key c.diagnostics.part c.diagnostics.value diagnostics_level (diagnostics_starts c.checks.key)
+      (λ q a. diagnostics_advances s.parse.key (c.checks.read a) (s.parse.read a) q) c.diagnostics.embeds (omega arith)
+      diagnostics_left (λ q a k r e. diagnostics_falls s.parse.key (c.checks.read a) (s.parse.read a) q k r e) (λ q. Unit {0})
+      (λ x. ((below (c.checks.key x) check_level (c.checks.embeds.level_is x) (omega arith), checks_answer x), tt)) (λ q a p. diagnostics_asks q a) f
 
   -- ---- what the sources say is the answer
 
-  means_checks : (f : List ℕ) (a : Answer K V) → (fs : List Fault) × (a ≡ Value (c.checks_value fs)) × AreFaults files f fs → Means m (c.checks f) a
+  means_checks : (f : List ℕ) (a : Answer K V) → (fs : List Fault) × (a ≡ Value (c.checks.value fs)) × AreFaults files f fs → Means m (c.checks.key f) a
   means_checks f a p =
       let b = checks_answer f in
       let is = checks_are m files s c t f b.0 b.1 in
-      subst (Means m (c.checks f)) (is.1 ∙ ap (λ (x : List Fault). Value (c.checks_value x)) (faults_one f is.0 p.0 is.2 p.2) ∙ sym p.1) b.1
+      subst (Means m (c.checks.key f)) (is.1 ∙ ap (λ (x : List Fault). Value (c.checks.value x)) (faults_one f is.0 p.0 is.2 p.2) ∙ sym p.1) b.1
 
-  means_diagnostics : (f : List ℕ) (a : Answer K V) → (d : Diagnosed) × (a ≡ Value (c.diagnostics_value d)) × AreDiagnostics files f d → Means m (c.diagnostics f) a
+  means_diagnostics : (f : List ℕ) (a : Answer K V) → (d : Diagnosed) × (a ≡ Value (c.diagnostics.value d)) × AreDiagnostics files f d → Means m (c.diagnostics.key f) a
   means_diagnostics f a p =
       let b = diagnostics_answer f in
       let is = diagnostics_are m files s c t f b.0 b.1 in
-      subst (Means m (c.diagnostics f)) (is.1 ∙ ap (λ (x : Diagnosed). Value (c.diagnostics_value x)) (diagnostics_one f is.0 p.0 is.2 p.2) ∙ sym p.1) b.1
+      subst (Means m (c.diagnostics.key f)) (is.1 ∙ ap (λ (x : Diagnosed). Value (c.diagnostics.value x)) (diagnostics_one f is.0 p.0 is.2 p.2) ∙ sym p.1) b.1
 
   pub checks_mean : ChecksMeans m files s c
   checks_mean = record {

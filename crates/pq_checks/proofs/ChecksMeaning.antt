@@ -11,7 +11,7 @@ use Rattle.pq_rules.specs.Turns.{Instance}
 use Rattle.pq_rules.specs.Relations.{Each, In, Chain, Leads, IsRing, LeadsInto}
 use Rattle.pq_rules.specs.Value.{Trace, Means}
 use Rattle.pq_rules.specs.Embedding.{Runs}
-use Rattle.pq_rules.proofs.LowerReads.{lower_runs}
+use Rattle.pq_rules.proofs.LowerReads.{AsksBelow, ask_below, done_below, runs_below, lower_runs}
 use Rattle.pq_rules.proofs.Rings.{each_in}
 use Rattle.pq_links.specs.Files.{read_in, items_in, graph_of}
 use Rattle.pq_links.specs.ImportGraph.{Graph, file_of, imported, IsGood, IsBad, IsNext, IsRingOf}
@@ -96,64 +96,53 @@ module _ {K P V : Type 0} (m : Instance K P V) (files : Sources) (s : SchemaSum 
   -- ---- the rule asks keys of lower levels alone
 
   abbrev IsLow : Turn K CheckPart (List Fault) → Type 0
-  IsLow x = (k : K) (q : CheckPart) → x ≡ Ask k q → m.level k < check_level
+  IsLow = AsksBelow m check_level
 
   low : (k : K) (n : ℕ) → m.level k ≡ n → n < check_level → m.level k < check_level
   low k n e l = subst (λ (i : ℕ). i < check_level) (sym e) l
 
-  ask_low : (j : K) (p : CheckPart) → m.level j < check_level → IsLow (Ask j p)
-  ask_low j p l k q e = let key : j ≡ k = cc in subst (λ (x : K). m.level x < check_level) key l
+  items_low : (f : List ℕ) → m.level (s.items.key f) < check_level
+  items_low f = low (s.items.key f) 2 (s.items.embeds.level_is f) (omega arith)
 
-  done_low : (x : List Fault) → IsLow (Done x)
-  done_low x k q e = cc
-
-  items_low : (f : List ℕ) → m.level (s.items f) < check_level
-  items_low f = low (s.items f) 2 (s.items_embeds.level_is f) (omega arith)
-
-  linked_low : (f : List ℕ) → m.level (s.linked f) < check_level
-  linked_low f = low (s.linked f) 4 (s.linked_embeds.level_is f) (omega arith)
+  linked_low : (f : List ℕ) → m.level (s.linked.key f) < check_level
+  linked_low f = low (s.linked.key f) 4 (s.linked.embeds.level_is f) (omega arith)
 
   link_next_low : (k : Known) (ring : Option (List (List ℕ))) (first : Option Import) (left : List Import) (is : List Imported)
-      → IsLow (placed k left is (link_next s.linked k ring first is))
-  link_next_low k (Some ring) (Some i) left is = ask_low (s.linked i.file) (ReadNext k k.linked.imports is) (linked_low i.file)
-  link_next_low k (Some ring) None left is = done_low _
-  link_next_low k None first left is = done_low _
+      → IsLow (placed k left is (link_next s.linked.key k ring first is))
+  link_next_low k (Some ring) (Some i) left is = ask_below m check_level (s.linked.key i.file) (ReadNext k k.linked.imports is) (linked_low i.file)
+  link_next_low k (Some ring) None left is = done_below m check_level _
+  link_next_low k None first left is = done_below m check_level _
 
-  staged_low : (k : Known) (next : Option Import) (left : List Import) (is : List Imported) → IsLow (placed k left is (staged s.linked s.items k next is))
-  staged_low k (Some i) left is = ask_low (s.items i.file) (ReadState k left is) (items_low i.file)
+  staged_low : (k : Known) (next : Option Import) (left : List Import) (is : List Imported) → IsLow (placed k left is (staged s.linked.key s.items.key k next is))
+  staged_low k (Some i) left is = ask_below m check_level (s.items.key i.file) (ReadState k left is) (items_low i.file)
   staged_low k None left is = link_next_low k k.linked.ring (slice_get k.linked.imports 0) left is
 
   link_low : (k : Known) (i : Import) (second : Option Import) (ring : Option (List (List ℕ))) (left : List Import) (is : List Imported)
-      → IsLow (link_placed k left is (link_follows s.linked k (Some i) second ring is))
-  link_low k i second (Some ring) left is = done_low _
-  link_low k i (Some j) None left is = ask_low (s.linked j.file) (ReadNext k left is) (linked_low j.file)
-  link_low k i None None left is = done_low _
+      → IsLow (link_placed k left is (link_follows s.linked.key k (Some i) second ring is))
+  link_low k i second (Some ring) left is = done_below m check_level _
+  link_low k i (Some j) None left is = ask_below m check_level (s.linked.key j.file) (ReadNext k left is) (linked_low j.file)
+  link_low k i None None left is = done_below m check_level _
 
   advance_low : (p : CheckPart) (a : Answer K V) → IsLow (advances p a)
-  advance_low (ReadItems f) a = ask_low (s.imports f) _ (low (s.imports f) 3 (s.imports_embeds.level_is f) (omega arith))
-  advance_low (ReadImports f p) a = ask_low (s.linked f) _ (linked_low f)
-  advance_low (ReadLinks f p is) a = ask_low (s.defs f) _ (low (s.defs f) 5 (s.defs_embeds.level_is f) (omega arith))
-  advance_low (ReadDefs l) a = ask_low (s.scope l.file) _ (low (s.scope l.file) 6 (s.scope_embeds.level_is l.file) (omega arith))
-  advance_low (ReadScope l d) a = ask_low (s.resolved l.file) _ (low (s.resolved l.file) 7 (s.resolved_embeds.level_is l.file) (omega arith))
+  advance_low (ReadItems f) a = ask_below m check_level (s.imports.key f) _ (low (s.imports.key f) 3 (s.imports.embeds.level_is f) (omega arith))
+  advance_low (ReadImports f p) a = ask_below m check_level (s.linked.key f) _ (linked_low f)
+  advance_low (ReadLinks f p is) a = ask_below m check_level (s.defs.key f) _ (low (s.defs.key f) 5 (s.defs.embeds.level_is f) (omega arith))
+  advance_low (ReadDefs l) a = ask_below m check_level (s.scope.key l.file) _ (low (s.scope.key l.file) 6 (s.scope.embeds.level_is l.file) (omega arith))
+  advance_low (ReadScope l d) a = ask_below m check_level (s.resolved.key l.file) _ (low (s.resolved.key l.file) 7 (s.resolved.embeds.level_is l.file) (omega arith))
   advance_low (ReadReferences l d sc) a =
       staged_low (record { linked = l; defs = d; scope = sc; references = c.referred_read a }) (slice_get l.imports 0) l.imports []
-  advance_low (ReadState k [] is) a = done_low _
-  advance_low (ReadState k (i ∷ left) is) a = staged_low k (slice_get left 0) left (with_state (Some i) (s.items_read a) is)
-  advance_low (ReadNext k [] is) a = done_low _
+  advance_low (ReadState k [] is) a = done_below m check_level _
+  advance_low (ReadState k (i ∷ left) is) a = staged_low k (slice_get left 0) left (with_state (Some i) (s.items.read a) is)
+  advance_low (ReadNext k [] is) a = done_below m check_level _
   advance_low (ReadNext k (i ∷ left) is) a = link_low k i (slice_get left 0) (c.ring_files a) left is
 
-  runs_low : (x : Turn K CheckPart (List Fault)) → IsLow x → (es : Trace K V) (k : K) (q : CheckPart) → Runs advances x es (Ask k q) → m.level k < check_level
-  unfolding Runs
-  runs_low x l [] k q r = l k q r
-  runs_low x l (e ∷ es) k q r = runs_low (advances r.0 e.1) (advance_low r.0 e.1) es k q r.2
-
-  lower : (f : List ℕ) (es : Trace K V) (k : K) (q : CheckPart) → Runs advances (check_starts s.items f) es (Ask k q) → m.level k < check_level
-  lower f es k q r = runs_low (check_starts s.items f) (ask_low (s.items f) (ReadItems f) (items_low f)) es k q r
+  lower : (f : List ℕ) (es : Trace K V) (k : K) (q : CheckPart) → Runs advances (check_starts s.items.key f) es (Ask k q) → m.level k < check_level
+  lower f = runs_below m check_level advances advance_low (check_starts s.items.key f) (ask_below m check_level (s.items.key f) (ReadItems f) (items_low f))
 
   -- ---- what right answers say
 
-  itemed_is : (f : List ℕ) (a : Answer K V) → Means m (s.items f) a → s.items_read a ≡ items_in files f
-  itemed_is f a h = ap s.items_read ((t.items f a).0 h) ∙ s.items_back (items_in files f)
+  itemed_is : (f : List ℕ) (a : Answer K V) → Means m (s.items.key f) a → s.items.read a ≡ items_in files f
+  itemed_is f a h = ap s.items.read ((t.items f a).0 h) ∙ s.items.back (items_in files f)
 
   abbrev with_file : List ℕ → Imported
   with_file h = record { file = h; state = state_of (items_in files h) }
@@ -163,13 +152,13 @@ module _ {K P V : Type 0} (m : Instance K P V) (files : Sources) (s : SchemaSum 
   states_are [] es rest imported p told = (p.1, subst (λ (xs : Trace K V). Each (λ e. Means m e.0 e.1) xs) (sym p.0) told)
   states_are (i ∷ is) [] rest imported p told = absurd p
   states_are (i ∷ is) (e ∷ es) rest imported p told =
-      let means : Means m (s.items i.file) e.1 = subst (λ (k : K). Means m k e.1) p.1 told.0 in
+      let means : Means m (s.items.key i.file) e.1 = subst (λ (k : K). Means m k e.1) p.1 told.0 in
       let others = states_are is es rest p.0 p.3 told.1 in
       let made = λ (x : FileItems) (more : List Imported). record { file = i.file; state = state_of x } ∷ more in
       (p.2 ∙ ap (λ (x : FileItems). made x p.0) (itemed_is i.file e.1 means) ∙ ap (made (items_in files i.file)) others.0, others.1)
 
   -- an answer for the links of an import
-  next_step : (x : List ℕ) (is : List Import) (es : Trace K V) (next : Option (List ℕ)) (a : Answer K V) → LinkedIs g s.linked s.linked_value x a
+  next_step : (x : List ℕ) (is : List Import) (es : Trace K V) (next : Option (List ℕ)) (a : Answer K V) → LinkedIs g s.linked.key s.linked.value x a
       → (AsksNext w is es next → NextOf g (map file_of is) next)
       → if_ring (c.ring_files a) ((es ≡ []) × (next ≡ Some x)) (AsksNext w is es next) → NextOf g (x ∷ map file_of is) next
   next_step x is es next (Value v) l on p =
@@ -186,12 +175,12 @@ module _ {K P V : Type 0} (m : Instance K P V) (files : Sources) (s : SchemaSum 
   next_is [] es next p told = subst (λ (n : Option (List ℕ)). NextOf g [] n) (sym p.1) tt
   next_is (i ∷ is) [] next p told = absurd p
   next_is (i ∷ is) (e ∷ es) next p told =
-      let means : Means m (s.linked i.file) e.1 = subst (λ (k : K). Means m k e.1) p.0 told.0 in
+      let means : Means m (s.linked.key i.file) e.1 = subst (λ (k : K). Means m k e.1) p.0 told.0 in
       next_step i.file is es next e.1 ((t.linked i.file e.1).0 means) (λ q. next_is is es next q told.1) p.1
 
   -- the ring and the next file, by the answers for links
   ring_is : (f : List ℕ) (a : Answer K V) (is : List Import) (es : Trace K V) (next : Option (List ℕ)) → map file_of is ≡ imported g f
-      → LinkedIs g s.linked s.linked_value f a → AsksLinks w (c.ring_files a) is es next → Each (λ e. Means m e.0 e.1) es → IsRingAt g f (c.ring_files a) next
+      → LinkedIs g s.linked.key s.linked.value f a → AsksLinks w (c.ring_files a) is es next → Each (λ e. Means m e.0 e.1) es → IsRingAt g f (c.ring_files a) next
   ring_is f (Value v) is es next same l p told =
       let none : c.ring_files (Value v) ≡ None = ap (λ (y : V). c.ring_files (Value y)) l.1 ∙ c.no_ring l.0 in
       let end : (es ≡ []) × (next ≡ None) = subst (λ (r : Option (List (List ℕ))). AsksLinks w r is es next) none p in
@@ -204,26 +193,26 @@ module _ {K P V : Type 0} (m : Instance K P V) (files : Sources) (s : SchemaSum 
       let first : NextOf g (imported g f) next = subst (λ (hs : List (List ℕ)). NextOf g hs next) same (next_is is es next asks told) in
       subst (λ (o : Option (List (List ℕ))). IsRingAt g f o next) (sym some) (ring_at g f l.0 next ring first)
 
-  pub checks_are : (f : List ℕ) (a : Answer K V) → Means m (c.checks f) a → (fs : List Fault) × (a ≡ Value (c.checks_value fs)) × AreFaults files f fs
+  pub checks_are : (f : List ℕ) (a : Answer K V) → Means m (c.checks.key f) a → (fs : List Fault) × (a ≡ Value (c.checks.value fs)) × AreFaults files f fs
   checks_are f a h =
-      let r = lower_runs m c.checks c.checks_part c.checks_value check_level (check_starts s.items) advances c.checks_embeds (omega arith) lower f a h in
+      let r = lower_runs m c.checks.key c.checks.part c.checks.value check_level (check_starts s.items.key) advances c.checks.embeds (omega arith) lower f a h in
       let x = r.1 in
       let given = checks_given w f r.0 x r.2 in
       let told = subst (λ (xs : Trace K V). Each (λ e. Means m e.0 e.1) xs) given.10 r.4 in
       let items = itemed_is f given.0 told.0 in
-      let imports : s.imports_read given.1 ≡ g f = ap s.imports_read ((t.imports f given.1).0 told.1.0) ∙ s.imports_back (g f) in
+      let imports : s.imports.read given.1 ≡ g f = ap s.imports.read ((t.imports f given.1).0 told.1.0) ∙ s.imports.back (g f) in
       let links = (t.linked f given.2).0 told.1.1.0 in
-      let defs : s.defs_read given.3 ≡ defs_at files f = ap s.defs_read ((t.defs f given.3).0 told.1.1.1.0) ∙ s.defs_back (defs_at files f) in
+      let defs : s.defs.read given.3 ≡ defs_at files f = ap s.defs.read ((t.defs f given.3).0 told.1.1.1.0) ∙ s.defs.back (defs_at files f) in
       let scope = (t.scope f given.4).0 told.1.1.1.1.0 in
-      let scoped : s.scope_read given.4 ≡ scope.0 = ap s.scope_read scope.1 ∙ s.scope_back scope.0 in
+      let scoped : s.scope.read given.4 ≡ scope.0 = ap s.scope.read scope.1 ∙ s.scope.back scope.0 in
       let resolved = (t.resolved f given.5).0 told.1.1.1.1.1.0 in
       let referred : c.referred_read given.5 ≡ resolved.0 = ap c.referred_read resolved.1 ∙ c.referred_back resolved.0 in
-      let states = states_are (unwrap_or (s.imports_read given.1) []) given.6 given.7 given.8 given.11 told.1.1.1.1.1.1 in
-      let same : map file_of (unwrap_or (s.imports_read given.1) []) ≡ imported g f = ap (λ (o : Option (List Import)). map file_of (unwrap_or o [])) imports in
-      let around = surroundings_by f given.8 (c.ring_files given.2) given.9 (s.defs_read given.3) (s.scope_read given.4) (c.referred_read given.5) in
+      let states = states_are (unwrap_or (s.imports.read given.1) []) given.6 given.7 given.8 given.11 told.1.1.1.1.1.1 in
+      let same : map file_of (unwrap_or (s.imports.read given.1) []) ≡ imported g f = ap (λ (o : Option (List Import)). map file_of (unwrap_or o [])) imports in
+      let around = surroundings_by f given.8 (c.ring_files given.2) given.9 (s.defs.read given.3) (s.scope.read given.4) (c.referred_read given.5) in
       let are : AreSurroundings files f around = record {
         imported_are = states.0 ∙ ap (map with_file) same;
-        ring_is = ring_is f given.2 (unwrap_or (s.imports_read given.1) []) given.7 given.9 same links given.12 states.1;
+        ring_is = ring_is f given.2 (unwrap_or (s.imports.read given.1) []) given.7 given.9 same links given.12 states.1;
         definitions_are = ap (λ (d : Defs). d.definitions) defs;
         others_are = (scope.0, scope.2, ap (other_files f) scoped);
         references_are = subst (AreResolved files f) (sym referred) resolved.2;
@@ -232,40 +221,26 @@ module _ {K P V : Type 0} (m : Instance K P V) (files : Sources) (s : SchemaSum 
 
   -- ---- the diagnostics
 
-  parsed_is : (f : List ℕ) (a : Answer K V) → Means m (s.parse f) a → s.parsed_read a ≡ read_in files f
-  parsed_is f a h = ap s.parsed_read ((t.parse f a).0 h) ∙ s.parsed_back (read_in files f)
+  parsed_is : (f : List ℕ) (a : Answer K V) → Means m (s.parse.key f) a → s.parse.read a ≡ read_in files f
+  parsed_is f a h = ap s.parse.read ((t.parse f a).0 h) ∙ s.parse.back (read_in files f)
 
   abbrev turns : DiagnosticsPart → Answer K V → Turn K DiagnosticsPart Diagnosed
-  turns q a = diagnostics_advances s.parse (c.checked_read a) (s.parsed_read a) q
+  turns q a = diagnostics_advances s.parse.key (c.checks.read a) (s.parse.read a) q
 
-  abbrev IsBelow : Turn K DiagnosticsPart Diagnosed → Type 0
-  IsBelow x = (k : K) (q : DiagnosticsPart) → x ≡ Ask k q → m.level k < diagnostics_level
+  turns_below : (p : DiagnosticsPart) (a : Answer K V) → AsksBelow m diagnostics_level (turns p a)
+  turns_below (ReadChecks f) a = ask_below m diagnostics_level (s.parse.key f) _ (let one = s.parse.embeds.level_is f in omega arith)
+  turns_below (ReadParsed fs) a = done_below m diagnostics_level _
 
-  turns_below : (p : DiagnosticsPart) (a : Answer K V) → IsBelow (turns p a)
-  turns_below (ReadChecks f) a k q e =
-      let key : s.parse f ≡ k = cc in
-      let one = s.parse_embeds.level_is f in
-      subst (λ (x : K). m.level x < diagnostics_level) key (omega arith)
-  turns_below (ReadParsed fs) a k q e = cc
+  starts_below : (f : List ℕ) → AsksBelow m diagnostics_level (diagnostics_starts c.checks.key f)
+  starts_below f = ask_below m diagnostics_level (c.checks.key f) _ (let eight = c.checks.embeds.level_is f in omega arith)
 
-  starts_below : (f : List ℕ) → IsBelow (diagnostics_starts c.checks f)
-  starts_below f k q e =
-      let key : c.checks f ≡ k = cc in
-      let eight = c.checks_embeds.level_is f in
-      subst (λ (x : K). m.level x < diagnostics_level) key (omega arith)
-
-  below : (x : Turn K DiagnosticsPart Diagnosed) → IsBelow x → (es : Trace K V) (k : K) (q : DiagnosticsPart) → Runs turns x es (Ask k q) → m.level k < diagnostics_level
-  unfolding Runs
-  below x l [] k q r = l k q r
-  below x l (e ∷ es) k q r = below (turns r.0 e.1) (turns_below r.0 e.1) es k q r.2
-
-  pub diagnostics_are : (f : List ℕ) (a : Answer K V) → Means m (c.diagnostics f) a → (d : Diagnosed) × (a ≡ Value (c.diagnostics_value d)) × AreDiagnostics files f d
+  pub diagnostics_are : (f : List ℕ) (a : Answer K V) → Means m (c.diagnostics.key f) a → (d : Diagnosed) × (a ≡ Value (c.diagnostics.value d)) × AreDiagnostics files f d
   diagnostics_are f a h =
-      let r = lower_runs m c.diagnostics c.diagnostics_part c.diagnostics_value diagnostics_level (diagnostics_starts c.checks) turns c.diagnostics_embeds (omega arith)
-      (λ x es k q. below (diagnostics_starts c.checks x) (starts_below x) es k q) f a h in
-      let given = diagnostics_given c.checks s.parse c.checked_read s.parsed_read f r.0 r.1 r.2 in
+      let r = lower_runs m c.diagnostics.key c.diagnostics.part c.diagnostics.value diagnostics_level (diagnostics_starts c.checks.key) turns c.diagnostics.embeds (omega arith)
+      (λ x. runs_below m diagnostics_level turns turns_below (diagnostics_starts c.checks.key x) (starts_below x)) f a h in
+      let given = diagnostics_given c.checks.key s.parse.key c.checks.read s.parse.read f r.0 r.1 r.2 in
       let told = subst (λ (xs : Trace K V). Each (λ e. Means m e.0 e.1) xs) given.2 r.4 in
       let x = checks_are f given.0 told.0 in
-      let faults : c.checked_read given.0 ≡ x.0 = ap c.checked_read x.1 ∙ c.checked_back x.0 in
+      let faults : c.checks.read given.0 ≡ x.0 = ap c.checks.read x.1 ∙ c.checks.back x.0 in
       let file = parsed_is f given.1 told.1.0 in
-      (r.1, r.3, (x.0, x.2, given.3 ∙ ap (λ (fs : List Fault). diagnosed fs (s.parsed_read given.1)) faults ∙ ap (diagnosed x.0) file))
+      (r.1, r.3, (x.0, x.2, given.3 ∙ ap (λ (fs : List Fault). diagnosed fs (s.parse.read given.1)) faults ∙ ap (diagnosed x.0) file))

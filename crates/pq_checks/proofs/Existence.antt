@@ -6,14 +6,14 @@ use Rattle.pq_links.specs.Files.{graph_of}
 use Rattle.pq_links.specs.ImportGraph.{IsRingOf}
 use Rattle.pq_links.specs.Visibility.{AreLinks, links_within}
 use Rattle.pq_links.specs.declared.links.Links.{Links}
+use Rattle.pq_links.specs.aux.Mentioned.{all_mentioned}
 use Rattle.pq_links.proofs.GraphDecided.{good_or_ring}
+use Rattle.pq_links.proofs.Mentions.{file_mentions}
 use Rattle.pq_schema.specs.Compile.{IsScope, AreResolved, defs_at, nodes_at, resolved_in, scope_of_links}
 use Rattle.pq_schema.specs.Missing.{no_scope}
 use Rattle.pq_schema.specs.References.{references_of}
 use Rattle.pq_schema.specs.ScopeContents.{Scope}
-use Rattle.pq_schema.specs.aux.RuleSet.{all_mentioned}
 use Rattle.pq_schema.specs.declared.resolved.ResolvedReference.{ResolvedReference}
-use Rattle.pq_schema.specs.aux.SchemaLaws.{file_mentions}
 
 module _ (files : Sources) where
   pub linked_or_ring : (f : List ℕ) → ((l : Links) × AreLinks (graph_of files) f l) ⊎ ((ring : List (List ℕ)) × IsRingOf (graph_of files) f ring)

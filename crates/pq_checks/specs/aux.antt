@@ -11,3 +11,4 @@ pub mod Gathering
 pub mod Queries
 pub mod Falls
 pub mod CheckKinds
+pub mod Exact

@@ -10,6 +10,7 @@ pub mod Equality
 pub mod GraphLemmas
 pub mod GraphDecided
 pub mod NameKinds
+pub mod Mentions
 pub mod Reached
 pub mod PartSpans
 pub mod BareParts

@@ -24,10 +24,18 @@ use Rattle.pq_links.specs.LinkedKeys.{EmbedsLinks, LinkedIs}
 use Rattle.pq_links.specs.declared.links.Import.{Import}
 use Rattle.pq_links.specs.declared.links.Links.{Links}
 
-module _ {K P V : Type 0} (m : Instance K P V) (g : Graph) (imports linked : List ℕ → K) (part : Linking → P) (value : Links → V)
-    (imports_read : Answer K V → Option (List Import)) (links_read : Answer K V → Links) (level : ℕ)
-    (s : EmbedsLinks m g imports linked part value imports_read links_read level)
+module _ {K P V : Type 0} (m : Instance K P V) (g : Graph) (imports : List ℕ → K) (imports_read : Answer K V → Option (List Import)) (level : ℕ)
+    (s : EmbedsLinks m g imports imports_read level)
     (have_imports : (f : List ℕ) → (a : Answer K V) × Means m (imports f) a) where
+  abbrev linked : List ℕ → K
+  linked = s.linked.key
+
+  abbrev part : Linking → P
+  part = s.linked.part
+
+  abbrev value : Links → V
+  value = s.linked.value
+
   -- `Has n f` is that the links of the file `f`, with walks shorter than `n`, are its value
   Has : ℕ → List ℕ → Type 0
   Has n f = Means m (linked f) (Value (value (links_within g n f)))
@@ -37,7 +45,7 @@ module _ {K P V : Type 0} (m : Instance K P V) (g : Graph) (imports linked : Lis
 
   right_links : (f h : List ℕ) (l : Links) → Means m (linked h) (Value (value l)) → RightRead m (m.level (linked f)) (linked h, Value (value l))
   right_links f h l c =
-      let same : m.level (linked h) ≡ m.level (linked f) = s.embeds.level_is h ∙ sym (s.embeds.level_is f) in
+      let same : m.level (linked h) ≡ m.level (linked f) = s.linked.embeds.level_is h ∙ sym (s.linked.embeds.level_is f) in
       record { no_higher = omega arith; means = c; value = λ e. (value l, refl) }
 
   -- after the links of an import the rule goes on to the next
@@ -48,8 +56,8 @@ module _ {K P V : Type 0} (m : Instance K P V) (g : Graph) (imports linked : Lis
       let q = Joining f (x ∷ xs, pairs) in
       let a : Answer K V = Value (value l) in
       let on : ComesTo m (linked f) (m.advance (part q) a) = comes_on m (linked f) (linked x.file) (part q) a c (right_links f x.file l h) in
-      let to : ComesTo m (linked f) (turn (join_next linked f xs (pairs ++ (x, links_read a) ∷ []))) = subst (ComesTo m (linked f)) (s.embeds.advance_is q a) on in
-      subst (λ (y : Links). ComesTo m (linked f) (turn (join_next linked f xs (pairs ++ (x, y) ∷ [])))) (s.reads_back l) to
+      let to : ComesTo m (linked f) (turn (join_next linked f xs (pairs ++ (x, s.linked.read a) ∷ []))) = subst (ComesTo m (linked f)) (s.linked.embeds.advance_is q a) on in
+      subst (λ (y : Links). ComesTo m (linked f) (turn (join_next linked f xs (pairs ++ (x, y) ∷ [])))) (s.linked.back l) to
 
   join_done : (f : List ℕ) (n : ℕ) (left : List Import) (pairs : List (Import × Links))
       → Each (λ h. Means m (linked h) (Value (value (links_within g n h)))) (map file_of left)
@@ -66,11 +74,11 @@ module _ {K P V : Type 0} (m : Instance K P V) (g : Graph) (imports linked : Lis
   read_imports f =
       let i = have_imports f in
       let low = s.above f in
-      let here = s.embeds.level_is f in
-      let first : ComesTo m (linked f) (Ask (imports f) (part (Reading f))) = subst (ComesTo m (linked f)) (s.embeds.start_is f) (comes_start m (linked f)) in
+      let here = s.linked.embeds.level_is f in
+      let first : ComesTo m (linked f) (Ask (imports f) (part (Reading f))) = subst (ComesTo m (linked f)) (s.linked.embeds.start_is f) (comes_start m (linked f)) in
       let right : RightRead m (m.level (linked f)) (imports f, i.0) = record { no_higher = omega arith; means = i.1; value = λ e. absurd (omega arith) } in
       let on : ComesTo m (linked f) (m.advance (part (Reading f)) i.0) = comes_on m (linked f) (imports f) (part (Reading f)) i.0 first right in
-      let to : ComesTo m (linked f) (turn (join_imports linked f (imports_read i.0))) = subst (ComesTo m (linked f)) (s.embeds.advance_is (Reading f) i.0) on in
+      let to : ComesTo m (linked f) (turn (join_imports linked f (imports_read i.0))) = subst (ComesTo m (linked f)) (s.linked.embeds.advance_is (Reading f) i.0) on in
       subst (λ (o : Option (List Import)). ComesTo m (linked f) (turn (join_imports linked f o))) (s.graph_is f i.0 i.1) to
 
   done_by : (f : List ℕ) (n : ℕ) (o : Option (List Import))
@@ -90,7 +98,7 @@ module _ {K P V : Type 0} (m : Instance K P V) (g : Graph) (imports linked : Lis
   unfolding EndsWithin links_within Has
   good_means zero f e = absurd e
   good_means (suc n) f e =
-      means_done m (linked f) (value (links_within g (suc n) f)) (subst (λ (i : ℕ). 0 < i) (sym (s.embeds.level_is f)) (let a = s.above [] in omega arith))
+      means_done m (linked f) (value (links_within g (suc n) f)) (subst (λ (i : ℕ). 0 < i) (sym (s.linked.embeds.level_is f)) (let a = s.above [] in omega arith))
       (done_by f n (g f) (good_each n (good_means n) (imported g f) e) (read_imports f))
 
   asks_behind : (f : List ℕ) (left : List Import) (pairs : List (Import × Links)) (before : List (List ℕ)) (h : List ℕ) (after : List (List ℕ))
@@ -118,7 +126,7 @@ module _ {K P V : Type 0} (m : Instance K P V) (g : Graph) (imports linked : Lis
   -- the links of a file wait for those of its next file
   next_waits : (f h : List ℕ) → IsNext g f h → Waits m (linked f) (linked h)
   unfolding Waits
-  next_waits f h n = (s.embeds.level_is h ∙ sym (s.embeds.level_is f), asks_next f (g f) n.0 h n.1 n.2 n.3 (read_imports f))
+  next_waits f h n = (s.linked.embeds.level_is h ∙ sym (s.linked.embeds.level_is f), asks_next f (g f) n.0 h n.1 n.2 n.3 (read_imports f))
 
   chain_waits : (f : List ℕ) (xs : List (List ℕ)) (z : List ℕ) → Chain (IsNext g) f xs z → Chain (Waits m) (linked f) (map linked xs) (linked z)
   unfolding Chain
@@ -131,9 +139,9 @@ module _ {K P V : Type 0} (m : Instance K P V) (g : Graph) (imports linked : Lis
 
   passes_on : Strict m.order → (f : List ℕ) (xs : List (List ℕ)) (z : List ℕ) (r : List K) → Means m (linked z) (Cycle r) → Chain (IsNext g) f xs z → Means m (linked f) (Cycle r)
   unfolding Chain
-  passes_on strict f [] z r h c = means_passed m strict (linked f) (linked z) r (subst (λ (i : ℕ). 0 < i) (sym (s.embeds.level_is f)) (let a = s.above [] in omega arith)) (next_waits f z c) h
+  passes_on strict f [] z r h c = means_passed m strict (linked f) (linked z) r (subst (λ (i : ℕ). 0 < i) (sym (s.linked.embeds.level_is f)) (let a = s.above [] in omega arith)) (next_waits f z c) h
   passes_on strict f (x ∷ xs) z r h c =
-      means_passed m strict (linked f) (linked x) r (subst (λ (i : ℕ). 0 < i) (sym (s.embeds.level_is f)) (let a = s.above [] in omega arith)) (next_waits f x c.0) (passes_on strict x xs z r h c.1)
+      means_passed m strict (linked f) (linked x) r (subst (λ (i : ℕ). 0 < i) (sym (s.linked.embeds.level_is f)) (let a = s.above [] in omega arith)) (next_waits f x c.0) (passes_on strict x xs z r h c.1)
 
   -- the ring into which a bad file leads is the cycle of its links
   pub ring_means : Strict m.order → (f : List ℕ) (ring : List (List ℕ)) → IsRingOf g f ring → Means m (linked f) (Cycle (map linked ring))
@@ -141,7 +149,7 @@ module _ {K P V : Type 0} (m : Instance K P V) (g : Graph) (imports linked : Lis
   ring_means strict f [] i = absurd i.0
   ring_means strict f (z ∷ zs) i =
       let first : Means m (linked z) (Cycle (linked z ∷ map linked zs)) =
-      means_ring m strict (linked z) (map linked zs) (subst (λ (j : ℕ). 0 < j) (sym (s.embeds.level_is z)) (let a = s.above [] in omega arith))
+      means_ring m strict (linked z) (map linked zs) (subst (λ (j : ℕ). 0 < j) (sym (s.linked.embeds.level_is z)) (let a = s.above [] in omega arith))
       (chain_waits z zs z i.0.0) (least_key z zs i.0.1) (linked z) (inl refl) in
       elim i.1 [
         | inl e ↦ subst (λ (y : List ℕ). Means m (linked y) (Cycle (linked z ∷ map linked zs))) (sym e) first

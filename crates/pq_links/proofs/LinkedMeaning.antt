@@ -31,11 +31,19 @@ use Rattle.pq_links.specs.declared.linked.Linking.TheVariants.{Reading, Joining}
 use Rattle.pq_links.specs.declared.links.Import.{Import}
 use Rattle.pq_links.specs.declared.links.Links.{Links}
 
-module _ {K P V : Type 0} (m : Instance K P V) (g : Graph) (imports linked : List ℕ → K) (part : Linking → P) (value : Links → V)
-    (imports_read : Answer K V → Option (List Import)) (links_read : Answer K V → Links) (level : ℕ)
-    (s : EmbedsLinks m g imports linked part value imports_read links_read level) where
+module _ {K P V : Type 0} (m : Instance K P V) (g : Graph) (imports : List ℕ → K) (imports_read : Answer K V → Option (List Import)) (level : ℕ)
+    (s : EmbedsLinks m g imports imports_read level) where
+  abbrev linked : List ℕ → K
+  linked = s.linked.key
+
+  abbrev part : Linking → P
+  part = s.linked.part
+
+  abbrev value : Links → V
+  value = s.linked.value
+
   abbrev pub advances : Linking → Answer K V → Turn K Linking Links
-  advances q a = linked_advances linked (imports_read a) (links_read a) q
+  advances q a = linked_advances linked (imports_read a) (s.linked.read a) q
 
   up : 0 < level
   up = let a = s.above [] in omega arith
@@ -56,10 +64,10 @@ module _ {K P V : Type 0} (m : Instance K P V) (g : Graph) (imports linked : Lis
       let asks = r.1 in
       let key : linked x.file ≡ e.0 = cc in
       let part_is : r.0 ≡ Joining f (x ∷ xs, pairs) = cc in
-      let at : m.level e.0 ≡ level = subst (λ (k : K). m.level k ≡ level) key (s.embeds.level_is x.file) in
+      let at : m.level e.0 ≡ level = subst (λ (k : K). m.level k ≡ level) key (s.linked.embeds.level_is x.file) in
       let v = t.0.value at in
       let got = i.0 x.file v.0 (sym key) v.1 in
-      let read : links_read e.1 ≡ got.0 = ap links_read (v.1 ∙ ap (λ (w : V). Value w) got.1) ∙ s.reads_back got.0 in
+      let read : s.linked.read e.1 ≡ got.0 = ap s.linked.read (v.1 ∙ ap (λ (w : V). Value w) got.1) ∙ s.linked.back got.0 in
       let next : Runs advances (advances (Joining f (x ∷ xs, pairs)) e.1) es (Done l) = subst (λ (q : Linking). Runs advances (advances q e.1) es (Done l)) part_is r.2 in
       let on : Runs advances (join_next linked f xs (pairs ++ (x, got.0) ∷ [])) es (Done l) = subst (λ (y : Links). Runs advances (join_next linked f xs (pairs ++ (x, y) ∷ [])) es (Done l)) read next in
       let rest = joins f xs (pairs ++ (x, got.0) ∷ []) es l on t.1 i.1 in
@@ -106,10 +114,10 @@ module _ {K P V : Type 0} (m : Instance K P V) (g : Graph) (imports linked : Lis
 
   pub values_are_links : (k : K) (a : Answer K V) → Means m k a → IfLinks k a
   values_are_links = means_fits m IfLinks
-      (λ k at f v e h. absurd (let l : m.level k ≡ level = ap m.level e ∙ s.embeds.level_is f in let u = up in omega arith))
+      (λ k at f v e h. absurd (let l : m.level k ≡ level = ap m.level e ∙ s.linked.embeds.level_is f in let u = up in omega arith))
       (λ k v es c i f w e h.
       let of_file : ComesBy m (linked f) es (Done v) = subst (λ (x : K). ComesBy m x es (Done v)) e c in
-      let r = done_runs m linked part value level (linked_starts imports) advances s.embeds f es v of_file in
+      let r = done_runs m linked part value level (linked_starts imports) advances s.linked.embeds f es v of_file in
       let same : v ≡ w = cc in
       (r.0, sym same ∙ r.2, ends f es r.0 r.1 r.3 i))
       (λ k ring h f v e x. cc)
@@ -126,11 +134,11 @@ module _ {K P V : Type 0} (m : Instance K P V) (g : Graph) (imports linked : Lis
       let asks = r.1 in
       let key : linked x.file ≡ e.0 = cc in
       let part_is : r.0 ≡ Joining f (x ∷ xs, pairs) = cc in
-      let at : m.level e.0 ≡ level = subst (λ (y : K). m.level y ≡ level) key (s.embeds.level_is x.file) in
+      let at : m.level e.0 ≡ level = subst (λ (y : K). m.level y ≡ level) key (s.linked.embeds.level_is x.file) in
       let v = t.0.value at in
       let got = values_are_links e.0 e.1 t.0.means x.file v.0 (sym key) v.1 in
       let on : Runs advances (advances (Joining f (x ∷ xs, pairs)) e.1) es (Ask k q) = subst (λ (y : Linking). Runs advances (advances y e.1) es (Ask k q)) part_is r.2 in
-      let rest = joins_asks f xs (pairs ++ (x, links_read e.1) ∷ []) es k q on t.1 in
+      let rest = joins_asks f xs (pairs ++ (x, s.linked.read e.1) ∷ []) es k q on t.1 in
       (x.file ∷ rest.0, rest.1, rest.2, ap (λ (ys : List (List ℕ)). x.file ∷ ys) rest.3, rest.4, ((got.2.0, got.2.1), rest.5))
 
   asks_by : (f : List ℕ) (o : Option (List Import)) → (es : Trace K V) (k : K) (q : Linking)
@@ -146,7 +154,7 @@ module _ {K P V : Type 0} (m : Instance K P V) (g : Graph) (imports linked : Lis
       → (before : List (List ℕ)) × (h : List ℕ) × (after : List (List ℕ)) × (imported g f ≡ before ++ h ∷ after) × (k ≡ linked h) × Each (IsGood g) before
   unfolding Waits Runs
   waits_for f k w =
-      let r = asks_runs m linked part value level (linked_starts imports) advances s.embeds f k w.1.0 w.1.1 in
+      let r = asks_runs m linked part value level (linked_starts imports) advances s.linked.embeds f k w.1.0 w.1.1 in
       by_trace r.0 r.1 r.2 r.4
     where
       by_trace : (es : Trace K V) (q : Linking) → Runs advances (linked_starts imports f) es (Ask k q) → Each (RightRead m level) es
@@ -154,7 +162,7 @@ module _ {K P V : Type 0} (m : Instance K P V) (g : Graph) (imports linked : Lis
       by_trace [] q r t =
           let key : k ≡ imports f = cc in
           let low = s.above f in
-          let same : m.level (imports f) ≡ level = ap m.level (sym key) ∙ w.0 ∙ s.embeds.level_is f in
+          let same : m.level (imports f) ≡ level = ap m.level (sym key) ∙ w.0 ∙ s.linked.embeds.level_is f in
           absurd (omega arith)
       by_trace (e ∷ es) q r t =
           let asks = r.1 in
@@ -169,7 +177,7 @@ module _ {K P V : Type 0} (m : Instance K P V) (g : Graph) (imports linked : Lis
   in_middle (x ∷ xs) after h = inr (in_middle xs after h)
 
   level_up : (f : List ℕ) → 0 < m.level (linked f)
-  level_up f = subst (λ (i : ℕ). 0 < i) (sym (s.embeds.level_is f)) up
+  level_up f = subst (λ (i : ℕ). 0 < i) (sym (s.linked.embeds.level_is f)) up
 
   -- walks of every length start at a file with a cycle
   cycle_walks : (n : ℕ) (f : List ℕ) (r : List K) → Means m (linked f) (Cycle r) → Walks g n f

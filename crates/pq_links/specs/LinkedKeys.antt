@@ -6,30 +6,25 @@ use Rattle.pq_rules.specs.declared.turn.Answer.{Answer}
 use Rattle.pq_rules.specs.declared.turn.Answer.TheVariants.{Value, Cycle}
 use Rattle.pq_rules.specs.Turns.{Instance}
 use Rattle.pq_rules.specs.Value.{Means}
-use Rattle.pq_rules.specs.Embedding.{Embeds}
+use Rattle.pq_rules.specs.InSum.{ReadInSum}
 use Rattle.pq_links.specs.ImportGraph.{Graph, IsRingOf}
 use Rattle.pq_links.specs.Visibility.{AreLinks}
 use Rattle.pq_links.specs.aux.Queries.{linked_starts, linked_advances}
-use Rattle.pq_links.specs.declared.linked.Linking.{Linking}
 use Rattle.pq_links.specs.declared.links.Import.{Import}
 use Rattle.pq_links.specs.declared.links.Links.{Links}
 
--- `EmbedsLinks m g imports linked part value imports_read links_read level` is that the rule set
--- `m` embeds the query of links at the level `level`, above imports that are those of the graph
--- `g`. `imports f` and `linked f` are the keys of the imports and of the links of the file `f`,
--- `part` and `value` make parts and values, and `imports_read` and `links_read` read answers.
-pub record EmbedsLinks {K P V : Type 0} (m : Instance K P V) (g : Graph) (imports linked : List ℕ → K) (part : Linking → P) (value : Links → V)
-    (imports_read : Answer K V → Option (List Import)) (links_read : Answer K V → Links) (level : ℕ) : Type 0 where
-  pub embeds : Embeds m linked part value level (linked_starts imports) (λ q a. linked_advances linked (imports_read a) (links_read a) q)
-  -- the links of a value are read back
-  pub reads_back : (l : Links) → links_read (Value (value l)) ≡ l
+-- `EmbedsLinks m g imports imports_read level` is that the rule set `m` embeds the query of links at
+-- the level `level`, above imports that are those of the graph `g`. `imports f` is the key of the
+-- imports of the file `f`, and `imports_read` reads their answers.
+pub record EmbedsLinks {K P V : Type 0} (m : Instance K P V) (g : Graph) (imports : List ℕ → K) (imports_read : Answer K V → Option (List Import)) (level : ℕ) : Type 0 where
+  pub linked : ReadInSum m level (linked_starts imports) (λ key read q a. linked_advances key (imports_read a) (read a) q)
   -- the answers of imports are those of the graph
   pub graph_is : (f : List ℕ) (a : Answer K V) → Means m (imports f) a → imports_read a ≡ g f
   -- imports are of a lower level
   pub above : (f : List ℕ) → m.level (imports f) < level
   -- keys of links are ordered as the names of their files
-  pub one : (f h : List ℕ) → linked f ≡ linked h → f ≡ h
-  pub order_is : (f h : List ℕ) → m.order (linked f) (linked h) ≡ slice_cmp nat_cmp f h
+  pub one : (f h : List ℕ) → linked.key f ≡ linked.key h → f ≡ h
+  pub order_is : (f h : List ℕ) → m.order (linked.key f) (linked.key h) ≡ slice_cmp nat_cmp f h
 
 -- `LinkedIs g linked value f a` is that the answer `a` is the value of the links of the file `f`, a
 -- good file, or the cycle of the ring into which `f` leads, a bad file

@@ -5,3 +5,4 @@ pub mod Falls
 pub mod Adding
 pub mod Joined
 pub mod Following
+pub mod Mentioned

@@ -1,11 +1,11 @@
 -- What the queries of this crate ask and end in, by the answers that they read.
-use Rattle.std.proofs.Common.{◌≡◌, ℕ, Bool, true, false, List, [], ◌∷◌, Option, Some, None, refl, ap, subst, ◌∙◌}
+use Rattle.std.proofs.Common.{ℕ, Bool, true, false, List, Option, Some, None, refl}
 use Rattle.std.specs.Prelude.{codes}
 use Rattle.serde_json.specs.Written.{compact_text}
-use Rattle.pq_rules.specs.declared.turn.Turn.{Turn}
-use Rattle.pq_rules.specs.declared.turn.Turn.TheVariants.{Ask, Done}
+use Rattle.pq_rules.specs.declared.turn.Turn.TheVariants.{Done}
 use Rattle.pq_rules.specs.declared.turn.Answer.{Answer}
 use Rattle.pq_rules.specs.Embedding.{Runs}
+use Rattle.pq_rules.proofs.Asked.{asked, asked_last, ended}
 use Rattle.pq_links.specs.Files.{nodes_of}
 use Rattle.pq_links.specs.declared.file_items.FileItems.{FileItems}
 use Rattle.pq_links.specs.declared.file_items.FileItems.TheVariants as items
@@ -27,43 +27,13 @@ use Rattle.pq_proto.specs.declared.value.ProtoValue.{ProtoValue}
 abbrev A : Type 0
 A = Answer ProtoKey ProtoValue
 
--- `more k a es` is the question `k` with the answer `a`, and then `es`
-abbrev more : ProtoKey → A → Reads → Reads
-more k a es = (k, a) ∷ es
-
-module _ {Q W : Type 0} (advances : Q → A → Turn ProtoKey Q W) where
-  -- the run of a turn that asks: its first question, and the run of the rest
-  asked : (key : ProtoKey) (part : Q) (es : Reads) (v : W) → Runs advances (Ask key part) es (Done v)
-      → (a : A) × (rest : Reads) × (es ≡ more key a rest) × Runs advances (advances part a) rest (Done v)
-  unfolding Runs
-  asked key part [] v r = cc
-  asked key part (e ∷ es) v r =
-      let asks = r.1 in
-      let key_is : e.0 ≡ key = cc in
-      let part_is : r.0 ≡ part = cc in
-      (e.1, es, ap (λ k. more k e.1 es) key_is, subst (λ (q : Q). Runs advances (advances q e.1) es (Done v)) part_is r.2)
-
-  -- the run of a turn that is done asks nothing
-  ended : (x v : W) (es : Reads) → Runs advances (Done x) es (Done v) → (es ≡ []) × (v ≡ x)
-  unfolding Runs
-  ended x v [] r = let is : v ≡ x = cc in (refl, is)
-  ended x v (e ∷ es) r = let none = r.1 in cc
-
-  -- the run of a turn that asks once
-  asked_once : (key : ProtoKey) (part : Q) (x : A → W) (es : Reads) (v : W) → ((a : A) → advances part a ≡ Done (x a))
-      → Runs advances (Ask key part) es (Done v) → (a : A) × (es ≡ more key a []) × (v ≡ x a)
-  asked_once key part x es v ends r =
-      let o = asked key part es v r in
-      let e = ended (x o.0) v o.1 (subst (λ (t : Turn ProtoKey Q W). Runs advances t o.1 (Done v)) (ends o.0) o.3) in
-      (o.0, o.2 ∙ ap (λ rest. more key o.0 rest) e.0, e.1)
-
 -- ---- descriptors
 
 after_items : (f : List ℕ) (i : FileItems) (es : Reads) (t : List ℕ) → Runs descriptor_advances (tree_turn f i (has_tree i)) es (Done t) → AfterItems f i es t
 after_items f items.Absent es t r = ended descriptor_advances (codes "null") t es r
 after_items f items.Fault es t r = ended descriptor_advances (codes "null") t es r
 after_items f (items.Tree nodes) es t r =
-    asked_once descriptor_advances (keys.Resolved f) (descriptors.ReadResolved f (items.Tree nodes)) (λ a. compact_text (descriptor (resolved_read a) f nodes)) es t (λ a. refl) r
+    asked_last descriptor_advances (keys.Resolved f) (descriptors.ReadResolved f (items.Tree nodes)) (λ a. compact_text (descriptor (resolved_read a) f nodes)) es t (λ a. refl) r
 
 after_checks : (f : List ℕ) (failed : Bool) (es : Reads) (t : List ℕ) → Runs descriptor_advances (bare_turn f failed) es (Done t) → AfterChecks f failed es t
 after_checks f true es t r = ended descriptor_advances (codes "null") t es r
@@ -81,14 +51,14 @@ descriptor_given f es t r =
 pub symbols_given : (f : List ℕ) (es : Reads) (t : List ℕ)
     → Runs (λ (q : Unit {0}) (a : A). symbols_advances a) (symbols_starts f) es (Done t) → AreSymbolsBy f es t
 symbols_given f es t r =
-    asked_once (λ (q : Unit {0}) (a : A). symbols_advances a) (keys.Parse f) tt (λ a. symbols_of (parsed_read a)) es t (λ a. refl) r
+    asked_last (λ (q : Unit {0}) (a : A). symbols_advances a) (keys.Parse f) tt (λ a. symbols_of (parsed_read a)) es t (λ a. refl) r
 
 -- ---- definitions
 
 after_target : (target : Option TypeItem) (es : Reads) (d : Option Location) → Runs definition_advances (target_turn target) es (Done d) → AfterTarget target es d
 after_target None es d r = ended definition_advances None d es r
 after_target (Some t) es d r =
-    asked_once definition_advances (keys.Parse t.file) (definitions.ReadTarget t) (λ a. location_of t (parsed_read a)) es d (λ a. refl) r
+    asked_last definition_advances (keys.Parse t.file) (definitions.ReadTarget t) (λ a. location_of t (parsed_read a)) es d (λ a. refl) r
 
 after_file : (f : List ℕ) (file : ParsedFile) (offset : Option ℕ) (es : Reads) (d : Option Location)
     → Runs definition_advances (references_turn f file offset) es (Done d) → AfterFile f file offset es d

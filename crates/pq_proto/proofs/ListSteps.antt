@@ -177,6 +177,29 @@ symbols_none place = refl
 pub link : {T : Type 0} (old mid new more rest : List T) → mid ≡ old ++ more → new ≡ mid ++ rest → new ≡ old ++ (more ++ rest)
 link {T} old mid new more rest first later = later ∙ ap (λ (ts : List T). ts ++ rest) first ∙ append_assoc old more rest
 
+-- `Adds old steps` is that each step `s` adds `s.0` to what was printed before it, which gives `s.1`;
+-- `old` comes before the first
+abbrev pub Adds : {T : Type 0} → List T → List (List T × List T) → Type 0
+Adds old [] = Unit {0}
+Adds old (s ∷ more) = (s.1 ≡ old ++ s.0) × Adds s.1 more
+
+-- `all_added steps` is what the steps add, one after the other
+abbrev pub all_added : {T : Type 0} → List (List T × List T) → List T
+all_added [] = []
+all_added (s ∷ []) = s.0
+all_added (s ∷ (t ∷ more)) = s.0 ++ all_added (t ∷ more)
+
+-- `last_of old steps` is what the last step gives
+abbrev pub last_of : {T : Type 0} → List T → List (List T × List T) → List T
+last_of old [] = old
+last_of old (s ∷ more) = last_of s.1 more
+
+-- so the last gives what was there first and what all steps add
+pub chain : {T : Type 0} (old : List T) (steps : List (List T × List T)) → Adds old steps → last_of old steps ≡ old ++ all_added steps
+chain old [] a = sym (append-nil old)
+chain old (s ∷ []) a = a.0
+chain old (s ∷ (t ∷ more)) a = link old s.1 (last_of s.1 (t ∷ more)) s.0 (all_added (t ∷ more)) a.0 (chain s.1 (t ∷ more) a.1)
+
 -- a list before `rest`
 pub list_then : (ds : List Data) (rest : List Token) → values_of ds ++ (end_array ∷ rest) ≡ items_tokens (items_outline (items_of ds)) ++ rest
 list_then ds rest = sym (ap (λ (ts : List Token). ts ++ rest) (list_tokens ds) ∙ append_assoc (values_of ds) (end_array ∷ []) rest)

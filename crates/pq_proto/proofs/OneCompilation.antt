@@ -25,8 +25,7 @@ use Rattle.pq_checks.specs.ChecksSum.{ChecksMeans}
 use Rattle.pq_checks.specs.Compile.{AreFaults}
 use Rattle.pq_checks.specs.declared.fault.Fault.{Fault}
 use Rattle.pq_checks.proofs.EachAnswered.{Asks, has_answer}
-use Rattle.pq_checks.proofs.ChecksAnswered.{checks_answer as answer_of_checks, diagnostics_answer as answer_of_diagnostics}
-use Rattle.pq_checks.proofs.Existence.{linked_or_ring, resolved_exist, scope_exists}
+use Rattle.pq_checks.proofs.ChecksAnswered.{checks_answer as answer_of_checks, diagnostics_answer as answer_of_diagnostics, faults_one as one_faults, linked_answer as answer_of_links, resolved_answer as answer_of_resolved, resolved_one as one_resolved, scope_answer as answer_of_scope}
 use Rattle.pq_proto.specs.Compile.{Compiles, IsDefinition, IsDescriptor, definition_by, descriptor_by, has_tree, is_failed, offset_at, read_in, symbols_of}
 use Rattle.pq_proto.specs.Definition.{definition_at}
 use Rattle.pq_proto.specs.aux.Outputs.{output_level, faults_read, items_read, parsed_read, resolved_read, bare_turn, tree_turn, descriptor_starts, descriptor_advances, descriptor_left, descriptor_falls, symbols_starts, symbols_advances, references_turn, target_turn, definition_advances, definition_left, definition_falls}
@@ -63,17 +62,11 @@ module _ (order : ProtoKey → ProtoKey → Ordering) (files : Sources)
 
     -- ---- what a key compiles to is one
 
-    scope_one : (f : List ℕ) (s s' : Scope) → IsScope files f s → IsScope files f s' → s ≡ s'
-    scope_one f s s' p q =
-        ap scope_read (one (keys.Scope f) (Value (values.Scope s)) (Value (values.Scope s')) ((t.scope f (Value (values.Scope s))).1 (s, refl, p)) ((t.scope f (Value (values.Scope s'))).1 (s', refl, q)))
-
     resolved_one : (f : List ℕ) (rs rs' : List ResolvedReference) → AreResolved files f rs → AreResolved files f rs' → rs ≡ rs'
-    resolved_one f rs rs' p q =
-        ap resolved_read (one (keys.Resolved f) (Value (values.Resolved rs)) (Value (values.Resolved rs')) ((t.resolved f (Value (values.Resolved rs))).1 (rs, refl, p)) ((t.resolved f (Value (values.Resolved rs'))).1 (rs', refl, q)))
+    resolved_one = one_resolved i files (schema order files order_is one_way) (checks order files order_is one_way) t
 
     faults_one : (f : List ℕ) (fs gs : List Fault) → AreFaults files f fs → AreFaults files f gs → fs ≡ gs
-    faults_one f fs gs p q =
-        ap faults_read (one (keys.Checks f) (Value (values.Checks fs)) (Value (values.Checks gs)) ((u.checks f (Value (values.Checks fs))).1 (fs, refl, p)) ((u.checks f (Value (values.Checks gs))).1 (gs, refl, q)))
+    faults_one = one_faults i files (schema order files order_is one_way) (checks order files order_is one_way) t
 
     descriptor_one : (f v w : List ℕ) → IsDescriptor files f v → IsDescriptor files f w → v ≡ w
     descriptor_one f v w p q =
@@ -106,39 +99,17 @@ module _ (order : ProtoKey → ProtoKey → Ordering) (files : Sources)
     abbrev Answered : ProtoKey → Type 0
     Answered k = (a : A) × Means i k a
 
-    input_answer : (f : List ℕ) → Answered (keys.Input f)
-    input_answer f = (_, (t.input f _).1 refl)
-
     parse_answer : (f : List ℕ) → Answered (keys.Parse f)
     parse_answer f = (_, (t.parse f _).1 refl)
 
     items_answer : (f : List ℕ) → Answered (keys.Items f)
     items_answer f = (_, (t.items f _).1 refl)
 
-    imports_answer : (f : List ℕ) → Answered (keys.Imports f)
-    imports_answer f = (_, (t.imports f _).1 refl)
-
-    linked_answer : (f : List ℕ) → Answered (keys.Linked f)
-    linked_answer f = elim (linked_or_ring files f) [
-      | inl l ↦ (Value (values.Linked l.0), (t.linked f (Value (values.Linked l.0))).1 (l.0, refl, l.1))
-      | inr r ↦ let cycle : A = Cycle (map (λ n. keys.Linked n) r.0) in (cycle, (t.linked f cycle).1 (r.0, refl, r.1))
-    ]
-
-    defs_answer : (f : List ℕ) → Answered (keys.Defs f)
-    defs_answer f = (_, (t.defs f _).1 refl)
-
-    scope_answer : (f : List ℕ) → Answered (keys.Scope f)
-    scope_answer f = let s = scope_exists files f in (Value (values.Scope s.0), (t.scope f (Value (values.Scope s.0))).1 (s.0, refl, s.1))
-
     resolved_answer : (f : List ℕ) → Answered (keys.Resolved f)
-    resolved_answer f =
-        let rs = resolved_exist files f in (Value (values.Resolved rs.0), (t.resolved f (Value (values.Resolved rs.0))).1 (rs.0, refl, rs.1))
+    resolved_answer = answer_of_resolved i files (schema order files order_is one_way) (checks order files order_is one_way) t
 
     checks_answer : (f : List ℕ) → Answered (keys.Checks f)
-    checks_answer f = answer_of_checks i files (schema order files order_is one_way) (checks order files order_is one_way) t f
-
-    diagnostics_answer : (f : List ℕ) → Answered (keys.Diagnostics f)
-    diagnostics_answer f = answer_of_diagnostics i files (schema order files order_is one_way) (checks order files order_is one_way) t f
+    checks_answer = answer_of_checks i files (schema order files order_is one_way) (checks order files order_is one_way) t
 
     symbols_answer : (f : List ℕ) → Answered (keys.Symbols f)
     symbols_answer f =
@@ -187,16 +158,16 @@ module _ (order : ProtoKey → ProtoKey → Ordering) (files : Sources)
         (λ x. ((omega arith, parse_answer x.0), tt)) (λ q a p. definition_asks q a) (f, place)
 
     pub answered : (k : ProtoKey) → Answered k
-    answered (keys.Input f) = input_answer f
+    answered (keys.Input f) = (_, (t.input f _).1 refl)
     answered (keys.Parse f) = parse_answer f
     answered (keys.Items f) = items_answer f
-    answered (keys.Imports f) = imports_answer f
-    answered (keys.Linked f) = linked_answer f
-    answered (keys.Defs f) = defs_answer f
-    answered (keys.Scope f) = scope_answer f
+    answered (keys.Imports f) = (_, (t.imports f _).1 refl)
+    answered (keys.Linked f) = answer_of_links i files (schema order files order_is one_way) (checks order files order_is one_way) t f
+    answered (keys.Defs f) = (_, (t.defs f _).1 refl)
+    answered (keys.Scope f) = answer_of_scope i files (schema order files order_is one_way) (checks order files order_is one_way) t f
     answered (keys.Resolved f) = resolved_answer f
     answered (keys.Checks f) = checks_answer f
-    answered (keys.Diagnostics f) = diagnostics_answer f
+    answered (keys.Diagnostics f) = answer_of_diagnostics i files (schema order files order_is one_way) (checks order files order_is one_way) t f
     answered (keys.Descriptor f) = descriptor_answer f
     answered (keys.Symbols f) = symbols_answer f
     answered (keys.Definition f place) = definition_answer f place

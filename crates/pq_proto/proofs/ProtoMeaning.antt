@@ -18,7 +18,8 @@ use Rattle.pq_rules.specs.Turns.{Instance, over}
 use Rattle.pq_rules.specs.Relations.{Each}
 use Rattle.pq_rules.specs.Value.{Trace, Means}
 use Rattle.pq_rules.specs.Embedding.{Runs, Embeds}
-use Rattle.pq_rules.proofs.LowerReads.{lower_runs}
+use Rattle.pq_rules.proofs.Asked.{asked, ended as run_ended}
+use Rattle.pq_rules.proofs.LowerReads.{AsksBelow, ask_below, done_below, runs_below, lower_runs}
 use Rattle.pq_rules.proofs.OneRead.{once}
 use Rattle.pq_rules.proofs.Rings.{Strict}
 use Rattle.pq_links.specs.Files.{items_in, nodes_in, nodes_of}
@@ -68,52 +69,19 @@ module _ (order : ProtoKey → ProtoKey → Ordering) (files : Sources)
   abbrev pub schema : SchemaSum m files
   schema = record {
     input = λ f. keys.Input f;
-    parse = λ f. keys.Parse f;
-    items = λ f. keys.Items f;
-    imports = λ f. keys.Imports f;
-    linked = λ f. keys.Linked f;
-    defs = λ f. keys.Defs f;
-    scope = λ f. keys.Scope f;
-    resolved = λ f. keys.Resolved f;
-    parse_part = λ q. Parsing;
-    items_part = λ q. Itemizing;
-    imports_part = λ q. Importing;
-    linked_part = λ q. LinkingFiles q;
-    defs_part = λ q. Defining;
-    scope_part = λ q. Scoping q;
-    resolved_part = λ q. Resolving q;
     text_value = λ x. values.Source x;
-    parse_value = λ x. values.Parse x;
-    items_value = λ x. values.Items x;
-    imports_value = λ x. values.Imports x;
-    linked_value = λ x. values.Linked x;
-    defs_value = λ x. values.Defs x;
-    scope_value = λ x. values.Scope x;
-    resolved_value = λ x. values.Resolved x;
     text_read = text_read;
-    parsed_read = parsed_read;
-    items_read = items_read;
-    imports_read = imports_read;
-    links_read = links_read;
-    defs_read = defs_read;
-    scope_read = scope_read;
     text_back = λ x. refl;
-    parsed_back = λ x. refl;
-    items_back = λ x. refl;
-    imports_back = λ x. refl;
-    links_back = λ x. refl;
-    defs_back = λ x. refl;
-    scope_back = λ x. refl;
-    ring_read = λ r. refl;
     input_level = λ f. refl;
     input_is = λ f. refl;
-    parse_embeds = record { level_is = λ x. refl; start_is = λ x. refl; advance_is = λ q a. refl };
-    items_embeds = record { level_is = λ x. refl; start_is = λ x. refl; advance_is = λ q a. refl };
-    imports_embeds = record { level_is = λ x. refl; start_is = λ x. refl; advance_is = λ q a. refl };
-    linked_embeds = record { level_is = λ x. refl; start_is = λ x. refl; advance_is = λ q a. refl };
-    defs_embeds = record { level_is = λ x. refl; start_is = λ x. refl; advance_is = λ q a. refl };
-    scope_embeds = record { level_is = λ x. refl; start_is = λ x. refl; advance_is = λ q a. refl };
-    resolved_embeds = record { level_is = λ x. refl; start_is = λ x. refl; advance_is = λ q a. refl };
+    parse = record { key = λ f. keys.Parse f; part = λ q. Parsing; value = λ x. values.Parse x; read = parsed_read; back = λ x. refl; embeds = record { level_is = λ x. refl; start_is = λ x. refl; advance_is = λ q a. refl } };
+    items = record { key = λ f. keys.Items f; part = λ q. Itemizing; value = λ x. values.Items x; read = items_read; back = λ x. refl; embeds = record { level_is = λ x. refl; start_is = λ x. refl; advance_is = λ q a. refl } };
+    imports = record { key = λ f. keys.Imports f; part = λ q. Importing; value = λ x. values.Imports x; read = imports_read; back = λ x. refl; embeds = record { level_is = λ x. refl; start_is = λ x. refl; advance_is = λ q a. refl } };
+    linked = record { key = λ f. keys.Linked f; part = λ q. LinkingFiles q; value = λ x. values.Linked x; read = links_read; back = λ x. refl; embeds = record { level_is = λ x. refl; start_is = λ x. refl; advance_is = λ q a. refl } };
+    defs = record { key = λ f. keys.Defs f; part = λ q. Defining; value = λ x. values.Defs x; read = defs_read; back = λ x. refl; embeds = record { level_is = λ x. refl; start_is = λ x. refl; advance_is = λ q a. refl } };
+    scope = record { key = λ f. keys.Scope f; part = λ q. Scoping q; value = λ x. values.Scope x; read = scope_read; back = λ x. refl; embeds = record { level_is = λ x. refl; start_is = λ x. refl; advance_is = λ q a. refl } };
+    resolved = record { key = λ f. keys.Resolved f; part = λ q. Resolving q; value = λ x. values.Resolved x; embeds = record { level_is = λ x. refl; start_is = λ x. refl; advance_is = λ q a. refl } };
+    ring_read = λ r. refl;
     one_link = one_link;
     order_is = order_is;
     strict = strict.not_both;
@@ -121,21 +89,13 @@ module _ (order : ProtoKey → ProtoKey → Ordering) (files : Sources)
 
   abbrev pub checks : ChecksSum m files schema
   checks = record {
-    checks = λ f. keys.Checks f;
-    checks_part = λ q. Checking q;
-    checks_value = λ x. values.Checks x;
-    diagnostics = λ f. keys.Diagnostics f;
-    diagnostics_part = λ q. Diagnosing q;
-    diagnostics_value = λ x. values.Diagnostics x;
     referred_read = resolved_read;
     ring_files = ring_read;
-    checked_read = faults_read;
     referred_back = λ x. refl;
     ring_back = λ ring. ap (λ xs. Some xs) (names_back ring);
     no_ring = λ l. refl;
-    checked_back = λ x. refl;
-    checks_embeds = record { level_is = λ x. refl; start_is = λ x. refl; advance_is = λ q a. refl };
-    diagnostics_embeds = record { level_is = λ x. refl; start_is = λ x. refl; advance_is = λ q a. refl };
+    checks = record { key = λ f. keys.Checks f; part = λ q. Checking q; value = λ x. values.Checks x; read = faults_read; back = λ x. refl; embeds = record { level_is = λ x. refl; start_is = λ x. refl; advance_is = λ q a. refl } };
+    diagnostics = record { key = λ f. keys.Diagnostics f; part = λ q. Diagnosing q; value = λ x. values.Diagnostics x; embeds = record { level_is = λ x. refl; start_is = λ x. refl; advance_is = λ q a. refl } };
   }
 
   -- ---- runs of right answers
@@ -144,35 +104,18 @@ module _ (order : ProtoKey → ProtoKey → Ordering) (files : Sources)
   read_one : {Q W : Type 0} (advances : Q → A → Turn ProtoKey Q W) (k : ProtoKey) (q : Q) (es : Trace ProtoKey ProtoValue) (w : W)
       → Runs advances (Ask k q) es (Done w) → Each (λ e. Means m e.0 e.1) es
       → (a : A) × (rest : Trace ProtoKey ProtoValue) × Means m k a × Runs advances (advances q a) rest (Done w) × Each (λ e. Means m e.0 e.1) rest
-  unfolding Runs
-  read_one advances k q [] w r t = cc
-  read_one {Q} advances k q (e ∷ es) w r t =
-      let ask = r.1 in
-      let key : k ≡ e.0 = cc in
-      let part : r.0 ≡ q = cc in
-      (e.1, es, subst (λ x. Means m x e.1) (sym key) t.0, subst (λ (x : Q). Runs advances (advances x e.1) es (Done w)) part r.2, t.1)
+  read_one advances k q es w r t =
+      let a = asked advances k q es w r in
+      let told = subst (λ (xs : Trace ProtoKey ProtoValue). Each (λ e. Means m e.0 e.1) xs) a.2 t in
+      (a.0, a.1, told.0, a.3, told.1)
 
   -- a run from a value is at its end
   ended : {Q W : Type 0} (advances : Q → A → Turn ProtoKey Q W) (v : W) (es : Trace ProtoKey ProtoValue) (w : W) → Runs advances (Done v) es (Done w) → w ≡ v
-  unfolding Runs
-  ended advances v [] w r = cc
-  ended advances v (e ∷ es) w r = let ask = r.1 in cc
+  ended advances v es w r = (run_ended advances v w es r).1
 
-  -- a query whose turns ask keys of lower levels alone
+  -- the turns of a query that ask keys of lower levels alone
   abbrev IsLow : {Q W : Type 0} → Turn ProtoKey Q W → Type 0
-  IsLow {Q} {W} t = (k : ProtoKey) (q : Q) → t ≡ Ask k q → level_of k < output_level
-
-  runs_low : {Q W : Type 0} (advances : Q → A → Turn ProtoKey Q W) → ((q : Q) (a : A) → IsLow (advances q a))
-      → (t : Turn ProtoKey Q W) → IsLow t → (es : Trace ProtoKey ProtoValue) (k : ProtoKey) (q : Q) → Runs advances t es (Ask k q) → level_of k < output_level
-  unfolding Runs
-  runs_low advances low t l [] k q r = l k q r
-  runs_low advances low t l (e ∷ es) k q r = runs_low advances low (advances r.0 e.1) (low r.0 e.1) es k q r.2
-
-  ask_low : {Q W : Type 0} (j : ProtoKey) (p : Q) → level_of j < output_level → IsLow {W = W} (Ask j p)
-  ask_low j p l k q e = let key : j ≡ k = cc in subst (λ x. level_of x < output_level) key l
-
-  done_low : {Q W : Type 0} (w : W) → IsLow {Q = Q} (Done w)
-  done_low w k q e = cc
+  IsLow t = AsksBelow m output_level t
 
   module _ (t : SchemaMeans m files schema) (u : ChecksMeans m files schema checks) where
     parsed_is : (f : List ℕ) (a : A) → Means m (keys.Parse f) a → parsed_read a ≡ read_in files f
@@ -206,17 +149,17 @@ module _ (order : ProtoKey → ProtoKey → Ordering) (files : Sources)
     none_sent false text = refl
 
     bare_low : (f : List ℕ) (failed : Bool) → IsLow (bare_turn f failed)
-    bare_low f true = done_low (codes "null")
-    bare_low f false = ask_low (keys.Items f) (descriptors.ReadItems f) (omega arith)
+    bare_low f true = done_below m output_level (codes "null")
+    bare_low f false = ask_below m output_level (keys.Items f) (descriptors.ReadItems f) (omega arith)
 
     tree_low : (f : List ℕ) (i : FileItems) (tree : Bool) → IsLow (tree_turn f i tree)
-    tree_low f i true = ask_low (keys.Resolved f) (descriptors.ReadResolved f i) (omega arith)
-    tree_low f i false = done_low (codes "null")
+    tree_low f i true = ask_below m output_level (keys.Resolved f) (descriptors.ReadResolved f i) (omega arith)
+    tree_low f i false = done_below m output_level (codes "null")
 
     descriptor_low : (q : DescriptorPart) (a : A) → IsLow (descriptor_advances q a)
     descriptor_low (descriptors.ReadChecks f) a = bare_low f (is_failed (faults_read a))
     descriptor_low (descriptors.ReadItems f) a = tree_low f (items_read a) (has_tree (items_read a))
-    descriptor_low (descriptors.ReadResolved f i) a = done_low _
+    descriptor_low (descriptors.ReadResolved f i) a = done_below m output_level _
 
     tree_is : (f : List ℕ) (fs : List Fault) (tree : Bool) → has_tree (items_in files f) ≡ tree → is_failed fs ≡ false → AreFaults files f fs
         → (es : Trace ProtoKey ProtoValue) (w : List ℕ) → Runs descriptor_advances (tree_turn f (items_in files f) tree) es (Done w)
@@ -253,7 +196,7 @@ module _ (order : ProtoKey → ProtoKey → Ordering) (files : Sources)
     descriptor_is : (f : List ℕ) (a : A) → Means m (keys.Descriptor f) a → (w : List ℕ) × (a ≡ Value (values.Descriptor w)) × IsDescriptor files f w
     descriptor_is f a h =
         let r = lower_runs m (λ x. keys.Descriptor x) (λ q. Describing q) (λ v. values.Descriptor v) output_level descriptor_starts descriptor_advances descriptor_embeds (omega arith)
-        (λ x es k q. runs_low descriptor_advances descriptor_low (descriptor_starts x) (ask_low (keys.Checks x) (descriptors.ReadChecks x) (omega arith)) es k q) f a h in
+        (λ x. runs_below m output_level descriptor_advances descriptor_low (descriptor_starts x) (ask_below m output_level (keys.Checks x) (descriptors.ReadChecks x) (omega arith))) f a h in
         let o = read_one descriptor_advances (keys.Checks f) (descriptors.ReadChecks f) r.0 r.1 r.2 r.4 in
         let d = (u.checks f o.0).0 o.2 in
         let on : Runs descriptor_advances (bare_turn f (is_failed d.0)) o.1 (Done r.1) =
@@ -263,17 +206,17 @@ module _ (order : ProtoKey → ProtoKey → Ordering) (files : Sources)
     -- ---- definitions
 
     references_low : (f : List ℕ) (file : ParsedFile) (o : Option ℕ) → IsLow (references_turn f file o)
-    references_low f file (Some offset) = ask_low (keys.Resolved f) (definitions.ReadResolved offset file) (omega arith)
-    references_low f file None = done_low None
+    references_low f file (Some offset) = ask_below m output_level (keys.Resolved f) (definitions.ReadResolved offset file) (omega arith)
+    references_low f file None = done_below m output_level None
 
     target_low : (x : Option TypeItem) → IsLow (target_turn x)
-    target_low (Some x) = ask_low (keys.Parse x.file) (definitions.ReadTarget x) (omega arith)
-    target_low None = done_low None
+    target_low (Some x) = ask_below m output_level (keys.Parse x.file) (definitions.ReadTarget x) (omega arith)
+    target_low None = done_below m output_level None
 
     definition_low : (q : DefinitionPart) (a : A) → IsLow (definition_advances q a)
     definition_low (definitions.ReadFile f place) a = references_low f (parsed_read a) (offset_at (parsed_read a) place)
     definition_low (definitions.ReadResolved offset file) a = target_low (definition_at (nodes_of file) offset (resolved_read a))
-    definition_low (definitions.ReadTarget x) a = done_low _
+    definition_low (definitions.ReadTarget x) a = done_below m output_level _
 
     abbrev located : Option TypeItem → Option Location
     located x = option_and_then (λ (y : TypeItem). location_of y (read_in files y.file)) x
@@ -319,7 +262,7 @@ module _ (order : ProtoKey → ProtoKey → Ordering) (files : Sources)
         → (w : Option Location) × (a ≡ Value (values.Definition w)) × IsDefinition files f place w
     definition_is f place a h =
         let r = lower_runs m (λ (x : Spot). keys.Definition x.0 x.1) (λ q. Locating q) (λ v. values.Definition v) output_level spot_starts definition_advances definition_embeds (omega arith)
-        (λ x es k q. runs_low definition_advances definition_low (spot_starts x) (ask_low (keys.Parse x.0) (definitions.ReadFile x.0 x.1) (omega arith)) es k q) (f, place) a h in
+        (λ x. runs_below m output_level definition_advances definition_low (spot_starts x) (ask_below m output_level (keys.Parse x.0) (definitions.ReadFile x.0 x.1) (omega arith))) (f, place) a h in
         let o = read_one definition_advances (keys.Parse f) (definitions.ReadFile f place) r.0 r.1 r.2 r.4 in
         let on : Runs definition_advances (references_turn f (read_in files f) (offset_at (read_in files f) place)) o.1 (Done r.1) =
         subst (λ (p : ParsedFile). Runs definition_advances (references_turn f p (offset_at p place)) o.1 (Done r.1)) (parsed_is f o.0 o.2) o.3 in

@@ -5,7 +5,7 @@ use Rattle.pq_rules.specs.declared.turn.Turn.{Turn}
 use Rattle.pq_rules.specs.declared.turn.Turn.TheVariants.{Ask, Done}
 use Rattle.pq_rules.specs.declared.turn.Answer.{Answer}
 use Rattle.pq_rules.specs.declared.turn.Answer.TheVariants.{Value}
-use Rattle.pq_rules.specs.Turns.{Instance}
+use Rattle.pq_rules.specs.Turns.{Instance, IsLower}
 use Rattle.pq_rules.specs.Relations.{Each}
 use Rattle.pq_rules.specs.Value.{Follows, Trace, Means, RightRead, ComesBy, ComesTo}
 use Rattle.pq_rules.specs.Embedding.{embedded, Runs, Embeds}
@@ -22,6 +22,14 @@ pub embedded_done : {K Q P W V : Type 0} (part : Q → P) (value : W → V) (t :
     → embedded part value t ≡ Done v → (w : W) × (t ≡ Done w) × (v ≡ value w)
 embedded_done part value (Ask k q) v e = cc
 embedded_done part value (Done w) v e = let is : v ≡ value w = cc in (w, refl, is)
+
+-- a question of an embedded turn lowers what is left where the query's question does
+pub embedded_falls : {K Q P W V : Type 0} (part : Q → P) (value : W → V) (left : P → ℕ × ℕ) (lefts : Q → ℕ × ℕ) (t : Turn K Q W) (n : ℕ × ℕ)
+    → ((q : Q) → left (part q) ≡ lefts q) → ((k : K) (q : Q) → t ≡ Ask k q → IsLower (lefts q) n)
+    → (k : K) (r : P) → embedded part value t ≡ Ask k r → IsLower (left r) n
+embedded_falls {P = P} part value left lefts t n same falls k r e =
+    let s = embedded_asks part value t k r e in
+    subst (λ (x : P). IsLower (left x) n) (sym s.2) (subst (λ (x : ℕ × ℕ). IsLower x n) (sym (same s.0)) (falls k s.0 s.1))
 
 module _ {X K P V Q W : Type 0} (m : Instance K P V) (key : X → K) (part : Q → P) (value : W → V)
     (level : ℕ) (starts : X → Turn K Q W) (advances : Q → Answer K V → Turn K Q W)

@@ -5,6 +5,7 @@ pub mod Characterisation
 pub mod Induction
 pub mod ListLemmas
 pub mod Order
+pub mod ExactOrders
 pub mod NameCuts
 pub mod Weight
 pub mod Stack
@@ -19,4 +20,6 @@ pub mod Glue
 pub mod Embedded
 pub mod Preserved
 pub mod OneRead
+pub mod Asked
+pub mod AskedOnce
 pub mod LowerReads

@@ -12,6 +12,24 @@ use Rattle.pq_rules.proofs.Characterisation.{cycle_waits, means_done}
 use Rattle.pq_rules.specs.Embedding.{Runs, Embeds}
 use Rattle.pq_rules.proofs.Embedded.{value_runs, asks_runs, runs_come}
 
+-- `AsksBelow m level t` is that the turn `t` asks a key of a level below `level`, or that it is done
+abbrev pub AsksBelow : {K P V Q W : Type 0} → Instance K P V → ℕ → Turn K Q W → Type 0
+AsksBelow {K} {Q = Q} m level t = (k : K) (q : Q) → t ≡ Ask k q → m.level k < level
+
+pub ask_below : {K P V Q W : Type 0} (m : Instance K P V) (level : ℕ) (j : K) (p : Q) → m.level j < level → AsksBelow {W = W} m level (Ask j p)
+ask_below {K} m level j p l k q e = let key : j ≡ k = cc in subst (λ (x : K). m.level x < level) key l
+
+pub done_below : {K P V Q W : Type 0} (m : Instance K P V) (level : ℕ) (w : W) → AsksBelow {Q = Q} m level (Done w)
+done_below m level w k q e = cc
+
+-- a run whose turns ask such keys alone asks such keys
+pub runs_below : {K P V Q W : Type 0} (m : Instance K P V) (level : ℕ) (advances : Q → Answer K V → Turn K Q W)
+    → ((q : Q) (a : Answer K V) → AsksBelow m level (advances q a)) → (t : Turn K Q W) → AsksBelow m level t
+    → (es : Trace K V) (k : K) (q : Q) → Runs advances t es (Ask k q) → m.level k < level
+unfolding Runs
+runs_below m level advances low t l [] k q r = l k q r
+runs_below m level advances low t l (e ∷ es) k q r = runs_below m level advances low (advances r.0 e.1) (low r.0 e.1) es k q r.2
+
 module _ {X K P V Q W : Type 0} (m : Instance K P V) (key : X → K) (part : Q → P) (value : W → V)
     (level : ℕ) (starts : X → Turn K Q W) (advances : Q → Answer K V → Turn K Q W)
     (s : Embeds m key part value level starts advances) (up : 0 < level)

@@ -2,5 +2,6 @@
 pub mod AnswerTable
 pub mod Evaluator
 pub mod Lists
+pub mod KeysBy
 pub mod Runs
 pub mod sums

@@ -45,33 +45,13 @@ near_end ss root k new none (inr among) = absurd (true≢false (sym (subst (λ (
 
 -- ---- the files near the scopes of a search
 
--- the files near what is around a name
-pub near_around : (near : List ℕ) (files : List FileDefs) (name : List ℕ) (inner : Option (List ℕ))
-    → prefixes name ≡ before inner → AreNear near files (chain inner) → AreNear near files (around name)
-near_around near files name inner is are = subst (λ (ps : List (List ℕ)). AreNear near files (ps ++ [] ∷ [])) (sym is) are
-
 pub near_scopes : (near : List ℕ) (files : List FileDefs) (within : List ℕ) (inner : Option (List ℕ))
     → scopes within ≡ chain inner → AreNear near files (chain inner) → AreNear near files (scopes within)
 near_scopes near files within inner is are = subst (λ (ss : List (List ℕ)). AreNear near files ss) (sym is) are
 
-pub near_chain : (near : List ℕ) (files : List FileDefs) (within : List ℕ) (inner : Option (List ℕ))
-    → scopes within ≡ chain inner → AreNear near files (scopes within) → AreNear near files (chain inner)
-near_chain near files within inner is are = subst (λ (ss : List (List ℕ)). AreNear near files ss) is are
-
 or_either : (a b : Bool) → b ≡ true → (a || b) ≡ true
 or_either true b h = refl
 or_either false b h = h
-
--- the files near the scopes further out
-pub near_further : (near : List ℕ) (files : List FileDefs) (inner next : Option (List ℕ))
-    → after_first inner ≡ chain next → AreNear near files (chain inner) → AreNear near files (chain next)
-near_further near files inner next is are = record {
-  rising = are.rising;
-  all = λ k f at among.
-      are.all k f at (subst (λ (ss : List (List ℕ)). is_among f.defs.package_name ss ≡ true) (sym (chain_first inner))
-      (or_either (bytes_eq (first_of inner) f.defs.package_name) (is_among f.defs.package_name (after_first inner))
-      (subst (λ (ss : List (List ℕ)). is_among f.defs.package_name ss ≡ true) (sym is) among)));
-}
 
 none_around : prefixes [] ≡ []
 unfolding prefixes

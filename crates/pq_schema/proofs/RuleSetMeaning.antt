@@ -1,6 +1,6 @@
 -- The rule set of this crate is a sum that embeds the queries of a schema, so its keys mean what
 -- they compile to.
-use Rattle.std.proofs.Common.{◌≡◌, ℕ, List, refl, sym, subst}
+use Rattle.std.proofs.Common.{◌≡◌, ℕ, List, refl}
 use Rattle.std.specs.Prelude.{◌↔◌}
 use Rattle.std.specs.Cmp.Lexicographic.{slice_cmp}
 use Rattle.std.specs.Ordering.{nat_cmp}
@@ -18,8 +18,8 @@ use Rattle.pq_schema.specs.declared.rules.SchemaPart.{SchemaPart}
 use Rattle.pq_schema.specs.declared.rules.SchemaPart.TheVariants.{Parsing, Itemizing, Importing, LinkingFiles, Defining, Scoping, Resolving}
 use Rattle.pq_schema.specs.declared.rules.SchemaValue.{SchemaValue}
 use Rattle.pq_schema.specs.declared.rules.SchemaValue.TheVariants as values
-use Rattle.pq_schema.specs.SchemaSum.{SchemaSum}
-use Rattle.pq_schema.proofs.SchemaMeaning.{input_is, is_input, parse_is, is_parse, items_are, are_items, imports_are, are_imports, linked_means, means_linked, defs_are, are_defs, scope_means, means_scope, resolved_means, means_resolved}
+use Rattle.pq_schema.specs.SchemaSum.{SchemaSum, SchemaMeans}
+use Rattle.pq_schema.proofs.SchemaMeaning.{schema_means}
 
 module _ (order : SchemaKey → SchemaKey → Ordering) (files : Sources)
     (order_is : (f h : List ℕ) → order (Linked f) (Linked h) ≡ slice_cmp nat_cmp f h) (strict : Strict order) where
@@ -32,64 +32,34 @@ module _ (order : SchemaKey → SchemaKey → Ordering) (files : Sources)
   abbrev sum : SchemaSum m files
   sum = record {
     input = λ f. Input f;
-    parse = λ f. Parse f;
-    items = λ f. Items f;
-    imports = λ f. Imports f;
-    linked = λ f. Linked f;
-    defs = λ f. Defs f;
-    scope = λ f. Scope f;
-    resolved = λ f. Resolved f;
-    parse_part = λ q. Parsing;
-    items_part = λ q. Itemizing;
-    imports_part = λ q. Importing;
-    linked_part = λ q. LinkingFiles q;
-    defs_part = λ q. Defining;
-    scope_part = λ q. Scoping q;
-    resolved_part = λ q. Resolving q;
     text_value = λ x. values.Source x;
-    parse_value = λ x. values.Parse x;
-    items_value = λ x. values.Items x;
-    imports_value = λ x. values.Imports x;
-    linked_value = λ x. values.Linked x;
-    defs_value = λ x. values.Defs x;
-    scope_value = λ x. values.Scope x;
-    resolved_value = λ x. values.Resolved x;
     text_read = text_read;
-    parsed_read = parsed_read;
-    items_read = items_read;
-    imports_read = imports_read;
-    links_read = links_read;
-    defs_read = defs_read;
-    scope_read = scope_read;
     text_back = λ x. refl;
-    parsed_back = λ x. refl;
-    items_back = λ x. refl;
-    imports_back = λ x. refl;
-    links_back = λ x. refl;
-    defs_back = λ x. refl;
-    scope_back = λ x. refl;
-    ring_read = λ r. refl;
     input_level = λ f. refl;
     input_is = λ f. refl;
-    parse_embeds = record { level_is = λ x. refl; start_is = λ x. refl; advance_is = λ q a. refl };
-    items_embeds = record { level_is = λ x. refl; start_is = λ x. refl; advance_is = λ q a. refl };
-    imports_embeds = record { level_is = λ x. refl; start_is = λ x. refl; advance_is = λ q a. refl };
-    linked_embeds = record { level_is = λ x. refl; start_is = λ x. refl; advance_is = λ q a. refl };
-    defs_embeds = record { level_is = λ x. refl; start_is = λ x. refl; advance_is = λ q a. refl };
-    scope_embeds = record { level_is = λ x. refl; start_is = λ x. refl; advance_is = λ q a. refl };
-    resolved_embeds = record { level_is = λ x. refl; start_is = λ x. refl; advance_is = λ q a. refl };
+    parse = record { key = λ f. Parse f; part = λ q. Parsing; value = λ x. values.Parse x; read = parsed_read; back = λ x. refl; embeds = record { level_is = λ x. refl; start_is = λ x. refl; advance_is = λ q a. refl } };
+    items = record { key = λ f. Items f; part = λ q. Itemizing; value = λ x. values.Items x; read = items_read; back = λ x. refl; embeds = record { level_is = λ x. refl; start_is = λ x. refl; advance_is = λ q a. refl } };
+    imports = record { key = λ f. Imports f; part = λ q. Importing; value = λ x. values.Imports x; read = imports_read; back = λ x. refl; embeds = record { level_is = λ x. refl; start_is = λ x. refl; advance_is = λ q a. refl } };
+    linked = record { key = λ f. Linked f; part = λ q. LinkingFiles q; value = λ x. values.Linked x; read = links_read; back = λ x. refl; embeds = record { level_is = λ x. refl; start_is = λ x. refl; advance_is = λ q a. refl } };
+    defs = record { key = λ f. Defs f; part = λ q. Defining; value = λ x. values.Defs x; read = defs_read; back = λ x. refl; embeds = record { level_is = λ x. refl; start_is = λ x. refl; advance_is = λ q a. refl } };
+    scope = record { key = λ f. Scope f; part = λ q. Scoping q; value = λ x. values.Scope x; read = scope_read; back = λ x. refl; embeds = record { level_is = λ x. refl; start_is = λ x. refl; advance_is = λ q a. refl } };
+    resolved = record { key = λ f. Resolved f; part = λ q. Resolving q; value = λ x. values.Resolved x; embeds = record { level_is = λ x. refl; start_is = λ x. refl; advance_is = λ q a. refl } };
+    ring_read = λ r. refl;
     one_link = one_link;
     order_is = order_is;
     strict = strict.not_both;
   }
 
+  t : SchemaMeans m files sum
+  t = schema_means m files sum
+
   -- the answers of the rule set are exactly what its keys compile to
   pub means_compiles : (k : SchemaKey) (a : Answer SchemaKey SchemaValue) → Means m k a ↔ Compiles files k a
-  means_compiles (Input f) a = (input_is m files sum f a, λ e. subst (Means m (Input f)) (sym e) (is_input m files sum f))
-  means_compiles (Parse f) a = (parse_is m files sum f a, λ e. subst (Means m (Parse f)) (sym e) (is_parse m files sum f))
-  means_compiles (Items f) a = (items_are m files sum f a, λ e. subst (Means m (Items f)) (sym e) (are_items m files sum f))
-  means_compiles (Imports f) a = (imports_are m files sum f a, λ e. subst (Means m (Imports f)) (sym e) (are_imports m files sum f))
-  means_compiles (Linked f) a = (linked_means m files sum f a, means_linked m files sum f a)
-  means_compiles (Defs f) a = (defs_are m files sum f a, λ e. subst (Means m (Defs f)) (sym e) (are_defs m files sum f))
-  means_compiles (Scope f) a = (scope_means m files sum f a, λ i. subst (Means m (Scope f)) (sym i.1) (means_scope m files sum f i.0 i.2))
-  means_compiles (Resolved f) a = (resolved_means m files sum f a, λ i. subst (Means m (Resolved f)) (sym i.1) (means_resolved m files sum f i.0 i.2))
+  means_compiles (Input f) a = t.input f a
+  means_compiles (Parse f) a = t.parse f a
+  means_compiles (Items f) a = t.items f a
+  means_compiles (Imports f) a = t.imports f a
+  means_compiles (Linked f) a = t.linked f a
+  means_compiles (Defs f) a = t.defs f a
+  means_compiles (Scope f) a = t.scope f a
+  means_compiles (Resolved f) a = t.resolved f a

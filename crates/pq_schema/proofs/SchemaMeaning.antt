@@ -8,13 +8,12 @@ use Rattle.pq_rules.specs.Turns.{Instance}
 use Rattle.pq_rules.specs.Value.{Means}
 use Rattle.pq_rules.specs.aux.Runs.{input_means}
 use Rattle.pq_rules.proofs.Characterisation.{means_input}
-use Rattle.pq_rules.proofs.OneRead.{once, makes_once}
-use Rattle.pq_links.specs.Files.{read_file, items_of, items_in, nodes_in, file_imports, graph_of}
+use Rattle.pq_rules.proofs.AskedOnce.{HasValue, asked_once}
+use Rattle.pq_links.specs.Files.{read_file, read_in, items_of, items_in, nodes_in, file_imports, graph_of}
 use Rattle.pq_links.specs.ImportGraph.{IsRingOf}
 use Rattle.pq_links.specs.Visibility.{AreLinks}
-use Rattle.pq_links.specs.aux.Queries.{parse_level, items_level, imports_level, linked_level, parse_starts, parse_advances, items_starts, items_advances, imports_starts, imports_advances}
+use Rattle.pq_links.specs.aux.Queries.{parse_level, items_level, imports_level, linked_level}
 use Rattle.pq_links.specs.declared.file_items.FileItems.{FileItems}
-use Rattle.pq_links.specs.declared.files.ParsedFile.{ParsedFile}
 use Rattle.pq_links.specs.declared.links.Links.{Links}
 use Rattle.pq_links.specs.LinkedKeys.{EmbedsLinks, LinkedIs}
 use Rattle.pq_links.proofs.LinkedMeaning.{linked_is}
@@ -24,7 +23,7 @@ use Rattle.pq_schema.specs.ScopeContents.{Scope}
 use Rattle.pq_schema.specs.Definitions.{defs_of}
 use Rattle.pq_schema.specs.Compile.{defs_at, with_defs, IsScope, AreResolved}
 use Rattle.pq_schema.specs.Answers.{scope_by}
-use Rattle.pq_schema.specs.aux.Queries.{defs_level, scope_level, resolved_level, defs_starts, defs_advances, resolved_by}
+use Rattle.pq_schema.specs.aux.Queries.{defs_level, scope_level, resolved_level, resolved_by}
 use Rattle.pq_schema.specs.declared.resolved.ResolvedReference.{ResolvedReference}
 use Rattle.pq_schema.proofs.ScopeMeaning.{scope_is, is_scope}
 use Rattle.pq_schema.proofs.ResolvedMeaning.{resolved_is, is_resolved}
@@ -36,121 +35,87 @@ module _ {K P V : Type 0} (m : Instance K P V) (files : Sources) (s : SchemaSum 
   low n l e h = subst (λ (i : ℕ). i < l) (sym e) h
 
   -- ---- the text of a file
-  pub input_is : (f : List ℕ) (a : Answer K V) → Means m (s.input f) a → a ≡ Value (s.text_value (file_in files f).text)
+  input_is : (f : List ℕ) (a : Answer K V) → Means m (s.input f) a → a ≡ Value (s.text_value (file_in files f).text)
   input_is f a h = input_means m (s.input f) a (s.input_level f) h ∙ ap (λ (v : V). Value v) (s.input_is f)
 
-  pub is_input : (f : List ℕ) → Means m (s.input f) (Value (s.text_value (file_in files f).text))
+  is_input : (f : List ℕ) → Means m (s.input f) (Value (s.text_value (file_in files f).text))
   is_input f = means_input m (s.input f) (s.text_value (file_in files f).text) (s.input_level f) (sym (s.input_is f))
 
   input_low : (f : List ℕ) → m.level (s.input f) < parse_level
   input_low f = low 0 parse_level (s.input_level f) (omega arith)
 
-  -- ---- what a file is read as
-  -- `file_at f` is what the file `f` is read as
-  abbrev file_at : List ℕ → ParsedFile
-  file_at f = read_file (file_in files f).text
+  text_is : (f : List ℕ) (a : Answer K V) → Means m (s.input f) a → s.text_read a ≡ (file_in files f).text
+  text_is f a h = ap s.text_read (input_is f a h) ∙ s.text_back (file_in files f).text
 
-  pub parse_is : (f : List ℕ) (a : Answer K V) → Means m (s.parse f) a → a ≡ Value (s.parse_value (file_at f))
-  parse_is f a h =
-      let o = once m s.parse s.parse_part s.parse_value parse_level (parse_starts s.input) (λ q b. parse_advances (s.text_read b)) s.parse_embeds
-      s.input (λ x. tt) (λ x b. read_file (s.text_read b)) (λ x. refl) (λ x b. refl) input_low f a h in
-      let text : s.text_read o.0 ≡ (file_in files f).text = ap s.text_read (input_is f o.0 o.1) ∙ s.text_back (file_in files f).text in
-      o.2 ∙ ap (λ (t : Option (List ℕ)). Value (s.parse_value (read_file t))) text
+  -- ---- the queries of one read
 
-  pub is_parse : (f : List ℕ) → Means m (s.parse f) (Value (s.parse_value (file_at f)))
-  is_parse f =
-      let made = makes_once m s.parse s.parse_part s.parse_value parse_level (parse_starts s.input) (λ q b. parse_advances (s.text_read b)) s.parse_embeds
-      s.input (λ x. tt) (λ x b. read_file (s.text_read b)) (λ x. refl) (λ x b. refl) input_low f (Value (s.text_value (file_in files f).text)) (is_input f) in
-      subst (λ (t : Option (List ℕ)). Means m (s.parse f) (Value (s.parse_value (read_file t)))) (s.text_back (file_in files f).text) made
+  -- what a file is read as
+  parsed : HasValue m s.parse.key s.parse.value s.parse.read (λ f. read_in files f)
+  parsed =
+      asked_once m s.parse s.input (λ f. tt) s.text_read read_file (λ f. refl) (λ f a. refl) input_low
+      (λ f. (file_in files f).text) text_is (λ f. (Value (s.text_value (file_in files f).text), is_input f))
 
-  parsed_is : (f : List ℕ) (a : Answer K V) → Means m (s.parse f) a → s.parsed_read a ≡ file_at f
-  parsed_is f a h = ap s.parsed_read (parse_is f a h) ∙ s.parsed_back (file_at f)
+  parse_low : (f : List ℕ) → m.level (s.parse.key f) < items_level
+  parse_low f = low parse_level items_level (s.parse.embeds.level_is f) (omega arith)
 
-  parse_low : (f : List ℕ) → m.level (s.parse f) < items_level
-  parse_low f = low parse_level items_level (s.parse_embeds.level_is f) (omega arith)
+  -- the same without spans
+  itemed : HasValue m s.items.key s.items.value s.items.read (λ f. items_in files f)
+  itemed =
+      asked_once m s.items s.parse.key (λ f. tt) s.parse.read items_of (λ f. refl) (λ f a. refl) parse_low
+      (λ f. read_in files f) parsed.read_is (λ f. (Value (s.parse.value (read_in files f)), parsed.means f))
 
-  -- ---- the same without spans
-  pub items_are : (f : List ℕ) (a : Answer K V) → Means m (s.items f) a → a ≡ Value (s.items_value (items_in files f))
-  items_are f a h =
-      let o = once m s.items s.items_part s.items_value items_level (items_starts s.parse) (λ q b. items_advances (s.parsed_read b)) s.items_embeds
-      s.parse (λ x. tt) (λ x b. items_of (s.parsed_read b)) (λ x. refl) (λ x b. refl) parse_low f a h in
-      o.2 ∙ ap (λ (p : ParsedFile). Value (s.items_value (items_of p))) (parsed_is f o.0 o.1)
+  items_low : (l : ℕ) → items_level < l → (f : List ℕ) → m.level (s.items.key f) < l
+  items_low l h f = low items_level l (s.items.embeds.level_is f) h
 
-  pub are_items : (f : List ℕ) → Means m (s.items f) (Value (s.items_value (items_in files f)))
-  are_items f =
-      let made = makes_once m s.items s.items_part s.items_value items_level (items_starts s.parse) (λ q b. items_advances (s.parsed_read b)) s.items_embeds
-      s.parse (λ x. tt) (λ x b. items_of (s.parsed_read b)) (λ x. refl) (λ x b. refl) parse_low f (Value (s.parse_value (file_at f))) (is_parse f) in
-      subst (λ (p : ParsedFile). Means m (s.items f) (Value (s.items_value (items_of p)))) (s.parsed_back (file_at f)) made
+  have_items : (f : List ℕ) → (a : Answer K V) × Means m (s.items.key f) a
+  have_items f = (Value (s.items.value (items_in files f)), itemed.means f)
 
-  items_read_is : (f : List ℕ) (a : Answer K V) → Means m (s.items f) a → s.items_read a ≡ items_in files f
-  items_read_is f a h = ap s.items_read (items_are f a h) ∙ s.items_back (items_in files f)
+  -- the imports of a file
+  imported : HasValue m s.imports.key s.imports.value s.imports.read (λ f. graph_of files f)
+  imported =
+      asked_once m s.imports s.items.key (λ f. tt) s.items.read file_imports (λ f. refl) (λ f a. refl) (items_low imports_level (omega arith))
+      (λ f. items_in files f) itemed.read_is have_items
 
-  items_low : (l : ℕ) → items_level < l → (f : List ℕ) → m.level (s.items f) < l
-  items_low l h f = low items_level l (s.items_embeds.level_is f) h
+  have_imports : (f : List ℕ) → (a : Answer K V) × Means m (s.imports.key f) a
+  have_imports f = (Value (s.imports.value (graph_of files f)), imported.means f)
 
-  -- ---- the imports of a file
-  pub imports_are : (f : List ℕ) (a : Answer K V) → Means m (s.imports f) a → a ≡ Value (s.imports_value (graph_of files f))
-  imports_are f a h =
-      let o = once m s.imports s.imports_part s.imports_value imports_level (imports_starts s.items) (λ q b. imports_advances (s.items_read b)) s.imports_embeds
-      s.items (λ x. tt) (λ x b. file_imports (s.items_read b)) (λ x. refl) (λ x b. refl) (items_low imports_level (omega arith)) f a h in
-      o.2 ∙ ap (λ (i : FileItems). Value (s.imports_value (file_imports i))) (items_read_is f o.0 o.1)
+  -- the definitions of a file
+  defined : HasValue m s.defs.key s.defs.value s.defs.read (λ f. defs_at files f)
+  defined =
+      asked_once m s.defs s.items.key (λ f. tt) s.items.read (λ i. defs_of (nodes_in i)) (λ f. refl) (λ f a. refl) (items_low defs_level (omega arith))
+      (λ f. items_in files f) itemed.read_is have_items
 
-  pub are_imports : (f : List ℕ) → Means m (s.imports f) (Value (s.imports_value (graph_of files f)))
-  are_imports f =
-      let made = makes_once m s.imports s.imports_part s.imports_value imports_level (imports_starts s.items) (λ q b. imports_advances (s.items_read b)) s.imports_embeds
-      s.items (λ x. tt) (λ x b. file_imports (s.items_read b)) (λ x. refl) (λ x b. refl) (items_low imports_level (omega arith)) f (Value (s.items_value (items_in files f))) (are_items f) in
-      subst (λ (i : FileItems). Means m (s.imports f) (Value (s.imports_value (file_imports i)))) (s.items_back (items_in files f)) made
+  have_defs : (f : List ℕ) → (a : Answer K V) × Means m (s.defs.key f) a
+  have_defs f = (Value (s.defs.value (defs_at files f)), defined.means f)
 
   -- ---- the links of a file
-  links : EmbedsLinks m (graph_of files) s.imports s.linked s.linked_part s.linked_value s.imports_read s.links_read linked_level
+  abbrev links : EmbedsLinks m (graph_of files) s.imports.key s.imports.read linked_level
   links = record {
-    embeds = s.linked_embeds;
-    reads_back = s.links_back;
-    graph_is = λ f a h. ap s.imports_read (imports_are f a h) ∙ s.imports_back (graph_of files f);
-    above = λ f. low imports_level linked_level (s.imports_embeds.level_is f) (omega arith);
+    linked = s.linked;
+    graph_is = imported.read_is;
+    above = λ f. low imports_level linked_level (s.imports.embeds.level_is f) (omega arith);
     one = s.one_link;
     order_is = s.order_is;
   }
 
-  pub linked_means : (f : List ℕ) (a : Answer K V) → Means m (s.linked f) a → LinkedIs (graph_of files) s.linked s.linked_value f a
-  linked_means f a h =
-      linked_is m (graph_of files) s.imports s.linked s.linked_part s.linked_value s.imports_read s.links_read linked_level links (record { not_both = s.strict }) f a h
+  linked_means : (f : List ℕ) (a : Answer K V) → Means m (s.linked.key f) a → LinkedIs (graph_of files) s.linked.key s.linked.value f a
+  linked_means = linked_is m (graph_of files) s.imports.key s.imports.read linked_level links (record { not_both = s.strict })
 
-  have_imports : (f : List ℕ) → (a : Answer K V) × Means m (s.imports f) a
-  have_imports f = (Value (s.imports_value (graph_of files f)), are_imports f)
+  means_linked : (f : List ℕ) (a : Answer K V) → LinkedIs (graph_of files) s.linked.key s.linked.value f a → Means m (s.linked.key f) a
+  means_linked = is_linked m (graph_of files) s.imports.key s.imports.read linked_level links have_imports (record { not_both = s.strict })
 
-  pub means_linked : (f : List ℕ) (a : Answer K V) → LinkedIs (graph_of files) s.linked s.linked_value f a → Means m (s.linked f) a
-  means_linked f a i =
-      is_linked m (graph_of files) s.imports s.linked s.linked_part s.linked_value s.imports_read s.links_read linked_level links have_imports (record { not_both = s.strict }) f a i
+  is_good : (f : List ℕ) (l : Links) → AreLinks (graph_of files) f l → Means m (s.linked.key f) (Value (s.linked.value l))
+  is_good f l i = means_linked f (Value (s.linked.value l)) (l, refl, i)
 
-  is_good : (f : List ℕ) (l : Links) → AreLinks (graph_of files) f l → Means m (s.linked f) (Value (s.linked_value l))
-  is_good f l i = means_linked f (Value (s.linked_value l)) (l, refl, i)
-
-  is_ring : (f : List ℕ) (ring : List (List ℕ)) → IsRingOf (graph_of files) f ring → Means m (s.linked f) (Cycle (map s.linked ring))
-  is_ring f ring i = means_linked f (Cycle (map s.linked ring)) (ring, refl, i)
-
-  -- ---- the definitions of a file
-  pub defs_are : (f : List ℕ) (a : Answer K V) → Means m (s.defs f) a → a ≡ Value (s.defs_value (defs_at files f))
-  defs_are f a h =
-      let o = once m s.defs s.defs_part s.defs_value defs_level (defs_starts s.items) (λ q b. defs_advances (nodes_in (s.items_read b))) s.defs_embeds
-      s.items (λ x. tt) (λ x b. defs_of (nodes_in (s.items_read b))) (λ x. refl) (λ x b. refl) (items_low defs_level (omega arith)) f a h in
-      o.2 ∙ ap (λ (i : FileItems). Value (s.defs_value (defs_of (nodes_in i)))) (items_read_is f o.0 o.1)
-
-  pub are_defs : (f : List ℕ) → Means m (s.defs f) (Value (s.defs_value (defs_at files f)))
-  are_defs f =
-      let made = makes_once m s.defs s.defs_part s.defs_value defs_level (defs_starts s.items) (λ q b. defs_advances (nodes_in (s.items_read b))) s.defs_embeds
-      s.items (λ x. tt) (λ x b. defs_of (nodes_in (s.items_read b))) (λ x. refl) (λ x b. refl) (items_low defs_level (omega arith)) f (Value (s.items_value (items_in files f))) (are_items f) in
-      subst (λ (i : FileItems). Means m (s.defs f) (Value (s.defs_value (defs_of (nodes_in i))))) (s.items_back (items_in files f)) made
+  is_ring : (f : List ℕ) (ring : List (List ℕ)) → IsRingOf (graph_of files) f ring → Means m (s.linked.key f) (Cycle (map s.linked.key ring))
+  is_ring f ring i = means_linked f (Cycle (map s.linked.key ring)) (ring, refl, i)
 
   -- ---- the scope of a file
-  defs_read_is : (f : List ℕ) (a : Answer K V) → Means m (s.defs f) a → s.defs_read a ≡ defs_at files f
-  defs_read_is f a h = ap s.defs_read (defs_are f a h) ∙ s.defs_back (defs_at files f)
+  above_links : (f : List ℕ) → m.level (s.linked.key f) < scope_level
+  above_links f = low linked_level scope_level (s.linked.embeds.level_is f) (omega arith)
 
-  above_links : (f : List ℕ) → m.level (s.linked f) < scope_level
-  above_links f = low linked_level scope_level (s.linked_embeds.level_is f) (omega arith)
-
-  above_defs : (f : List ℕ) → m.level (s.defs f) < scope_level
-  above_defs f = low defs_level scope_level (s.defs_embeds.level_is f) (omega arith)
+  above_defs : (f : List ℕ) → m.level (s.defs.key f) < scope_level
+  above_defs f = low defs_level scope_level (s.defs.embeds.level_is f) (omega arith)
 
   -- `scope_from l` is the scope that the rule makes of the links `l`
   abbrev scope_from : Links → Scope
@@ -159,78 +124,75 @@ module _ {K P V : Type 0} (m : Instance K P V) (files : Sources) (s : SchemaSum 
   reaches : (f : List ℕ) (l : Links) → AreLinks (graph_of files) f l → Reaches l
   reaches f l i = subst Reaches (sym i.2) (all_reached (graph_of files) i.0 f)
 
-  by_links : (f : List ℕ) (b : Answer K V) → LinkedIs (graph_of files) s.linked s.linked_value f b → IsScope files f (scope_from (s.links_read b))
+  by_links : (f : List ℕ) (b : Answer K V) → LinkedIs (graph_of files) s.linked.key s.linked.value f b → IsScope files f (scope_from (s.linked.read b))
   by_links f (Value v) i =
-      let read : s.links_read (Value v) ≡ i.0 = ap (λ (x : V). s.links_read (Value x)) i.1 ∙ s.links_back i.0 in
+      let read : s.linked.read (Value v) ≡ i.0 = ap (λ (x : V). s.linked.read (Value x)) i.1 ∙ s.linked.back i.0 in
       inl (i.0, i.2, ap scope_from read ∙ scope_defined (defs_at files) i.0 (reaches f i.0 i.2))
   by_links f (Cycle r) i = inr (i.0, i.2, ap scope_from (s.ring_read r))
 
-  pub scope_means : (f : List ℕ) (a : Answer K V) → Means m (s.scope f) a → (w : Scope) × (a ≡ Value (s.scope_value w)) × IsScope files f w
+  scope_means : (f : List ℕ) (a : Answer K V) → Means m (s.scope.key f) a → (w : Scope) × (a ≡ Value (s.scope.value w)) × IsScope files f w
   scope_means f a h =
-      let r = scope_is m s.linked s.defs s.scope s.scope_part s.scope_value s.links_read s.defs_read (defs_at files) scope_level s.scope_embeds
-      defs_read_is above_links above_defs f a h in
-      (scope_from (s.links_read r.0), r.2, by_links f r.0 (linked_means f r.0 r.1))
+      let r = scope_is m s.linked.key s.defs.key s.scope.key s.scope.part s.scope.value s.linked.read s.defs.read (defs_at files) scope_level s.scope.embeds
+      defined.read_is above_links above_defs f a h in
+      (scope_from (s.linked.read r.0), r.2, by_links f r.0 (linked_means f r.0 r.1))
 
-  have_defs : (f : List ℕ) → (a : Answer K V) × Means m (s.defs f) a
-  have_defs f = (Value (s.defs_value (defs_at files f)), are_defs f)
-
-  means_from : (f : List ℕ) (b : Answer K V) → Means m (s.linked f) b → Means m (s.scope f) (Value (s.scope_value (scope_from (s.links_read b))))
+  means_from : (f : List ℕ) (b : Answer K V) → Means m (s.linked.key f) b → Means m (s.scope.key f) (Value (s.scope.value (scope_from (s.linked.read b))))
   means_from f b h =
-      is_scope m s.linked s.defs s.scope s.scope_part s.scope_value s.links_read s.defs_read (defs_at files) scope_level s.scope_embeds
-      defs_read_is above_links above_defs have_defs f b h
+      is_scope m s.linked.key s.defs.key s.scope.key s.scope.part s.scope.value s.linked.read s.defs.read (defs_at files) scope_level s.scope.embeds
+      defined.read_is above_links above_defs have_defs f b h
 
-  pub means_scope : (f : List ℕ) (w : Scope) → IsScope files f w → Means m (s.scope f) (Value (s.scope_value w))
+  means_scope : (f : List ℕ) (w : Scope) → IsScope files f w → Means m (s.scope.key f) (Value (s.scope.value w))
   means_scope f w (inl i) =
-      let read : scope_from (s.links_read (Value (s.linked_value i.0))) ≡ w =
-      ap scope_from (s.links_back i.0) ∙ scope_defined (defs_at files) i.0 (reaches f i.0 i.1) ∙ sym i.2 in
-      subst (λ (x : Scope). Means m (s.scope f) (Value (s.scope_value x))) read (means_from f (Value (s.linked_value i.0)) (is_good f i.0 i.1))
+      let read : scope_from (s.linked.read (Value (s.linked.value i.0))) ≡ w =
+      ap scope_from (s.linked.back i.0) ∙ scope_defined (defs_at files) i.0 (reaches f i.0 i.1) ∙ sym i.2 in
+      subst (λ (x : Scope). Means m (s.scope.key f) (Value (s.scope.value x))) read (means_from f (Value (s.linked.value i.0)) (is_good f i.0 i.1))
   means_scope f w (inr i) =
-      let ring = map s.linked i.0 in
-      let read : scope_from (s.links_read (Cycle ring)) ≡ w = ap scope_from (s.ring_read ring) ∙ sym i.2 in
-      subst (λ (x : Scope). Means m (s.scope f) (Value (s.scope_value x))) read (means_from f (Cycle ring) (is_ring f i.0 i.1))
+      let ring = map s.linked.key i.0 in
+      let read : scope_from (s.linked.read (Cycle ring)) ≡ w = ap scope_from (s.ring_read ring) ∙ sym i.2 in
+      subst (λ (x : Scope). Means m (s.scope.key f) (Value (s.scope.value x))) read (means_from f (Cycle ring) (is_ring f i.0 i.1))
 
   -- ---- the resolved references of a file
-  above_scope : (f : List ℕ) → m.level (s.scope f) < resolved_level
-  above_scope f = low scope_level resolved_level (s.scope_embeds.level_is f) (omega arith)
+  above_scope : (f : List ℕ) → m.level (s.scope.key f) < resolved_level
+  above_scope f = low scope_level resolved_level (s.scope.embeds.level_is f) (omega arith)
 
-  pub resolved_means : (f : List ℕ) (a : Answer K V) → Means m (s.resolved f) a → (rs : List ResolvedReference) × (a ≡ Value (s.resolved_value rs)) × AreResolved files f rs
+  resolved_means : (f : List ℕ) (a : Answer K V) → Means m (s.resolved.key f) a → (rs : List ResolvedReference) × (a ≡ Value (s.resolved.value rs)) × AreResolved files f rs
   resolved_means f a h =
-      let r = resolved_is m s.scope s.items s.resolved s.resolved_part s.resolved_value s.scope_read (λ b. nodes_in (s.items_read b)) resolved_level s.resolved_embeds
+      let r = resolved_is m s.scope.key s.items.key s.resolved.key s.resolved.part s.resolved.value s.scope.read (λ b. nodes_in (s.items.read b)) resolved_level s.resolved.embeds
       above_scope (items_low resolved_level (omega arith)) f a h in
       let w = scope_means f r.0 r.2 in
-      let scope_at : s.scope_read r.0 ≡ w.0 = ap s.scope_read w.1 ∙ s.scope_back w.0 in
-      let file : s.items_read r.1 ≡ items_in files f = items_read_is f r.1 r.3 in (
-        resolved_by (s.scope_read r.0) (nodes_in (s.items_read r.1)),
+      let scope_at : s.scope.read r.0 ≡ w.0 = ap s.scope.read w.1 ∙ s.scope.back w.0 in
+      let file : s.items.read r.1 ≡ items_in files f = itemed.read_is f r.1 r.3 in (
+        resolved_by (s.scope.read r.0) (nodes_in (s.items.read r.1)),
         r.4,
         (
           w.0,
           w.2,
-          ap (λ (x : Scope). resolved_by x (nodes_in (s.items_read r.1))) scope_at
+          ap (λ (x : Scope). resolved_by x (nodes_in (s.items.read r.1))) scope_at
               ∙ ap (λ (i : FileItems). resolved_by w.0 (nodes_in i)) file,
         ),
       )
 
-  pub means_resolved : (f : List ℕ) (rs : List ResolvedReference) → AreResolved files f rs → Means m (s.resolved f) (Value (s.resolved_value rs))
+  means_resolved : (f : List ℕ) (rs : List ResolvedReference) → AreResolved files f rs → Means m (s.resolved.key f) (Value (s.resolved.value rs))
   means_resolved f rs i =
-      let b : Answer K V = Value (s.scope_value i.0) in
-      let c : Answer K V = Value (s.items_value (items_in files f)) in
-      let made = is_resolved m s.scope s.items s.resolved s.resolved_part s.resolved_value s.scope_read (λ x. nodes_in (s.items_read x)) resolved_level s.resolved_embeds
-      above_scope (items_low resolved_level (omega arith)) f b c (means_scope f i.0 i.1) (are_items f) in
-      let same : resolved_by (s.scope_read b) (nodes_in (s.items_read c)) ≡ rs =
-      ap (λ (x : Scope). resolved_by x (nodes_in (s.items_read c))) (s.scope_back i.0)
-      ∙ ap (λ (x : FileItems). resolved_by i.0 (nodes_in x)) (s.items_back (items_in files f))
+      let b : Answer K V = Value (s.scope.value i.0) in
+      let c : Answer K V = Value (s.items.value (items_in files f)) in
+      let made = is_resolved m s.scope.key s.items.key s.resolved.key s.resolved.part s.resolved.value s.scope.read (λ x. nodes_in (s.items.read x)) resolved_level s.resolved.embeds
+      above_scope (items_low resolved_level (omega arith)) f b c (means_scope f i.0 i.1) (itemed.means f) in
+      let same : resolved_by (s.scope.read b) (nodes_in (s.items.read c)) ≡ rs =
+      ap (λ (x : Scope). resolved_by x (nodes_in (s.items.read c))) (s.scope.back i.0)
+      ∙ ap (λ (x : FileItems). resolved_by i.0 (nodes_in x)) (s.items.back (items_in files f))
       ∙ sym i.2 in
-      subst (λ (x : List ResolvedReference). Means m (s.resolved f) (Value (s.resolved_value x))) same made
+      subst (λ (x : List ResolvedReference). Means m (s.resolved.key f) (Value (s.resolved.value x))) same made
 
   -- the answers of the sum are exactly what the files compile to
   pub schema_means : SchemaMeans m files s
   schema_means = record {
     input = λ f a. (input_is f a, λ e. subst (Means m (s.input f)) (sym e) (is_input f));
-    parse = λ f a. (parse_is f a, λ e. subst (Means m (s.parse f)) (sym e) (is_parse f));
-    items = λ f a. (items_are f a, λ e. subst (Means m (s.items f)) (sym e) (are_items f));
-    imports = λ f a. (imports_are f a, λ e. subst (Means m (s.imports f)) (sym e) (are_imports f));
+    parse = λ f a. (parsed.is f a, λ e. subst (Means m (s.parse.key f)) (sym e) (parsed.means f));
+    items = λ f a. (itemed.is f a, λ e. subst (Means m (s.items.key f)) (sym e) (itemed.means f));
+    imports = λ f a. (imported.is f a, λ e. subst (Means m (s.imports.key f)) (sym e) (imported.means f));
     linked = λ f a. (linked_means f a, means_linked f a);
-    defs = λ f a. (defs_are f a, λ e. subst (Means m (s.defs f)) (sym e) (are_defs f));
-    scope = λ f a. (scope_means f a, λ i. subst (Means m (s.scope f)) (sym i.1) (means_scope f i.0 i.2));
-    resolved = λ f a. (resolved_means f a, λ i. subst (Means m (s.resolved f)) (sym i.1) (means_resolved f i.0 i.2));
+    defs = λ f a. (defined.is f a, λ e. subst (Means m (s.defs.key f)) (sym e) (defined.means f));
+    scope = λ f a. (scope_means f a, λ i. subst (Means m (s.scope.key f)) (sym i.1) (means_scope f i.0 i.2));
+    resolved = λ f a. (resolved_means f a, λ i. subst (Means m (s.resolved.key f)) (sym i.1) (means_resolved f i.0 i.2));
   }

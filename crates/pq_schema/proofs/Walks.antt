@@ -23,49 +23,6 @@ nothing_further (FoundType f d) = refl
 nothing_further FoundOther = refl
 nothing_further FoundNothing = refl
 
-single_step : (files : List FileDefs) (inner : Option (List ℕ)) (name : List ℕ)
-    → single files (chain inner) name ≡ unless_type (found files (qualified (first_of inner) name)) (single files (after_first inner) name)
-unfolding single
-single_step files None name = refl
-single_step files (Some s) name = refl
-
--- the scopes up to `inner` give `best`, and `inner` gives `hit`
-pub single_more : (files : List FileDefs) (inner : Option (List ℕ)) (name : List ℕ) (whole best hit next : Found)
-    → whole ≡ unless_type best (single files (chain inner) name)
-    → hit ≡ found files (qualified (first_of inner) name)
-    → next ≡ unless_type best hit
-    → whole ≡ unless_type next (single files (after_first inner) name)
-single_more files inner name whole best hit next is at is_next =
-    let further = single files (after_first inner) name in
-    is
-    ∙ ap (λ (x : Found). unless_type best x) (single_step files inner name)
-    ∙ sym (grouped best (found files (qualified (first_of inner) name)) further)
-    ∙ ap (λ (x : Found). unless_type x further) (sym (is_next ∙ ap (λ (x : Found). unless_type best x) at))
-
-pub single_none : (files : List FileDefs) (name : List ℕ) → single files [] name ≡ FoundNothing
-unfolding single
-single_none files name = refl
-
-pub dotted_found : (files : List FileDefs) (inner : Option (List ℕ)) (first name : List ℕ) (b : Bool) (hit : Found)
-    → b ≡ decides files (qualified (first_of inner) first)
-    → hit ≡ found files (qualified (first_of inner) name)
-    → dotted files (chain inner) first name ≡ cond b hit (dotted files (after_first inner) first name)
-unfolding dotted
-dotted_found files inner first name b hit is_b is_hit =
-    step inner
-    ∙ ap (λ (x : Bool). cond x (found files (qualified (first_of inner) name)) (dotted files (after_first inner) first name)) (sym is_b)
-    ∙ ap (λ (x : Found). cond b x (dotted files (after_first inner) first name)) (sym is_hit)
-  where
-    step : (o : Option (List ℕ))
-        → dotted files (chain o) first name
-        ≡ cond (decides files (qualified (first_of o) first)) (found files (qualified (first_of o) name)) (dotted files (after_first o) first name)
-    step None = refl
-    step (Some s) = refl
-
-pub dotted_none : (files : List FileDefs) (first name : List ℕ) → dotted files [] first name ≡ FoundNothing
-unfolding dotted
-dotted_none files first name = refl
-
 -- a type stays
 pub stays_type : (a further : Found) (file : List ℕ) (d : Definition) → a ≡ FoundType file d → unless_type a further ≡ a
 stays_type a further file d is = subst (λ (x : Found). unless_type x further ≡ x) (sym is) refl

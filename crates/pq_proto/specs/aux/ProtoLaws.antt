@@ -1,36 +1,31 @@
 -- Auxiliary: the rule set keeps the laws, by what each query preserves of the names that the
 -- sources mention (used by proofs and invariants only).
-use Rattle.std.proofs.Common.{◌≡◌, ◌⊎◌, ℕ, ◌≤◌, Bool, true, false, List, [], ◌∷◌, map, Option, Some, None, refl, sym, ap, subst, inl, inr, arith}
-use Rattle.std.specs.Prelude.{IsSome, ◌↔◌, codes, cond, unwrap_or}
-use Rattle.std.specs.Str.{bytes_eq}
+use Rattle.std.proofs.Common.{◌≡◌, ◌⊎◌, ℕ, ◌≤◌, Bool, true, false, List, [], ◌∷◌, Option, Some, None, refl, sym, ap, subst, inl, inr, arith}
+use Rattle.std.specs.Prelude.{IsSome, ◌↔◌, cond}
 use Rattle.std.specs.declared.cmp.Ordering.{Ordering}
 use Rattle.std.specs.declared.cmp.Ordering.TheVariants.{Equal}
-use Rattle.std.proofs.lemmas.Bool.{cases_Bool}
-use Rattle.pq_inputs.specs.Sources.{Sources, file_in}
-use Rattle.pq_rules.specs.Embedding.{embedded}
+use Rattle.pq_inputs.specs.Sources.{Sources}
 use Rattle.pq_rules.specs.Laws.{Laws}
-use Rattle.pq_rules.specs.declared.turn.Turn.{Turn}
-use Rattle.pq_rules.specs.declared.turn.Turn.TheVariants.{Ask, Done}
+use Rattle.pq_rules.specs.declared.turn.Turn.TheVariants.{Ask}
 use Rattle.pq_rules.specs.declared.turn.Answer.{Answer}
 use Rattle.pq_rules.specs.declared.turn.Answer.TheVariants.{Value, Cycle}
 use Rattle.pq_rules.specs.Turns.{Instance, over, IsLower}
-use Rattle.pq_rules.specs.Relations.{Each, In}
+use Rattle.pq_rules.specs.Relations.{In}
 use Rattle.pq_rules.specs.Value.{ComesTo}
-use Rattle.pq_rules.proofs.Embedded.{embedded_asks}
+use Rattle.pq_rules.proofs.Embedded.{embedded_falls}
 use Rattle.pq_rules.proofs.Preserved.{TurnIn, AnswerIn, Preserves, asked_in, embedded_in}
-use Rattle.pq_rules.specs.aux.Lists.{in_append_left, in_append_right}
-use Rattle.pq_links.specs.ImportGraph.{file_of}
+use Rattle.pq_rules.specs.aux.KeysBy.{keys_by, in_keys_by, keys_by_in}
+use Rattle.pq_links.specs.aux.Mentioned.{all_mentioned}
 use Rattle.pq_links.specs.Files.{read_file, file_imports, items_of, nodes_in, nodes_of}
 use Rattle.pq_links.specs.aux.Queries.{linked_starts, linked_advances, linked_left}
 use Rattle.pq_links.specs.aux.Falls.{linked_falls}
 use Rattle.pq_links.specs.declared.file_items.FileItems.{FileItems}
 use Rattle.pq_links.specs.declared.files.ParsedFile.{ParsedFile}
-use Rattle.pq_links.specs.declared.links.Import.{Import}
+use Rattle.pq_links.proofs.Mentions.{text_in_kind}
 use Rattle.pq_links.proofs.NameKinds.{IfImportsIn, LinksIn, LinkingIn, no_links_in, linked_starts_in, linked_advances_in}
 use Rattle.pq_schema.specs.aux.Queries.{scope_starts, scope_advances, scope_left, resolved_starts, resolved_advances, resolved_left}
 use Rattle.pq_schema.specs.aux.Falls.{scope_falls, resolved_falls}
 use Rattle.pq_schema.specs.aux.NameKinds.{ScopeIn, ScopePartIn, scope_starts_in, scope_advances_in}
-use Rattle.pq_schema.specs.aux.RuleSet.{mentioned, all_mentioned}
 use Rattle.pq_schema.specs.declared.resolved.ResolvedReference.{ResolvedReference}
 use Rattle.pq_schema.proofs.ResolvedKinds.{ResolutionIn, ResolvedIn, ResolvedPartIn, resolved_starts_in, resolved_advances_in}
 use Rattle.pq_schema.specs.declared.resolution.Resolution.{Resolution}
@@ -49,7 +44,7 @@ use Rattle.pq_proto.specs.Definition.{definition_at, type_item, holds}
 use Rattle.pq_checks.specs.aux.CheckKinds.{AsksIn, CheckPartIn, check_starts_in, check_advances_in}
 use Rattle.pq_proto.specs.Levels.{level_of}
 use Rattle.pq_proto.specs.aux.Outputs.{faults_read, items_read, parsed_read, resolved_read, bare_turn, tree_turn, descriptor_advances, descriptor_left, descriptor_falls, references_turn, target_turn, definition_advances, definition_left, definition_falls}
-use Rattle.pq_proto.specs.aux.RuleSet.{text_read, imports_read, links_read, defs_read, scope_read, check_words, proto_file, proto_start, proto_advance, proto_left, proto_rules, descriptor_turn, definition_turn, own_name, keys_of, proto_reach}
+use Rattle.pq_proto.specs.aux.RuleSet.{text_read, imports_read, links_read, defs_read, scope_read, check_words, proto_file, proto_start, proto_advance, proto_left, proto_rules, descriptor_turn, definition_turn, own_name, makers, proto_reach}
 use Rattle.pq_proto.specs.declared.key.ProtoKey.{ProtoKey}
 use Rattle.pq_proto.specs.declared.key.ProtoKey.TheVariants as keys
 use Rattle.pq_proto.specs.declared.queries.definition.DefinitionPart.{DefinitionPart}
@@ -68,35 +63,27 @@ proto_inputs k = (λ e. cc, λ e. cc)
 
 -- ---- each further question lowers what is left
 
--- a turn of the rule set lowers what is left where the query's turn does
-part_falls : {Q W : Type 0} (part : Q → ProtoPart) (value : W → ProtoValue) (lefts : Q → ℕ × ℕ) (t : Turn ProtoKey Q W) (n : ℕ × ℕ)
-    → ((q : Q) → proto_left (part q) ≡ lefts q) → ((k : ProtoKey) (q : Q) → t ≡ Ask k q → IsLower (lefts q) n)
-    → (k : ProtoKey) (r : ProtoPart) → embedded part value t ≡ Ask k r → IsLower (proto_left r) n
-part_falls part value lefts t n same falls k r e =
-    let s = embedded_asks part value t k r e in
-    subst (λ (x : ProtoPart). IsLower (proto_left x) n) (sym s.2) (subst (λ (x : ℕ × ℕ). IsLower x n) (sym (same s.0)) (falls k s.0 s.1))
-
 proto_falls : (p : ProtoPart) (a : Answer ProtoKey ProtoValue) (q : ProtoKey) (r : ProtoPart) → proto_advance p a ≡ Ask q r → IsLower (proto_left r) (proto_left p)
 proto_falls (LinkingFiles p) a q r e =
-    part_falls (λ x. LinkingFiles x) (λ v. values.Linked v) linked_left (linked_advances (λ n. keys.Linked n) (imports_read a) (links_read a) p) (linked_left p)
+    embedded_falls (λ x. LinkingFiles x) (λ v. values.Linked v) proto_left linked_left (linked_advances (λ n. keys.Linked n) (imports_read a) (links_read a) p) (linked_left p)
     (λ x. refl) (linked_falls (λ n. keys.Linked n) (imports_read a) (links_read a) p) q r e
 proto_falls (Scoping p) a q r e =
-    part_falls (λ x. Scoping x) (λ v. values.Scope v) scope_left (scope_advances (λ n. keys.Defs n) (links_read a) (defs_read a) p) (scope_left p)
+    embedded_falls (λ x. Scoping x) (λ v. values.Scope v) proto_left scope_left (scope_advances (λ n. keys.Defs n) (links_read a) (defs_read a) p) (scope_left p)
     (λ x. refl) (scope_falls (λ n. keys.Defs n) (links_read a) (defs_read a) p) q r e
 proto_falls (Resolving p) a q r e =
-    part_falls (λ x. Resolving x) (λ v. values.Resolved v) resolved_left (resolved_advances (λ n. keys.Items n) (scope_read a) (nodes_in (items_read a)) p) (resolved_left p)
+    embedded_falls (λ x. Resolving x) (λ v. values.Resolved v) proto_left resolved_left (resolved_advances (λ n. keys.Items n) (scope_read a) (nodes_in (items_read a)) p) (resolved_left p)
     (λ x. refl) (resolved_falls (λ n. keys.Items n) (scope_read a) (nodes_in (items_read a)) p) q r e
 proto_falls (Checking p) a q r e =
-    part_falls (λ x. Checking x) (λ v. values.Checks v) check_left (check_advances check_words p a) (check_left p)
+    embedded_falls (λ x. Checking x) (λ v. values.Checks v) proto_left check_left (check_advances check_words p a) (check_left p)
     (λ x. refl) (check_falls check_words a p) q r e
 proto_falls (Diagnosing p) a q r e =
-    part_falls (λ x. Diagnosing x) (λ v. values.Diagnostics v) diagnostics_left (diagnostics_advances (λ n. keys.Parse n) (faults_read a) (parsed_read a) p) (diagnostics_left p)
+    embedded_falls (λ x. Diagnosing x) (λ v. values.Diagnostics v) proto_left diagnostics_left (diagnostics_advances (λ n. keys.Parse n) (faults_read a) (parsed_read a) p) (diagnostics_left p)
     (λ x. refl) (diagnostics_falls (λ n. keys.Parse n) (faults_read a) (parsed_read a) p) q r e
 proto_falls (Describing p) a q r e =
-    part_falls (λ x. Describing x) (λ v. values.Descriptor v) descriptor_left (descriptor_advances p a) (descriptor_left p)
+    embedded_falls (λ x. Describing x) (λ v. values.Descriptor v) proto_left descriptor_left (descriptor_advances p a) (descriptor_left p)
     (λ x. refl) (descriptor_falls p a) q r e
 proto_falls (Locating p) a q r e =
-    part_falls (λ x. Locating x) (λ v. values.Definition v) definition_left (definition_advances p a) (definition_left p)
+    embedded_falls (λ x. Locating x) (λ v. values.Definition v) proto_left definition_left (definition_advances p a) (definition_left p)
     (λ x. refl) (definition_falls p a) q r e
 proto_falls Parsing a q r e = cc
 proto_falls Itemizing a q r e = cc
@@ -105,36 +92,23 @@ proto_falls Defining a q r e = cc
 proto_falls Listing a q r e = cc
 
 -- ---- the keys of names
-in_keys : (k : ProtoKey) (ns : List (List ℕ)) → level_of k ≤ 9 → In (own_name k) ns → In k (keys_of ns)
-in_keys k [] low i = i
-in_keys (keys.Input f) (n ∷ ns) low (inl e) = inl (ap (λ x. keys.Input x) e)
-in_keys (keys.Parse f) (n ∷ ns) low (inl e) = inr (inl (ap (λ x. keys.Parse x) e))
-in_keys (keys.Items f) (n ∷ ns) low (inl e) = inr (inr (inl (ap (λ x. keys.Items x) e)))
-in_keys (keys.Imports f) (n ∷ ns) low (inl e) = inr (inr (inr (inl (ap (λ x. keys.Imports x) e))))
-in_keys (keys.Linked f) (n ∷ ns) low (inl e) = inr (inr (inr (inr (inl (ap (λ x. keys.Linked x) e)))))
-in_keys (keys.Defs f) (n ∷ ns) low (inl e) = inr (inr (inr (inr (inr (inl (ap (λ x. keys.Defs x) e))))))
-in_keys (keys.Scope f) (n ∷ ns) low (inl e) = inr (inr (inr (inr (inr (inr (inl (ap (λ x. keys.Scope x) e)))))))
-in_keys (keys.Resolved f) (n ∷ ns) low (inl e) = inr (inr (inr (inr (inr (inr (inr (inl (ap (λ x. keys.Resolved x) e))))))))
-in_keys (keys.Checks f) (n ∷ ns) low (inl e) = inr (inr (inr (inr (inr (inr (inr (inr (inl (ap (λ x. keys.Checks x) e)))))))))
-in_keys (keys.Diagnostics f) (n ∷ ns) low (inl e) = inr (inr (inr (inr (inr (inr (inr (inr (inr (inl (ap (λ x. keys.Diagnostics x) e))))))))))
-in_keys (keys.Descriptor f) (n ∷ ns) low (inl e) = let h : 10 ≤ 9 = low in absurd (omega arith)
-in_keys (keys.Symbols f) (n ∷ ns) low (inl e) = let h : 10 ≤ 9 = low in absurd (omega arith)
-in_keys (keys.Definition f place) (n ∷ ns) low (inl e) = let h : 10 ≤ 9 = low in absurd (omega arith)
-in_keys k (n ∷ ns) low (inr i) = inr (inr (inr (inr (inr (inr (inr (inr (inr (inr (in_keys k ns low i))))))))))
+in_keys : (k : ProtoKey) (ns : List (List ℕ)) → level_of k ≤ 9 → In (own_name k) ns → In k (keys_by makers ns)
+in_keys (keys.Input f) ns low i = in_keys_by makers (λ n. keys.Input n) f ns (inl refl) i
+in_keys (keys.Parse f) ns low i = in_keys_by makers (λ n. keys.Parse n) f ns (inr (inl refl)) i
+in_keys (keys.Items f) ns low i = in_keys_by makers (λ n. keys.Items n) f ns (inr (inr (inl refl))) i
+in_keys (keys.Imports f) ns low i = in_keys_by makers (λ n. keys.Imports n) f ns (inr (inr (inr (inl refl)))) i
+in_keys (keys.Linked f) ns low i = in_keys_by makers (λ n. keys.Linked n) f ns (inr (inr (inr (inr (inl refl))))) i
+in_keys (keys.Defs f) ns low i = in_keys_by makers (λ n. keys.Defs n) f ns (inr (inr (inr (inr (inr (inl refl)))))) i
+in_keys (keys.Scope f) ns low i = in_keys_by makers (λ n. keys.Scope n) f ns (inr (inr (inr (inr (inr (inr (inl refl))))))) i
+in_keys (keys.Resolved f) ns low i = in_keys_by makers (λ n. keys.Resolved n) f ns (inr (inr (inr (inr (inr (inr (inr (inl refl)))))))) i
+in_keys (keys.Checks f) ns low i = in_keys_by makers (λ n. keys.Checks n) f ns (inr (inr (inr (inr (inr (inr (inr (inr (inl refl))))))))) i
+in_keys (keys.Diagnostics f) ns low i = in_keys_by makers (λ n. keys.Diagnostics n) f ns (inr (inr (inr (inr (inr (inr (inr (inr (inr (inl refl)))))))))) i
+in_keys (keys.Descriptor f) ns low i = let h : 10 ≤ 9 = low in absurd (omega arith)
+in_keys (keys.Symbols f) ns low i = let h : 10 ≤ 9 = low in absurd (omega arith)
+in_keys (keys.Definition f place) ns low i = let h : 10 ≤ 9 = low in absurd (omega arith)
 
-keys_in : (k : ProtoKey) (ns : List (List ℕ)) → In k (keys_of ns) → In (own_name k) ns
-keys_in k [] i = i
-keys_in k (n ∷ ns) (inl e) = inl (ap own_name e)
-keys_in k (n ∷ ns) (inr (inl e)) = inl (ap own_name e)
-keys_in k (n ∷ ns) (inr (inr (inl e))) = inl (ap own_name e)
-keys_in k (n ∷ ns) (inr (inr (inr (inl e)))) = inl (ap own_name e)
-keys_in k (n ∷ ns) (inr (inr (inr (inr (inl e))))) = inl (ap own_name e)
-keys_in k (n ∷ ns) (inr (inr (inr (inr (inr (inl e)))))) = inl (ap own_name e)
-keys_in k (n ∷ ns) (inr (inr (inr (inr (inr (inr (inl e))))))) = inl (ap own_name e)
-keys_in k (n ∷ ns) (inr (inr (inr (inr (inr (inr (inr (inl e)))))))) = inl (ap own_name e)
-keys_in k (n ∷ ns) (inr (inr (inr (inr (inr (inr (inr (inr (inl e))))))))) = inl (ap own_name e)
-keys_in k (n ∷ ns) (inr (inr (inr (inr (inr (inr (inr (inr (inr (inl e)))))))))) = inl (ap own_name e)
-keys_in k (n ∷ ns) (inr (inr (inr (inr (inr (inr (inr (inr (inr (inr (i))))))))))) = inr (keys_in k ns i)
+keys_in : (k : ProtoKey) (ns : List (List ℕ)) → In k (keys_by makers ns) → In (own_name k) ns
+keys_in = keys_by_in own_name makers (λ n. refl, (λ n. refl, (λ n. refl, (λ n. refl, (λ n. refl, (λ n. refl, (λ n. refl, (λ n. refl, (λ n. refl, (λ n. refl, tt))))))))))
 
 -- ---- kinds of keys, parts and values: of the names `ns`, up to the level `l`, and of the key `root`
 -- or of a level that is asked
@@ -216,24 +190,6 @@ resolved_in ns (Value (values.Resolved rs)) i = i
 resolved_in ns (Value v) i = tt
 resolved_in ns (Cycle ring) i = tt
 
--- ---- the files that are mentioned
-
-each_sub : (xs ns : List (List ℕ)) → ((w : List ℕ) → In w xs → In w ns) → Each (Named ns) xs
-each_sub [] ns sub = tt
-each_sub (x ∷ xs) ns sub = (sub x (inl refl), each_sub xs ns (λ w i. sub w (inr i)))
-
-mentioned_in : (ns : List (List ℕ)) (is : Option (List Import)) → ((w : List ℕ) → In w (map file_of (unwrap_or is [])) → In w ns) → IfImportsIn (Named ns) is
-mentioned_in ns None sub = tt
-mentioned_in ns (Some is) sub = each_sub (map file_of is) ns sub
-
-file_mentions : (files : Sources) (name w : List ℕ) → In w (mentioned (file_in files name).text) → In w (all_mentioned files)
-unfolding file_in
-file_mentions [] name w i = i
-file_mentions (x ∷ xs) name w i = elim (cases_Bool (bytes_eq x.0 name)) [
-  | inl h ↦ in_append_left w (mentioned x.1.text) (all_mentioned xs) (rw h at i)
-  | inr h ↦ in_append_right w (mentioned x.1.text) (all_mentioned xs) (file_mentions xs name w (rw h at i))
-]
-
 -- ---- the type at a place is of a file that the references name
 
 TargetIn : List (List ℕ) → Option TypeItem → Type 0
@@ -275,7 +231,7 @@ module _ (order : ProtoKey → ProtoKey → Ordering) (files : Sources) where
     asks k i low asked = (i, low, inr asked)
 
     inputs_in : (k : ProtoKey) → level_of k ≡ 0 → ValueIn ns (m.input k)
-    inputs_in (keys.Input f) at = mentioned_in ns (file_imports (items_of (read_file (file_in files f).text))) (λ w i. mentions w (file_mentions files f w i))
+    inputs_in (keys.Input f) at = text_in_kind N files mentions f
     inputs_in k at = cc
 
     checks_ask : 8 ≤ l → AsksIn KIn check_words N

@@ -8,7 +8,9 @@ use Rattle.pq_rules.specs.declared.turn.Answer.{Answer}
 use Rattle.pq_rules.specs.declared.turn.Answer.TheVariants.{Value, Cycle}
 use Rattle.pq_rules.specs.Turns.{Machine}
 use Rattle.pq_rules.specs.Embedding.{embedded}
+use Rattle.pq_rules.specs.aux.KeysBy.{keys_by}
 use Rattle.pq_links.specs.Visibility.{no_links}
+use Rattle.pq_links.specs.aux.Mentioned.{all_mentioned}
 use Rattle.pq_links.specs.aux.Queries.{parse_starts, parse_advances, items_starts, items_advances, imports_starts, imports_advances, linked_starts, linked_advances, linked_left}
 use Rattle.pq_links.specs.Files.{nodes_in}
 use Rattle.pq_links.specs.declared.file_items.FileItems.{FileItems}
@@ -20,7 +22,6 @@ use Rattle.pq_schema.specs.Contents.{Defs}
 use Rattle.pq_schema.specs.ScopeContents.{Scope}
 use Rattle.pq_schema.specs.Missing.{no_defs, no_scope}
 use Rattle.pq_schema.specs.aux.Queries.{defs_starts, defs_advances, scope_starts, scope_advances, scope_left, resolved_starts, resolved_advances, resolved_left}
-use Rattle.pq_schema.specs.aux.RuleSet.{all_mentioned}
 use Rattle.pq_schema.specs.declared.resolved.ResolvedReference.{ResolvedReference}
 use Rattle.pq_schema.specs.declared.resolved.ResolvedPart.{ResolvedPart}
 use Rattle.pq_schema.specs.declared.scopes.ScopePart.{ScopePart}
@@ -191,23 +192,22 @@ proto_rules = record {
 
 -- ---- the keys that are asked
 
--- `keys_of ns` is the keys of the files `ns` that queries ask
-abbrev pub keys_of : List (List ℕ) → List ProtoKey
-keys_of [] = []
-keys_of (n ∷ ns) =
-    keys.Input n
-    ∷ keys.Parse n
-    ∷ keys.Items n
-    ∷ keys.Imports n
-    ∷ keys.Linked n
-    ∷ keys.Defs n
-    ∷ keys.Scope n
-    ∷ keys.Resolved n
-    ∷ keys.Checks n
-    ∷ keys.Diagnostics n
-    ∷ keys_of ns
+-- `makers` makes the keys of a file that queries ask
+abbrev pub makers : List (List ℕ → ProtoKey)
+makers =
+    (λ n. keys.Input n)
+    ∷ (λ n. keys.Parse n)
+    ∷ (λ n. keys.Items n)
+    ∷ (λ n. keys.Imports n)
+    ∷ (λ n. keys.Linked n)
+    ∷ (λ n. keys.Defs n)
+    ∷ (λ n. keys.Scope n)
+    ∷ (λ n. keys.Resolved n)
+    ∷ (λ n. keys.Checks n)
+    ∷ (λ n. keys.Diagnostics n)
+    ∷ []
 
 -- `proto_reach files k` is the keys that the evaluation of `k` may ask: `k`, and those of its file
 -- and of the files that any file imports
 abbrev pub proto_reach : Sources → ProtoKey → List ProtoKey
-proto_reach files k = k ∷ keys_of (own_name k ∷ all_mentioned files)
+proto_reach files k = k ∷ keys_by makers (own_name k ∷ all_mentioned files)

@@ -1,12 +1,10 @@
 -- Auxiliary: keys and values of the rule set that compare as equal are equal, by the shape of their
 -- types (used by proofs and invariants only).
-use Rattle.std.proofs.Common.{◌≡◌, ℕ, List, sym, ap, ◌∙◌, IsTrue}
-use Rattle.std.specs.Cmp.{unsigned_Decides, booleans_Decides, Equal-is}
-use Rattle.std.specs.Cmp.Lexicographic.{slice_cmp, pointwise_decides, bytes_decides}
-use Rattle.std.specs.Ordering.{nat_cmp}
+use Rattle.std.proofs.Common.{◌≡◌, ap, IsTrue}
+use Rattle.std.specs.Cmp.{unsigned_Decides, booleans_Decides}
+use Rattle.std.specs.Cmp.Lexicographic.{pointwise_decides, bytes_decides}
 use Rattle.std.specs.declared.cmp.Ordering.TheVariants.{Equal}
-use Rattle.std.proofs.lemmas.Map.Text.{is_eq-slice_cmp}
-use Rattle.std.proofs.lemmas.Slice.Eq.{bytes_eq-Decides}
+use Rattle.pq_rules.proofs.ExactOrders.{exact_bytes}
 use Rattle.pq_syntax.proofs.Equality.{Told, no_field, one_field, fields, of_struct, no_variant, variants, of_enum, option}
 use Rattle.pq_links.proofs.Equality.{parsed_file, file_items, file_imports, file_links, type_part}
 use Rattle.pq_schema.specs.aux.SameContents.{contents}
@@ -31,7 +29,8 @@ one_resolution =
     (variants (one_field bytes_decides)
     (variants no_field no_variant))))
 
-resolved_reference : Told resolved.ResolvedReferencePartialEq.TheImpl.ghosts.eq
+-- a resolved reference
+pub resolved_reference : Told resolved.ResolvedReferencePartialEq.TheImpl.ghosts.eq
 resolved_reference =
     of_struct resolved.ResolvedReference.struct resolved.ResolvedReference.the_propositions
     (fields unsigned_Decides (fields type_part (one_field one_resolution)))
@@ -51,16 +50,13 @@ value =
 pub value_exact : (a b : SchemaValue) → IsTrue (rules.SchemaValuePartialEq.TheImpl.ghosts.eq a b) → a ≡ b
 value_exact a b e = (value a b).0 e
 
-same_name : (x y : List ℕ) → slice_cmp nat_cmp x y ≡ Equal → x ≡ y
-same_name x y e = (bytes_eq-Decides x y).0 (sym (is_eq-slice_cmp x y) ∙ (Equal-is (slice_cmp nat_cmp x y)).1 e)
-
 pub key_exact : (a b : SchemaKey) → rules.SchemaKeyOrd.TheImpl.ghosts.cmp a b ≡ Equal → a ≡ b
-key_exact (Input x) (Input y) e = ap (λ t. Input t) (same_name x y e)
-key_exact (Parse x) (Parse y) e = ap (λ t. Parse t) (same_name x y e)
-key_exact (Items x) (Items y) e = ap (λ t. Items t) (same_name x y e)
-key_exact (Imports x) (Imports y) e = ap (λ t. Imports t) (same_name x y e)
-key_exact (Linked x) (Linked y) e = ap (λ t. Linked t) (same_name x y e)
-key_exact (Defs x) (Defs y) e = ap (λ t. Defs t) (same_name x y e)
-key_exact (Scope x) (Scope y) e = ap (λ t. Scope t) (same_name x y e)
-key_exact (Resolved x) (Resolved y) e = ap (λ t. Resolved t) (same_name x y e)
+key_exact (Input x) (Input y) e = ap (λ t. Input t) (exact_bytes x y e)
+key_exact (Parse x) (Parse y) e = ap (λ t. Parse t) (exact_bytes x y e)
+key_exact (Items x) (Items y) e = ap (λ t. Items t) (exact_bytes x y e)
+key_exact (Imports x) (Imports y) e = ap (λ t. Imports t) (exact_bytes x y e)
+key_exact (Linked x) (Linked y) e = ap (λ t. Linked t) (exact_bytes x y e)
+key_exact (Defs x) (Defs y) e = ap (λ t. Defs t) (exact_bytes x y e)
+key_exact (Scope x) (Scope y) e = ap (λ t. Scope t) (exact_bytes x y e)
+key_exact (Resolved x) (Resolved y) e = ap (λ t. Resolved t) (exact_bytes x y e)
 key_exact a b e = cc

@@ -1,6 +1,6 @@
 -- Auxiliary: the rule set of a schema, put together from its queries. The law `schema_values` says
 -- what its keys mean.
-use Rattle.std.specs.Prelude.{ℕ, List, [], ◌∷◌, ◌++◌, map, Option, Some, None, unwrap_or}
+use Rattle.std.specs.Prelude.{ℕ, List, [], ◌∷◌, Option, Some, None}
 use Rattle.pq_inputs.specs.Sources.{Sources}
 use Rattle.pq_rules.specs.declared.turn.Turn.{Turn}
 use Rattle.pq_rules.specs.declared.turn.Turn.TheVariants.{Done}
@@ -8,10 +8,11 @@ use Rattle.pq_rules.specs.declared.turn.Answer.{Answer}
 use Rattle.pq_rules.specs.declared.turn.Answer.TheVariants.{Value}
 use Rattle.pq_rules.specs.Turns.{Machine}
 use Rattle.pq_rules.specs.Embedding.{embedded}
-use Rattle.pq_links.specs.ImportGraph.{file_of}
+use Rattle.pq_rules.specs.aux.KeysBy.{keys_by}
 use Rattle.pq_links.specs.Visibility.{no_links}
-use Rattle.pq_links.specs.Files.{read_file, file_imports, items_of, nodes_in}
+use Rattle.pq_links.specs.Files.{nodes_in}
 use Rattle.pq_links.specs.aux.Queries.{parse_level, items_level, imports_level, linked_level, parse_starts, parse_advances, items_starts, items_advances, imports_starts, imports_advances, linked_starts, linked_advances, linked_left}
+use Rattle.pq_links.specs.aux.Mentioned.{all_mentioned}
 use Rattle.pq_links.specs.declared.file_items.FileItems.{FileItems}
 use Rattle.pq_links.specs.declared.file_items.FileItems.TheVariants.{Absent as NoItems}
 use Rattle.pq_links.specs.declared.files.ParsedFile.{ParsedFile}
@@ -162,21 +163,20 @@ own_name (Defs f) = f
 own_name (Scope f) = f
 own_name (Resolved f) = f
 
--- `mentioned text` is the names of the files that a file with `text` imports
-abbrev pub mentioned : Option (List ℕ) → List (List ℕ)
-mentioned text = map file_of (unwrap_or (file_imports (items_of (read_file text))) [])
-
--- `all_mentioned files` is the names of the files that any file imports
-abbrev pub all_mentioned : Sources → List (List ℕ)
-all_mentioned [] = []
-all_mentioned (e ∷ es) = mentioned e.1.text ++ all_mentioned es
-
--- `keys_of ns` is the keys of the files `ns`
-abbrev pub keys_of : List (List ℕ) → List SchemaKey
-keys_of [] = []
-keys_of (n ∷ ns) = Input n ∷ Parse n ∷ Items n ∷ Imports n ∷ Linked n ∷ Defs n ∷ Scope n ∷ Resolved n ∷ keys_of ns
+-- `makers` makes the keys of a file
+abbrev pub makers : List (List ℕ → SchemaKey)
+makers =
+    (λ n. Input n)
+    ∷ (λ n. Parse n)
+    ∷ (λ n. Items n)
+    ∷ (λ n. Imports n)
+    ∷ (λ n. Linked n)
+    ∷ (λ n. Defs n)
+    ∷ (λ n. Scope n)
+    ∷ (λ n. Resolved n)
+    ∷ []
 
 -- `schema_reach files k` is the keys that the evaluation of `k` may ask: those of its file and of
 -- the files that any file imports
 abbrev pub schema_reach : Sources → SchemaKey → List SchemaKey
-schema_reach files k = keys_of (own_name k ∷ all_mentioned files)
+schema_reach files k = keys_by makers (own_name k ∷ all_mentioned files)

@@ -5,11 +5,11 @@ use Rattle.pq_links.proofs.LinkedAnswers.{is_linked}
 use Rattle.pq_links.proofs.laws.links_in_rules.Goals as goal
 
 pub returns-clause-means : goal.returns-clause-means
-returns-clause-means g c = λ files graph imports linked part value imports_read links_read level embeds f a means.
-    linked_is (over g.R.Key.Ord.cmp (g.R.Rules.machine c.args._rules.now) files) graph imports linked part value imports_read links_read level embeds
+returns-clause-means g c = λ files graph imports imports_read level embeds f a means.
+    linked_is (over g.R.Key.Ord.cmp (g.R.Rules.machine c.args._rules.now) files) graph imports imports_read level embeds
     (strict g.R.Key.Ord.cmp g.met.R.Key.Ord.total) f a means
 
 pub returns-clause-answers : goal.returns-clause-answers
-returns-clause-answers g c = λ files graph imports linked part value imports_read links_read level embeds have f a is.
-    is_linked (over g.R.Key.Ord.cmp (g.R.Rules.machine c.args._rules.now) files) graph imports linked part value imports_read links_read level embeds have
+returns-clause-answers g c = λ files graph imports imports_read level embeds have f a is.
+    is_linked (over g.R.Key.Ord.cmp (g.R.Rules.machine c.args._rules.now) files) graph imports imports_read level embeds have
     (strict g.R.Key.Ord.cmp g.met.R.Key.Ord.total) f a is

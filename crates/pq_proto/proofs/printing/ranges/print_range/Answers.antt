@@ -3,40 +3,19 @@ use Rattle.std.specs.Prelude.{codes}
 use Rattle.json.specs.Token.{Token, begin_object, end_object, key}
 use Rattle.pq_proto.specs.Ranges.{position_data}
 use Rattle.pq_proto.specs.aux.Printed.{tokens_of}
-use Rattle.pq_proto.proofs.ListSteps.{link}
+use Rattle.pq_proto.proofs.ListSteps.{chain}
 use Rattle.pq_proto.proofs.printing.ranges.print_range.Goals as goal
 
 pub returns : goal.returns
 returns c =
-    let o0 : List Token = c.args.out.now in
-    let o1 : List Token = c.begin_object.new.self in
-    let o2 : List Token = c.key.new.self in
-    let o3 : List Token = c.print_position.new.out in
-    let o4 : List Token = c.key-2.new.self in
-    let o5 : List Token = c.print_position-2.new.out in
-    let o6 : List Token = c.end_object.new.self in
-    let x1 : List Token = begin_object ∷ [] in
-    let x2 : List Token = key (codes "end") ∷ [] in
-    let x3 : List Token = tokens_of (position_data c.args.end) in
-    let x4 : List Token = key (codes "start") ∷ [] in
-    let x5 : List Token = tokens_of (position_data c.args.start) in
-    let x6 : List Token = end_object ∷ [] in
-    let r6 : List Token = x6 in
-    let r5 : List Token = x5 ++ r6 in
-    let r4 : List Token = x4 ++ r5 in
-    let r3 : List Token = x3 ++ r4 in
-    let r2 : List Token = x2 ++ r3 in
-    let r1 : List Token = x1 ++ r2 in
-    let s1 : o1 ≡ o0 ++ x1 = c.in_ok-begin_object.ensures in
-    let s2 : o2 ≡ o1 ++ x2 = c.in_ok-key.ensures in
-    let s3 : o3 ≡ o2 ++ x3 = c.in_ok-print_position.ensures in
-    let s4 : o4 ≡ o3 ++ x4 = c.in_ok-key-2.ensures in
-    let s5 : o5 ≡ o4 ++ x5 = c.in_ok-print_position-2.ensures in
-    let s6 : o6 ≡ o5 ++ x6 = c.in_ok-end_object.ensures in
-    let e6 : o6 ≡ o5 ++ r6 = s6 in
-    let e5 : o6 ≡ o4 ++ r5 = link o4 o5 o6 x5 r6 s5 e6 in
-    let e4 : o6 ≡ o3 ++ r4 = link o3 o4 o6 x4 r5 s4 e5 in
-    let e3 : o6 ≡ o2 ++ r3 = link o2 o3 o6 x3 r4 s3 e4 in
-    let e2 : o6 ≡ o1 ++ r2 = link o1 o2 o6 x2 r3 s2 e3 in
-    let e1 : o6 ≡ o0 ++ r1 = link o0 o1 o6 x1 r2 s1 e2 in
-    e1
+    let steps : List (List Token × List Token) =
+        (begin_object ∷ [], c.begin_object.new.self)
+        ∷ (key (codes "end") ∷ [], c.key.new.self)
+        ∷ (tokens_of (position_data c.args.end), c.print_position.new.out)
+        ∷ (key (codes "start") ∷ [], c.key-2.new.self)
+        ∷ (tokens_of (position_data c.args.start), c.print_position-2.new.out)
+        ∷ (end_object ∷ [], c.end_object.new.self)
+        ∷ [] in
+    chain c.args.out.now steps
+        (c.in_ok-begin_object.ensures, (c.in_ok-key.ensures, (c.in_ok-print_position.ensures, (c.in_ok-key-2.ensures,
+        (c.in_ok-print_position-2.ensures, (c.in_ok-end_object.ensures, tt))))))
