@@ -79,6 +79,14 @@ def half_package(part, name, apart=False):
     return text
 
 
+def nested_in_half(n):
+    """A text of n bytes: half is a package of short parts, the rest references in messages nested 60 deep, each with a field of
+    the reference's name."""
+    start = HEAD + "package " + ".".join(["a"] * (n // 4)) + ";message X{}" + "message M{int32 X=536870911;" * 60
+    fields = itertools.takewhile(lambda at: at[0] < n - 60, accumulated("X x%(n)d=%(field)d;", len(start)))
+    return one_file(start + "".join(more for _, more in fields) + "}" * 60)
+
+
 def accumulated(field, length):
     """The texts of fields, each with the length of what ends in it."""
     for i in itertools.count(1):
@@ -335,6 +343,8 @@ TEXTS = [of_compile(*case) for case in compile.CASES] + [
     Shape("n bytes: half a package of 17 parts, references to nothing", half_package(lambda n: "a" * (n // 34 - 1), "N"), 250_000),
     Shape("n bytes: half a package, messages of one reference to nothing", half_package(lambda n: "a", "N", True), 250_000),
     Shape("n bytes: half a package, references found", half_package(lambda n: "a", "M"), 25_000),
+    Shape("n bytes: half a package, dotted names whose first part is found", half_package(lambda n: "a", "M.N"), 25_000),
+    Shape("n bytes: half a package, references in messages nested 60 deep", nested_in_half, 25_000),
     Shape("n equal messages in a package of 10 n bytes", equal_messages, 250, REPLIED),
     Shape("n references in a package of 10 n bytes: descriptors", long_names, 250, REPLIED),
     Shape("messages", lambda n: repeated("message M%(n)d{}", n), 1_000),
