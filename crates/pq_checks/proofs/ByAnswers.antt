@@ -3,7 +3,7 @@
 use Rattle.std.proofs.Common.{◌≡◌, ℕ, List, [], ◌∷◌, ◌++◌, Option, Some, None, refl, sym, ap, subst, ◌∙◌, append_assoc, append-nil}
 use Rattle.std.specs.Prelude.{slice_get, unwrap_or}
 use Rattle.pq_rules.specs.declared.turn.Turn.{Turn}
-use Rattle.pq_rules.specs.declared.turn.Turn.TheVariants.{Ask, Done}
+use Rattle.pq_rules.specs.declared.turn.Turn.TheVariants.{Done}
 use Rattle.pq_rules.specs.Embedding.{Runs}
 use Rattle.pq_rules.proofs.Asked.{asked, ended}
 use Rattle.pq_links.specs.declared.links.Import.{Import}

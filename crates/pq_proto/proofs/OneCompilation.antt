@@ -1,12 +1,12 @@
 -- A key compiles to one answer, and each key has an answer. So what a key compiles to is what it
 -- means: the other half of the law `proto_values`.
-use Rattle.std.proofs.Common.{◌≡◌, ℕ, Bool, true, false, List, map, Option, Some, None, refl, sym, ap, subst, ◌∙◌, inl, inr, arith}
+use Rattle.std.proofs.Common.{◌≡◌, ℕ, Bool, true, false, List, Option, Some, None, refl, sym, ap, subst, ◌∙◌, arith}
 use Rattle.std.specs.Cmp.Lexicographic.{slice_cmp}
 use Rattle.std.specs.Ordering.{nat_cmp}
 use Rattle.std.specs.declared.cmp.Ordering.{Ordering}
 use Rattle.pq_inputs.specs.Sources.{Sources}
 use Rattle.pq_rules.specs.declared.turn.Answer.{Answer}
-use Rattle.pq_rules.specs.declared.turn.Answer.TheVariants.{Value, Cycle}
+use Rattle.pq_rules.specs.declared.turn.Answer.TheVariants.{Value}
 use Rattle.pq_rules.specs.Turns.{Instance}
 use Rattle.pq_rules.specs.Value.{Means}
 use Rattle.pq_rules.proofs.OneRead.{makes_once}
@@ -16,7 +16,7 @@ use Rattle.pq_links.specs.Files.{graph_of, items_in, nodes_of}
 use Rattle.pq_links.specs.ImportGraph.{Graph}
 use Rattle.pq_links.specs.declared.file_items.FileItems.{FileItems}
 use Rattle.pq_links.specs.declared.files.ParsedFile.{ParsedFile}
-use Rattle.pq_schema.specs.Compile.{IsScope, AreResolved}
+use Rattle.pq_schema.specs.Compile.{AreResolved}
 use Rattle.pq_schema.specs.ScopeContents.{Scope}
 use Rattle.pq_schema.specs.SchemaSum.{SchemaMeans}
 use Rattle.pq_schema.specs.declared.definitions.Definition.{Definition}
@@ -29,7 +29,6 @@ use Rattle.pq_checks.proofs.ChecksAnswered.{checks_answer as answer_of_checks, d
 use Rattle.pq_proto.specs.Compile.{Compiles, IsDefinition, IsDescriptor, definition_by, descriptor_by, has_tree, is_failed, offset_at, read_in, symbols_of}
 use Rattle.pq_proto.specs.Definition.{definition_at}
 use Rattle.pq_proto.specs.aux.Outputs.{output_level, faults_read, items_read, parsed_read, resolved_read, bare_turn, tree_turn, descriptor_starts, descriptor_advances, descriptor_left, descriptor_falls, symbols_starts, symbols_advances, references_turn, target_turn, definition_advances, definition_left, definition_falls}
-use Rattle.pq_proto.specs.aux.RuleSet.{scope_read}
 use Rattle.pq_proto.specs.declared.key.Place.{Place}
 use Rattle.pq_proto.specs.declared.key.ProtoKey.{ProtoKey}
 use Rattle.pq_proto.specs.declared.key.ProtoKey.TheVariants as keys

@@ -1,6 +1,6 @@
 -- What the keys of a schema mean in every sum that embeds its queries: exactly what the files
 -- compile to by `specs/Compile`.
-use Rattle.std.proofs.Common.{◌≡◌, ℕ, ◌<◌, List, map, Option, refl, sym, ap, subst, ◌∙◌, inl, inr, arith}
+use Rattle.std.proofs.Common.{◌≡◌, ℕ, ◌<◌, List, map, refl, sym, ap, subst, ◌∙◌, inl, inr, arith}
 use Rattle.pq_inputs.specs.Sources.{Sources, file_in}
 use Rattle.pq_rules.specs.declared.turn.Answer.{Answer}
 use Rattle.pq_rules.specs.declared.turn.Answer.TheVariants.{Value, Cycle}

@@ -1,10 +1,8 @@
 -- One step of the walk through the scopes.
-use Rattle.std.proofs.Common.{◌≡◌, ℕ, Bool, cond, List, [], ◌∷◌, ◌++◌, Option, Some, None, refl, sym, ap, subst, ◌∙◌}
-use Rattle.pq_schema.specs.Definitions.{qualified}
-use Rattle.pq_schema.specs.declared.scope.FileDefs.{FileDefs}
-use Rattle.pq_schema.specs.Resolution.{Found, found, unless_type, single, dotted, decides, prefixes}
+use Rattle.std.proofs.Common.{◌≡◌, ℕ, List, [], ◌∷◌, ◌++◌, Option, Some, None, refl, sym, ap, subst, ◌∙◌}
+use Rattle.pq_schema.specs.Resolution.{Found, unless_type, prefixes}
 use Rattle.pq_schema.specs.Resolution.Found.{FoundType, FoundOther, FoundNothing}
-use Rattle.pq_schema.specs.aux.Scopes.{before, chain, first_of, after_first}
+use Rattle.pq_schema.specs.aux.Scopes.{before, chain, after_first}
 use Rattle.pq_schema.specs.declared.definitions.Definition.{Definition}
 
 -- what is not a type in the inner scopes leaves the outer ones to decide, in whatever order they

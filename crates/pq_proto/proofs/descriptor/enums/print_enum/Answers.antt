@@ -1,4 +1,4 @@
-use Rattle.std.proofs.Common.{◌≡◌, List, [], ◌∷◌, ◌++◌}
+use Rattle.std.proofs.Common.{List, [], ◌∷◌}
 use Rattle.std.specs.Prelude.{codes, pos}
 use Rattle.json.specs.Token.{Token, begin_object, end_object, key, string}
 use Rattle.pq_syntax.specs.Places.{Item}

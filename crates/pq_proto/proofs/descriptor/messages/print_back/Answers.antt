@@ -1,4 +1,4 @@
-use Rattle.std.proofs.Common.{◌≡◌, List, [], ◌∷◌, ◌++◌}
+use Rattle.std.proofs.Common.{List, [], ◌∷◌}
 use Rattle.std.specs.Prelude.{codes, pos}
 use Rattle.json.specs.Token.{Token, end_object, end_array, key, string}
 use Rattle.pq_proto.specs.Settings.{options_data, settings_in}

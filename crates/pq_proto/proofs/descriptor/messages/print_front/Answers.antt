@@ -1,4 +1,4 @@
-use Rattle.std.proofs.Common.{◌≡◌, List, [], ◌∷◌, ◌++◌, false}
+use Rattle.std.proofs.Common.{List, [], ◌∷◌, false}
 use Rattle.std.specs.Prelude.{codes}
 use Rattle.json.specs.Token.{Token, begin_object, begin_array, key, string, boolean}
 use Rattle.pq_proto.specs.Lists.{list_data}

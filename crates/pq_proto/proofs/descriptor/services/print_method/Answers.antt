@@ -1,4 +1,4 @@
-use Rattle.std.proofs.Common.{◌≡◌, List, [], ◌∷◌, ◌++◌}
+use Rattle.std.proofs.Common.{List, [], ◌∷◌}
 use Rattle.std.specs.Prelude.{codes}
 use Rattle.json.specs.Token.{Token, begin_object, end_object, key, string, boolean}
 use Rattle.pq_proto.specs.Settings.{options_data, settings_in}

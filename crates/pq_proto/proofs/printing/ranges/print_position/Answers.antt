@@ -1,4 +1,4 @@
-use Rattle.std.proofs.Common.{◌≡◌, List, [], ◌∷◌, ◌++◌}
+use Rattle.std.proofs.Common.{List, [], ◌∷◌}
 use Rattle.std.specs.Prelude.{codes, decimal}
 use Rattle.json.specs.Token.{Token, begin_object, end_object, key, number}
 use Rattle.pq_proto.proofs.ListSteps.{chain}
