@@ -200,7 +200,7 @@ module _ {K V M O : Type 0} (puts : O → List (ReplyView K V M)) where
   abbrev pub Lifts : (Ledger K V M O → Ledger K V M O → Type 0) → Ledger K V M O → Ledger K V M (Told K V M) → Type 0
   Lifts Move l n = (m : Ledger K V M O) × Move l m × (told_ledger puts m ≡ n)
 
-  refusal_told : (l : Ledger K V M O) (fault : OpenFault) → OpenRefusal (told_ledger puts l) fault → OpenRefusal l fault
+  pub refusal_told : (l : Ledger K V M O) (fault : OpenFault) → OpenRefusal (told_ledger puts l) fault → OpenRefusal l fault
   refusal_told l TooManyClients h =
       let a = told_count l.clients in
       let b = told_long l in
