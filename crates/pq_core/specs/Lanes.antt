@@ -7,7 +7,7 @@ use Rattle.std.specs.declared.cmp.Ordering.{Ordering}
 use Rattle.pq_rules.specs.Turns.{Machine}
 use Rattle.pq_core.specs.Points.{Point}
 use Rattle.pq_core.specs.Replies.{ReplyView}
-use Rattle.pq_core.specs.Truth.{IsTrue}
+use Rattle.pq_core.specs.Truth.{IsTrueReply}
 use Rattle.pq_core.specs.Outboxes.{TakesNext}
 use Rattle.pq_core.specs.Moves.{window}
 use Rattle.pq_core.specs.declared.moves.Released.{Released}
@@ -21,7 +21,7 @@ pub record ReadyView (K V M : Type 0) : Type 0 where
 -- `ReadyKept order machine point ready` is what the type of a collected reply keeps: the reply is
 -- right at its stamp, and its number is not the last one
 pub record ReadyKept {R K P V M : Type 0} (order : K → K → Ordering) (machine : R → Machine K P V) (point : M → Point) (ready : ReadyView K V M) : Type 0 where
-  pub right : IsTrue order machine point ready.reply
+  pub right : IsTrueReply order machine point ready.reply
   pub below : ready.reply.number + 1 < 2 ^ 64
 
 -- `Tray K V M O` is a lane: its client; its outbox, while it is open; the count of the replies put;

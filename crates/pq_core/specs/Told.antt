@@ -19,9 +19,10 @@ Told K V M = List (ReplyView K V M)
 abbrev pub told_puts : {K V M : Type 0} → Told K V M → List (ReplyView K V M)
 told_puts outbox = outbox
 
--- `told_client puts client` is `client` as a store knows it that was told of all that was put
+-- `told_client puts client` is `client` as a store knows it that was told of all that was put. A store
+-- does not know whether a release was refused.
 abbrev pub told_client : {K V M O : Type 0} → (O → List (ReplyView K V M)) → Client K V M O → Client K V M (Told K V M)
-told_client puts client = record { entries = client.entries; outbox = puts client.outbox; is_open = client.is_open; refused = client.refused }
+told_client puts client = record { entries = client.entries; outbox = puts client.outbox; is_open = client.is_open; refused = false }
 
 -- `told_ledger puts l` is `l` as a store knows it that was told of all that was put
 abbrev pub told_ledger : {K V M O : Type 0} → (O → List (ReplyView K V M)) → Ledger K V M O → Ledger K V M (Told K V M)
