@@ -20,7 +20,7 @@ abbrev pub told_puts : {K V M : Type 0} → Told K V M → List (ReplyView K V M
 told_puts outbox = outbox
 
 -- `told_client puts client` is `client` as a store knows it that was told of all that was put. A store
--- does not know whether a release was refused
+-- does not know whether a release was refused.
 abbrev pub told_client : {K V M O : Type 0} → (O → List (ReplyView K V M)) → Client K V M O → Client K V M (Told K V M)
 told_client puts client = record { entries = client.entries; outbox = puts client.outbox; is_open = client.is_open; refused = false }
 

@@ -6,7 +6,7 @@
 //! Only `accept` allocates.
 ghost use Rattle.std.specs.Prelude.{◌≡◌, ◌+◌, ◌-◌, ◌<◌, ◌≤◌, ◌⊎◌, ◌^◌, ◌↔◌, ℕ, drop, length, slice_get, Some, IsTrue, IfOk, IfErr, OnErr, OnOk};
 ghost use Rattle.std.specs.VecDeque.{deque_len, deque_capacity};
-ghost use Rattle.pq_core.specs.Truth.{IsTrue as IsTrueReply};
+ghost use Rattle.pq_core.specs.Truth.{IsTrueReply};
 ghost use Rattle.pq_core.specs.Moves.{window};
 ghost use Rattle.pq_core.specs.Accounts.{no_requests, next_of, IsStage, with_stage, with_request, first_stage, Collects, Sees};
 ghost use Rattle.pq_core.specs.aux.Accounts.{noted};

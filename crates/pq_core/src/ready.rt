@@ -1,6 +1,6 @@
 //! A reply on its way from the store to the lane of its client.
 ghost use Rattle.std.specs.Prelude.{◌≡◌, ◌+◌, ◌<◌, ◌^◌};
-ghost use Rattle.pq_core.specs.Truth.{IsTrue};
+ghost use Rattle.pq_core.specs.Truth.{IsTrueReply};
 ghost use Rattle.pq_core.specs.Lanes.{ReadyKept};
 
 use crate::ids::{ClientId, Number};
@@ -34,7 +34,7 @@ impl<R: Rules, M: Stamp> Model for Ready<R, M> {
 impl<R: Rules, M: Stamp> Ready<R, M> {
     /// `reply`, to a request that was accepted at the revision `accepted`.
     pub(crate) fn new(reply: Reply<R::Key, R::Value, M>, accepted: Revision) -> Self
-        requires right { IsTrue R.Key.cmp R.machine M.point reply }
+        requires right { IsTrueReply R.Key.cmp R.machine M.point reply }
         requires below { reply.number + 1 < 2 ^ 64 }
         ensures { result ≡ record { reply = reply; accepted = accepted } }
     {

@@ -6,7 +6,7 @@ use Rattle.pq_core.specs.Ledger.{Ledger}
 use Rattle.pq_core.specs.Moves.{RunAt, Runs}
 use Rattle.pq_core.specs.Cores.{CoreView, StandsFor}
 use Rattle.pq_core.proofs.Claiming.{holder_there}
-use Rattle.pq_core.proofs.CoreRunning.{run_here}
+use Rattle.pq_core.proofs.StoreRunning.{run_here}
 use Rattle.pq_core.proofs.laws.runs_hold_their_keys.Goals as goal
 
 pub returns-clause-sound : goal.returns-clause-sound

@@ -1,7 +1,7 @@
 use Rattle.std.proofs.Common.{◌≡◌, ◌≤◌, List, length, slice_get, refl, sym, ◌∙◌, ap, arith}
 use Rattle.pq_core.specs.declared.rising.Place.{Place}
 use Rattle.pq_core.proofs.Lists.{none_some}
-use Rattle.pq_core.proofs.CoreResting.{index_there, lane_found, done_more, all_done, ready_first, refused_first}
+use Rattle.pq_core.proofs.StoreResting.{index_there, lane_found, done_more, all_done, ready_first, refused_first}
 use Rattle.pq_core.proofs.releasing.has_ready.Goals as goal
 use Rattle.pq_core.proofs.releasing.has_ready.Goals.{in-Some+else-is_ready, else-is_ready-via-then-is_ready+else-not-is_refused, else-is_ready-via-else-is_ready, in_default}
 

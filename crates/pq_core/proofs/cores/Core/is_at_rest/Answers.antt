@@ -1,6 +1,6 @@
 use Rattle.std.proofs.Common.{ℕ, List, length, refl, sym, ◌∙◌, ap, eq-eqb}
 use Rattle.std.proofs.lemmas.Bool.{eqb-true}
-use Rattle.pq_core.proofs.CoreResting.{no_length, not_both, not_true, true_not, waits_not_rest, runs_not_rest, ready_not_rest, all_rest}
+use Rattle.pq_core.proofs.StoreResting.{no_length, not_both, not_true, true_not, waits_not_rest, runs_not_rest, ready_not_rest, all_rest}
 use Rattle.pq_core.proofs.cores.Core.is_at_rest.Goals as goal
 
 pub returns-then-not-is_empty : goal.returns-then-not-is_empty

@@ -1,5 +1,5 @@
 use Rattle.std.proofs.Common.{refl}
-use Rattle.pq_core.proofs.CoreReleasing.{still_above, lane_put, lane_numbered, lane_right, release_moved}
+use Rattle.pq_core.proofs.StoreReleasing.{still_above, lane_put, lane_numbered, lane_right, release_moved}
 use Rattle.pq_core.proofs.Queued.{queue_called, released_waits}
 use Rattle.pq_core.proofs.cores.Core.release.Goals as goal
 

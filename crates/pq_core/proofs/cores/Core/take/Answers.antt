@@ -1,5 +1,5 @@
 use Rattle.std.proofs.Common.{refl}
-use Rattle.pq_core.proofs.CoreReleasing.{still_above, take_moved}
+use Rattle.pq_core.proofs.StoreReleasing.{still_above, take_moved}
 use Rattle.pq_core.proofs.Queued.{queue_called, taken_waits}
 use Rattle.pq_core.proofs.cores.Core.take.Goals as goal
 
