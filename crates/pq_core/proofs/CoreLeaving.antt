@@ -1,5 +1,5 @@
 -- Replies that leave a core, clients that close, and rest.
-use Rattle.std.proofs.Common.{◌≡◌, ◌≢◌, ℕ, zero, suc, ◌+◌, ◌-◌, ◌<◌, ◌≤◌, ◌⊎◌, ◌==◌, if◌then◌else◌, Bool, true, false, List, [], ◌∷◌, ◌++◌, map, length, slice_get, slice_set, Option, Some, None, refl, sym, ◌∙◌, ap, subst, inl, inr, arith}
+use Rattle.std.proofs.Common.{◌≡◌, ◌≢◌, ℕ, zero, suc, ◌+◌, ◌-◌, ◌<◌, ◌≤◌, ◌⊎◌, ◌==◌, if◌then◌else◌, Bool, true, false, List, [], ◌∷◌, ◌++◌, map, length, slice_get, slice_set, Option, Some, None, refl, sym, ◌∙◌, ap, subst, inl, inr, arith, not}
 use Rattle.std.specs.Prelude.{Ok, Err, Result}
 use Rattle.std.specs.declared.cmp.Ordering.{Ordering}
 use Rattle.pq_rules.specs.Turns.{Machine}
@@ -34,6 +34,26 @@ not_ready_closed (Running run started out) reply e = cc
 not_ready_closed (Ready other) reply e = cc
 not_ready_closed Put reply e = cc
 not_ready_closed Dropped reply e = cc
+
+pub not_both : (t : Bool) → t ≡ false → t ≡ true → ⊥
+not_both t e f = cc
+
+pub not_true : (t : Bool) → not t ≡ true → t ≡ false
+not_true true e = sym e
+not_true false e = refl
+
+pub true_not : (t : Bool) → (t ≡ true → ⊥) → not t ≡ true
+true_not true f = absurd (f refl)
+true_not false f = refl
+
+pub not_full : (n : ℕ) → ReleasedFull ≡ ReleasedPut n → ⊥
+not_full n e = cc
+
+pub not_gone : (n : ℕ) → ReleasedGone ≡ ReleasedPut n → ⊥
+not_gone n e = cc
+
+pub not_nothing : (n : ℕ) → ReleasedNothing ≡ ReleasedPut n → ⊥
+not_nothing n e = cc
 
 true_false : {P : Type 0} → true ≡ false → P
 true_false e = cc

@@ -1,5 +1,6 @@
 -- A reply that a call of the store makes is passed on to its lane.
 use Rattle.std.proofs.Common.{◌≡◌, ◌≢◌, ℕ, ◌+◌, ◌-◌, ◌<◌, ◌≤◌, ◌⊎◌, Bool, true, false, List, [], ◌∷◌, ◌++◌, length, slice_get, slice_set, Option, Some, None, refl, sym, ◌∙◌, ap, subst, inl, inr, arith}
+use Rattle.std.specs.Prelude.{Ok, Err, Result}
 use Rattle.std.specs.declared.cmp.Ordering.{Ordering}
 use Rattle.pq_rules.specs.declared.turn.Answer.{Answer}
 use Rattle.pq_rules.specs.Turns.{Machine}
@@ -13,10 +14,10 @@ use Rattle.pq_core.proofs.PlaceMoves.{at_or_not, Changes, after_here, ready_else
 use Rattle.pq_core.specs.Points.{Point}
 use Rattle.pq_core.specs.Replies.{ReplyView}
 use Rattle.pq_core.specs.Ledger.{Place, Ready, Entry, Client, Ledger, IsOpen, with_entry}
-use Rattle.pq_core.specs.Moves.{window}
+use Rattle.pq_core.specs.Moves.{window, Reaches}
 use Rattle.pq_core.specs.Kept.{PlaceKept, Kept}
 use Rattle.pq_core.specs.RightReply.{IsRightFor, answer_by}
-use Rattle.pq_core.specs.Lanes.{ReadyView, Tray, HasPlace, placed_in}
+use Rattle.pq_core.specs.Lanes.{ReadyView, Tray, HasPlace, placed_in, Fills}
 use Rattle.pq_core.specs.Told.{Told, told_puts, told_client, told_ledger, IsReadyAt, NoneReadyAt}
 use Rattle.pq_core.specs.Accounts.{AccountView, IsStage}
 use Rattle.pq_core.specs.Stores.{StoreView, held, fields_of, IsMadeIn, NoneMade, Makes, Goes, Collects}
@@ -57,6 +58,15 @@ pub record Passed {R K P V M O : Type 0} (puts : O → List (ReplyView K V M)) (
   pub none : NoneMade after
   pub stand : LanesStand puts left.items m
   pub above : (b : ℕ) → IsAbove b lanes.items → IsAbove b left.items
+
+module _ {K V M O : Type 0} where
+  -- a lane that has a place takes the reply
+  pub fill_so : {A : Type 0} (ready : ReadyView K V M) (answer : Result A (ReadyView K V M)) (l m tray : Tray K V M O) → Fills ready answer l m → l ≡ tray → HasPlace tray ready → m ≡ placed_in tray ready
+  fill_so ready (Ok done) l m tray (place, is) same has = is ∙ ap (λ (x : Tray K V M O). placed_in x ready) same
+  fill_so ready (Err back) l m tray (other, none, is) same has = absurd (none (subst (λ (x : Tray K V M O). HasPlace x ready) (sym same) has))
+
+  pub set_as : (lanes left : Slots (Tray K V M O)) (c : ℕ) (x y : Tray K V M O) → x ≡ y → IsSetAt lanes left c (Some x) → IsSetAt lanes left c (Some y)
+  set_as lanes left c x y e s = subst (λ (z : Tray K V M O). IsSetAt lanes left c (Some z)) e s
 
 module _ {K V M O : Type 0} (puts : O → List (ReplyView K V M)) where
   -- one request is written
@@ -229,3 +239,16 @@ module _ {R K P V M O : Type 0} (order : K → K → Ordering) (mach : Machine K
     none_handed = w.none;
     ledger = (w.ledger, w.stands);
   }
+
+module _ {R K P V M O : Type 0} (order : K → K → Ordering) (machine : R → Machine K P V) (point : M → Point) (puts : O → List (ReplyView K V M)) (Move : Ledger K V M O → Ledger K V M O → Type 0) (before after : StoreView R K P V M) (lanes left : Slots (Tray K V M O)) where
+  -- `Calls` is what a call comes to from each ledger that the core stands for
+  abbrev pub Calls : Type 0
+  Calls = (l : Ledger K V M O) → StandsFor order (machine before.rules) point puts (core_of before lanes) l → Lands order (machine before.rules) point puts Move lanes l after left
+
+  pub call_moved : Calls → (l : Ledger K V M O) → StandsFor order (machine before.rules) point puts (core_of before lanes) l → Reaches Move l (StandsFor order (machine before.rules) point puts (core_of after left))
+  call_moved calls l s = let w = calls l s in (w.ledger, w.moves, w.stands)
+
+  pub call_whole : IsWhole order (machine before.rules) point puts (core_of before lanes) → after.rules ≡ before.rules → Calls → IsWhole order (machine after.rules) point puts (core_of after left)
+  call_whole inv same calls =
+      subst (λ (x : R). IsWhole order (machine x) point puts (core_of after left)) (sym same)
+      (still_whole order (machine before.rules) point puts Move before after lanes left inv.ledger.0 inv.above inv.ledger.1 (calls inv.ledger.0 inv.ledger.1))

@@ -53,6 +53,16 @@ not_ready_running place run started out reply e f = cc
 abbrev pub IsEnd : {W : Type 0} → Move W → Type 0
 IsEnd moved = (moved ≡ MoveAnswered) ⊎ (moved ≡ Stopped)
 
+-- a move that is not the end of a run
+pub not_end : {W E : Type 0} (moved m : Move W) (t : Bool) → ◌≡◌ {A = Result (Move W) E} (Ok moved) (Ok m) → (IsEnd moved → t ≡ true) → t ≡ false → IsEnd m → ⊥
+not_end moved m t e ends is_false end =
+    let same : m ≡ moved = (let f = e in cc) in
+    let is_true : t ≡ true = ends (subst (λ x. IsEnd x) same end) in
+    cc
+
+pub err_ok : {W E : Type 0} (fault : E) (m : Move W) → ◌≡◌ {A = Result (Move W) E} (Err fault) (Ok m) → ⊥
+err_ok fault m e = cc
+
 module _ {K V M O : Type 0} (puts : O → List (ReplyView K V M)) where
   long_same : (l m : Ledger K V M O) (c : ℕ) (client : Client K V M O) → m.clients ≡ slice_set l.clients c client → length l.clients ≤ length m.clients
   long_same l m c client set =
