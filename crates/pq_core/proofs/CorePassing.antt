@@ -23,6 +23,7 @@ use Rattle.pq_core.specs.Accounts.{AccountView, IsStage}
 use Rattle.pq_core.specs.Stores.{StoreView, held, fields_of, IsMadeIn, NoneMade, Makes, Goes, Collects}
 use Rattle.pq_core.specs.Stores.{StandsFor as StoreStandsFor}
 use Rattle.pq_core.specs.Cores.{CoreView, core_of, StandsFor, IsWhole}
+use Rattle.pq_core.specs.Starts.{Log, IsCountedFor}
 use Rattle.pq_core.specs.declared.account.Stage.TheVariants.{Made}
 use Rattle.pq_core.specs.declared.rising.Place.{Place as Seat}
 use Rattle.pq_core.specs.aux.Rising.{Slots, found, IsAbove}
@@ -252,3 +253,17 @@ module _ {R K P V M O : Type 0} (order : K → K → Ordering) (machine : R → 
   call_whole inv same calls =
       subst (λ (x : R). IsWhole order (machine x) point puts (core_of after left)) (sym same)
       (still_whole order (machine before.rules) point puts Move before after lanes left inv.ledger.0 inv.above inv.ledger.1 (calls inv.ledger.0 inv.ledger.1))
+
+module _ {R K P V M O : Type 0} (order : K → K → Ordering) (machine : R → Machine K P V) (point : M → Point) (puts : O → List (ReplyView K V M)) where
+  -- of the core as it is seen
+  pub seen_moved : (MoveOf : R → Ledger K V M O → Ledger K V M O → Type 0) (v w after : CoreView R K P V M O) → v ≡ w
+      → ((l : Ledger K V M O) → StandsFor order (machine v.rules) point puts v l → Reaches (MoveOf v.rules) l (StandsFor order (machine v.rules) point puts after))
+      → (l : Ledger K V M O) → StandsFor order (machine w.rules) point puts w l → Reaches (MoveOf w.rules) l (StandsFor order (machine w.rules) point puts after)
+  seen_moved MoveOf v w after e h =
+      subst (λ (x : CoreView R K P V M O). (l : Ledger K V M O) → StandsFor order (machine x.rules) point puts x l → Reaches (MoveOf x.rules) l (StandsFor order (machine x.rules) point puts after)) e h
+
+  pub seen_counted : (LogOf : StoreView R K P V M → Log K → Log K) (v w after : CoreView R K P V M O) → v ≡ w
+      → ((log : Log K) → IsCountedFor order (machine v.rules) v log → IsCountedFor order (machine v.rules) after (LogOf v.store log))
+      → (log : Log K) → IsCountedFor order (machine w.rules) w log → IsCountedFor order (machine w.rules) after (LogOf w.store log)
+  seen_counted LogOf v w after e h =
+      subst (λ (x : CoreView R K P V M O). (log : Log K) → IsCountedFor order (machine x.rules) x log → IsCountedFor order (machine x.rules) after (LogOf x.store log)) e h

@@ -25,3 +25,7 @@ pub invariant_of-self-in-Some : goal.invariant_of-self-in-Some
 invariant_of-self-in-Some g c =
     call_whole g.R.Key.Ord.cmp g.R.Rules.machine g.M.Stamp.point g.O.Outbox.puts (Closes c.args.client c.close.result) c.self.inside.store c.close_client-was_open.new.self c.self.inside.lanes c.take.new.self c.self.invariant (c.close_client-was_open.ensures.rules)
     (λ l s. close_so g.R.Key.Ord.cmp (g.R.Rules.machine c.self.inside.store.rules) g.M.Stamp.point g.O.Outbox.puts c.args.client c.close.result c.close_client-was_open.result c.self.inside.store c.close_client-was_open.new.self c.self.inside.lanes c.take.new.self c.in-Some.taken c.close.new.self l c.self.invariant.none_handed s (sym (rw c.number.ensures at c.in-Some.ensures.value)) c.close_client-was_open.ensures.moved c.close.ensures (rw c.number.ensures at c.take.ensures.found) c.take.ensures.above)
+
+pub returns-in-Some-clause-counted : goal.returns-in-Some-clause-counted
+returns-in-Some-clause-counted g c =
+    rw (← c.self.view_is) c.close_client-was_open.ensures.counted

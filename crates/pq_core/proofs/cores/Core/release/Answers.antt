@@ -48,10 +48,14 @@ invariant_of-self-in-Nothing g c =
 
 pub returns-in-Put-clause-moved : goal.returns-in-Put-clause-moved
 returns-in-Put-clause-moved g c =
-    rw (← c.self.view_is) (call_moved g.R.Key.Ord.cmp g.R.Rules.machine g.M.Stamp.point g.O.Outbox.puts (Releases g.O.Outbox.puts g.O.Outbox.takes g.O.Outbox.was_full g.O.Outbox.was_gone c.args.client (ReleasedPut c.in-Put.number)) c.self.inside.store c.put_seen.new.self c.self.inside.lanes c.put_back-in-Put.new.self
-    (λ l s. release_put_so g.R.Key.Ord.cmp (g.R.Rules.machine c.self.inside.store.rules) g.M.Stamp.point g.O.Outbox.puts g.O.Outbox.takes g.O.Outbox.was_full g.O.Outbox.was_gone c.args.client c.in-Put.number c.self.inside.store c.put_seen.new.self c.self.inside.lanes c.put_back-in-Put.new.self c.in-Some.taken c.release.new.self l c.self.invariant.none_handed s (sym (rw c.number-seat.ensures at c.in-Some.ensures.value)) c.in-Put.ensures (rw c.put.ensures at c.put_seen.ensures.moved) (λ k i x made. (c.put_seen.ensures.made k i x).1 made) (rw c.number-seat.ensures at (set_back c.self.inside.lanes c.take.new.self c.put_back-in-Put.new.self c.number-seat.result c.release.new.self c.take.ensures.found c.take.ensures.above (rw c.in-Some.is at c.take.ensures.more_room) c.put_back-in-Put.ensures.found c.put_back-in-Put.ensures.room c.put_back-in-Put.ensures.above).found) (set_back c.self.inside.lanes c.take.new.self c.put_back-in-Put.new.self c.number-seat.result c.release.new.self c.take.ensures.found c.take.ensures.above (rw c.in-Some.is at c.take.ensures.more_room) c.put_back-in-Put.ensures.found c.put_back-in-Put.ensures.room c.put_back-in-Put.ensures.above).above))
+    rw (← c.self.view_is) (call_moved g.R.Key.Ord.cmp g.R.Rules.machine g.M.Stamp.point g.O.Outbox.puts (Releases g.O.Outbox.puts g.O.Outbox.takes g.O.Outbox.was_full g.O.Outbox.was_gone c.args.client (ReleasedPut c.in-Put.number)) c.self.inside.store c.put_seen.new.self c.self.inside.lanes c.put_back.new.self
+    (λ l s. release_put_so g.R.Key.Ord.cmp (g.R.Rules.machine c.self.inside.store.rules) g.M.Stamp.point g.O.Outbox.puts g.O.Outbox.takes g.O.Outbox.was_full g.O.Outbox.was_gone c.args.client c.in-Put.number c.self.inside.store c.put_seen.new.self c.self.inside.lanes c.put_back.new.self c.in-Some.taken c.release.new.self l c.self.invariant.none_handed s (sym (rw c.number-seat.ensures at c.in-Some.ensures.value)) c.in-Put.ensures (rw c.put.ensures at c.put_seen.ensures.moved) (λ k i x made. (c.put_seen.ensures.made k i x).1 made) (rw c.number-seat.ensures at (set_back c.self.inside.lanes c.take.new.self c.put_back.new.self c.number-seat.result c.release.new.self c.take.ensures.found c.take.ensures.above (rw c.in-Some.is at c.take.ensures.more_room) c.put_back.ensures.found c.put_back.ensures.room c.put_back.ensures.above).found) (set_back c.self.inside.lanes c.take.new.self c.put_back.new.self c.number-seat.result c.release.new.self c.take.ensures.found c.take.ensures.above (rw c.in-Some.is at c.take.ensures.more_room) c.put_back.ensures.found c.put_back.ensures.room c.put_back.ensures.above).above))
 
 pub invariant_of-self-in-Put : goal.invariant_of-self-in-Put
 invariant_of-self-in-Put g c =
-    call_whole g.R.Key.Ord.cmp g.R.Rules.machine g.M.Stamp.point g.O.Outbox.puts (Releases g.O.Outbox.puts g.O.Outbox.takes g.O.Outbox.was_full g.O.Outbox.was_gone c.args.client (ReleasedPut c.in-Put.number)) c.self.inside.store c.put_seen.new.self c.self.inside.lanes c.put_back-in-Put.new.self c.self.invariant (c.put_seen.ensures.rules)
-    (λ l s. release_put_so g.R.Key.Ord.cmp (g.R.Rules.machine c.self.inside.store.rules) g.M.Stamp.point g.O.Outbox.puts g.O.Outbox.takes g.O.Outbox.was_full g.O.Outbox.was_gone c.args.client c.in-Put.number c.self.inside.store c.put_seen.new.self c.self.inside.lanes c.put_back-in-Put.new.self c.in-Some.taken c.release.new.self l c.self.invariant.none_handed s (sym (rw c.number-seat.ensures at c.in-Some.ensures.value)) c.in-Put.ensures (rw c.put.ensures at c.put_seen.ensures.moved) (λ k i x made. (c.put_seen.ensures.made k i x).1 made) (rw c.number-seat.ensures at (set_back c.self.inside.lanes c.take.new.self c.put_back-in-Put.new.self c.number-seat.result c.release.new.self c.take.ensures.found c.take.ensures.above (rw c.in-Some.is at c.take.ensures.more_room) c.put_back-in-Put.ensures.found c.put_back-in-Put.ensures.room c.put_back-in-Put.ensures.above).found) (set_back c.self.inside.lanes c.take.new.self c.put_back-in-Put.new.self c.number-seat.result c.release.new.self c.take.ensures.found c.take.ensures.above (rw c.in-Some.is at c.take.ensures.more_room) c.put_back-in-Put.ensures.found c.put_back-in-Put.ensures.room c.put_back-in-Put.ensures.above).above)
+    call_whole g.R.Key.Ord.cmp g.R.Rules.machine g.M.Stamp.point g.O.Outbox.puts (Releases g.O.Outbox.puts g.O.Outbox.takes g.O.Outbox.was_full g.O.Outbox.was_gone c.args.client (ReleasedPut c.in-Put.number)) c.self.inside.store c.put_seen.new.self c.self.inside.lanes c.put_back.new.self c.self.invariant (c.put_seen.ensures.rules)
+    (λ l s. release_put_so g.R.Key.Ord.cmp (g.R.Rules.machine c.self.inside.store.rules) g.M.Stamp.point g.O.Outbox.puts g.O.Outbox.takes g.O.Outbox.was_full g.O.Outbox.was_gone c.args.client c.in-Put.number c.self.inside.store c.put_seen.new.self c.self.inside.lanes c.put_back.new.self c.in-Some.taken c.release.new.self l c.self.invariant.none_handed s (sym (rw c.number-seat.ensures at c.in-Some.ensures.value)) c.in-Put.ensures (rw c.put.ensures at c.put_seen.ensures.moved) (λ k i x made. (c.put_seen.ensures.made k i x).1 made) (rw c.number-seat.ensures at (set_back c.self.inside.lanes c.take.new.self c.put_back.new.self c.number-seat.result c.release.new.self c.take.ensures.found c.take.ensures.above (rw c.in-Some.is at c.take.ensures.more_room) c.put_back.ensures.found c.put_back.ensures.room c.put_back.ensures.above).found) (set_back c.self.inside.lanes c.take.new.self c.put_back.new.self c.number-seat.result c.release.new.self c.take.ensures.found c.take.ensures.above (rw c.in-Some.is at c.take.ensures.more_room) c.put_back.ensures.found c.put_back.ensures.room c.put_back.ensures.above).above)
+
+pub returns-in-Put-clause-counted : goal.returns-in-Put-clause-counted
+returns-in-Put-clause-counted g c =
+    rw (← c.self.view_is) c.put_seen.ensures.counted

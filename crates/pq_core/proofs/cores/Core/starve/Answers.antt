@@ -24,3 +24,11 @@ pub invariant_of-self-else-starve : goal.invariant_of-self-else-starve
 invariant_of-self-else-starve g c =
     call_whole g.R.Key.Ord.cmp g.R.Rules.machine g.M.Stamp.point g.O.Outbox.puts (Starves c.args.run false) c.self.inside.store c.starve.new.self c.self.inside.lanes c.self.inside.lanes c.self.invariant (c.starve.ensures.rules)
     (λ l s. starve_none_so g.R.Key.Ord.cmp (g.R.Rules.machine c.self.inside.store.rules) g.M.Stamp.point g.O.Outbox.puts c.args.run c.self.inside.store c.starve.new.self c.self.inside.lanes l c.self.invariant.none_handed s (rw c.if-starve.false at c.starve.ensures.moved))
+
+pub returns-then-starve-clause-counted : goal.returns-then-starve-clause-counted
+returns-then-starve-clause-counted g c =
+    rw (← c.self.view_is) (λ log x. (rw c.starve.ensures.rules at c.pass_on_asked.ensures.counted) _ (rw c.if-starve.true at (c.starve.ensures.counted log x)))
+
+pub returns-clause-counted : goal.returns-clause-counted
+returns-clause-counted g c =
+    rw (← c.self.view_is) (λ log x. rw c.if-starve.false at (c.starve.ensures.counted log x))
