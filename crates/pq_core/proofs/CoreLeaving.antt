@@ -2,6 +2,7 @@
 use Rattle.std.proofs.Common.{◌≡◌, ◌≢◌, ℕ, zero, suc, ◌+◌, ◌-◌, ◌<◌, ◌≤◌, ◌⊎◌, ◌==◌, if◌then◌else◌, Bool, true, false, List, [], ◌∷◌, ◌++◌, map, length, slice_get, slice_set, Option, Some, None, refl, sym, ◌∙◌, ap, subst, inl, inr, arith, not}
 use Rattle.std.specs.Prelude.{Ok, Err, Result}
 use Rattle.std.specs.declared.cmp.Ordering.{Ordering}
+use Rattle.pq_inputs.specs.Sources.{Table}
 use Rattle.pq_rules.specs.Turns.{Machine}
 use Rattle.pq_core.proofs.Lists.{some_one, none_some, get_map, get_within, get_there, set_same, set_long, same_or_other}
 use Rattle.pq_core.proofs.Writes.{one_entry, set_back}
@@ -14,7 +15,7 @@ use Rattle.pq_core.proofs.CoreServing.{unmoved_so}
 use Rattle.pq_core.specs.Points.{Point}
 use Rattle.pq_core.specs.Replies.{ReplyView}
 use Rattle.pq_core.specs.Outboxes.{TakesNext}
-use Rattle.pq_core.specs.Ledger.{Place, Waiting, Running, Ready, Put, Dropped, Entry, Client, Ledger, IsOpen, with_client, with_entry, with_outbox, moved_to, closed, entry_closed, place_closed}
+use Rattle.pq_core.specs.Ledger.{Place, Waiting, Running, Ready, Put, Dropped, Entry, Client, Ledger, IsOpen, with_client, with_entry, with_outbox, moved_to, closed, entry_closed, place_closed, unused}
 use Rattle.pq_core.specs.Moves.{NextReady, IsReady, NoneReady, IsSame, Releases, Closes, TakesOut, NoneWaits, NoneRuns, IsAtRest}
 use Rattle.pq_core.specs.RightReply.{answer_by}
 use Rattle.pq_core.specs.Lanes.{ReadyView, Tray, IsNextIn, HasNext, LetsOutOf, TakesOutOf, ClosesLane, tray_with, tray_after}
@@ -75,7 +76,7 @@ module _ {K V M : Type 0} where
 
       put_of : Client K V M (Told K V M) → Entry K V M → ReplyView K V M → Ledger K V M (Told K V M)
 
-      put_of client entry reply = with_client t c (with_outbox (with_entry client (length client.outbox) (moved_to entry Put)) (client.outbox ++ reply ∷ []) client.refused)
+      put_of client entry reply = with_client t c (with_outbox (with_entry client (length client.outbox) (moved_to entry Put)) (client.outbox ++ reply ∷ []) false)
 
       after : p.client ≡ q.client → p.entry ≡ q.entry → p.reply ≡ q.reply → put_of p.client p.entry p.reply ≡ put_of q.client q.entry q.reply
       after d e f = ap (λ x. put_of x p.entry p.reply) d ∙ (ap (λ x. put_of q.client x p.reply) e ∙ ap (λ x. put_of q.client q.entry x) f)
@@ -405,3 +406,12 @@ module _ {R K P V M O : Type 0} (order : K → K → Ordering) (mach : Machine K
       let w = lane_client puts lanes l h.client h.tray s.lanes h.here in
       let r = next_ready puts l h.client w.0 h.tray h.next.0 h.next.1 w.1 w.2 h.next.2 in
       true_false (sym (rest.refused h.client _ r.1) ∙ (sym w.2.refused ∙ h.not_refused))
+
+-- ---- a new core
+
+pub new_lanes : {K V M O : Type 0} (puts : O → List (ReplyView K V M)) (lanes : Slots (Tray K V M O)) (inputs : Table) → ((c : ℕ) → found lanes.items c ≡ None) → LanesStand puts lanes.items (unused inputs)
+new_lanes puts lanes inputs none = record {
+  within = λ c tray h. absurd (none_some tray (sym (none c) ∙ h));
+  open_yet = λ c client h o. absurd (none_some client h);
+  shut = λ c client h o. absurd (none_some client h);
+}

@@ -42,3 +42,4 @@ pub mod PlaceMoves
 pub mod CorePassing
 pub mod CoreServing
 pub mod CoreLeaving
+pub mod CoreResting
