@@ -382,6 +382,11 @@ module _ {R K P V M O : Type 0} (order : K → K → Ordering) (mach : Machine K
       unmoved_so (Opens outbox (Err refused)) made lanes left l w.none (record { store = stands; lanes = s.lanes })
       (back, subst (λ (f : OpenFault). OpenRefusal l f) (sym fault) (refusal_told puts l OpenMemory next.1), refl) same.same same.above
 
+  -- the next number is above those of the lanes
+  pub next_above : (c : ℕ) (store : StoreView R K P V M) (lanes : Slots (Tray K V M O)) (l : Ledger K V M O) → StandsFor order mach point puts (core_of store lanes) l → IsNextClient (told_ledger puts l) (Some c)
+      → IsAbove store.clients lanes.items → IsAbove c lanes.items
+  next_above c store lanes l s next above = subst (λ (n : ℕ). IsAbove n lanes.items) (sym (next.0 ∙ s.store.clients)) above
+
   pub open_so : (c opened_as : ℕ) (outbox : O) (before made : StoreView R K P V M) (lanes room left : Slots (Tray K V M O)) (l : Ledger K V M O) → puts outbox ≡ [] → NoneMade before → StandsFor order mach point puts (core_of before lanes) l
       → IsNextClient (told_ledger puts l) (Some c) → Goes order mach point before made (OpensNext (Ok opened_as)) → SameFound lanes.items room.items
       → ((k : ℕ) → found left.items k ≡ (if k == c then Some (empty_tray c outbox) else found room.items k))
