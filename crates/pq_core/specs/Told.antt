@@ -67,7 +67,7 @@ Shuts {K} {V} {M} {O} c false l m = ((client : Client K V M O) → IsOpen l c cl
 abbrev pub TellsOne : {K V M : Type 0} → ℕ → Ledger K V M (Told K V M) → Ledger K V M (Told K V M) → Type 0
 TellsOne {K} {V} {M} c l m =
     (next : NextReady K V M (Told K V M)) × IsReady told_puts l c next
-    × (m ≡ with_client l c (with_outbox (with_entry next.client (length next.client.outbox) (moved_to next.entry Put)) (next.client.outbox ++ next.reply ∷ []) next.client.refused))
+    × (m ≡ with_client l c (with_outbox (with_entry next.client (length next.client.outbox) (moved_to next.entry Put)) (next.client.outbox ++ next.reply ∷ []) false))
 
 -- `Tells c k l m` is that the next `k` replies to the client `c` were put
 unfoldable pub Tells : {K V M : Type 0} → ℕ → ℕ → Ledger K V M (Told K V M) → Ledger K V M (Told K V M) → Type 0
