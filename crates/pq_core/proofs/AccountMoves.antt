@@ -129,7 +129,7 @@ module _ {K V M : Type 0} where
   pub set_at : (a : AccountView K V M) (n : ℕ) (s t : Stage K (ReadyView K V M)) → IsStage a n s → IsStage (with_stage a n t) n t
   set_at a n s t h = record { past = h.past; here = set_same a.stages (n - a.seen) t (get_within a.stages (n - a.seen) s h.here) }
 
-  other_at : (a : AccountView K V M) (n m : ℕ) (s t : Stage K (ReadyView K V M)) → a.seen ≤ n → m ≢ n → IsStage a m s → IsStage (with_stage a n t) m s
+  pub other_at : (a : AccountView K V M) (n m : ℕ) (s t : Stage K (ReadyView K V M)) → a.seen ≤ n → m ≢ n → IsStage a m s → IsStage (with_stage a n t) m s
   other_at a n m s t past ne h =
       let late = h.past in
       let apart : m - a.seen ≢ n - a.seen = omega arith in
@@ -144,7 +144,7 @@ module _ {K V M : Type 0} where
       ]
 
   -- a request that is added
-  longer_at : (a : AccountView K V M) (m : ℕ) (s t : Stage K (ReadyView K V M)) → IsStage a m s → IsStage (with_request a t) m s
+  pub longer_at : (a : AccountView K V M) (m : ℕ) (s t : Stage K (ReadyView K V M)) → IsStage a m s → IsStage (with_request a t) m s
   longer_at a m s t h = record { past = h.past; here = get_longer a.stages (t ∷ []) (m - a.seen) s h.here }
 
   pub added_at : (a : AccountView K V M) (t : Stage K (ReadyView K V M)) → IsStage (with_request a t) (next_of a) t

@@ -8,7 +8,7 @@ use Rattle.pq_core.specs.Replies.{ReplyView}
 use Rattle.pq_core.specs.Ledger.{Out, Place, Waiting, Running, Ready, Put, Dropped, Entry, Client, Ledger, IsOpen, IsClosed, with_client, with_entry}
 use Rattle.pq_core.specs.Moves.{RunAt, Runs, NoneRuns}
 use Rattle.pq_core.specs.Kept.{Kept}
-use Rattle.pq_core.specs.aux.Stands.{RunSeen, Fields, EntryStands, Stands}
+use Rattle.pq_core.specs.aux.Stands.{RunSeen, Fields, EntryStands, IsOwedNothing, Stands}
 
 -- `SeatSet f g c seat` is that `seat` is what `g` has of the client `c`, and that it has of others
 -- what `f` has
@@ -139,7 +139,7 @@ module _ {K V M L O : Type 0} (AsSeat : L → Client K V M O → Type 0) (means 
       → ((k : ℕ) → k ≢ at.c → g.seats k ≡ f.seats k)
       → (at.client.is_open ≡ true → (seat : L) × (g.seats at.c ≡ Some seat) × AsSeat seat (with_entry at.client at.n entry))
       → (at.client.is_open ≡ false → g.seats at.c ≡ None)
-      → (at.client.is_open ≡ false → entry.place ≡ Waiting → ⊥)
+      → (at.client.is_open ≡ false → IsOwedNothing entry.place)
       → EntryStands g at.c at.n entry entry.place
       → ((seen : RunSeen K) → run ≡ Some seen → (seen.client ≡ at.c) × (seen.number ≡ at.n) × (entry.place ≡ Running r seen.started seen.out) × (seen.request ≡ entry.request))
       → m ≡ with_client l at.c (with_entry at.client at.n entry)

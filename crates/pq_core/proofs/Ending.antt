@@ -5,13 +5,13 @@ use Rattle.pq_rules.specs.declared.turn.Answer.{Answer}
 use Rattle.pq_core.proofs.Lists.{get_set, get_within, get_map, set_long, set_same, set_other, same_or_other, some_one, none_some}
 use Rattle.pq_core.proofs.Standing.{entry_elsewhere, client_elsewhere, count_same, count_closed, restand}
 use Rattle.pq_core.proofs.Calling.{SeatSet, RunSet, SameCounts, run_entry, placed}
-use Rattle.pq_core.proofs.Moving.{SameRuns, elsewhere_seat, none_there, waiting_place}
+use Rattle.pq_core.proofs.Moving.{SameRuns, elsewhere_seat, none_there}
 use Rattle.pq_core.specs.Points.{Point}
 use Rattle.pq_core.specs.Replies.{ReplyView}
 use Rattle.pq_core.specs.Ledger.{Out, Place, Waiting, Running, Ready, Put, Dropped, Entry, Client, Ledger, IsOpen, with_client, with_entry, moved_to, with_outbox, place_closed, entry_closed, closed}
 use Rattle.pq_core.specs.Moves.{RunAt, Runs, open_count, ended, ended_entry, place_ended, reply_at, with_out}
 use Rattle.pq_core.specs.Kept.{Kept}
-use Rattle.pq_core.specs.aux.Stands.{RunSeen, Fields, EntryStands, ClientStands, HasRun, Stands}
+use Rattle.pq_core.specs.aux.Stands.{RunSeen, Fields, EntryStands, IsOwedNothing, ClientStands, HasRun, Stands}
 use Rattle.pq_core.specs.declared.outcome.Outcome.{Outcome}
 
 abbrev ready_place : {K V M : Type 0} → ReplyView K V M → Place K V M
@@ -22,9 +22,12 @@ module _ {K V M L O : Type 0} (AsSeat : L → Client K V M O → Type 0) (means 
   ended_entry_stands g c n entry true reply = tt
   ended_entry_stands g c n entry false reply = tt
 
-  ended_not_waiting : (flag : Bool) (reply : ReplyView K V M) → place_ended flag reply ≡ waiting_place → ⊥
-  ended_not_waiting true reply e = cc
-  ended_not_waiting false reply e = cc
+  ended_nothing : (flag : Bool) (reply : ReplyView K V M) → flag ≡ false → IsOwedNothing (place_ended flag reply)
+  ended_nothing true reply e = absurd (both e)
+    where
+      both : true ≡ false → ⊥
+      both f = cc
+  ended_nothing false reply e = tt
 
   -- a run ends: its reply is in the seat of its client, if that is open
   pub end_stands : (f g : Fields K L) (l m : Ledger K V M O) (r : ℕ) (at : RunAt K V M O) (starved : Bool) (outcome : Outcome K V M)
@@ -35,7 +38,7 @@ module _ {K V M L O : Type 0} (AsSeat : L → Client K V M O → Type 0) (means 
       → m ≡ ended l at starved outcome → Kept means puts m → Stands AsSeat means puts g m
   end_stands f g l m r at starved outcome s h counts runs started seats seat shut e kept =
       run_entry AsSeat means puts f g l m r at (ended_entry l at starved outcome) None s h counts runs started seats seat shut
-      (λ o p. ended_not_waiting at.client.is_open (reply_at l at outcome) p)
+      (λ o. ended_nothing at.client.is_open (reply_at l at outcome) o)
       (ended_entry_stands g at.c at.n (ended_entry l at starved outcome) at.client.is_open (reply_at l at outcome))
       (λ seen x. absurd (none_some seen x))
       e kept
@@ -53,14 +56,11 @@ module _ {K V M L O : Type 0} (AsSeat : L → Client K V M O → Type 0) (means 
       run_entry AsSeat means puts f g l m r at (moved_to at.entry (Running r at.started out)) _ s h counts runs started (λ k ne. seats k)
       (λ o. let w = x.seat o in (w.0, seats at.c ∙ w.1, as_seat w.0 w.2))
       (λ o. seats at.c ∙ x.shut o)
-      (λ o p. running_not p)
+      (λ o. tt)
       (subst (λ (i : ℕ). r < i) (sym started) below, runs.here)
       (λ seen y. fits seen (sym (some_one _ seen y)))
       e kept
     where
-      running_not : placed {K = K} {V = V} {M = M} r at.started out ≡ waiting_place → ⊥
-      running_not p = cc
-
       fits : (seen : RunSeen K) → seen ≡ record { client = at.c; number = at.n; request = at.entry.request; started = at.started; out = out }
           → (seen.client ≡ at.c) × (seen.number ≡ at.n) × (placed {K = K} {V = V} {M = M} r at.started out ≡ placed r seen.started seen.out) × (seen.request ≡ at.entry.request)
       fits seen y = (
@@ -172,18 +172,18 @@ module _ {K V M L O : Type 0} (AsSeat : L → Client K V M O → Type 0) (means 
       entry_after n entry Put x = tt
       entry_after n entry Dropped x = tt
 
-      closed_not : (place : Place K V M) → place_closed place ≡ waiting_place → ⊥
-      closed_not Waiting p = cc
-      closed_not (Running r st o) p = cc
-      closed_not (Ready reply) p = cc
-      closed_not Put p = cc
-      closed_not Dropped p = cc
+      closed_nothing : (place : Place K V M) → IsOwedNothing (place_closed place)
+      closed_nothing Waiting = tt
+      closed_nothing (Running r st o) = tt
+      closed_nothing (Ready reply) = tt
+      closed_nothing Put = tt
+      closed_nothing Dropped = tt
 
       closed_stands : ClientStands AsSeat g c (closed client)
       closed_stands = record {
         seat = λ o. absurd (both o);
         shut = λ o. set.here;
-        dropped = λ o n entry h p. let w = get_map entry_closed client.entries n entry h in closed_not w.0.place (ap (λ (y : Entry K V M). y.place) (sym w.2) ∙ p);
+        dropped = λ o n entry h. let w = get_map entry_closed client.entries n entry h in subst (λ (y : Entry K V M). IsOwedNothing y.place) (sym w.2) (closed_nothing w.0.place);
         entries = λ n entry h.
             let w = get_map entry_closed client.entries n entry h in
             subst (λ (y : Entry K V M). EntryStands g c n y y.place) (sym w.2)

@@ -7,7 +7,7 @@ use Rattle.pq_core.specs.Replies.{ReplyView}
 use Rattle.pq_core.specs.Ledger.{Place, Waiting, Running, Ready, Put, Dropped, Entry, Client, Ledger, with_entry, opened}
 use Rattle.pq_core.specs.Moves.{open_count, one_if}
 use Rattle.pq_core.specs.Kept.{Kept}
-use Rattle.pq_core.specs.aux.Stands.{RunSeen, Fields, EntryStands, ClientStands, HasRun, Stands}
+use Rattle.pq_core.specs.aux.Stands.{RunSeen, Fields, EntryStands, IsOwedNothing, ClientStands, HasRun, Stands}
 
 -- `Elsewhere f g c n` is that `g` keeps of all requests but the request `n` of the client `c`, and
 -- of the seats of other clients, what `f` keeps
@@ -53,14 +53,14 @@ module _ {K V M L O : Type 0} (AsSeat : L → Client K V M O → Type 0) where
       → ClientStands AsSeat f c client → EntryStands g c n entry entry.place
       → (client.is_open ≡ true → (seat : L) × (g.seats c ≡ Some seat) × AsSeat seat (with_entry client n entry))
       → (client.is_open ≡ false → g.seats c ≡ None)
-      → (client.is_open ≡ false → entry.place ≡ Waiting → ⊥)
+      → (client.is_open ≡ false → IsOwedNothing entry.place)
       → ClientStands AsSeat g c (with_entry client n entry)
   client_entry f g c n client entry e x here seat shut dropped = record {
     seat = seat;
     shut = shut;
-    dropped = λ o i other h p. elim (get_set client.entries n entry i other h) [
-      | inl w ↦ dropped o (ap (λ (y : Entry K V M). y.place) (sym w.1) ∙ p)
-      | inr w ↦ x.dropped o i other w.1 p
+    dropped = λ o i other h. elim (get_set client.entries n entry i other h) [
+      | inl w ↦ subst (λ (y : Entry K V M). IsOwedNothing y.place) (sym w.1) (dropped o)
+      | inr w ↦ x.dropped o i other w.1
     ];
     entries = λ i other h. elim (get_set client.entries n entry i other h) [
       | inl w ↦

@@ -17,7 +17,7 @@ use Rattle.pq_core.proofs.Changing.{if_at, if_other}
 use Rattle.pq_core.proofs.Calling.{stands_same, run_seen, none_runs, run_at, lane_open, lane_shut}
 use Rattle.pq_core.proofs.Ending.{end_stands, out_stands}
 use Rattle.pq_core.proofs.Keeping.{runs_placed, kept_looks, kept_gives}
-use Rattle.pq_core.proofs.LaneMoves.{owed_within, running_owed, finished_stands, out_changed_stands}
+use Rattle.pq_core.proofs.AccountStanding.{owed_within, running_owed, finished_stands, out_changed_stands}
 use Rattle.pq_core.proofs.Queued.{queue_same, queue_finished}
 use Rattle.pq_core.specs.Points.{Point, point_now}
 use Rattle.pq_core.specs.Replies.{ReplyView}
@@ -27,14 +27,14 @@ use Rattle.pq_core.specs.Kept.{Kept, IsDemand}
 use Rattle.pq_core.specs.Works.{DoneView, WorkView, HasWhy}
 use Rattle.pq_rules.specs.declared.turn.Answer.{Answer}
 use Rattle.pq_core.specs.Moves.{Reaches, RunAt, Runs, NoneRuns, IsOvertaken, IsCurrent, IsBlocked, GoesOn, IsOf, LooksFor, Gives, out_of, Stops, ended, ended_entry, place_ended, reply_at, with_out}
-use Rattle.pq_core.specs.Cores.{Held, fields_of, run_seen as seen_of, StandsOf}
+use Rattle.pq_core.specs.Stores.{Held, fields_of, run_seen as seen_of, StandsOf}
 use Rattle.pq_core.specs.aux.Stands.{RunSeen}
 use Rattle.pq_core.specs.declared.rising.Place.{Place}
 use Rattle.pq_core.specs.aux.Rising.{found}
 use Rattle.pq_core.specs.aux.Runs.{RunView, IsSameRun, HandedOut, IsAnswer, out_at}
-use Rattle.pq_core.specs.aux.Lanes.{LaneView, LaneStands, IsOwed, with_owed}
+use Rattle.pq_core.specs.aux.Lanes.{LaneView, AccountStands, IsOwed, with_owed}
 use Rattle.pq_core.specs.aux.Queue.{IsQueue}
-use Rattle.pq_core.specs.declared.lane.Owed.TheVariants.{Running as OwedRunning, Ready as OwedReady}
+use Rattle.pq_core.specs.declared.account.Owed.TheVariants.{Running as OwedRunning, Ready as OwedReady}
 use Rattle.pq_core.specs.declared.outcome.Outcome.{Outcome}
 use Rattle.pq_core.specs.declared.outcome.Outcome.TheVariants.{Cancelled, Answered}
 use Rattle.pq_core.specs.declared.moves.Move.TheVariants.{Carry, Stepped, Answered as MoveAnswered, Stopped}
@@ -57,8 +57,8 @@ lane_reply run revision outcome = record { client = run.client; number = run.num
 abbrev pub cancelled_as : {K V M : Type 0} → ℕ → ℕ → Outcome K V M
 cancelled_as started seen = Cancelled started seen
 
--- `SameBut b a` is that but for lanes and runs `a` keeps what `b` keeps
-pub record SameBut {K P V M O : Type 0} (b a : Held K P V M O) : Type 0 where
+-- `SameBut b a` is that but for accounts and runs `a` keeps what `b` keeps
+pub record SameBut {K P V M : Type 0} (b a : Held K P V M) : Type 0 where
   pub inputs : a.inputs ≡ b.inputs
   pub opened : a.opened ≡ b.opened
   pub clients : a.clients ≡ b.clients
@@ -66,65 +66,65 @@ pub record SameBut {K P V M O : Type 0} (b a : Held K P V M O) : Type 0 where
 
 module _ {K P V M O : Type 0} (order : K → K → Ordering) (m : Machine K P V) (point : M → Point) (puts : O → List (ReplyView K V M)) where
   -- the run of the ledger that the core keeps
-  pub run_here : (b : Held K P V M O) (l : Ledger K V M O) (r : ℕ) (run : RunView K P) → StandsOf order m point puts b l → found b.runs r ≡ Some run → RunHere l r run
+  pub run_here : (b : Held K P V M) (l : Ledger K V M O) (r : ℕ) (run : RunView K P) → StandsOf order m point puts b l → found b.runs r ≡ Some run → RunHere l r run
   run_here b l r run s h =
-      let x = run_at (LaneStands puts) (answer_by order m point) puts (fields_of b) l r (seen_of run) s (ap (option_map seen_of) h) in
+      let x = run_at (AccountStands puts) (answer_by order m point) puts (fields_of b) l r (seen_of run) s (ap (option_map seen_of) h) in
       record { at = x.0; runs = x.1; same = x.2 }
 
-  pub no_run : (b : Held K P V M O) (l : Ledger K V M O) (r : ℕ) → StandsOf order m point puts b l → found b.runs r ≡ None → NoneRuns l r
-  no_run b l r s h = none_runs (LaneStands puts) (answer_by order m point) puts (fields_of b) l r s (ap (option_map seen_of) h)
+  pub no_run : (b : Held K P V M) (l : Ledger K V M O) (r : ℕ) → StandsOf order m point puts b l → found b.runs r ≡ None → NoneRuns l r
+  no_run b l r s h = none_runs (AccountStands puts) (answer_by order m point) puts (fields_of b) l r s (ap (option_map seen_of) h)
 
-  -- a run's request is in a run in its lane, so in the window of its client; and it is for a key
-  pub run_owed : (b : Held K P V M O) (l : Ledger K V M O) (r : ℕ) (run : RunView K P) (lane : LaneView K V M O) → StandsOf order m point puts b l → found b.runs r ≡ Some run
-      → found b.lanes run.client ≡ Some lane → IsOwed lane run.number OwedRunning
-  run_owed b l r run lane s h there =
+  -- a run's request is in a run in its account, so in the window of its client; and it is for a key
+  pub run_owed : (b : Held K P V M) (l : Ledger K V M O) (r : ℕ) (run : RunView K P) (account : AccountView K V M) → StandsOf order m point puts b l → found b.runs r ≡ Some run
+      → found b.accounts run.client ≡ Some account → IsOwed account run.number OwedRunning
+  run_owed b l r run account s h there =
       let x = run_here b l r run s h in
       let c_is : run.client ≡ x.at.c = ap (λ (y : RunSeen K). y.client) x.same in
       let n_is : run.number ≡ x.at.n = ap (λ (y : RunSeen K). y.number) x.same in
-      let w = lane_open (LaneStands puts) (answer_by order m point) puts (fields_of b) l x.at.c x.at.client lane s x.runs.is_entry.client_here (ap (λ (c : ℕ). found b.lanes c) (sym c_is) ∙ there) in
-      subst (λ (n : ℕ). IsOwed lane n OwedRunning) (sym n_is)
-      (running_owed puts (answer_by order m point) l.inputs x.at.c lane x.at.client x.at.n x.at.entry r x.at.started x.at.out
+      let w = lane_open (AccountStands puts) (answer_by order m point) puts (fields_of b) l x.at.c x.at.client account s x.runs.is_entry.client_here (ap (λ (c : ℕ). found b.accounts c) (sym c_is) ∙ there) in
+      subst (λ (n : ℕ). IsOwed account n OwedRunning) (sym n_is)
+      (running_owed puts (answer_by order m point) l.inputs x.at.c account x.at.client x.at.n x.at.entry r x.at.started x.at.out
       (s.kept.clients x.at.c x.at.client x.runs.is_entry.client_here) w.1 x.runs.is_entry.here x.runs.runs)
 
-  pub run_within : (b : Held K P V M O) (l : Ledger K V M O) (r : ℕ) (run : RunView K P) (lane : LaneView K V M O) → StandsOf order m point puts b l → found b.runs r ≡ Some run
-      → found b.lanes run.client ≡ Some lane → (lane.put ≤ run.number) × (run.number < lane.put + length lane.owed)
-  run_within b l r run lane s h there = let w = run_owed b l r run lane s h there in (w.past, owed_within puts lane run.number OwedRunning w)
+  pub run_within : (b : Held K P V M) (l : Ledger K V M O) (r : ℕ) (run : RunView K P) (account : AccountView K V M) → StandsOf order m point puts b l → found b.runs r ≡ Some run
+      → found b.accounts run.client ≡ Some account → (account.seen ≤ run.number) × (run.number < account.seen + length account.stages)
+  run_within b l r run account s h there = let w = run_owed b l r run account s h there in (w.past, owed_within puts account run.number OwedRunning w)
 
   -- the queue after a run has ended
-  pub end_queue : (b : Held K P V M O) (a : List (Place (LaneView K V M O))) (queue : List (ℕ × ℕ)) (l : Ledger K V M O) (r : ℕ) (run last : RunView K P) (reply : ReplyView K V M)
+  pub end_queue : (b : Held K P V M) (a : List (Place (AccountView K V M))) (queue : List (ℕ × ℕ)) (l : Ledger K V M O) (r : ℕ) (run last : RunView K P) (reply : ReplyView K V M)
       → StandsOf order m point puts b l → found b.runs r ≡ Some run → IsSameRun run last
-      → ((lane : LaneView K V M O) → found b.lanes last.client ≡ Some lane
-      → (k : ℕ) → found a k ≡ (if k == last.client then Some (with_owed lane last.number (OwedReady reply)) else found b.lanes k))
-      → (found b.lanes last.client ≡ None → (k : ℕ) → found a k ≡ found b.lanes k)
-      → IsQueue b.lanes queue → IsQueue a queue
-  end_queue b a queue l r run last reply s h is set same q = by_lane (found b.lanes last.client) refl
+      → ((account : AccountView K V M) → found b.accounts last.client ≡ Some account
+      → (k : ℕ) → found a k ≡ (if k == last.client then Some (with_owed account last.number (OwedReady reply)) else found b.accounts k))
+      → (found b.accounts last.client ≡ None → (k : ℕ) → found a k ≡ found b.accounts k)
+      → IsQueue b.accounts queue → IsQueue a queue
+  end_queue b a queue l r run last reply s h is set same q = by_lane (found b.accounts last.client) refl
     where
-      owed : (lane : LaneView K V M O) → found b.lanes last.client ≡ Some lane → IsOwed lane last.number OwedRunning
-      owed lane here =
-          subst (λ (n : ℕ). IsOwed lane n OwedRunning) (sym is.number) (run_owed b l r run lane s h (ap (λ (c : ℕ). found b.lanes c) (sym is.client) ∙ here))
+      owed : (account : AccountView K V M) → found b.accounts last.client ≡ Some account → IsOwed account last.number OwedRunning
+      owed account here =
+          subst (λ (n : ℕ). IsOwed account n OwedRunning) (sym is.number) (run_owed b l r run account s h (ap (λ (c : ℕ). found b.accounts c) (sym is.client) ∙ here))
 
-      by_lane : (lane : Option (LaneView K V M O)) → found b.lanes last.client ≡ lane → IsQueue a queue
-      by_lane (Some lane) here = queue_finished b.lanes a queue last.client last.number lane reply here (owed lane here) (set lane here) q
-      by_lane None none = queue_same b.lanes a queue (same none) q
+      by_lane : (account : Option (AccountView K V M)) → found b.accounts last.client ≡ account → IsQueue a queue
+      by_lane (Some account) here = queue_finished b.accounts a queue last.client last.number account reply here (owed account here) (set account here) q
+      by_lane None none = queue_same b.accounts a queue (same none) q
 
-  pub run_demands : (b : Held K P V M O) (l : Ledger K V M O) (r : ℕ) (run : RunView K P) → StandsOf order m point puts b l → found b.runs r ≡ Some run → IsDemand run.request.want
+  pub run_demands : (b : Held K P V M) (l : Ledger K V M O) (r : ℕ) (run : RunView K P) → StandsOf order m point puts b l → found b.runs r ≡ Some run → IsDemand run.request.want
   run_demands b l r run s h =
       let x = run_here b l r run s h in
       subst (λ (y : RunSeen K). IsDemand y.request.want) (sym x.same) (runs_placed (answer_by order m point) puts l r x.at s.kept x.runs).1
 
-  -- a run is overtaken where its start is older than now, or its client has no lane
-  pub overtaken : (b : Held K P V M O) (l : Ledger K V M O) (r : ℕ) (run : RunView K P) → StandsOf order m point puts b l → (x : RunHere l r run)
-      → (run.started < b.inputs.revision) ⊎ (found b.lanes run.client ≡ None) → IsOvertaken l x.at
+  -- a run is overtaken where its start is older than now, or its client has no account
+  pub overtaken : (b : Held K P V M) (l : Ledger K V M O) (r : ℕ) (run : RunView K P) → StandsOf order m point puts b l → (x : RunHere l r run)
+      → (run.started < b.inputs.revision) ⊎ (found b.accounts run.client ≡ None) → IsOvertaken l x.at
   overtaken b l r run s x o = elim o [
     | inl late ↦ inl (subst (λ (t : Table). x.at.started < t.revision) (sym s.inputs) (subst (λ (y : RunSeen K). y.started < b.inputs.revision) x.same late))
     | inr shut ↦
-        inr (lane_shut (LaneStands puts) (answer_by order m point) puts (fields_of b) l x.at.c x.at.client s x.runs.is_entry.client_here
-        (subst (λ (y : RunSeen K). found b.lanes y.client ≡ None) x.same shut))
+        inr (lane_shut (AccountStands puts) (answer_by order m point) puts (fields_of b) l x.at.c x.at.client s x.runs.is_entry.client_here
+        (subst (λ (y : RunSeen K). found b.accounts y.client ≡ None) x.same shut))
   ]
 
   -- and else it is current
-  pub current : (b : Held K P V M O) (l : Ledger K V M O) (r : ℕ) (run : RunView K P) → StandsOf order m point puts b l → (x : RunHere l r run)
-      → ((run.started < b.inputs.revision) ⊎ (found b.lanes run.client ≡ None) → ⊥) → IsCurrent l x.at × (run.started ≡ b.inputs.revision)
+  pub current : (b : Held K P V M) (l : Ledger K V M O) (r : ℕ) (run : RunView K P) → StandsOf order m point puts b l → (x : RunHere l r run)
+      → ((run.started < b.inputs.revision) ⊎ (found b.accounts run.client ≡ None) → ⊥) → IsCurrent l x.at × (run.started ≡ b.inputs.revision)
   current b l r run s x o =
       let placed = runs_placed (answer_by order m point) puts l r x.at s.kept x.runs in
       let past : x.at.started ≤ l.inputs.revision = placed.3 in
@@ -133,7 +133,7 @@ module _ {K P V M O : Type 0} (order : K → K → Ordering) (m : Machine K P V)
       let is_now : run.started ≡ b.inputs.revision = exactly run.started b.inputs.revision (omega arith) (λ late. o (inl late)) in (
         record {
           now = sym same ∙ (is_now ∙ sym now);
-          open_yet = still (found b.lanes run.client) refl;
+          open_yet = still (found b.accounts run.client) refl;
         },
         is_now,
       )
@@ -141,29 +141,29 @@ module _ {K P V M O : Type 0} (order : K → K → Ordering) (m : Machine K P V)
       exactly : (i j : ℕ) → i ≤ j → (i < j → ⊥) → i ≡ j
       exactly i j h f = grind (arith, f)
 
-      still : (lane : Option (LaneView K V M O)) → found b.lanes run.client ≡ lane → x.at.client.is_open ≡ true
+      still : (account : Option (AccountView K V M)) → found b.accounts run.client ≡ account → x.at.client.is_open ≡ true
       still None h = absurd (o (inr h))
-      still (Some lane) h =
-          (lane_open (LaneStands puts) (answer_by order m point) puts (fields_of b) l x.at.c x.at.client lane s x.runs.is_entry.client_here
-          (subst (λ (y : RunSeen K). found b.lanes y.client ≡ Some lane) x.same h)).0
+      still (Some account) h =
+          (lane_open (AccountStands puts) (answer_by order m point) puts (fields_of b) l x.at.c x.at.client account s x.runs.is_entry.client_here
+          (subst (λ (y : RunSeen K). found b.accounts y.client ≡ Some account) x.same h)).0
 
   -- a run that was taken out ends
-  pub end_moved : (b a : Held K P V M O) (l : Ledger K V M O) (r : ℕ) (run : RunView K P) (starved : Bool) (outcome : Outcome K V M) (x : RunHere l r run)
+  pub end_moved : (b a : Held K P V M) (l : Ledger K V M O) (r : ℕ) (run : RunView K P) (starved : Bool) (outcome : Outcome K V M) (x : RunHere l r run)
       → StandsOf order m point puts b l → found b.runs r ≡ Some run
       → ((k : ℕ) → found a.runs k ≡ (if k == r then None else found b.runs k))
-      → ((lane : LaneView K V M O) → found b.lanes run.client ≡ Some lane
-      → (k : ℕ) → found a.lanes k ≡ (if k == run.client then Some (with_owed lane run.number (OwedReady (lane_reply run b.inputs.revision outcome))) else found b.lanes k))
-      → (found b.lanes run.client ≡ None → (k : ℕ) → found a.lanes k ≡ found b.lanes k)
+      → ((account : AccountView K V M) → found b.accounts run.client ≡ Some account
+      → (k : ℕ) → found a.accounts k ≡ (if k == run.client then Some (with_owed account run.number (OwedReady (lane_reply run b.inputs.revision outcome))) else found b.accounts k))
+      → (found b.accounts run.client ≡ None → (k : ℕ) → found a.accounts k ≡ found b.accounts k)
       → SameBut b a → Kept (answer_by order m point) puts (ended l x.at starved outcome) → StandsOf order m point puts a (ended l x.at starved outcome)
   end_moved b a l r run starved outcome x s h runs set same but kept =
-      end_stands (LaneStands puts) (answer_by order m point) puts (fields_of b) (fields_of a) l (ended l x.at starved outcome) r x.at starved outcome s x.runs
+      end_stands (AccountStands puts) (answer_by order m point) puts (fields_of b) (fields_of a) l (ended l x.at starved outcome) r x.at starved outcome s x.runs
       (record { inputs = but.inputs; opened = but.opened; clients = but.clients })
       (record {
         here = ap (option_map seen_of) (runs r ∙ if_at r None (found b.runs r));
         others = λ q ne. ap (option_map seen_of) (runs q ∙ if_other q r None (found b.runs q) ne);
       })
-      but.started (elsewhere (found b.lanes run.client) refl) (opened_so (found b.lanes run.client) refl)
-      (λ o. shut_so (found b.lanes run.client) refl o) refl kept
+      but.started (elsewhere (found b.accounts run.client) refl) (opened_so (found b.accounts run.client) refl)
+      (λ o. shut_so (found b.accounts run.client) refl o) refl kept
     where
       c_is : run.client ≡ x.at.c
       c_is = ap (λ (y : RunSeen K). y.client) x.same
@@ -176,53 +176,53 @@ module _ {K P V M O : Type 0} (order : K → K → Ordering) (m : Machine K P V)
           subst (λ (y : RunSeen K). lane_reply run b.inputs.revision outcome ≡ record { client = y.client; number = y.number; request = y.request; revision = l.inputs.revision; outcome = outcome }) x.same
           (ap (λ (i : ℕ). record { client = run.client; number = run.number; request = run.request; revision = i; outcome = outcome }) (ap (λ (t : Table). t.revision) (sym s.inputs)))
 
-      elsewhere : (lane : Option (LaneView K V M O)) → found b.lanes run.client ≡ lane → (k : ℕ) → k ≢ x.at.c → found a.lanes k ≡ found b.lanes k
+      elsewhere : (account : Option (AccountView K V M)) → found b.accounts run.client ≡ account → (k : ℕ) → k ≢ x.at.c → found a.accounts k ≡ found b.accounts k
       elsewhere None e k ne = same e k
-      elsewhere (Some lane) e k ne = set lane e k ∙ if_other k run.client (Some _) (found b.lanes k) (λ i. ne (i ∙ c_is))
+      elsewhere (Some account) e k ne = set account e k ∙ if_other k run.client (Some _) (found b.accounts k) (λ i. ne (i ∙ c_is))
 
-      shut_so : (lane : Option (LaneView K V M O)) → found b.lanes run.client ≡ lane → x.at.client.is_open ≡ false → found a.lanes x.at.c ≡ None
-      shut_so None e o = same e x.at.c ∙ (ap (λ (c : ℕ). found b.lanes c) (sym c_is) ∙ e)
-      shut_so (Some lane) e o =
-          absurd (both (sym (lane_open (LaneStands puts) (answer_by order m point) puts (fields_of b) l x.at.c x.at.client lane s x.runs.is_entry.client_here
-          (ap (λ (c : ℕ). found b.lanes c) (sym c_is) ∙ e)).0 ∙ o))
+      shut_so : (account : Option (AccountView K V M)) → found b.accounts run.client ≡ account → x.at.client.is_open ≡ false → found a.accounts x.at.c ≡ None
+      shut_so None e o = same e x.at.c ∙ (ap (λ (c : ℕ). found b.accounts c) (sym c_is) ∙ e)
+      shut_so (Some account) e o =
+          absurd (both (sym (lane_open (AccountStands puts) (answer_by order m point) puts (fields_of b) l x.at.c x.at.client account s x.runs.is_entry.client_here
+          (ap (λ (c : ℕ). found b.accounts c) (sym c_is) ∙ e)).0 ∙ o))
         where
           both : true ≡ false → ⊥
           both z = cc
 
-      opened_so : (lane : Option (LaneView K V M O)) → found b.lanes run.client ≡ lane → x.at.client.is_open ≡ true
-          → (after : LaneView K V M O) × (found a.lanes x.at.c ≡ Some after) × LaneStands puts after (with_entry x.at.client x.at.n (ended_entry l x.at starved outcome))
+      opened_so : (account : Option (AccountView K V M)) → found b.accounts run.client ≡ account → x.at.client.is_open ≡ true
+          → (after : AccountView K V M) × (found a.accounts x.at.c ≡ Some after) × AccountStands puts after (with_entry x.at.client x.at.n (ended_entry l x.at starved outcome))
       opened_so None e o =
-          absurd (both (sym o ∙ lane_shut (LaneStands puts) (answer_by order m point) puts (fields_of b) l x.at.c x.at.client s x.runs.is_entry.client_here
-          (ap (λ (c : ℕ). found b.lanes c) (sym c_is) ∙ e)))
+          absurd (both (sym o ∙ lane_shut (AccountStands puts) (answer_by order m point) puts (fields_of b) l x.at.c x.at.client s x.runs.is_entry.client_here
+          (ap (λ (c : ℕ). found b.accounts c) (sym c_is) ∙ e)))
         where
           both : true ≡ false → ⊥
           both z = cc
-      opened_so (Some lane) e o =
-          let within = run_within b l r run lane s h e in
-          let w = lane_open (LaneStands puts) (answer_by order m point) puts (fields_of b) l x.at.c x.at.client lane s x.runs.is_entry.client_here (ap (λ (c : ℕ). found b.lanes c) (sym c_is) ∙ e) in (
-            with_owed lane run.number (OwedReady (lane_reply run b.inputs.revision outcome)),
-            ap (λ (c : ℕ). found a.lanes c) (sym c_is) ∙ (set lane e run.client ∙ if_at run.client (Some _) (found b.lanes run.client)),
-            subst (λ (n : ℕ). LaneStands puts (with_owed lane n (OwedReady (lane_reply run b.inputs.revision outcome))) (with_entry x.at.client x.at.n (ended_entry l x.at starved outcome))) (sym n_is)
-                (subst (λ (y : ReplyView K V M). LaneStands puts (with_owed lane x.at.n (OwedReady y)) (with_entry x.at.client x.at.n (ended_entry l x.at starved outcome))) (sym reply_is)
-                (finished_stands puts lane x.at.client x.at.n (ended_entry l x.at starved outcome) (reply_at l x.at outcome) w.1
-                (subst (λ (n : ℕ). lane.put ≤ n) n_is within.0) (subst (λ (n : ℕ). n < lane.put + length lane.owed) n_is within.1)
+      opened_so (Some account) e o =
+          let within = run_within b l r run account s h e in
+          let w = lane_open (AccountStands puts) (answer_by order m point) puts (fields_of b) l x.at.c x.at.client account s x.runs.is_entry.client_here (ap (λ (c : ℕ). found b.accounts c) (sym c_is) ∙ e) in (
+            with_owed account run.number (OwedReady (lane_reply run b.inputs.revision outcome)),
+            ap (λ (c : ℕ). found a.accounts c) (sym c_is) ∙ (set account e run.client ∙ if_at run.client (Some _) (found b.accounts run.client)),
+            subst (λ (n : ℕ). AccountStands puts (with_owed account n (OwedReady (lane_reply run b.inputs.revision outcome))) (with_entry x.at.client x.at.n (ended_entry l x.at starved outcome))) (sym n_is)
+                (subst (λ (y : ReplyView K V M). AccountStands puts (with_owed account x.at.n (OwedReady y)) (with_entry x.at.client x.at.n (ended_entry l x.at starved outcome))) (sym reply_is)
+                (finished_stands puts account x.at.client x.at.n (ended_entry l x.at starved outcome) (reply_at l x.at outcome) w.1
+                (subst (λ (n : ℕ). account.seen ≤ n) n_is within.0) (subst (λ (n : ℕ). n < account.seen + length account.stages) n_is within.1)
                 (ap (λ (f : Bool). place_ended f (reply_at l x.at outcome)) o))),
           )
 
   -- the work of a run that was taken out and put back is another
-  pub out_moved : (b a : Held K P V M O) (l : Ledger K V M O) (r : ℕ) (run after : RunView K P) (x : RunHere l r run)
+  pub out_moved : (b a : Held K P V M) (l : Ledger K V M O) (r : ℕ) (run after : RunView K P) (x : RunHere l r run)
       → StandsOf order m point puts b l → found b.runs r ≡ Some run → IsSameRun run after
-      → ((k : ℕ) → found a.runs k ≡ (if k == r then Some after else found b.runs k)) → ((k : ℕ) → found a.lanes k ≡ found b.lanes k) → SameBut b a
+      → ((k : ℕ) → found a.runs k ≡ (if k == r then Some after else found b.runs k)) → ((k : ℕ) → found a.accounts k ≡ found b.accounts k) → SameBut b a
       → Kept (answer_by order m point) puts (with_out l r x.at (out_at after.top)) → StandsOf order m point puts a (with_out l r x.at (out_at after.top))
-  out_moved b a l r run after x s h is runs lanes but kept =
-      out_stands (LaneStands puts) (answer_by order m point) puts (fields_of b) (fields_of a) l (with_out l r x.at (out_at after.top)) r x.at (out_at after.top) s x.runs
+  out_moved b a l r run after x s h is runs accounts but kept =
+      out_stands (AccountStands puts) (answer_by order m point) puts (fields_of b) (fields_of a) l (with_out l r x.at (out_at after.top)) r x.at (out_at after.top) s x.runs
       (record { inputs = but.inputs; opened = but.opened; clients = but.clients })
       (record {
         here = ap (option_map seen_of) (runs r ∙ if_at r (Some after) (found b.runs r)) ∙ ap Some seen_is;
         others = λ q ne. ap (option_map seen_of) (runs q ∙ if_other q r (Some after) (found b.runs q) ne);
       })
-      but.started lanes
-      (λ lane w. out_changed_stands puts lane x.at.client x.at.n x.at.entry r x.at.started x.at.out (out_at after.top) w x.runs.is_entry.here x.runs.runs)
+      but.started accounts
+      (λ account w. out_changed_stands puts account x.at.client x.at.n x.at.entry r x.at.started x.at.out (out_at after.top) w x.runs.is_entry.here x.runs.runs)
       refl kept
     where
       seen_is : seen_of after ≡ record { client = x.at.c; number = x.at.n; request = x.at.entry.request; started = x.at.started; out = out_at after.top }
@@ -233,14 +233,14 @@ module _ {K P V M O : Type 0} (order : K → K → Ordering) (m : Machine K P V)
           ∙ ap (λ (y : ℕ). record { client = x.at.c; number = x.at.n; request = x.at.entry.request; started = y; out = out_at after.top }) (is.started ∙ ap (λ (y : RunSeen K). y.started) x.same)))
 
   -- a run that was taken out is put back, its work as before
-  pub back_moved : (b a : Held K P V M O) (l : Ledger K V M O) (r : ℕ) (run after : RunView K P) → StandsOf order m point puts b l → found b.runs r ≡ Some run → IsSameRun run after
-      → out_at after.top ≡ out_at run.top → ((k : ℕ) → found a.runs k ≡ (if k == r then Some after else found b.runs k)) → ((k : ℕ) → found a.lanes k ≡ found b.lanes k)
+  pub back_moved : (b a : Held K P V M) (l : Ledger K V M O) (r : ℕ) (run after : RunView K P) → StandsOf order m point puts b l → found b.runs r ≡ Some run → IsSameRun run after
+      → out_at after.top ≡ out_at run.top → ((k : ℕ) → found a.runs k ≡ (if k == r then Some after else found b.runs k)) → ((k : ℕ) → found a.accounts k ≡ found b.accounts k)
       → SameBut b a → StandsOf order m point puts a l
-  back_moved b a l r run after s h is out runs lanes but =
-      stands_same (LaneStands puts) (answer_by order m point) puts (fields_of b) (fields_of a) l
+  back_moved b a l r run after s h is out runs accounts but =
+      stands_same (AccountStands puts) (answer_by order m point) puts (fields_of b) (fields_of a) l
       (record {
         counts = record { inputs = but.inputs; opened = but.opened; clients = but.clients };
-        lanes = lanes;
+        accounts = accounts;
         runs = λ k. same_seen k (k == r) refl;
         started = but.started;
       })
@@ -262,13 +262,13 @@ module _ {K P V M O : Type 0} (order : K → K → Ordering) (m : Machine K P V)
 
 -- what the ledger knows of each run is the same
 module _ {K P V M O : Type 0} (order : K → K → Ordering) (m : Machine K P V) (point : M → Point) (puts : O → List (ReplyView K V M)) where
-  pub seen_moved : (b a : Held K P V M O) (l : Ledger K V M O) → ((k : ℕ) → option_map seen_of (found a.runs k) ≡ option_map seen_of (found b.runs k))
-      → ((k : ℕ) → found a.lanes k ≡ found b.lanes k) → SameBut b a → StandsOf order m point puts b l → StandsOf order m point puts a l
-  seen_moved b a l runs lanes but s =
-      stands_same (LaneStands puts) (answer_by order m point) puts (fields_of b) (fields_of a) l
+  pub seen_moved : (b a : Held K P V M) (l : Ledger K V M O) → ((k : ℕ) → option_map seen_of (found a.runs k) ≡ option_map seen_of (found b.runs k))
+      → ((k : ℕ) → found a.accounts k ≡ found b.accounts k) → SameBut b a → StandsOf order m point puts b l → StandsOf order m point puts a l
+  seen_moved b a l runs accounts but s =
+      stands_same (AccountStands puts) (answer_by order m point) puts (fields_of b) (fields_of a) l
       (record {
         counts = record { inputs = but.inputs; opened = but.opened; clients = but.clients };
-        lanes = lanes;
+        accounts = accounts;
         runs = runs;
         started = but.started;
       })
@@ -276,19 +276,19 @@ module _ {K P V M O : Type 0} (order : K → K → Ordering) (m : Machine K P V)
 
 module _ {R K P V M O : Type 0} (order : K → K → Ordering) (m : Machine K P V) (point : M → Point) (puts : O → List (ReplyView K V M)) (rules : R) where
   -- a run that was overtaken and taken out is stopped
-  pub stop_moved : (b a : Held K P V M O) (l : Ledger K V M O) (r : ℕ) (run : RunView K P) (x : RunHere l r run)
-      → StandsOf order m point puts b l → found b.runs r ≡ Some run → (run.started < b.inputs.revision) ⊎ (found b.lanes run.client ≡ None)
+  pub stop_moved : (b a : Held K P V M) (l : Ledger K V M O) (r : ℕ) (run : RunView K P) (x : RunHere l r run)
+      → StandsOf order m point puts b l → found b.runs r ≡ Some run → (run.started < b.inputs.revision) ⊎ (found b.accounts run.client ≡ None)
       → ((k : ℕ) → found a.runs k ≡ (if k == r then None else found b.runs k))
-      → ((lane : LaneView K V M O) → found b.lanes run.client ≡ Some lane
-      → (k : ℕ) → found a.lanes k ≡ (if k == run.client then Some (with_owed lane run.number (OwedReady (lane_reply run b.inputs.revision (Cancelled run.started b.inputs.revision)))) else found b.lanes k))
-      → (found b.lanes run.client ≡ None → (k : ℕ) → found a.lanes k ≡ found b.lanes k)
+      → ((account : AccountView K V M) → found b.accounts run.client ≡ Some account
+      → (k : ℕ) → found a.accounts k ≡ (if k == run.client then Some (with_owed account run.number (OwedReady (lane_reply run b.inputs.revision (Cancelled run.started b.inputs.revision)))) else found b.accounts k))
+      → (found b.accounts run.client ≡ None → (k : ℕ) → found a.accounts k ≡ found b.accounts k)
       → SameBut b a → Stops l r (ended l x.at x.at.entry.starved (Cancelled x.at.started l.inputs.revision))
       × StandsOf order m point puts a (ended l x.at x.at.entry.starved (Cancelled x.at.started l.inputs.revision))
   stop_moved b a l r run x s h late runs set same but =
       let stops : Stops l r (ended l x.at x.at.entry.starved (Cancelled x.at.started l.inputs.revision)) = (x.at, x.runs, overtaken order m point puts b l r run s x late, refl) in (
         stops,
         end_moved order m point puts b a l r run x.at.entry.starved (Cancelled x.at.started l.inputs.revision) x s h runs
-            (λ lane e k. subst (λ (y : Outcome K V M). found a.lanes k ≡ (if k == run.client then Some (with_owed lane run.number (OwedReady (lane_reply run b.inputs.revision y))) else found b.lanes k)) same_outcome (set lane e k))
+            (λ account e k. subst (λ (y : Outcome K V M). found a.accounts k ≡ (if k == run.client then Some (with_owed account run.number (OwedReady (lane_reply run b.inputs.revision y))) else found b.accounts k)) same_outcome (set account e k))
             same but
             (kept_looks (answer_by order m point) puts {P = P} rules r (Ok Stopped) l _ s.kept stops),
       )
@@ -299,14 +299,14 @@ module _ {R K P V M O : Type 0} (order : K → K → Ordering) (m : Machine K P 
           ∙ ap (λ (i : ℕ). cancelled_as x.at.started i) (ap (λ (t : Table). t.revision) (sym s.inputs))
 
   -- the run `at` is the one that the core keeps
-  pub run_is : (b : Held K P V M O) (l : Ledger K V M O) (r : ℕ) (run : RunView K P) (at : RunAt K V M O) → StandsOf order m point puts b l → found b.runs r ≡ Some run → Runs l r at
+  pub run_is : (b : Held K P V M) (l : Ledger K V M O) (r : ℕ) (run : RunView K P) (at : RunAt K V M O) → StandsOf order m point puts b l → found b.runs r ≡ Some run → Runs l r at
       → seen_of run ≡ at_seen at
   run_is b l r run at s h w =
       some_one (seen_of run) (at_seen at)
-      (ap (option_map seen_of) (sym h) ∙ run_seen (LaneStands puts) (answer_by order m point) puts (fields_of b) l r at s w)
+      (ap (option_map seen_of) (sym h) ∙ run_seen (AccountStands puts) (answer_by order m point) puts (fields_of b) l r at s w)
 
   -- a result that does not fit is of no work of the run
-  pub not_fitting : (b : Held K P V M O) (l : Ledger K V M O) (r : ℕ) (run : RunView K P) (done : DoneView R K P V) → StandsOf order m point puts b l → found b.runs r ≡ Some run
+  pub not_fitting : (b : Held K P V M) (l : Ledger K V M O) (r : ℕ) (run : RunView K P) (done : DoneView R K P V) → StandsOf order m point puts b l → found b.runs r ≡ Some run
       → ((done.run ≡ r) × (done.started ≡ run.started) × (out_at run.top ≡ Some (out_of done)) → ⊥) → (at : RunAt K V M O) → Runs l r at → IsOf r at done → ⊥
   not_fitting b l r run done s h f at w o =
       let is = run_is b l r run at s h w in
@@ -324,33 +324,33 @@ module _ {R K P V M O : Type 0} (order : K → K → Ordering) (m : Machine K P 
   idle_of l r run x e = ap (λ (y : RunSeen K). y.out) (sym x.same) ∙ e
 
   -- an overtaken run is given its result
-  pub give_stopped : (b a : Held K P V M O) (l : Ledger K V M O) (r : ℕ) (run : RunView K P) (done : DoneView R K P V) (x : RunHere l r run)
+  pub give_stopped : (b a : Held K P V M) (l : Ledger K V M O) (r : ℕ) (run : RunView K P) (done : DoneView R K P V) (x : RunHere l r run)
       → (done.run ≡ r) × (done.started ≡ run.started) × (out_at run.top ≡ Some (out_of done))
       → Stops l r (ended l x.at x.at.entry.starved (Cancelled x.at.started l.inputs.revision))
       × StandsOf order m point puts a (ended l x.at x.at.entry.starved (Cancelled x.at.started l.inputs.revision))
-      → StandsOf order m point puts b l → (run.started < b.inputs.revision) ⊎ (found b.lanes run.client ≡ None)
+      → StandsOf order m point puts b l → (run.started < b.inputs.revision) ⊎ (found b.accounts run.client ≡ None)
       → Reaches (Gives r done (Ok Stopped)) l (StandsOf order m point puts a)
   give_stopped b a l r run done x f w s late =
       (ended l x.at x.at.entry.starved (Cancelled x.at.started l.inputs.revision), (x.at, x.runs, fits_of l r run done x f, overtaken order m point puts b l r run s x late, refl), w.1)
 
   -- a run takes its result
-  pub give_moved : (b a : Held K P V M O) (l : Ledger K V M O) (r : ℕ) (run after : RunView K P) (done : DoneView R K P V)
-      → StandsOf order m point puts b l → found b.runs r ≡ Some run → ((run.started < b.inputs.revision) ⊎ (found b.lanes run.client ≡ None) → ⊥)
+  pub give_moved : (b a : Held K P V M) (l : Ledger K V M O) (r : ℕ) (run after : RunView K P) (done : DoneView R K P V)
+      → StandsOf order m point puts b l → found b.runs r ≡ Some run → ((run.started < b.inputs.revision) ⊎ (found b.accounts run.client ≡ None) → ⊥)
       → (done.run ≡ r) × (done.started ≡ run.started) × (out_at run.top ≡ Some (out_of done)) → IsSameRun run after → out_at after.top ≡ None
-      → ((k : ℕ) → found a.runs k ≡ (if k == r then Some after else found b.runs k)) → ((k : ℕ) → found a.lanes k ≡ found b.lanes k) → SameBut b a
+      → ((k : ℕ) → found a.runs k ≡ (if k == r then Some after else found b.runs k)) → ((k : ℕ) → found a.accounts k ≡ found b.accounts k) → SameBut b a
       → Reaches (Gives r done (Ok Stepped)) l (StandsOf order m point puts a)
-  give_moved b a l r run after done s h early f same empty runs lanes but =
+  give_moved b a l r run after done s h early f same empty runs accounts but =
       let x = run_here order m point puts b l r run s h in
       let move : Gives r done (Ok Stepped) l (with_out l r x.at (out_at after.top)) =
       (x.at, x.runs, fits_of l r run done x f, (current order m point puts b l r run s x early).0, ap (with_out l r x.at) empty) in (
         with_out l r x.at (out_at after.top),
         move,
-        out_moved order m point puts b a l r run after x s h same runs lanes but (kept_gives (answer_by order m point) puts r done (Ok Stepped) l _ s.kept move),
+        out_moved order m point puts b a l r run after x s h same runs accounts but (kept_gives (answer_by order m point) puts r done (Ok Stepped) l _ s.kept move),
       )
 
   -- a run could not take its result
-  pub give_refused : (b : Held K P V M O) (l : Ledger K V M O) (r : ℕ) (run : RunView K P) (done : DoneView R K P V) → StandsOf order m point puts b l → found b.runs r ≡ Some run
-      → ((run.started < b.inputs.revision) ⊎ (found b.lanes run.client ≡ None) → ⊥)
+  pub give_refused : (b : Held K P V M) (l : Ledger K V M O) (r : ℕ) (run : RunView K P) (done : DoneView R K P V) → StandsOf order m point puts b l → found b.runs r ≡ Some run
+      → ((run.started < b.inputs.revision) ⊎ (found b.accounts run.client ≡ None) → ⊥)
       → (done.run ≡ r) × (done.started ≡ run.started) × (out_at run.top ≡ Some (out_of done))
       → (at : RunAt K V M O) × Runs l r at × IsOf r at done × IsCurrent l at
   give_refused b l r run done s h early f =
@@ -358,15 +358,15 @@ module _ {R K P V M O : Type 0} (order : K → K → Ordering) (m : Machine K P 
       (x.at, x.runs, fits_of l r run done x f, (current order m point puts b l r run s x early).0)
 
   -- what a run that looks is: current, and its work is not out
-  pub goes_on : (b : Held K P V M O) (l : Ledger K V M O) (r : ℕ) (run : RunView K P) → StandsOf order m point puts b l → found b.runs r ≡ Some run
-      → ((run.started < b.inputs.revision) ⊎ (found b.lanes run.client ≡ None) → ⊥) → out_at run.top ≡ None → (at : RunAt K V M O) × GoesOn l r at
+  pub goes_on : (b : Held K P V M) (l : Ledger K V M O) (r : ℕ) (run : RunView K P) → StandsOf order m point puts b l → found b.runs r ≡ Some run
+      → ((run.started < b.inputs.revision) ⊎ (found b.accounts run.client ≡ None) → ⊥) → out_at run.top ≡ None → (at : RunAt K V M O) × GoesOn l r at
   goes_on b l r run s h early empty =
       let x = run_here order m point puts b l r run s h in
       (x.at, record { runs = x.runs; current = (current order m point puts b l r run s x early).0; idle = idle_of l r run x empty })
 
   -- a run whose work is out is blocked by itself
-  pub look_blocked : (b : Held K P V M O) (l : Ledger K V M O) (r : ℕ) (run : RunView K P) → StandsOf order m point puts b l → found b.runs r ≡ Some run
-      → ((run.started < b.inputs.revision) ⊎ (found b.lanes run.client ≡ None) → ⊥) → IsSome (out_at run.top)
+  pub look_blocked : (b : Held K P V M) (l : Ledger K V M O) (r : ℕ) (run : RunView K P) → StandsOf order m point puts b l → found b.runs r ≡ Some run
+      → ((run.started < b.inputs.revision) ⊎ (found b.accounts run.client ≡ None) → ⊥) → IsSome (out_at run.top)
       → (at : RunAt K V M O) × Runs l r at × IsCurrent l at × ((out : Out K) × (at.out ≡ Some out))
   look_blocked b l r run s h early full =
       let x = run_here order m point puts b l r run s h in
@@ -378,8 +378,8 @@ module _ {R K P V M O : Type 0} (order : K → K → Ordering) (m : Machine K P 
       some_of (Some out) e = (out, refl)
 
   -- a run waits for another run
-  pub look_held : (b : Held K P V M O) (l : Ledger K V M O) (r : ℕ) (run : RunView K P) (other : ℕ) (there : RunView K P) → StandsOf order m point puts b l → found b.runs r ≡ Some run
-      → ((run.started < b.inputs.revision) ⊎ (found b.lanes run.client ≡ None) → ⊥) → out_at run.top ≡ None → other ≢ r → found b.runs other ≡ Some there
+  pub look_held : (b : Held K P V M) (l : Ledger K V M O) (r : ℕ) (run : RunView K P) (other : ℕ) (there : RunView K P) → StandsOf order m point puts b l → found b.runs r ≡ Some run
+      → ((run.started < b.inputs.revision) ⊎ (found b.accounts run.client ≡ None) → ⊥) → out_at run.top ≡ None → other ≢ r → found b.runs other ≡ Some there
       → (at : RunAt K V M O) × Runs l r at × IsCurrent l at × IsBlocked l r at other
   look_held b l r run other there s h early empty ne e =
       let x = run_here order m point puts b l r run s h in
@@ -389,12 +389,12 @@ module _ {R K P V M O : Type 0} (order : K → K → Ordering) (m : Machine K P 
       (x.at, x.runs, now, inr (idle_of l r run x empty, ne, (y.at, y.runs, subst (λ (i : ℕ). y.at.started ≤ i) (sym now.now) past)))
 
   -- a run hands work out
-  pub carry_moved : (b a : Held K P V M O) (l : Ledger K V M O) (r : ℕ) (run after : RunView K P) (work : WorkView R K P V) (table : K → Option (Memo K V))
-      → StandsOf order m point puts b l → found b.runs r ≡ Some run → ((run.started < b.inputs.revision) ⊎ (found b.lanes run.client ≡ None) → ⊥) → out_at run.top ≡ None
+  pub carry_moved : (b a : Held K P V M) (l : Ledger K V M O) (r : ℕ) (run after : RunView K P) (work : WorkView R K P V) (table : K → Option (Memo K V))
+      → StandsOf order m point puts b l → found b.runs r ≡ Some run → ((run.started < b.inputs.revision) ⊎ (found b.accounts run.client ≡ None) → ⊥) → out_at run.top ≡ None
       → IsSameRun run after → HandedOut m rules b.inputs table r after.top work
-      → ((k : ℕ) → found a.runs k ≡ (if k == r then Some after else found b.runs k)) → ((k : ℕ) → found a.lanes k ≡ found b.lanes k) → SameBut b a
+      → ((k : ℕ) → found a.runs k ≡ (if k == r then Some after else found b.runs k)) → ((k : ℕ) → found a.accounts k ≡ found b.accounts k) → SameBut b a
       → Reaches (LooksFor (answer_by order m point) rules r (Ok (Carry work))) l (StandsOf order m point puts a)
-  carry_moved b a l r run after work table s h early empty same handed runs lanes but =
+  carry_moved b a l r run after work table s h early empty same handed runs accounts but =
       let x = run_here order m point puts b l r run s h in
       let now = current order m point puts b l r run s x early in
       let move : LooksFor (answer_by order m point) rules r (Ok (Carry work)) l (with_out l r x.at (out_at after.top)) = (
@@ -410,19 +410,19 @@ module _ {R K P V M O : Type 0} (order : K → K → Ordering) (m : Machine K P 
       ) in (
         with_out l r x.at (out_at after.top),
         move,
-        out_moved order m point puts b a l r run after x s h same runs lanes but (kept_looks (answer_by order m point) puts {P = P} rules r (Ok (Carry work)) l _ s.kept move),
+        out_moved order m point puts b a l r run after x s h same runs accounts but (kept_looks (answer_by order m point) puts {P = P} rules r (Ok (Carry work)) l _ s.kept move),
       )
 
   -- a run answers
-  pub answer_moved : (b a : Held K P V M O) (l : Ledger K V M O) (r : ℕ) (run : RunView K P) (answer : Answer K V) (stamp : M)
-      → StandsOf order m point puts b l → found b.runs r ≡ Some run → ((run.started < b.inputs.revision) ⊎ (found b.lanes run.client ≡ None) → ⊥) → out_at run.top ≡ None
+  pub answer_moved : (b a : Held K P V M) (l : Ledger K V M O) (r : ℕ) (run : RunView K P) (answer : Answer K V) (stamp : M)
+      → StandsOf order m point puts b l → found b.runs r ≡ Some run → ((run.started < b.inputs.revision) ⊎ (found b.accounts run.client ≡ None) → ⊥) → out_at run.top ≡ None
       → IsAnswer order m b.inputs run.request answer → point stamp ≡ point_now b.inputs
       → ((k : ℕ) → found a.runs k ≡ (if k == r then None else found b.runs k))
-      → ((lane : LaneView K V M O) → found b.lanes run.client ≡ Some lane
-      → (k : ℕ) → found a.lanes k ≡ (if k == run.client then Some (with_owed lane run.number (OwedReady (lane_reply run b.inputs.revision (Answered answer stamp)))) else found b.lanes k))
-      → (found b.lanes run.client ≡ None → (k : ℕ) → found a.lanes k ≡ found b.lanes k) → SameBut b a
+      → ((account : AccountView K V M) → found b.accounts run.client ≡ Some account
+      → (k : ℕ) → found a.accounts k ≡ (if k == run.client then Some (with_owed account run.number (OwedReady (lane_reply run b.inputs.revision (Answered answer stamp)))) else found b.accounts k))
+      → (found b.accounts run.client ≡ None → (k : ℕ) → found a.accounts k ≡ found b.accounts k) → SameBut b a
       → Reaches (LooksFor {P = P} (answer_by order m point) rules r (Ok MoveAnswered)) l (StandsOf order m point puts a)
-  answer_moved b a l r run answer stamp s h early empty means stamped runs set lanes but =
+  answer_moved b a l r run answer stamp s h early empty means stamped runs set accounts but =
       let x = run_here order m point puts b l r run s h in
       let now = current order m point puts b l r run s x early in
       let move : LooksFor {P = P} (answer_by order m point) rules r (Ok MoveAnswered) l (ended l x.at x.at.entry.starved (Answered answer stamp)) = (
@@ -445,7 +445,7 @@ module _ {R K P V M O : Type 0} (order : K → K → Ordering) (m : Machine K P 
       ) in (
         ended l x.at x.at.entry.starved (Answered answer stamp),
         move,
-        end_moved order m point puts b a l r run x.at.entry.starved (Answered answer stamp) x s h runs set lanes but (kept_looks (answer_by order m point) puts {P = P} rules r (Ok MoveAnswered) l _ s.kept move),
+        end_moved order m point puts b a l r run x.at.entry.starved (Answered answer stamp) x s h runs set accounts but (kept_looks (answer_by order m point) puts {P = P} rules r (Ok MoveAnswered) l _ s.kept move),
       )
 
 -- there is no work out where a test finds none
@@ -469,18 +469,18 @@ why_then A B front None h f = h
 why_then A B front (Some w) h f = (h.0, f w h.1)
 
 -- what ended as `after` ended as `run`
-pub ended_as : {K P V M O : Type 0} (b a : Held K P V M O) (run after : RunView K P) (revision : ℕ) (outcome : Outcome K V M) → IsSameRun run after
-    → ((lane : LaneView K V M O) → found b.lanes after.client ≡ Some lane
-    → (k : ℕ) → found a.lanes k ≡ (if k == after.client then Some (with_owed lane after.number (OwedReady (lane_reply after revision outcome))) else found b.lanes k))
-    → (lane : LaneView K V M O) → found b.lanes run.client ≡ Some lane
-    → (k : ℕ) → found a.lanes k ≡ (if k == run.client then Some (with_owed lane run.number (OwedReady (lane_reply run revision outcome))) else found b.lanes k)
+pub ended_as : {K P V M : Type 0} (b a : Held K P V M) (run after : RunView K P) (revision : ℕ) (outcome : Outcome K V M) → IsSameRun run after
+    → ((account : AccountView K V M) → found b.accounts after.client ≡ Some account
+    → (k : ℕ) → found a.accounts k ≡ (if k == after.client then Some (with_owed account after.number (OwedReady (lane_reply after revision outcome))) else found b.accounts k))
+    → (account : AccountView K V M) → found b.accounts run.client ≡ Some account
+    → (k : ℕ) → found a.accounts k ≡ (if k == run.client then Some (with_owed account run.number (OwedReady (lane_reply run revision outcome))) else found b.accounts k)
 ended_as {K} {P} {V} {M} {O} b a run after revision outcome same f =
-    subst (λ (c : ℕ). (lane : LaneView K V M O) → found b.lanes c ≡ Some lane
-    → (k : ℕ) → found a.lanes k ≡ (if k == c then Some (with_owed lane run.number (OwedReady (record { client = c; number = run.number; request = run.request; revision = revision; outcome = outcome }))) else found b.lanes k))
+    subst (λ (c : ℕ). (account : AccountView K V M) → found b.accounts c ≡ Some account
+    → (k : ℕ) → found a.accounts k ≡ (if k == c then Some (with_owed account run.number (OwedReady (record { client = c; number = run.number; request = run.request; revision = revision; outcome = outcome }))) else found b.accounts k))
     same.client
-    (subst (λ (n : ℕ). (lane : LaneView K V M O) → found b.lanes after.client ≡ Some lane
-    → (k : ℕ) → found a.lanes k ≡ (if k == after.client then Some (with_owed lane n (OwedReady (record { client = after.client; number = n; request = run.request; revision = revision; outcome = outcome }))) else found b.lanes k))
+    (subst (λ (n : ℕ). (account : AccountView K V M) → found b.accounts after.client ≡ Some account
+    → (k : ℕ) → found a.accounts k ≡ (if k == after.client then Some (with_owed account n (OwedReady (record { client = after.client; number = n; request = run.request; revision = revision; outcome = outcome }))) else found b.accounts k))
     same.number
-    (subst (λ q. (lane : LaneView K V M O) → found b.lanes after.client ≡ Some lane
-    → (k : ℕ) → found a.lanes k ≡ (if k == after.client then Some (with_owed lane after.number (OwedReady (record { client = after.client; number = after.number; request = q; revision = revision; outcome = outcome }))) else found b.lanes k))
+    (subst (λ q. (account : AccountView K V M) → found b.accounts after.client ≡ Some account
+    → (k : ℕ) → found a.accounts k ≡ (if k == after.client then Some (with_owed account after.number (OwedReady (record { client = after.client; number = after.number; request = q; revision = revision; outcome = outcome }))) else found b.accounts k))
     same.request f))

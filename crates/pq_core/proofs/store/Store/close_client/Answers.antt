@@ -1,4 +1,5 @@
 use Rattle.std.proofs.Common.{◌≡◌, ◌≤◌, ◌+◌, ◌-◌, ℕ, refl, sym, arith}
+use Rattle.pq_core.specs.Told.{told_puts}
 use Rattle.pq_core.proofs.StoreReleasing.{some_opened, close_moved, close_none}
 use Rattle.pq_core.proofs.Queued.{queue_closed, queue_same, no_longer}
 use Rattle.pq_core.proofs.Changing.{none_taken}
@@ -10,14 +11,14 @@ less_one n h = omega arith
 pub overflow_sub-self : goal.overflow_sub-self
 overflow_sub-self g c =
     let w = c.self.invariant.ledger in
-    some_opened g.R.Key.Ord.cmp (g.R.Rules.machine c.self.inside.memos.rules) g.M.Stamp.point g.O.Outbox.puts _ w.0 c.number-seat.result c.in-Some.lane w.1 (sym c.in-Some.ensures.value)
+    some_opened g.R.Key.Ord.cmp (g.R.Rules.machine c.self.inside.memos.rules) g.M.Stamp.point told_puts _ w.0 c.number-seat.result c.in-Some.account w.1 (sym c.in-Some.ensures.value)
 
 pub invariant_of-self : goal.invariant_of-self
 invariant_of-self g c =
     let w = c.self.invariant in
     let here = sym c.in-Some.ensures.value in
-    let some = some_opened g.R.Key.Ord.cmp (g.R.Rules.machine c.self.inside.memos.rules) g.M.Stamp.point g.O.Outbox.puts _ w.ledger.0 c.number-seat.result c.in-Some.lane w.ledger.1 here in
-    let moved = close_moved g.R.Key.Ord.cmp (g.R.Rules.machine c.self.inside.memos.rules) g.M.Stamp.point g.O.Outbox.puts _ _ c.number-seat.result c.in-Some.lane
+    let some = some_opened g.R.Key.Ord.cmp (g.R.Rules.machine c.self.inside.memos.rules) g.M.Stamp.point told_puts _ w.ledger.0 c.number-seat.result c.in-Some.account w.ledger.1 here in
+    let moved = close_moved g.R.Key.Ord.cmp (g.R.Rules.machine c.self.inside.memos.rules) g.M.Stamp.point told_puts _ _ c.number-seat.result c.in-Some.account
     c.into_outbox.result w.ledger.0 here c.take.ensures.found c.into_outbox.ensures
     (record { inputs = refl; clients = refl; runs = refl; started = refl }) (less_one c.self.inside.opened some)
     w.ledger.1 in
@@ -26,7 +27,7 @@ invariant_of-self g c =
     record {
       stamped = c.self.invariant.stamped;
       kept = w.kept;
-      lanes_above = c.take.ensures.above c.self.inside.clients w.lanes_above;
+      accounts_above = c.take.ensures.above c.self.inside.clients w.accounts_above;
       runs_above = w.runs_above;
       queue = queue_closed _ _ _ _ c.number-seat.result c.take.ensures.found c.drop_queued.ensures w.queue;
       room = omega arith;
@@ -38,10 +39,10 @@ pub returns-in-Some-clause-moved : goal.returns-in-Some-clause-moved
 returns-in-Some-clause-moved g c =
     let here = sym c.in-Some.ensures.value in
     let w = c.self.invariant in
-    let some = some_opened g.R.Key.Ord.cmp (g.R.Rules.machine c.self.inside.memos.rules) g.M.Stamp.point g.O.Outbox.puts _ w.ledger.0 c.number-seat.result c.in-Some.lane w.ledger.1 here in
+    let some = some_opened g.R.Key.Ord.cmp (g.R.Rules.machine c.self.inside.memos.rules) g.M.Stamp.point told_puts _ w.ledger.0 c.number-seat.result c.in-Some.account w.ledger.1 here in
     rw (← c.self.view_is)
     (rw (← c.number-seat.ensures)
-    (λ l s. close_moved g.R.Key.Ord.cmp (g.R.Rules.machine c.self.inside.memos.rules) g.M.Stamp.point g.O.Outbox.puts _ _ c.number-seat.result c.in-Some.lane
+    (λ l s. close_moved g.R.Key.Ord.cmp (g.R.Rules.machine c.self.inside.memos.rules) g.M.Stamp.point told_puts _ _ c.number-seat.result c.in-Some.account
     c.into_outbox.result l here c.take.ensures.found c.into_outbox.ensures
     (record { inputs = refl; clients = refl; runs = refl; started = refl }) (less_one c.self.inside.opened some)
     s))
@@ -49,15 +50,15 @@ returns-in-Some-clause-moved g c =
 pub invariant_of-self-in-None : goal.invariant_of-self-in-None
 invariant_of-self-in-None g c =
     let w = c.self.invariant in
-    let moved = close_none g.R.Key.Ord.cmp (g.R.Rules.machine c.self.inside.memos.rules) g.M.Stamp.point g.O.Outbox.puts _ _ c.number-seat.result w.ledger.0
+    let moved = close_none g.R.Key.Ord.cmp (g.R.Rules.machine c.self.inside.memos.rules) g.M.Stamp.point told_puts _ _ c.number-seat.result w.ledger.0
     (sym c.in-None.ensures.value) c.take.ensures.found
     (record { inputs = refl; clients = refl; runs = refl; started = refl }) refl w.ledger.1 in
     record {
       stamped = c.self.invariant.stamped;
       kept = w.kept;
-      lanes_above = c.take.ensures.above c.self.inside.clients w.lanes_above;
+      accounts_above = c.take.ensures.above c.self.inside.clients w.accounts_above;
       runs_above = w.runs_above;
-      queue = queue_same _ _ _ (none_taken c.self.inside.lanes c.take.new.self c.number-seat.result (sym c.in-None.ensures.value) c.take.ensures.found c.take.ensures.above c.take.ensures.room).found w.queue;
+      queue = queue_same _ _ _ (none_taken c.self.inside.accounts c.take.new.self c.number-seat.result (sym c.in-None.ensures.value) c.take.ensures.found c.take.ensures.above c.take.ensures.room).found w.queue;
       room = w.room;
       runs = w.runs;
       ledger = (moved.0, moved.2);
@@ -67,7 +68,7 @@ pub returns-in-None-clause-moved : goal.returns-in-None-clause-moved
 returns-in-None-clause-moved g c =
     rw (← c.self.view_is)
     (rw (← c.number-seat.ensures)
-    (λ l s. close_none g.R.Key.Ord.cmp (g.R.Rules.machine c.self.inside.memos.rules) g.M.Stamp.point g.O.Outbox.puts _ _ c.number-seat.result l
+    (λ l s. close_none g.R.Key.Ord.cmp (g.R.Rules.machine c.self.inside.memos.rules) g.M.Stamp.point told_puts _ _ c.number-seat.result l
     (sym c.in-None.ensures.value) c.take.ensures.found
     (record { inputs = refl; clients = refl; runs = refl; started = refl }) refl s))
 

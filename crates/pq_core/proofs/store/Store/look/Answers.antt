@@ -2,8 +2,9 @@ use Rattle.std.proofs.Common.{◌≡◌, ℕ, ◌≤◌, ◌<◌, ◌+◌, List,
 use Rattle.pq_inputs.specs.Sources.{Sources}
 use Rattle.pq_rules.specs.Relations.{In}
 use Rattle.pq_memo.specs.Table.{memo_at, HasIn}
+use Rattle.pq_core.specs.Told.{told_puts}
 use Rattle.pq_core.specs.aux.Rising.{found}
-use Rattle.pq_core.specs.Cores.{held}
+use Rattle.pq_core.specs.Stores.{held}
 use Rattle.pq_core.specs.Moves.{ended}
 use Rattle.pq_core.specs.aux.Runs.{out_at}
 use Rattle.pq_core.specs.declared.outcome.Outcome.TheVariants.{Cancelled, Answered}
@@ -29,7 +30,7 @@ invariant_of-self g c =
     record {
       stamped = c.self.invariant.stamped;
       kept = w.kept;
-      lanes_above = w.lanes_above;
+      accounts_above = w.accounts_above;
       runs_above = same.above c.self.inside.started w.runs_above;
       queue = w.queue;
       room =
@@ -39,9 +40,9 @@ invariant_of-self g c =
       runs = same_runs _ _ _ _ _ _ _ same.found w.runs;
       ledger = (
         w.ledger.0,
-        unmoved g.R.Key.Ord.cmp (g.R.Rules.machine c.self.inside.memos.rules) g.M.Stamp.point g.O.Outbox.puts _ _ w.ledger.0 (record {
+        unmoved g.R.Key.Ord.cmp (g.R.Rules.machine c.self.inside.memos.rules) g.M.Stamp.point told_puts _ _ w.ledger.0 (record {
           inputs = refl;
-          lanes = λ k. refl;
+          accounts = λ k. refl;
           opened = refl;
           clients = refl;
           runs = same.found;
@@ -61,10 +62,10 @@ returns-in-None-clause-moved g c =
     rw (← c.self.view_is)
     (λ l s. (
       l,
-      (no_run g.R.Key.Ord.cmp (g.R.Rules.machine c.self.inside.memos.rules) g.M.Stamp.point g.O.Outbox.puts (held (record { rules = c.self.inside.memos.rules; places = c.self.inside.memos.places; inputs = c.self.inside.inputs; lanes = c.self.inside.lanes; opened = c.self.inside.opened; clients = c.self.inside.clients; waiting = c.self.inside.waiting.items; runs = c.self.inside.runs; started = c.self.inside.started; claims = c.self.inside.claims })) l c.args.run s nothing, refl),
-      unmoved g.R.Key.Ord.cmp (g.R.Rules.machine c.self.inside.memos.rules) g.M.Stamp.point g.O.Outbox.puts _ _ l (record {
+      (no_run g.R.Key.Ord.cmp (g.R.Rules.machine c.self.inside.memos.rules) g.M.Stamp.point told_puts (held (record { rules = c.self.inside.memos.rules; places = c.self.inside.memos.places; inputs = c.self.inside.inputs; accounts = c.self.inside.accounts; opened = c.self.inside.opened; clients = c.self.inside.clients; waiting = c.self.inside.waiting.items; runs = c.self.inside.runs; started = c.self.inside.started; claims = c.self.inside.claims })) l c.args.run s nothing, refl),
+      unmoved g.R.Key.Ord.cmp (g.R.Rules.machine c.self.inside.memos.rules) g.M.Stamp.point told_puts _ _ l (record {
         inputs = refl;
-        lanes = λ k. refl;
+        accounts = λ k. refl;
         opened = refl;
         clients = refl;
         runs = same.found;
@@ -75,24 +76,24 @@ returns-in-None-clause-moved g c =
 pub stop_run-requires-clause-within : goal.stop_run-requires-clause-within
 stop_run-requires-clause-within g c =
     let here = sym (rw c.number-id.ensures at (c.in-Some.ensures {u = tt}).value) in
-    λ lane h. run_within g.R.Key.Ord.cmp (g.R.Rules.machine c.self.inside.memos.rules) g.M.Stamp.point g.O.Outbox.puts (held (record { rules = c.self.inside.memos.rules; places = c.self.inside.memos.places; inputs = c.self.inside.inputs; lanes = c.self.inside.lanes; opened = c.self.inside.opened; clients = c.self.inside.clients; waiting = c.self.inside.waiting.items; runs = c.self.inside.runs; started = c.self.inside.started; claims = c.self.inside.claims })) c.self.invariant.ledger.0 c.args.run c.in-Some.taken lane c.self.invariant.ledger.1 here h
+    λ account h. run_within g.R.Key.Ord.cmp (g.R.Rules.machine c.self.inside.memos.rules) g.M.Stamp.point told_puts (held (record { rules = c.self.inside.memos.rules; places = c.self.inside.memos.places; inputs = c.self.inside.inputs; accounts = c.self.inside.accounts; opened = c.self.inside.opened; clients = c.self.inside.clients; waiting = c.self.inside.waiting.items; runs = c.self.inside.runs; started = c.self.inside.started; claims = c.self.inside.claims })) c.self.invariant.ledger.0 c.args.run c.in-Some.taken account c.self.invariant.ledger.1 here h
 
 pub invariant_of-self-then-is_overtaken : goal.invariant_of-self-then-is_overtaken
 invariant_of-self-then-is_overtaken g c =
     let w = c.self.invariant in
     let here = sym (rw c.number-id.ensures at (c.in-Some.ensures {u = tt}).value) in
     let runs = rw c.number-id.ensures at c.take.ensures.found in
-    let x = run_here g.R.Key.Ord.cmp (g.R.Rules.machine c.self.inside.memos.rules) g.M.Stamp.point g.O.Outbox.puts (held (record { rules = c.self.inside.memos.rules; places = c.self.inside.memos.places; inputs = c.self.inside.inputs; lanes = c.self.inside.lanes; opened = c.self.inside.opened; clients = c.self.inside.clients; waiting = c.self.inside.waiting.items; runs = c.self.inside.runs; started = c.self.inside.started; claims = c.self.inside.claims })) w.ledger.0 c.args.run c.in-Some.taken w.ledger.1 here in
-    let moved = stop_moved g.R.Key.Ord.cmp (g.R.Rules.machine c.self.inside.memos.rules) g.M.Stamp.point g.O.Outbox.puts c.self.inside.memos.rules (held (record { rules = c.self.inside.memos.rules; places = c.self.inside.memos.places; inputs = c.self.inside.inputs; lanes = c.self.inside.lanes; opened = c.self.inside.opened; clients = c.self.inside.clients; waiting = c.self.inside.waiting.items; runs = c.self.inside.runs; started = c.self.inside.started; claims = c.self.inside.claims })) (record { inputs = c.self.inside.inputs; lanes = c.stop_run.new.lanes.items; opened = c.self.inside.opened; clients = c.self.inside.clients; runs = c.take.new.self.items; started = c.self.inside.started }) w.ledger.0 c.args.run c.in-Some.taken x w.ledger.1 here
+    let x = run_here g.R.Key.Ord.cmp (g.R.Rules.machine c.self.inside.memos.rules) g.M.Stamp.point told_puts (held (record { rules = c.self.inside.memos.rules; places = c.self.inside.memos.places; inputs = c.self.inside.inputs; accounts = c.self.inside.accounts; opened = c.self.inside.opened; clients = c.self.inside.clients; waiting = c.self.inside.waiting.items; runs = c.self.inside.runs; started = c.self.inside.started; claims = c.self.inside.claims })) w.ledger.0 c.args.run c.in-Some.taken w.ledger.1 here in
+    let moved = stop_moved g.R.Key.Ord.cmp (g.R.Rules.machine c.self.inside.memos.rules) g.M.Stamp.point told_puts c.self.inside.memos.rules (held (record { rules = c.self.inside.memos.rules; places = c.self.inside.memos.places; inputs = c.self.inside.inputs; accounts = c.self.inside.accounts; opened = c.self.inside.opened; clients = c.self.inside.clients; waiting = c.self.inside.waiting.items; runs = c.self.inside.runs; started = c.self.inside.started; claims = c.self.inside.claims })) (record { inputs = c.self.inside.inputs; accounts = c.stop_run.new.accounts.items; opened = c.self.inside.opened; clients = c.self.inside.clients; runs = c.take.new.self.items; started = c.self.inside.started }) w.ledger.0 c.args.run c.in-Some.taken x w.ledger.1 here
     (rw c.now-now.ensures.now at (c.is_overtaken.ensures.0 c.if-is_overtaken.true)) runs
-    (λ lane h k. rw c.now-now.ensures.now at ((c.stop_run.ensures.«open» lane h).found k)) (λ h k. (c.stop_run.ensures.closed h).found k) (record { inputs = refl; opened = refl; clients = refl; started = refl }) in
+    (λ account h k. rw c.now-now.ensures.now at ((c.stop_run.ensures.«open» account h).found k)) (λ h k. (c.stop_run.ensures.closed h).found k) (record { inputs = refl; opened = refl; clients = refl; started = refl }) in
     record {
       stamped = c.self.invariant.stamped;
       kept = w.kept;
-      lanes_above = c.stop_run.ensures.above c.self.inside.clients w.lanes_above;
+      accounts_above = c.stop_run.ensures.above c.self.inside.clients w.accounts_above;
       runs_above = c.take.ensures.above c.self.inside.started w.runs_above;
-      queue = end_queue g.R.Key.Ord.cmp (g.R.Rules.machine c.self.inside.memos.rules) g.M.Stamp.point g.O.Outbox.puts _ _ _ w.ledger.0 c.args.run c.in-Some.taken c.in-Some.taken _ w.ledger.1 here (record { client = refl; number = refl; request = refl; started = refl })
-          (λ lane h k. (c.stop_run.ensures.«open» lane h).found k) (λ h k. (c.stop_run.ensures.closed h).found k) w.queue;
+      queue = end_queue g.R.Key.Ord.cmp (g.R.Rules.machine c.self.inside.memos.rules) g.M.Stamp.point told_puts _ _ _ w.ledger.0 c.args.run c.in-Some.taken c.in-Some.taken _ w.ledger.1 here (record { client = refl; number = refl; request = refl; started = refl })
+          (λ account h k. (c.stop_run.ensures.«open» account h).found k) (λ h k. (c.stop_run.ensures.closed h).found k) w.queue;
       room =
           let a : length c.self.inside.waiting.items ≤ c.self.inside.runs.room = w.room in
           let b = c.take.ensures.room in
@@ -111,10 +112,10 @@ returns-then-is_overtaken-clause-moved g c =
     let runs = rw c.number-id.ensures at c.take.ensures.found in
     rw (← c.self.view_is)
     (λ l s.
-    let x = run_here g.R.Key.Ord.cmp (g.R.Rules.machine c.self.inside.memos.rules) g.M.Stamp.point g.O.Outbox.puts (held (record { rules = c.self.inside.memos.rules; places = c.self.inside.memos.places; inputs = c.self.inside.inputs; lanes = c.self.inside.lanes; opened = c.self.inside.opened; clients = c.self.inside.clients; waiting = c.self.inside.waiting.items; runs = c.self.inside.runs; started = c.self.inside.started; claims = c.self.inside.claims })) l c.args.run c.in-Some.taken s here in
-    let moved = stop_moved g.R.Key.Ord.cmp (g.R.Rules.machine c.self.inside.memos.rules) g.M.Stamp.point g.O.Outbox.puts c.self.inside.memos.rules (held (record { rules = c.self.inside.memos.rules; places = c.self.inside.memos.places; inputs = c.self.inside.inputs; lanes = c.self.inside.lanes; opened = c.self.inside.opened; clients = c.self.inside.clients; waiting = c.self.inside.waiting.items; runs = c.self.inside.runs; started = c.self.inside.started; claims = c.self.inside.claims })) (record { inputs = c.self.inside.inputs; lanes = c.stop_run.new.lanes.items; opened = c.self.inside.opened; clients = c.self.inside.clients; runs = c.take.new.self.items; started = c.self.inside.started }) l c.args.run c.in-Some.taken x s here
+    let x = run_here g.R.Key.Ord.cmp (g.R.Rules.machine c.self.inside.memos.rules) g.M.Stamp.point told_puts (held (record { rules = c.self.inside.memos.rules; places = c.self.inside.memos.places; inputs = c.self.inside.inputs; accounts = c.self.inside.accounts; opened = c.self.inside.opened; clients = c.self.inside.clients; waiting = c.self.inside.waiting.items; runs = c.self.inside.runs; started = c.self.inside.started; claims = c.self.inside.claims })) l c.args.run c.in-Some.taken s here in
+    let moved = stop_moved g.R.Key.Ord.cmp (g.R.Rules.machine c.self.inside.memos.rules) g.M.Stamp.point told_puts c.self.inside.memos.rules (held (record { rules = c.self.inside.memos.rules; places = c.self.inside.memos.places; inputs = c.self.inside.inputs; accounts = c.self.inside.accounts; opened = c.self.inside.opened; clients = c.self.inside.clients; waiting = c.self.inside.waiting.items; runs = c.self.inside.runs; started = c.self.inside.started; claims = c.self.inside.claims })) (record { inputs = c.self.inside.inputs; accounts = c.stop_run.new.accounts.items; opened = c.self.inside.opened; clients = c.self.inside.clients; runs = c.take.new.self.items; started = c.self.inside.started }) l c.args.run c.in-Some.taken x s here
     (rw c.now-now.ensures.now at (c.is_overtaken.ensures.0 c.if-is_overtaken.true)) runs
-    (λ lane h k. rw c.now-now.ensures.now at ((c.stop_run.ensures.«open» lane h).found k)) (λ h k. (c.stop_run.ensures.closed h).found k) (record { inputs = refl; opened = refl; clients = refl; started = refl }) in
+    (λ account h k. rw c.now-now.ensures.now at ((c.stop_run.ensures.«open» account h).found k)) (λ h k. (c.stop_run.ensures.closed h).found k) (record { inputs = refl; opened = refl; clients = refl; started = refl }) in
     (ended l x.at x.at.entry.starved (Cancelled x.at.started l.inputs.revision), moved.0, moved.1))
 
 pub invariant_of-self-then-is_out : goal.invariant_of-self-then-is_out
@@ -126,7 +127,7 @@ invariant_of-self-then-is_out g c =
     record {
       stamped = c.self.invariant.stamped;
       kept = w.kept;
-      lanes_above = w.lanes_above;
+      accounts_above = w.accounts_above;
       runs_above = set.above c.self.inside.started w.runs_above;
       queue = w.queue;
       room =
@@ -134,7 +135,7 @@ invariant_of-self-then-is_out g c =
           let b = set.room in
           omega (arith, a, b);
       runs = back_runs _ _ _ _ _ _ _ c.args.run c.in-Some.taken here set.found w.runs;
-      ledger = (w.ledger.0, back_moved g.R.Key.Ord.cmp (g.R.Rules.machine c.self.inside.memos.rules) g.M.Stamp.point g.O.Outbox.puts (held (record { rules = c.self.inside.memos.rules; places = c.self.inside.memos.places; inputs = c.self.inside.inputs; lanes = c.self.inside.lanes; opened = c.self.inside.opened; clients = c.self.inside.clients; waiting = c.self.inside.waiting.items; runs = c.self.inside.runs; started = c.self.inside.started; claims = c.self.inside.claims })) (record { inputs = c.self.inside.inputs; lanes = c.self.inside.lanes.items; opened = c.self.inside.opened; clients = c.self.inside.clients; runs = c.put_back.new.self.items; started = c.self.inside.started }) w.ledger.0 c.args.run c.in-Some.taken c.in-Some.taken w.ledger.1 here (record { client = refl; number = refl; request = refl; started = refl }) refl set.found (λ k. refl) (record { inputs = refl; opened = refl; clients = refl; started = refl }));
+      ledger = (w.ledger.0, back_moved g.R.Key.Ord.cmp (g.R.Rules.machine c.self.inside.memos.rules) g.M.Stamp.point told_puts (held (record { rules = c.self.inside.memos.rules; places = c.self.inside.memos.places; inputs = c.self.inside.inputs; accounts = c.self.inside.accounts; opened = c.self.inside.opened; clients = c.self.inside.clients; waiting = c.self.inside.waiting.items; runs = c.self.inside.runs; started = c.self.inside.started; claims = c.self.inside.claims })) (record { inputs = c.self.inside.inputs; accounts = c.self.inside.accounts.items; opened = c.self.inside.opened; clients = c.self.inside.clients; runs = c.put_back.new.self.items; started = c.self.inside.started }) w.ledger.0 c.args.run c.in-Some.taken c.in-Some.taken w.ledger.1 here (record { client = refl; number = refl; request = refl; started = refl }) refl set.found (λ k. refl) (record { inputs = refl; opened = refl; clients = refl; started = refl }));
     }
 
 pub returns-then-is_out-clause-none_lost : goal.returns-then-is_out-clause-none_lost
@@ -148,8 +149,8 @@ returns-then-is_out-clause-moved g c =
     (rw c.in-Some.is at c.take.ensures.more_room) (rw c.number-id.ensures at c.put_back.ensures.found) c.put_back.ensures.room c.put_back.ensures.above in
     rw (← c.self.view_is)
     (λ l s.
-    let b = look_blocked g.R.Key.Ord.cmp (g.R.Rules.machine c.self.inside.memos.rules) g.M.Stamp.point g.O.Outbox.puts c.self.inside.memos.rules (held (record { rules = c.self.inside.memos.rules; places = c.self.inside.memos.places; inputs = c.self.inside.inputs; lanes = c.self.inside.lanes; opened = c.self.inside.opened; clients = c.self.inside.clients; waiting = c.self.inside.waiting.items; runs = c.self.inside.runs; started = c.self.inside.started; claims = c.self.inside.claims })) l c.args.run c.in-Some.taken s here (λ o. false_true (sym c.if-is_overtaken.false ∙ c.is_overtaken.ensures.1 (rw c.now-now.ensures.now o))) (c.is_out.ensures.0 c.if-is_out.true) in
-    (l, (b.0, b.1, b.2, inl (b.3, refl), refl), back_moved g.R.Key.Ord.cmp (g.R.Rules.machine c.self.inside.memos.rules) g.M.Stamp.point g.O.Outbox.puts (held (record { rules = c.self.inside.memos.rules; places = c.self.inside.memos.places; inputs = c.self.inside.inputs; lanes = c.self.inside.lanes; opened = c.self.inside.opened; clients = c.self.inside.clients; waiting = c.self.inside.waiting.items; runs = c.self.inside.runs; started = c.self.inside.started; claims = c.self.inside.claims })) (record { inputs = c.self.inside.inputs; lanes = c.self.inside.lanes.items; opened = c.self.inside.opened; clients = c.self.inside.clients; runs = c.put_back.new.self.items; started = c.self.inside.started }) l c.args.run c.in-Some.taken c.in-Some.taken s here (record { client = refl; number = refl; request = refl; started = refl }) refl set.found (λ k. refl) (record { inputs = refl; opened = refl; clients = refl; started = refl })))
+    let b = look_blocked g.R.Key.Ord.cmp (g.R.Rules.machine c.self.inside.memos.rules) g.M.Stamp.point told_puts c.self.inside.memos.rules (held (record { rules = c.self.inside.memos.rules; places = c.self.inside.memos.places; inputs = c.self.inside.inputs; accounts = c.self.inside.accounts; opened = c.self.inside.opened; clients = c.self.inside.clients; waiting = c.self.inside.waiting.items; runs = c.self.inside.runs; started = c.self.inside.started; claims = c.self.inside.claims })) l c.args.run c.in-Some.taken s here (λ o. false_true (sym c.if-is_overtaken.false ∙ c.is_overtaken.ensures.1 (rw c.now-now.ensures.now o))) (c.is_out.ensures.0 c.if-is_out.true) in
+    (l, (b.0, b.1, b.2, inl (b.3, refl), refl), back_moved g.R.Key.Ord.cmp (g.R.Rules.machine c.self.inside.memos.rules) g.M.Stamp.point told_puts (held (record { rules = c.self.inside.memos.rules; places = c.self.inside.memos.places; inputs = c.self.inside.inputs; accounts = c.self.inside.accounts; opened = c.self.inside.opened; clients = c.self.inside.clients; waiting = c.self.inside.waiting.items; runs = c.self.inside.runs; started = c.self.inside.started; claims = c.self.inside.claims })) (record { inputs = c.self.inside.inputs; accounts = c.self.inside.accounts.items; opened = c.self.inside.opened; clients = c.self.inside.clients; runs = c.put_back.new.self.items; started = c.self.inside.started }) l c.args.run c.in-Some.taken c.in-Some.taken s here (record { client = refl; number = refl; request = refl; started = refl }) refl set.found (λ k. refl) (record { inputs = refl; opened = refl; clients = refl; started = refl })))
 
 pub invariant_of-self-in-None-ok : goal.invariant_of-self-in-None-ok
 invariant_of-self-in-None-ok g c =
@@ -160,7 +161,7 @@ invariant_of-self-in-None-ok g c =
     record {
       stamped = c.self.invariant.stamped;
       kept = w.kept;
-      lanes_above = w.lanes_above;
+      accounts_above = w.accounts_above;
       runs_above = set.above c.self.inside.started w.runs_above;
       queue = w.queue;
       room =
@@ -168,7 +169,7 @@ invariant_of-self-in-None-ok g c =
           let b = set.room in
           omega (arith, a, b);
       runs = back_runs _ _ _ _ _ _ _ c.args.run c.in-Some.taken here set.found w.runs;
-      ledger = (w.ledger.0, back_moved g.R.Key.Ord.cmp (g.R.Rules.machine c.self.inside.memos.rules) g.M.Stamp.point g.O.Outbox.puts (held (record { rules = c.self.inside.memos.rules; places = c.self.inside.memos.places; inputs = c.self.inside.inputs; lanes = c.self.inside.lanes; opened = c.self.inside.opened; clients = c.self.inside.clients; waiting = c.self.inside.waiting.items; runs = c.self.inside.runs; started = c.self.inside.started; claims = c.self.inside.claims })) (record { inputs = c.self.inside.inputs; lanes = c.self.inside.lanes.items; opened = c.self.inside.opened; clients = c.self.inside.clients; runs = c.put_back-in-None-ok.new.self.items; started = c.self.inside.started }) w.ledger.0 c.args.run c.in-Some.taken c.in-Some.taken w.ledger.1 here (record { client = refl; number = refl; request = refl; started = refl }) refl set.found (λ k. refl) (record { inputs = refl; opened = refl; clients = refl; started = refl }));
+      ledger = (w.ledger.0, back_moved g.R.Key.Ord.cmp (g.R.Rules.machine c.self.inside.memos.rules) g.M.Stamp.point told_puts (held (record { rules = c.self.inside.memos.rules; places = c.self.inside.memos.places; inputs = c.self.inside.inputs; accounts = c.self.inside.accounts; opened = c.self.inside.opened; clients = c.self.inside.clients; waiting = c.self.inside.waiting.items; runs = c.self.inside.runs; started = c.self.inside.started; claims = c.self.inside.claims })) (record { inputs = c.self.inside.inputs; accounts = c.self.inside.accounts.items; opened = c.self.inside.opened; clients = c.self.inside.clients; runs = c.put_back-in-None-ok.new.self.items; started = c.self.inside.started }) w.ledger.0 c.args.run c.in-Some.taken c.in-Some.taken w.ledger.1 here (record { client = refl; number = refl; request = refl; started = refl }) refl set.found (λ k. refl) (record { inputs = refl; opened = refl; clients = refl; started = refl }));
     }
 
 pub returns-in-None-ok-clause-none_lost : goal.returns-in-None-ok-clause-none_lost
@@ -182,26 +183,26 @@ returns-in-None-ok-clause-moved g c =
     (rw c.in-Some.is at c.take.ensures.more_room) (rw c.number-id.ensures at c.put_back-in-None-ok.ensures.found) c.put_back-in-None-ok.ensures.room c.put_back-in-None-ok.ensures.above in
     rw (← c.self.view_is)
     (λ l s.
-    let b = goes_on g.R.Key.Ord.cmp (g.R.Rules.machine c.self.inside.memos.rules) g.M.Stamp.point g.O.Outbox.puts c.self.inside.memos.rules (held (record { rules = c.self.inside.memos.rules; places = c.self.inside.memos.places; inputs = c.self.inside.inputs; lanes = c.self.inside.lanes; opened = c.self.inside.opened; clients = c.self.inside.clients; waiting = c.self.inside.waiting.items; runs = c.self.inside.runs; started = c.self.inside.started; claims = c.self.inside.claims })) l c.args.run c.in-Some.taken s here (λ o. false_true (sym c.if-is_overtaken.false ∙ c.is_overtaken.ensures.1 (rw c.now-now.ensures.now o))) (none_of (out_at c.in-Some.taken.top) (λ e. false_true (sym c.if-is_out.false ∙ c.is_out.ensures.1 e))) in
-    (l, (b.0, b.1, refl), back_moved g.R.Key.Ord.cmp (g.R.Rules.machine c.self.inside.memos.rules) g.M.Stamp.point g.O.Outbox.puts (held (record { rules = c.self.inside.memos.rules; places = c.self.inside.memos.places; inputs = c.self.inside.inputs; lanes = c.self.inside.lanes; opened = c.self.inside.opened; clients = c.self.inside.clients; waiting = c.self.inside.waiting.items; runs = c.self.inside.runs; started = c.self.inside.started; claims = c.self.inside.claims })) (record { inputs = c.self.inside.inputs; lanes = c.self.inside.lanes.items; opened = c.self.inside.opened; clients = c.self.inside.clients; runs = c.put_back-in-None-ok.new.self.items; started = c.self.inside.started }) l c.args.run c.in-Some.taken c.in-Some.taken s here (record { client = refl; number = refl; request = refl; started = refl }) refl set.found (λ k. refl) (record { inputs = refl; opened = refl; clients = refl; started = refl })))
+    let b = goes_on g.R.Key.Ord.cmp (g.R.Rules.machine c.self.inside.memos.rules) g.M.Stamp.point told_puts c.self.inside.memos.rules (held (record { rules = c.self.inside.memos.rules; places = c.self.inside.memos.places; inputs = c.self.inside.inputs; accounts = c.self.inside.accounts; opened = c.self.inside.opened; clients = c.self.inside.clients; waiting = c.self.inside.waiting.items; runs = c.self.inside.runs; started = c.self.inside.started; claims = c.self.inside.claims })) l c.args.run c.in-Some.taken s here (λ o. false_true (sym c.if-is_overtaken.false ∙ c.is_overtaken.ensures.1 (rw c.now-now.ensures.now o))) (none_of (out_at c.in-Some.taken.top) (λ e. false_true (sym c.if-is_out.false ∙ c.is_out.ensures.1 e))) in
+    (l, (b.0, b.1, refl), back_moved g.R.Key.Ord.cmp (g.R.Rules.machine c.self.inside.memos.rules) g.M.Stamp.point told_puts (held (record { rules = c.self.inside.memos.rules; places = c.self.inside.memos.places; inputs = c.self.inside.inputs; accounts = c.self.inside.accounts; opened = c.self.inside.opened; clients = c.self.inside.clients; waiting = c.self.inside.waiting.items; runs = c.self.inside.runs; started = c.self.inside.started; claims = c.self.inside.claims })) (record { inputs = c.self.inside.inputs; accounts = c.self.inside.accounts.items; opened = c.self.inside.opened; clients = c.self.inside.clients; runs = c.put_back-in-None-ok.new.self.items; started = c.self.inside.started }) l c.args.run c.in-Some.taken c.in-Some.taken s here (record { client = refl; number = refl; request = refl; started = refl }) refl set.found (λ k. refl) (record { inputs = refl; opened = refl; clients = refl; started = refl })))
 
 pub look-looked-requires-clause-demand : goal.look-looked-requires-clause-demand
 look-looked-requires-clause-demand g c =
     let here = sym (rw c.number-id.ensures at (c.in-Some.ensures {u = tt}).value) in
-    run_demands g.R.Key.Ord.cmp (g.R.Rules.machine c.self.inside.memos.rules) g.M.Stamp.point g.O.Outbox.puts (held (record { rules = c.self.inside.memos.rules; places = c.self.inside.memos.places; inputs = c.self.inside.inputs; lanes = c.self.inside.lanes; opened = c.self.inside.opened; clients = c.self.inside.clients; waiting = c.self.inside.waiting.items; runs = c.self.inside.runs; started = c.self.inside.started; claims = c.self.inside.claims })) c.self.invariant.ledger.0 c.args.run c.in-Some.taken c.self.invariant.ledger.1 here
+    run_demands g.R.Key.Ord.cmp (g.R.Rules.machine c.self.inside.memos.rules) g.M.Stamp.point told_puts (held (record { rules = c.self.inside.memos.rules; places = c.self.inside.memos.places; inputs = c.self.inside.inputs; accounts = c.self.inside.accounts; opened = c.self.inside.opened; clients = c.self.inside.clients; waiting = c.self.inside.waiting.items; runs = c.self.inside.runs; started = c.self.inside.started; claims = c.self.inside.claims })) c.self.invariant.ledger.0 c.args.run c.in-Some.taken c.self.invariant.ledger.1 here
 
 pub look-looked-requires-clause-current : goal.look-looked-requires-clause-current
 look-looked-requires-clause-current g c =
     let here = sym (rw c.number-id.ensures at (c.in-Some.ensures {u = tt}).value) in
-    let x = run_here g.R.Key.Ord.cmp (g.R.Rules.machine c.self.inside.memos.rules) g.M.Stamp.point g.O.Outbox.puts (held (record { rules = c.self.inside.memos.rules; places = c.self.inside.memos.places; inputs = c.self.inside.inputs; lanes = c.self.inside.lanes; opened = c.self.inside.opened; clients = c.self.inside.clients; waiting = c.self.inside.waiting.items; runs = c.self.inside.runs; started = c.self.inside.started; claims = c.self.inside.claims })) c.self.invariant.ledger.0 c.args.run c.in-Some.taken c.self.invariant.ledger.1 here in
-    let now = (current g.R.Key.Ord.cmp (g.R.Rules.machine c.self.inside.memos.rules) g.M.Stamp.point g.O.Outbox.puts (held (record { rules = c.self.inside.memos.rules; places = c.self.inside.memos.places; inputs = c.self.inside.inputs; lanes = c.self.inside.lanes; opened = c.self.inside.opened; clients = c.self.inside.clients; waiting = c.self.inside.waiting.items; runs = c.self.inside.runs; started = c.self.inside.started; claims = c.self.inside.claims })) c.self.invariant.ledger.0 c.args.run c.in-Some.taken c.self.invariant.ledger.1 x (λ o. false_true (sym c.if-is_overtaken.false ∙ c.is_overtaken.ensures.1 (rw c.now-now.ensures.now o)))).1 in
+    let x = run_here g.R.Key.Ord.cmp (g.R.Rules.machine c.self.inside.memos.rules) g.M.Stamp.point told_puts (held (record { rules = c.self.inside.memos.rules; places = c.self.inside.memos.places; inputs = c.self.inside.inputs; accounts = c.self.inside.accounts; opened = c.self.inside.opened; clients = c.self.inside.clients; waiting = c.self.inside.waiting.items; runs = c.self.inside.runs; started = c.self.inside.started; claims = c.self.inside.claims })) c.self.invariant.ledger.0 c.args.run c.in-Some.taken c.self.invariant.ledger.1 here in
+    let now = (current g.R.Key.Ord.cmp (g.R.Rules.machine c.self.inside.memos.rules) g.M.Stamp.point told_puts (held (record { rules = c.self.inside.memos.rules; places = c.self.inside.memos.places; inputs = c.self.inside.inputs; accounts = c.self.inside.accounts; opened = c.self.inside.opened; clients = c.self.inside.clients; waiting = c.self.inside.waiting.items; runs = c.self.inside.runs; started = c.self.inside.started; claims = c.self.inside.claims })) c.self.invariant.ledger.0 c.args.run c.in-Some.taken c.self.invariant.ledger.1 x (λ o. false_true (sym c.if-is_overtaken.false ∙ c.is_overtaken.ensures.1 (rw c.now-now.ensures.now o)))).1 in
     now
 
 pub look-looked-requires-clause-run_kept : goal.look-looked-requires-clause-run_kept
 look-looked-requires-clause-run_kept g c =
     let here = sym (rw c.number-id.ensures at (c.in-Some.ensures {u = tt}).value) in
-    let x = run_here g.R.Key.Ord.cmp (g.R.Rules.machine c.self.inside.memos.rules) g.M.Stamp.point g.O.Outbox.puts (held (record { rules = c.self.inside.memos.rules; places = c.self.inside.memos.places; inputs = c.self.inside.inputs; lanes = c.self.inside.lanes; opened = c.self.inside.opened; clients = c.self.inside.clients; waiting = c.self.inside.waiting.items; runs = c.self.inside.runs; started = c.self.inside.started; claims = c.self.inside.claims })) c.self.invariant.ledger.0 c.args.run c.in-Some.taken c.self.invariant.ledger.1 here in
-    let now = (current g.R.Key.Ord.cmp (g.R.Rules.machine c.self.inside.memos.rules) g.M.Stamp.point g.O.Outbox.puts (held (record { rules = c.self.inside.memos.rules; places = c.self.inside.memos.places; inputs = c.self.inside.inputs; lanes = c.self.inside.lanes; opened = c.self.inside.opened; clients = c.self.inside.clients; waiting = c.self.inside.waiting.items; runs = c.self.inside.runs; started = c.self.inside.started; claims = c.self.inside.claims })) c.self.invariant.ledger.0 c.args.run c.in-Some.taken c.self.invariant.ledger.1 x (λ o. false_true (sym c.if-is_overtaken.false ∙ c.is_overtaken.ensures.1 (rw c.now-now.ensures.now o)))).1 in
+    let x = run_here g.R.Key.Ord.cmp (g.R.Rules.machine c.self.inside.memos.rules) g.M.Stamp.point told_puts (held (record { rules = c.self.inside.memos.rules; places = c.self.inside.memos.places; inputs = c.self.inside.inputs; accounts = c.self.inside.accounts; opened = c.self.inside.opened; clients = c.self.inside.clients; waiting = c.self.inside.waiting.items; runs = c.self.inside.runs; started = c.self.inside.started; claims = c.self.inside.claims })) c.self.invariant.ledger.0 c.args.run c.in-Some.taken c.self.invariant.ledger.1 here in
+    let now = (current g.R.Key.Ord.cmp (g.R.Rules.machine c.self.inside.memos.rules) g.M.Stamp.point told_puts (held (record { rules = c.self.inside.memos.rules; places = c.self.inside.memos.places; inputs = c.self.inside.inputs; accounts = c.self.inside.accounts; opened = c.self.inside.opened; clients = c.self.inside.clients; waiting = c.self.inside.waiting.items; runs = c.self.inside.runs; started = c.self.inside.started; claims = c.self.inside.claims })) c.self.invariant.ledger.0 c.args.run c.in-Some.taken c.self.invariant.ledger.1 x (λ o. false_true (sym c.if-is_overtaken.false ∙ c.is_overtaken.ensures.1 (rw c.now-now.ensures.now o)))).1 in
     c.self.invariant.runs.current c.args.run c.in-Some.taken here now
 
 pub invariant_of-self-in-Carry : goal.invariant_of-self-in-Carry
@@ -210,12 +211,12 @@ invariant_of-self-in-Carry g c =
     let here = sym (rw c.number-id.ensures at (c.in-Some.ensures {u = tt}).value) in
     let set = set_back c.self.inside.runs c.take.new.self c.put_back-in-Carry.new.self c.args.run c.look-looked.new.self (rw c.number-id.ensures at c.take.ensures.found) c.take.ensures.above
     (rw c.in-Some.is at c.take.ensures.more_room) (rw c.number-id.ensures at c.put_back-in-Carry.ensures.found) c.put_back-in-Carry.ensures.room c.put_back-in-Carry.ensures.above in
-    let moved = carry_moved g.R.Key.Ord.cmp (g.R.Rules.machine c.self.inside.memos.rules) g.M.Stamp.point g.O.Outbox.puts c.self.inside.memos.rules (held (record { rules = c.self.inside.memos.rules; places = c.self.inside.memos.places; inputs = c.self.inside.inputs; lanes = c.self.inside.lanes; opened = c.self.inside.opened; clients = c.self.inside.clients; waiting = c.self.inside.waiting.items; runs = c.self.inside.runs; started = c.self.inside.started; claims = c.self.inside.claims })) (record { inputs = c.self.inside.inputs; lanes = c.self.inside.lanes.items; opened = c.self.inside.opened; clients = c.self.inside.clients; runs = c.put_back-in-Carry.new.self.items; started = c.self.inside.started }) w.ledger.0 c.args.run c.in-Some.taken c.look-looked.new.self c.in-Carry.work (memo_at g.R.Key.Ord.cmp c.self.inside.memos.places) w.ledger.1 here (λ o. false_true (sym c.if-is_overtaken.false ∙ c.is_overtaken.ensures.1 (rw c.now-now.ensures.now o))) (none_of (out_at c.in-Some.taken.top) (λ e. false_true (sym c.if-is_out.false ∙ c.is_out.ensures.1 e))) c.look-looked.ensures.same (rw c.in-Carry.is at (c.in-Ok.ensures {u = tt}).looked) set.found (λ k. refl) (record { inputs = refl; opened = refl; clients = refl; started = refl }) in
+    let moved = carry_moved g.R.Key.Ord.cmp (g.R.Rules.machine c.self.inside.memos.rules) g.M.Stamp.point told_puts c.self.inside.memos.rules (held (record { rules = c.self.inside.memos.rules; places = c.self.inside.memos.places; inputs = c.self.inside.inputs; accounts = c.self.inside.accounts; opened = c.self.inside.opened; clients = c.self.inside.clients; waiting = c.self.inside.waiting.items; runs = c.self.inside.runs; started = c.self.inside.started; claims = c.self.inside.claims })) (record { inputs = c.self.inside.inputs; accounts = c.self.inside.accounts.items; opened = c.self.inside.opened; clients = c.self.inside.clients; runs = c.put_back-in-Carry.new.self.items; started = c.self.inside.started }) w.ledger.0 c.args.run c.in-Some.taken c.look-looked.new.self c.in-Carry.work (memo_at g.R.Key.Ord.cmp c.self.inside.memos.places) w.ledger.1 here (λ o. false_true (sym c.if-is_overtaken.false ∙ c.is_overtaken.ensures.1 (rw c.now-now.ensures.now o))) (none_of (out_at c.in-Some.taken.top) (λ e. false_true (sym c.if-is_out.false ∙ c.is_out.ensures.1 e))) c.look-looked.ensures.same (rw c.in-Carry.is at (c.in-Ok.ensures {u = tt}).looked) set.found (λ k. refl) (record { inputs = refl; opened = refl; clients = refl; started = refl }) in
     rw c.look-looked.ensures.rules
     (record {
       stamped = c.self.invariant.stamped;
       kept = c.look-looked.ensures.kept;
-      lanes_above = w.lanes_above;
+      accounts_above = w.accounts_above;
       runs_above = set.above c.self.inside.started w.runs_above;
       queue = w.queue;
       room =
@@ -223,8 +224,8 @@ invariant_of-self-in-Carry g c =
           let b = set.room in
           omega (arith, a, b);
       runs = stepped_runs _ _ c.self.inside.inputs _ _ _ _ _ _ c.args.run c.in-Some.taken c.look-looked.new.self here set.found c.look-looked.ensures.same
-          ((current g.R.Key.Ord.cmp (g.R.Rules.machine c.self.inside.memos.rules) g.M.Stamp.point g.O.Outbox.puts (held (record { rules = c.self.inside.memos.rules; places = c.self.inside.memos.places; inputs = c.self.inside.inputs; lanes = c.self.inside.lanes; opened = c.self.inside.opened; clients = c.self.inside.clients; waiting = c.self.inside.waiting.items; runs = c.self.inside.runs; started = c.self.inside.started; claims = c.self.inside.claims })) w.ledger.0 c.args.run c.in-Some.taken w.ledger.1 (run_here g.R.Key.Ord.cmp (g.R.Rules.machine c.self.inside.memos.rules) g.M.Stamp.point g.O.Outbox.puts (held (record { rules = c.self.inside.memos.rules; places = c.self.inside.memos.places; inputs = c.self.inside.inputs; lanes = c.self.inside.lanes; opened = c.self.inside.opened; clients = c.self.inside.clients; waiting = c.self.inside.waiting.items; runs = c.self.inside.runs; started = c.self.inside.started; claims = c.self.inside.claims })) w.ledger.0 c.args.run c.in-Some.taken w.ledger.1 here) (λ o. false_true (sym c.if-is_overtaken.false ∙ c.is_overtaken.ensures.1 (rw c.now-now.ensures.now o)))).1)
-          (λ s y h. run_past g.R.Key.Ord.cmp (g.R.Rules.machine c.self.inside.memos.rules) g.M.Stamp.point g.O.Outbox.puts (held (record { rules = c.self.inside.memos.rules; places = c.self.inside.memos.places; inputs = c.self.inside.inputs; lanes = c.self.inside.lanes; opened = c.self.inside.opened; clients = c.self.inside.clients; waiting = c.self.inside.waiting.items; runs = c.self.inside.runs; started = c.self.inside.started; claims = c.self.inside.claims })) w.ledger.0 s y w.ledger.1 h)
+          ((current g.R.Key.Ord.cmp (g.R.Rules.machine c.self.inside.memos.rules) g.M.Stamp.point told_puts (held (record { rules = c.self.inside.memos.rules; places = c.self.inside.memos.places; inputs = c.self.inside.inputs; accounts = c.self.inside.accounts; opened = c.self.inside.opened; clients = c.self.inside.clients; waiting = c.self.inside.waiting.items; runs = c.self.inside.runs; started = c.self.inside.started; claims = c.self.inside.claims })) w.ledger.0 c.args.run c.in-Some.taken w.ledger.1 (run_here g.R.Key.Ord.cmp (g.R.Rules.machine c.self.inside.memos.rules) g.M.Stamp.point told_puts (held (record { rules = c.self.inside.memos.rules; places = c.self.inside.memos.places; inputs = c.self.inside.inputs; accounts = c.self.inside.accounts; opened = c.self.inside.opened; clients = c.self.inside.clients; waiting = c.self.inside.waiting.items; runs = c.self.inside.runs; started = c.self.inside.started; claims = c.self.inside.claims })) w.ledger.0 c.args.run c.in-Some.taken w.ledger.1 here) (λ o. false_true (sym c.if-is_overtaken.false ∙ c.is_overtaken.ensures.1 (rw c.now-now.ensures.now o)))).1)
+          (λ s y h. run_past g.R.Key.Ord.cmp (g.R.Rules.machine c.self.inside.memos.rules) g.M.Stamp.point told_puts (held (record { rules = c.self.inside.memos.rules; places = c.self.inside.memos.places; inputs = c.self.inside.inputs; accounts = c.self.inside.accounts; opened = c.self.inside.opened; clients = c.self.inside.clients; waiting = c.self.inside.waiting.items; runs = c.self.inside.runs; started = c.self.inside.started; claims = c.self.inside.claims })) w.ledger.0 s y w.ledger.1 h)
           c.claims_are_sound.ensures.sound c.claims_are_sound-in-Some.ensures.sound c.look-looked.ensures.renewed c.look-looked.ensures.written
           c.look-looked.ensures.run_kept c.look-looked.ensures.claimed c.look-looked.ensures.others c.look-looked.ensures.stale c.look-looked.ensures.waits w.runs;
       ledger = (moved.0, moved.2);
@@ -242,7 +243,7 @@ returns-in-Carry-clause-moved g c =
     (rw c.in-Some.is at c.take.ensures.more_room) (rw c.number-id.ensures at c.put_back-in-Carry.ensures.found) c.put_back-in-Carry.ensures.room c.put_back-in-Carry.ensures.above in
     rw (← c.self.view_is)
     (rw c.new.ensures
-    (λ l s. carry_moved g.R.Key.Ord.cmp (g.R.Rules.machine c.self.inside.memos.rules) g.M.Stamp.point g.O.Outbox.puts c.self.inside.memos.rules (held (record { rules = c.self.inside.memos.rules; places = c.self.inside.memos.places; inputs = c.self.inside.inputs; lanes = c.self.inside.lanes; opened = c.self.inside.opened; clients = c.self.inside.clients; waiting = c.self.inside.waiting.items; runs = c.self.inside.runs; started = c.self.inside.started; claims = c.self.inside.claims })) (record { inputs = c.self.inside.inputs; lanes = c.self.inside.lanes.items; opened = c.self.inside.opened; clients = c.self.inside.clients; runs = c.put_back-in-Carry.new.self.items; started = c.self.inside.started }) l c.args.run c.in-Some.taken c.look-looked.new.self c.in-Carry.work (memo_at g.R.Key.Ord.cmp c.self.inside.memos.places) s here (λ o. false_true (sym c.if-is_overtaken.false ∙ c.is_overtaken.ensures.1 (rw c.now-now.ensures.now o))) (none_of (out_at c.in-Some.taken.top) (λ e. false_true (sym c.if-is_out.false ∙ c.is_out.ensures.1 e))) c.look-looked.ensures.same (rw c.in-Carry.is at (c.in-Ok.ensures {u = tt}).looked) set.found (λ k. refl) (record { inputs = refl; opened = refl; clients = refl; started = refl })))
+    (λ l s. carry_moved g.R.Key.Ord.cmp (g.R.Rules.machine c.self.inside.memos.rules) g.M.Stamp.point told_puts c.self.inside.memos.rules (held (record { rules = c.self.inside.memos.rules; places = c.self.inside.memos.places; inputs = c.self.inside.inputs; accounts = c.self.inside.accounts; opened = c.self.inside.opened; clients = c.self.inside.clients; waiting = c.self.inside.waiting.items; runs = c.self.inside.runs; started = c.self.inside.started; claims = c.self.inside.claims })) (record { inputs = c.self.inside.inputs; accounts = c.self.inside.accounts.items; opened = c.self.inside.opened; clients = c.self.inside.clients; runs = c.put_back-in-Carry.new.self.items; started = c.self.inside.started }) l c.args.run c.in-Some.taken c.look-looked.new.self c.in-Carry.work (memo_at g.R.Key.Ord.cmp c.self.inside.memos.places) s here (λ o. false_true (sym c.if-is_overtaken.false ∙ c.is_overtaken.ensures.1 (rw c.now-now.ensures.now o))) (none_of (out_at c.in-Some.taken.top) (λ e. false_true (sym c.if-is_out.false ∙ c.is_out.ensures.1 e))) c.look-looked.ensures.same (rw c.in-Carry.is at (c.in-Ok.ensures {u = tt}).looked) set.found (λ k. refl) (record { inputs = refl; opened = refl; clients = refl; started = refl })))
 
 pub returns-in-Carry-clause-handed : goal.returns-in-Carry-clause-handed
 returns-in-Carry-clause-handed g c =
@@ -271,7 +272,7 @@ invariant_of-self-in-Stepped g c =
     (record {
       stamped = c.self.invariant.stamped;
       kept = c.look-looked.ensures.kept;
-      lanes_above = w.lanes_above;
+      accounts_above = w.accounts_above;
       runs_above = set.above c.self.inside.started w.runs_above;
       queue = w.queue;
       room =
@@ -279,11 +280,11 @@ invariant_of-self-in-Stepped g c =
           let b = set.room in
           omega (arith, a, b);
       runs = stepped_runs _ _ c.self.inside.inputs _ _ _ _ _ _ c.args.run c.in-Some.taken c.look-looked.new.self here set.found c.look-looked.ensures.same
-          ((current g.R.Key.Ord.cmp (g.R.Rules.machine c.self.inside.memos.rules) g.M.Stamp.point g.O.Outbox.puts (held (record { rules = c.self.inside.memos.rules; places = c.self.inside.memos.places; inputs = c.self.inside.inputs; lanes = c.self.inside.lanes; opened = c.self.inside.opened; clients = c.self.inside.clients; waiting = c.self.inside.waiting.items; runs = c.self.inside.runs; started = c.self.inside.started; claims = c.self.inside.claims })) w.ledger.0 c.args.run c.in-Some.taken w.ledger.1 (run_here g.R.Key.Ord.cmp (g.R.Rules.machine c.self.inside.memos.rules) g.M.Stamp.point g.O.Outbox.puts (held (record { rules = c.self.inside.memos.rules; places = c.self.inside.memos.places; inputs = c.self.inside.inputs; lanes = c.self.inside.lanes; opened = c.self.inside.opened; clients = c.self.inside.clients; waiting = c.self.inside.waiting.items; runs = c.self.inside.runs; started = c.self.inside.started; claims = c.self.inside.claims })) w.ledger.0 c.args.run c.in-Some.taken w.ledger.1 here) (λ o. false_true (sym c.if-is_overtaken.false ∙ c.is_overtaken.ensures.1 (rw c.now-now.ensures.now o)))).1)
-          (λ s y h. run_past g.R.Key.Ord.cmp (g.R.Rules.machine c.self.inside.memos.rules) g.M.Stamp.point g.O.Outbox.puts (held (record { rules = c.self.inside.memos.rules; places = c.self.inside.memos.places; inputs = c.self.inside.inputs; lanes = c.self.inside.lanes; opened = c.self.inside.opened; clients = c.self.inside.clients; waiting = c.self.inside.waiting.items; runs = c.self.inside.runs; started = c.self.inside.started; claims = c.self.inside.claims })) w.ledger.0 s y w.ledger.1 h)
+          ((current g.R.Key.Ord.cmp (g.R.Rules.machine c.self.inside.memos.rules) g.M.Stamp.point told_puts (held (record { rules = c.self.inside.memos.rules; places = c.self.inside.memos.places; inputs = c.self.inside.inputs; accounts = c.self.inside.accounts; opened = c.self.inside.opened; clients = c.self.inside.clients; waiting = c.self.inside.waiting.items; runs = c.self.inside.runs; started = c.self.inside.started; claims = c.self.inside.claims })) w.ledger.0 c.args.run c.in-Some.taken w.ledger.1 (run_here g.R.Key.Ord.cmp (g.R.Rules.machine c.self.inside.memos.rules) g.M.Stamp.point told_puts (held (record { rules = c.self.inside.memos.rules; places = c.self.inside.memos.places; inputs = c.self.inside.inputs; accounts = c.self.inside.accounts; opened = c.self.inside.opened; clients = c.self.inside.clients; waiting = c.self.inside.waiting.items; runs = c.self.inside.runs; started = c.self.inside.started; claims = c.self.inside.claims })) w.ledger.0 c.args.run c.in-Some.taken w.ledger.1 here) (λ o. false_true (sym c.if-is_overtaken.false ∙ c.is_overtaken.ensures.1 (rw c.now-now.ensures.now o)))).1)
+          (λ s y h. run_past g.R.Key.Ord.cmp (g.R.Rules.machine c.self.inside.memos.rules) g.M.Stamp.point told_puts (held (record { rules = c.self.inside.memos.rules; places = c.self.inside.memos.places; inputs = c.self.inside.inputs; accounts = c.self.inside.accounts; opened = c.self.inside.opened; clients = c.self.inside.clients; waiting = c.self.inside.waiting.items; runs = c.self.inside.runs; started = c.self.inside.started; claims = c.self.inside.claims })) w.ledger.0 s y w.ledger.1 h)
           c.claims_are_sound.ensures.sound c.claims_are_sound-in-Some.ensures.sound c.look-looked.ensures.renewed c.look-looked.ensures.written
           c.look-looked.ensures.run_kept c.look-looked.ensures.claimed c.look-looked.ensures.others c.look-looked.ensures.stale c.look-looked.ensures.waits w.runs;
-      ledger = (w.ledger.0, back_moved g.R.Key.Ord.cmp (g.R.Rules.machine c.self.inside.memos.rules) g.M.Stamp.point g.O.Outbox.puts (held (record { rules = c.self.inside.memos.rules; places = c.self.inside.memos.places; inputs = c.self.inside.inputs; lanes = c.self.inside.lanes; opened = c.self.inside.opened; clients = c.self.inside.clients; waiting = c.self.inside.waiting.items; runs = c.self.inside.runs; started = c.self.inside.started; claims = c.self.inside.claims })) (record { inputs = c.self.inside.inputs; lanes = c.self.inside.lanes.items; opened = c.self.inside.opened; clients = c.self.inside.clients; runs = c.put_back-in-Stepped.new.self.items; started = c.self.inside.started }) w.ledger.0 c.args.run c.in-Some.taken c.look-looked.new.self w.ledger.1 here c.look-looked.ensures.same ((rw c.in-Stepped.is at (c.in-Ok.ensures {u = tt}).looked) ∙ sym (none_of (out_at c.in-Some.taken.top) (λ e. false_true (sym c.if-is_out.false ∙ c.is_out.ensures.1 e)))) set.found (λ k. refl) (record { inputs = refl; opened = refl; clients = refl; started = refl }));
+      ledger = (w.ledger.0, back_moved g.R.Key.Ord.cmp (g.R.Rules.machine c.self.inside.memos.rules) g.M.Stamp.point told_puts (held (record { rules = c.self.inside.memos.rules; places = c.self.inside.memos.places; inputs = c.self.inside.inputs; accounts = c.self.inside.accounts; opened = c.self.inside.opened; clients = c.self.inside.clients; waiting = c.self.inside.waiting.items; runs = c.self.inside.runs; started = c.self.inside.started; claims = c.self.inside.claims })) (record { inputs = c.self.inside.inputs; accounts = c.self.inside.accounts.items; opened = c.self.inside.opened; clients = c.self.inside.clients; runs = c.put_back-in-Stepped.new.self.items; started = c.self.inside.started }) w.ledger.0 c.args.run c.in-Some.taken c.look-looked.new.self w.ledger.1 here c.look-looked.ensures.same ((rw c.in-Stepped.is at (c.in-Ok.ensures {u = tt}).looked) ∙ sym (none_of (out_at c.in-Some.taken.top) (λ e. false_true (sym c.if-is_out.false ∙ c.is_out.ensures.1 e)))) set.found (λ k. refl) (record { inputs = refl; opened = refl; clients = refl; started = refl }));
     })
 
 pub returns-in-Stepped-clause-none_lost : goal.returns-in-Stepped-clause-none_lost
@@ -298,8 +299,8 @@ returns-in-Stepped-clause-moved g c =
     (rw c.in-Some.is at c.take.ensures.more_room) (rw c.number-id.ensures at c.put_back-in-Stepped.ensures.found) c.put_back-in-Stepped.ensures.room c.put_back-in-Stepped.ensures.above in
     rw (← c.self.view_is)
     (λ l s.
-    let b = goes_on g.R.Key.Ord.cmp (g.R.Rules.machine c.self.inside.memos.rules) g.M.Stamp.point g.O.Outbox.puts c.self.inside.memos.rules (held (record { rules = c.self.inside.memos.rules; places = c.self.inside.memos.places; inputs = c.self.inside.inputs; lanes = c.self.inside.lanes; opened = c.self.inside.opened; clients = c.self.inside.clients; waiting = c.self.inside.waiting.items; runs = c.self.inside.runs; started = c.self.inside.started; claims = c.self.inside.claims })) l c.args.run c.in-Some.taken s here (λ o. false_true (sym c.if-is_overtaken.false ∙ c.is_overtaken.ensures.1 (rw c.now-now.ensures.now o))) (none_of (out_at c.in-Some.taken.top) (λ e. false_true (sym c.if-is_out.false ∙ c.is_out.ensures.1 e))) in
-    (l, (b.0, b.1, refl), back_moved g.R.Key.Ord.cmp (g.R.Rules.machine c.self.inside.memos.rules) g.M.Stamp.point g.O.Outbox.puts (held (record { rules = c.self.inside.memos.rules; places = c.self.inside.memos.places; inputs = c.self.inside.inputs; lanes = c.self.inside.lanes; opened = c.self.inside.opened; clients = c.self.inside.clients; waiting = c.self.inside.waiting.items; runs = c.self.inside.runs; started = c.self.inside.started; claims = c.self.inside.claims })) (record { inputs = c.self.inside.inputs; lanes = c.self.inside.lanes.items; opened = c.self.inside.opened; clients = c.self.inside.clients; runs = c.put_back-in-Stepped.new.self.items; started = c.self.inside.started }) l c.args.run c.in-Some.taken c.look-looked.new.self s here c.look-looked.ensures.same ((rw c.in-Stepped.is at (c.in-Ok.ensures {u = tt}).looked) ∙ sym (none_of (out_at c.in-Some.taken.top) (λ e. false_true (sym c.if-is_out.false ∙ c.is_out.ensures.1 e)))) set.found (λ k. refl) (record { inputs = refl; opened = refl; clients = refl; started = refl })))
+    let b = goes_on g.R.Key.Ord.cmp (g.R.Rules.machine c.self.inside.memos.rules) g.M.Stamp.point told_puts c.self.inside.memos.rules (held (record { rules = c.self.inside.memos.rules; places = c.self.inside.memos.places; inputs = c.self.inside.inputs; accounts = c.self.inside.accounts; opened = c.self.inside.opened; clients = c.self.inside.clients; waiting = c.self.inside.waiting.items; runs = c.self.inside.runs; started = c.self.inside.started; claims = c.self.inside.claims })) l c.args.run c.in-Some.taken s here (λ o. false_true (sym c.if-is_overtaken.false ∙ c.is_overtaken.ensures.1 (rw c.now-now.ensures.now o))) (none_of (out_at c.in-Some.taken.top) (λ e. false_true (sym c.if-is_out.false ∙ c.is_out.ensures.1 e))) in
+    (l, (b.0, b.1, refl), back_moved g.R.Key.Ord.cmp (g.R.Rules.machine c.self.inside.memos.rules) g.M.Stamp.point told_puts (held (record { rules = c.self.inside.memos.rules; places = c.self.inside.memos.places; inputs = c.self.inside.inputs; accounts = c.self.inside.accounts; opened = c.self.inside.opened; clients = c.self.inside.clients; waiting = c.self.inside.waiting.items; runs = c.self.inside.runs; started = c.self.inside.started; claims = c.self.inside.claims })) (record { inputs = c.self.inside.inputs; accounts = c.self.inside.accounts.items; opened = c.self.inside.opened; clients = c.self.inside.clients; runs = c.put_back-in-Stepped.new.self.items; started = c.self.inside.started }) l c.args.run c.in-Some.taken c.look-looked.new.self s here c.look-looked.ensures.same ((rw c.in-Stepped.is at (c.in-Ok.ensures {u = tt}).looked) ∙ sym (none_of (out_at c.in-Some.taken.top) (λ e. false_true (sym c.if-is_out.false ∙ c.is_out.ensures.1 e)))) set.found (λ k. refl) (record { inputs = refl; opened = refl; clients = refl; started = refl })))
 
 pub invariant_of-self-in-Blocked : goal.invariant_of-self-in-Blocked
 invariant_of-self-in-Blocked g c =
@@ -311,7 +312,7 @@ invariant_of-self-in-Blocked g c =
     (record {
       stamped = c.self.invariant.stamped;
       kept = c.look-looked.ensures.kept;
-      lanes_above = w.lanes_above;
+      accounts_above = w.accounts_above;
       runs_above = set.above c.self.inside.started w.runs_above;
       queue = w.queue;
       room =
@@ -319,11 +320,11 @@ invariant_of-self-in-Blocked g c =
           let b = set.room in
           omega (arith, a, b);
       runs = stepped_runs _ _ c.self.inside.inputs _ _ _ _ _ _ c.args.run c.in-Some.taken c.look-looked.new.self here set.found c.look-looked.ensures.same
-          ((current g.R.Key.Ord.cmp (g.R.Rules.machine c.self.inside.memos.rules) g.M.Stamp.point g.O.Outbox.puts (held (record { rules = c.self.inside.memos.rules; places = c.self.inside.memos.places; inputs = c.self.inside.inputs; lanes = c.self.inside.lanes; opened = c.self.inside.opened; clients = c.self.inside.clients; waiting = c.self.inside.waiting.items; runs = c.self.inside.runs; started = c.self.inside.started; claims = c.self.inside.claims })) w.ledger.0 c.args.run c.in-Some.taken w.ledger.1 (run_here g.R.Key.Ord.cmp (g.R.Rules.machine c.self.inside.memos.rules) g.M.Stamp.point g.O.Outbox.puts (held (record { rules = c.self.inside.memos.rules; places = c.self.inside.memos.places; inputs = c.self.inside.inputs; lanes = c.self.inside.lanes; opened = c.self.inside.opened; clients = c.self.inside.clients; waiting = c.self.inside.waiting.items; runs = c.self.inside.runs; started = c.self.inside.started; claims = c.self.inside.claims })) w.ledger.0 c.args.run c.in-Some.taken w.ledger.1 here) (λ o. false_true (sym c.if-is_overtaken.false ∙ c.is_overtaken.ensures.1 (rw c.now-now.ensures.now o)))).1)
-          (λ s y h. run_past g.R.Key.Ord.cmp (g.R.Rules.machine c.self.inside.memos.rules) g.M.Stamp.point g.O.Outbox.puts (held (record { rules = c.self.inside.memos.rules; places = c.self.inside.memos.places; inputs = c.self.inside.inputs; lanes = c.self.inside.lanes; opened = c.self.inside.opened; clients = c.self.inside.clients; waiting = c.self.inside.waiting.items; runs = c.self.inside.runs; started = c.self.inside.started; claims = c.self.inside.claims })) w.ledger.0 s y w.ledger.1 h)
+          ((current g.R.Key.Ord.cmp (g.R.Rules.machine c.self.inside.memos.rules) g.M.Stamp.point told_puts (held (record { rules = c.self.inside.memos.rules; places = c.self.inside.memos.places; inputs = c.self.inside.inputs; accounts = c.self.inside.accounts; opened = c.self.inside.opened; clients = c.self.inside.clients; waiting = c.self.inside.waiting.items; runs = c.self.inside.runs; started = c.self.inside.started; claims = c.self.inside.claims })) w.ledger.0 c.args.run c.in-Some.taken w.ledger.1 (run_here g.R.Key.Ord.cmp (g.R.Rules.machine c.self.inside.memos.rules) g.M.Stamp.point told_puts (held (record { rules = c.self.inside.memos.rules; places = c.self.inside.memos.places; inputs = c.self.inside.inputs; accounts = c.self.inside.accounts; opened = c.self.inside.opened; clients = c.self.inside.clients; waiting = c.self.inside.waiting.items; runs = c.self.inside.runs; started = c.self.inside.started; claims = c.self.inside.claims })) w.ledger.0 c.args.run c.in-Some.taken w.ledger.1 here) (λ o. false_true (sym c.if-is_overtaken.false ∙ c.is_overtaken.ensures.1 (rw c.now-now.ensures.now o)))).1)
+          (λ s y h. run_past g.R.Key.Ord.cmp (g.R.Rules.machine c.self.inside.memos.rules) g.M.Stamp.point told_puts (held (record { rules = c.self.inside.memos.rules; places = c.self.inside.memos.places; inputs = c.self.inside.inputs; accounts = c.self.inside.accounts; opened = c.self.inside.opened; clients = c.self.inside.clients; waiting = c.self.inside.waiting.items; runs = c.self.inside.runs; started = c.self.inside.started; claims = c.self.inside.claims })) w.ledger.0 s y w.ledger.1 h)
           c.claims_are_sound.ensures.sound c.claims_are_sound-in-Some.ensures.sound c.look-looked.ensures.renewed c.look-looked.ensures.written
           c.look-looked.ensures.run_kept c.look-looked.ensures.claimed c.look-looked.ensures.others c.look-looked.ensures.stale c.look-looked.ensures.waits w.runs;
-      ledger = (w.ledger.0, back_moved g.R.Key.Ord.cmp (g.R.Rules.machine c.self.inside.memos.rules) g.M.Stamp.point g.O.Outbox.puts (held (record { rules = c.self.inside.memos.rules; places = c.self.inside.memos.places; inputs = c.self.inside.inputs; lanes = c.self.inside.lanes; opened = c.self.inside.opened; clients = c.self.inside.clients; waiting = c.self.inside.waiting.items; runs = c.self.inside.runs; started = c.self.inside.started; claims = c.self.inside.claims })) (record { inputs = c.self.inside.inputs; lanes = c.self.inside.lanes.items; opened = c.self.inside.opened; clients = c.self.inside.clients; runs = c.put_back-in-Blocked.new.self.items; started = c.self.inside.started }) w.ledger.0 c.args.run c.in-Some.taken c.look-looked.new.self w.ledger.1 here c.look-looked.ensures.same ((rw c.in-Blocked.is at (c.in-Ok.ensures {u = tt}).looked).0 ∙ sym (none_of (out_at c.in-Some.taken.top) (λ e. false_true (sym c.if-is_out.false ∙ c.is_out.ensures.1 e)))) set.found (λ k. refl) (record { inputs = refl; opened = refl; clients = refl; started = refl }));
+      ledger = (w.ledger.0, back_moved g.R.Key.Ord.cmp (g.R.Rules.machine c.self.inside.memos.rules) g.M.Stamp.point told_puts (held (record { rules = c.self.inside.memos.rules; places = c.self.inside.memos.places; inputs = c.self.inside.inputs; accounts = c.self.inside.accounts; opened = c.self.inside.opened; clients = c.self.inside.clients; waiting = c.self.inside.waiting.items; runs = c.self.inside.runs; started = c.self.inside.started; claims = c.self.inside.claims })) (record { inputs = c.self.inside.inputs; accounts = c.self.inside.accounts.items; opened = c.self.inside.opened; clients = c.self.inside.clients; runs = c.put_back-in-Blocked.new.self.items; started = c.self.inside.started }) w.ledger.0 c.args.run c.in-Some.taken c.look-looked.new.self w.ledger.1 here c.look-looked.ensures.same ((rw c.in-Blocked.is at (c.in-Ok.ensures {u = tt}).looked).0 ∙ sym (none_of (out_at c.in-Some.taken.top) (λ e. false_true (sym c.if-is_out.false ∙ c.is_out.ensures.1 e)))) set.found (λ k. refl) (record { inputs = refl; opened = refl; clients = refl; started = refl }));
     })
 
 pub returns-in-Blocked-clause-none_lost : goal.returns-in-Blocked-clause-none_lost
@@ -341,8 +342,8 @@ returns-in-Blocked-clause-moved g c =
     let told = rw c.in-Blocked.is at (c.in-Ok.ensures {u = tt}).looked in
     let there = holder_there c.self.inside.claims c.self.inside.runs.items c.in-Blocked.other told.1.1.0 c.self.invariant.runs.claimed
     (subst (λ (ks : List g.row.R-Key.Denot). In told.1.1.0 ks) (c.look-looked.ensures.others c.in-Blocked.other told.1.0).0 told.1.1.2) in
-    let b = look_held g.R.Key.Ord.cmp (g.R.Rules.machine c.self.inside.memos.rules) g.M.Stamp.point g.O.Outbox.puts c.self.inside.memos.rules (held (record { rules = c.self.inside.memos.rules; places = c.self.inside.memos.places; inputs = c.self.inside.inputs; lanes = c.self.inside.lanes; opened = c.self.inside.opened; clients = c.self.inside.clients; waiting = c.self.inside.waiting.items; runs = c.self.inside.runs; started = c.self.inside.started; claims = c.self.inside.claims })) l c.args.run c.in-Some.taken c.in-Blocked.other there.0 s here (λ o. false_true (sym c.if-is_overtaken.false ∙ c.is_overtaken.ensures.1 (rw c.now-now.ensures.now o))) (none_of (out_at c.in-Some.taken.top) (λ e. false_true (sym c.if-is_out.false ∙ c.is_out.ensures.1 e))) told.1.0 there.1 in
-    (l, (b.0, b.1, b.2, b.3, refl), back_moved g.R.Key.Ord.cmp (g.R.Rules.machine c.self.inside.memos.rules) g.M.Stamp.point g.O.Outbox.puts (held (record { rules = c.self.inside.memos.rules; places = c.self.inside.memos.places; inputs = c.self.inside.inputs; lanes = c.self.inside.lanes; opened = c.self.inside.opened; clients = c.self.inside.clients; waiting = c.self.inside.waiting.items; runs = c.self.inside.runs; started = c.self.inside.started; claims = c.self.inside.claims })) (record { inputs = c.self.inside.inputs; lanes = c.self.inside.lanes.items; opened = c.self.inside.opened; clients = c.self.inside.clients; runs = c.put_back-in-Blocked.new.self.items; started = c.self.inside.started }) l c.args.run c.in-Some.taken c.look-looked.new.self s here c.look-looked.ensures.same ((rw c.in-Blocked.is at (c.in-Ok.ensures {u = tt}).looked).0 ∙ sym (none_of (out_at c.in-Some.taken.top) (λ e. false_true (sym c.if-is_out.false ∙ c.is_out.ensures.1 e)))) set.found (λ k. refl) (record { inputs = refl; opened = refl; clients = refl; started = refl })))
+    let b = look_held g.R.Key.Ord.cmp (g.R.Rules.machine c.self.inside.memos.rules) g.M.Stamp.point told_puts c.self.inside.memos.rules (held (record { rules = c.self.inside.memos.rules; places = c.self.inside.memos.places; inputs = c.self.inside.inputs; accounts = c.self.inside.accounts; opened = c.self.inside.opened; clients = c.self.inside.clients; waiting = c.self.inside.waiting.items; runs = c.self.inside.runs; started = c.self.inside.started; claims = c.self.inside.claims })) l c.args.run c.in-Some.taken c.in-Blocked.other there.0 s here (λ o. false_true (sym c.if-is_overtaken.false ∙ c.is_overtaken.ensures.1 (rw c.now-now.ensures.now o))) (none_of (out_at c.in-Some.taken.top) (λ e. false_true (sym c.if-is_out.false ∙ c.is_out.ensures.1 e))) told.1.0 there.1 in
+    (l, (b.0, b.1, b.2, b.3, refl), back_moved g.R.Key.Ord.cmp (g.R.Rules.machine c.self.inside.memos.rules) g.M.Stamp.point told_puts (held (record { rules = c.self.inside.memos.rules; places = c.self.inside.memos.places; inputs = c.self.inside.inputs; accounts = c.self.inside.accounts; opened = c.self.inside.opened; clients = c.self.inside.clients; waiting = c.self.inside.waiting.items; runs = c.self.inside.runs; started = c.self.inside.started; claims = c.self.inside.claims })) (record { inputs = c.self.inside.inputs; accounts = c.self.inside.accounts.items; opened = c.self.inside.opened; clients = c.self.inside.clients; runs = c.put_back-in-Blocked.new.self.items; started = c.self.inside.started }) l c.args.run c.in-Some.taken c.look-looked.new.self s here c.look-looked.ensures.same ((rw c.in-Blocked.is at (c.in-Ok.ensures {u = tt}).looked).0 ∙ sym (none_of (out_at c.in-Some.taken.top) (λ e. false_true (sym c.if-is_out.false ∙ c.is_out.ensures.1 e)))) set.found (λ k. refl) (record { inputs = refl; opened = refl; clients = refl; started = refl })))
 
 pub returns-in-Blocked-clause-holder : goal.returns-in-Blocked-clause-holder
 returns-in-Blocked-clause-holder g c =
@@ -355,10 +356,10 @@ returns-then-is_out-clause-holder g c = inl refl
 pub end_run-requires-clause-within : goal.end_run-requires-clause-within
 end_run-requires-clause-within g c =
     let here = sym (rw c.number-id.ensures at (c.in-Some.ensures {u = tt}).value) in
-    λ lane h.
-    subst (λ (n : ℕ). (lane.put ≤ n) × (n < lane.put + length lane.owed)) (sym c.look-looked.ensures.same.number)
-    (run_within g.R.Key.Ord.cmp (g.R.Rules.machine c.self.inside.memos.rules) g.M.Stamp.point g.O.Outbox.puts (held (record { rules = c.self.inside.memos.rules; places = c.self.inside.memos.places; inputs = c.self.inside.inputs; lanes = c.self.inside.lanes; opened = c.self.inside.opened; clients = c.self.inside.clients; waiting = c.self.inside.waiting.items; runs = c.self.inside.runs; started = c.self.inside.started; claims = c.self.inside.claims })) c.self.invariant.ledger.0 c.args.run c.in-Some.taken lane c.self.invariant.ledger.1 here
-    (ap (λ (n : ℕ). found c.self.inside.lanes.items n) (sym c.look-looked.ensures.same.client) ∙ h))
+    λ account h.
+    subst (λ (n : ℕ). (account.put ≤ n) × (n < account.put + length account.owed)) (sym c.look-looked.ensures.same.number)
+    (run_within g.R.Key.Ord.cmp (g.R.Rules.machine c.self.inside.memos.rules) g.M.Stamp.point told_puts (held (record { rules = c.self.inside.memos.rules; places = c.self.inside.memos.places; inputs = c.self.inside.inputs; accounts = c.self.inside.accounts; opened = c.self.inside.opened; clients = c.self.inside.clients; waiting = c.self.inside.waiting.items; runs = c.self.inside.runs; started = c.self.inside.started; claims = c.self.inside.claims })) c.self.invariant.ledger.0 c.args.run c.in-Some.taken account c.self.invariant.ledger.1 here
+    (ap (λ (n : ℕ). found c.self.inside.accounts.items n) (sym c.look-looked.ensures.same.client) ∙ h))
 
 pub invariant_of-self-in-Answered : goal.invariant_of-self-in-Answered
 invariant_of-self-in-Answered g c =
@@ -367,18 +368,18 @@ invariant_of-self-in-Answered g c =
     let here = sym (rw c.number-id.ensures at (c.in-Some.ensures {u = tt}).value) in
     let runs = rw c.number-id.ensures at c.take.ensures.found in
     let told = rw c.in-Answered.is at (c.in-Ok.ensures {u = tt}).looked in
-    let moved = answer_moved g.R.Key.Ord.cmp (g.R.Rules.machine c.self.inside.memos.rules) g.M.Stamp.point g.O.Outbox.puts c.self.inside.memos.rules (held (record { rules = c.self.inside.memos.rules; places = c.self.inside.memos.places; inputs = c.self.inside.inputs; lanes = c.self.inside.lanes; opened = c.self.inside.opened; clients = c.self.inside.clients; waiting = c.self.inside.waiting.items; runs = c.self.inside.runs; started = c.self.inside.started; claims = c.self.inside.claims })) (record { inputs = c.self.inside.inputs; lanes = c.end_run.new.lanes.items; opened = c.self.inside.opened; clients = c.self.inside.clients; runs = c.take.new.self.items; started = c.self.inside.started }) w.ledger.0 c.args.run c.in-Some.taken c.in-Answered.answer c.in-Some-ok.stamp w.ledger.1 here (λ o. false_true (sym c.if-is_overtaken.false ∙ c.is_overtaken.ensures.1 (rw c.now-now.ensures.now o))) (none_of (out_at c.in-Some.taken.top) (λ e. false_true (sym c.if-is_out.false ∙ c.is_out.ensures.1 e))) told.0 (ap (λ (m : g.row.M.Denot). g.M.Stamp.point m) same ∙ c.self.invariant.stamped) runs
-    (ended_as (held (record { rules = c.self.inside.memos.rules; places = c.self.inside.memos.places; inputs = c.self.inside.inputs; lanes = c.self.inside.lanes; opened = c.self.inside.opened; clients = c.self.inside.clients; waiting = c.self.inside.waiting.items; runs = c.self.inside.runs; started = c.self.inside.started; claims = c.self.inside.claims })) (record { inputs = c.self.inside.inputs; lanes = c.end_run.new.lanes.items; opened = c.self.inside.opened; clients = c.self.inside.clients; runs = c.take.new.self.items; started = c.self.inside.started }) c.in-Some.taken c.look-looked.new.self c.self.inside.inputs.revision (Answered c.in-Answered.answer c.in-Some-ok.stamp) c.look-looked.ensures.same
-    (λ lane h k. rw c.now-now.ensures.now at ((c.end_run.ensures.«open» lane h).found k)))
-    (λ h k. (c.end_run.ensures.closed (ap (λ (n : ℕ). found c.self.inside.lanes.items n) c.look-looked.ensures.same.client ∙ h)).found k) (record { inputs = refl; opened = refl; clients = refl; started = refl }) in
+    let moved = answer_moved g.R.Key.Ord.cmp (g.R.Rules.machine c.self.inside.memos.rules) g.M.Stamp.point told_puts c.self.inside.memos.rules (held (record { rules = c.self.inside.memos.rules; places = c.self.inside.memos.places; inputs = c.self.inside.inputs; accounts = c.self.inside.accounts; opened = c.self.inside.opened; clients = c.self.inside.clients; waiting = c.self.inside.waiting.items; runs = c.self.inside.runs; started = c.self.inside.started; claims = c.self.inside.claims })) (record { inputs = c.self.inside.inputs; accounts = c.end_run.new.accounts.items; opened = c.self.inside.opened; clients = c.self.inside.clients; runs = c.take.new.self.items; started = c.self.inside.started }) w.ledger.0 c.args.run c.in-Some.taken c.in-Answered.answer c.in-Some-ok.stamp w.ledger.1 here (λ o. false_true (sym c.if-is_overtaken.false ∙ c.is_overtaken.ensures.1 (rw c.now-now.ensures.now o))) (none_of (out_at c.in-Some.taken.top) (λ e. false_true (sym c.if-is_out.false ∙ c.is_out.ensures.1 e))) told.0 (ap (λ (m : g.row.M.Denot). g.M.Stamp.point m) same ∙ c.self.invariant.stamped) runs
+    (ended_as (held (record { rules = c.self.inside.memos.rules; places = c.self.inside.memos.places; inputs = c.self.inside.inputs; accounts = c.self.inside.accounts; opened = c.self.inside.opened; clients = c.self.inside.clients; waiting = c.self.inside.waiting.items; runs = c.self.inside.runs; started = c.self.inside.started; claims = c.self.inside.claims })) (record { inputs = c.self.inside.inputs; accounts = c.end_run.new.accounts.items; opened = c.self.inside.opened; clients = c.self.inside.clients; runs = c.take.new.self.items; started = c.self.inside.started }) c.in-Some.taken c.look-looked.new.self c.self.inside.inputs.revision (Answered c.in-Answered.answer c.in-Some-ok.stamp) c.look-looked.ensures.same
+    (λ account h k. rw c.now-now.ensures.now at ((c.end_run.ensures.«open» account h).found k)))
+    (λ h k. (c.end_run.ensures.closed (ap (λ (n : ℕ). found c.self.inside.accounts.items n) c.look-looked.ensures.same.client ∙ h)).found k) (record { inputs = refl; opened = refl; clients = refl; started = refl }) in
     rw c.look-looked.ensures.rules
     (record {
       stamped = c.self.invariant.stamped;
       kept = c.look-looked.ensures.kept;
-      lanes_above = c.end_run.ensures.above c.self.inside.clients w.lanes_above;
+      accounts_above = c.end_run.ensures.above c.self.inside.clients w.accounts_above;
       runs_above = c.take.ensures.above c.self.inside.started w.runs_above;
-      queue = end_queue g.R.Key.Ord.cmp (g.R.Rules.machine c.self.inside.memos.rules) g.M.Stamp.point g.O.Outbox.puts _ _ _ w.ledger.0 c.args.run c.in-Some.taken _ _ w.ledger.1 here c.look-looked.ensures.same
-          (λ lane h k. (c.end_run.ensures.«open» lane h).found k) (λ h k. (c.end_run.ensures.closed h).found k) w.queue;
+      queue = end_queue g.R.Key.Ord.cmp (g.R.Rules.machine c.self.inside.memos.rules) g.M.Stamp.point told_puts _ _ _ w.ledger.0 c.args.run c.in-Some.taken _ _ w.ledger.1 here c.look-looked.ensures.same
+          (λ account h k. (c.end_run.ensures.«open» account h).found k) (λ h k. (c.end_run.ensures.closed h).found k) w.queue;
       room =
           let a : length c.self.inside.waiting.items ≤ c.self.inside.runs.room = w.room in
           let b = c.take.ensures.room in
@@ -399,10 +400,10 @@ returns-in-Answered-clause-moved g c =
     let runs = rw c.number-id.ensures at c.take.ensures.found in
     let told = rw c.in-Answered.is at (c.in-Ok.ensures {u = tt}).looked in
     rw (← c.self.view_is)
-    (λ l s. answer_moved g.R.Key.Ord.cmp (g.R.Rules.machine c.self.inside.memos.rules) g.M.Stamp.point g.O.Outbox.puts c.self.inside.memos.rules (held (record { rules = c.self.inside.memos.rules; places = c.self.inside.memos.places; inputs = c.self.inside.inputs; lanes = c.self.inside.lanes; opened = c.self.inside.opened; clients = c.self.inside.clients; waiting = c.self.inside.waiting.items; runs = c.self.inside.runs; started = c.self.inside.started; claims = c.self.inside.claims })) (record { inputs = c.self.inside.inputs; lanes = c.end_run.new.lanes.items; opened = c.self.inside.opened; clients = c.self.inside.clients; runs = c.take.new.self.items; started = c.self.inside.started }) l c.args.run c.in-Some.taken c.in-Answered.answer c.in-Some-ok.stamp s here (λ o. false_true (sym c.if-is_overtaken.false ∙ c.is_overtaken.ensures.1 (rw c.now-now.ensures.now o))) (none_of (out_at c.in-Some.taken.top) (λ e. false_true (sym c.if-is_out.false ∙ c.is_out.ensures.1 e))) told.0 (ap (λ (m : g.row.M.Denot). g.M.Stamp.point m) same ∙ c.self.invariant.stamped) runs
-    (ended_as (held (record { rules = c.self.inside.memos.rules; places = c.self.inside.memos.places; inputs = c.self.inside.inputs; lanes = c.self.inside.lanes; opened = c.self.inside.opened; clients = c.self.inside.clients; waiting = c.self.inside.waiting.items; runs = c.self.inside.runs; started = c.self.inside.started; claims = c.self.inside.claims })) (record { inputs = c.self.inside.inputs; lanes = c.end_run.new.lanes.items; opened = c.self.inside.opened; clients = c.self.inside.clients; runs = c.take.new.self.items; started = c.self.inside.started }) c.in-Some.taken c.look-looked.new.self c.self.inside.inputs.revision (Answered c.in-Answered.answer c.in-Some-ok.stamp) c.look-looked.ensures.same
-    (λ lane h k. rw c.now-now.ensures.now at ((c.end_run.ensures.«open» lane h).found k)))
-    (λ h k. (c.end_run.ensures.closed (ap (λ (n : ℕ). found c.self.inside.lanes.items n) c.look-looked.ensures.same.client ∙ h)).found k) (record { inputs = refl; opened = refl; clients = refl; started = refl }))
+    (λ l s. answer_moved g.R.Key.Ord.cmp (g.R.Rules.machine c.self.inside.memos.rules) g.M.Stamp.point told_puts c.self.inside.memos.rules (held (record { rules = c.self.inside.memos.rules; places = c.self.inside.memos.places; inputs = c.self.inside.inputs; accounts = c.self.inside.accounts; opened = c.self.inside.opened; clients = c.self.inside.clients; waiting = c.self.inside.waiting.items; runs = c.self.inside.runs; started = c.self.inside.started; claims = c.self.inside.claims })) (record { inputs = c.self.inside.inputs; accounts = c.end_run.new.accounts.items; opened = c.self.inside.opened; clients = c.self.inside.clients; runs = c.take.new.self.items; started = c.self.inside.started }) l c.args.run c.in-Some.taken c.in-Answered.answer c.in-Some-ok.stamp s here (λ o. false_true (sym c.if-is_overtaken.false ∙ c.is_overtaken.ensures.1 (rw c.now-now.ensures.now o))) (none_of (out_at c.in-Some.taken.top) (λ e. false_true (sym c.if-is_out.false ∙ c.is_out.ensures.1 e))) told.0 (ap (λ (m : g.row.M.Denot). g.M.Stamp.point m) same ∙ c.self.invariant.stamped) runs
+    (ended_as (held (record { rules = c.self.inside.memos.rules; places = c.self.inside.memos.places; inputs = c.self.inside.inputs; accounts = c.self.inside.accounts; opened = c.self.inside.opened; clients = c.self.inside.clients; waiting = c.self.inside.waiting.items; runs = c.self.inside.runs; started = c.self.inside.started; claims = c.self.inside.claims })) (record { inputs = c.self.inside.inputs; accounts = c.end_run.new.accounts.items; opened = c.self.inside.opened; clients = c.self.inside.clients; runs = c.take.new.self.items; started = c.self.inside.started }) c.in-Some.taken c.look-looked.new.self c.self.inside.inputs.revision (Answered c.in-Answered.answer c.in-Some-ok.stamp) c.look-looked.ensures.same
+    (λ account h k. rw c.now-now.ensures.now at ((c.end_run.ensures.«open» account h).found k)))
+    (λ h k. (c.end_run.ensures.closed (ap (λ (n : ℕ). found c.self.inside.accounts.items n) c.look-looked.ensures.same.client ∙ h)).found k) (record { inputs = refl; opened = refl; clients = refl; started = refl }))
 
 pub invariant_of-self-in-Err : goal.invariant_of-self-in-Err
 invariant_of-self-in-Err g c =
@@ -414,7 +415,7 @@ invariant_of-self-in-Err g c =
     (record {
       stamped = c.self.invariant.stamped;
       kept = c.look-looked.ensures.kept;
-      lanes_above = w.lanes_above;
+      accounts_above = w.accounts_above;
       runs_above = set.above c.self.inside.started w.runs_above;
       queue = w.queue;
       room =
@@ -422,11 +423,11 @@ invariant_of-self-in-Err g c =
           let b = set.room in
           omega (arith, a, b);
       runs = stepped_runs _ _ c.self.inside.inputs _ _ _ _ _ _ c.args.run c.in-Some.taken c.look-looked.new.self here set.found c.look-looked.ensures.same
-          ((current g.R.Key.Ord.cmp (g.R.Rules.machine c.self.inside.memos.rules) g.M.Stamp.point g.O.Outbox.puts (held (record { rules = c.self.inside.memos.rules; places = c.self.inside.memos.places; inputs = c.self.inside.inputs; lanes = c.self.inside.lanes; opened = c.self.inside.opened; clients = c.self.inside.clients; waiting = c.self.inside.waiting.items; runs = c.self.inside.runs; started = c.self.inside.started; claims = c.self.inside.claims })) w.ledger.0 c.args.run c.in-Some.taken w.ledger.1 (run_here g.R.Key.Ord.cmp (g.R.Rules.machine c.self.inside.memos.rules) g.M.Stamp.point g.O.Outbox.puts (held (record { rules = c.self.inside.memos.rules; places = c.self.inside.memos.places; inputs = c.self.inside.inputs; lanes = c.self.inside.lanes; opened = c.self.inside.opened; clients = c.self.inside.clients; waiting = c.self.inside.waiting.items; runs = c.self.inside.runs; started = c.self.inside.started; claims = c.self.inside.claims })) w.ledger.0 c.args.run c.in-Some.taken w.ledger.1 here) (λ o. false_true (sym c.if-is_overtaken.false ∙ c.is_overtaken.ensures.1 (rw c.now-now.ensures.now o)))).1)
-          (λ s y h. run_past g.R.Key.Ord.cmp (g.R.Rules.machine c.self.inside.memos.rules) g.M.Stamp.point g.O.Outbox.puts (held (record { rules = c.self.inside.memos.rules; places = c.self.inside.memos.places; inputs = c.self.inside.inputs; lanes = c.self.inside.lanes; opened = c.self.inside.opened; clients = c.self.inside.clients; waiting = c.self.inside.waiting.items; runs = c.self.inside.runs; started = c.self.inside.started; claims = c.self.inside.claims })) w.ledger.0 s y w.ledger.1 h)
+          ((current g.R.Key.Ord.cmp (g.R.Rules.machine c.self.inside.memos.rules) g.M.Stamp.point told_puts (held (record { rules = c.self.inside.memos.rules; places = c.self.inside.memos.places; inputs = c.self.inside.inputs; accounts = c.self.inside.accounts; opened = c.self.inside.opened; clients = c.self.inside.clients; waiting = c.self.inside.waiting.items; runs = c.self.inside.runs; started = c.self.inside.started; claims = c.self.inside.claims })) w.ledger.0 c.args.run c.in-Some.taken w.ledger.1 (run_here g.R.Key.Ord.cmp (g.R.Rules.machine c.self.inside.memos.rules) g.M.Stamp.point told_puts (held (record { rules = c.self.inside.memos.rules; places = c.self.inside.memos.places; inputs = c.self.inside.inputs; accounts = c.self.inside.accounts; opened = c.self.inside.opened; clients = c.self.inside.clients; waiting = c.self.inside.waiting.items; runs = c.self.inside.runs; started = c.self.inside.started; claims = c.self.inside.claims })) w.ledger.0 c.args.run c.in-Some.taken w.ledger.1 here) (λ o. false_true (sym c.if-is_overtaken.false ∙ c.is_overtaken.ensures.1 (rw c.now-now.ensures.now o)))).1)
+          (λ s y h. run_past g.R.Key.Ord.cmp (g.R.Rules.machine c.self.inside.memos.rules) g.M.Stamp.point told_puts (held (record { rules = c.self.inside.memos.rules; places = c.self.inside.memos.places; inputs = c.self.inside.inputs; accounts = c.self.inside.accounts; opened = c.self.inside.opened; clients = c.self.inside.clients; waiting = c.self.inside.waiting.items; runs = c.self.inside.runs; started = c.self.inside.started; claims = c.self.inside.claims })) w.ledger.0 s y w.ledger.1 h)
           c.claims_are_sound.ensures.sound c.claims_are_sound-in-Some.ensures.sound c.look-looked.ensures.renewed c.look-looked.ensures.written
           c.look-looked.ensures.run_kept c.look-looked.ensures.claimed c.look-looked.ensures.others c.look-looked.ensures.stale c.look-looked.ensures.waits w.runs;
-      ledger = (w.ledger.0, back_moved g.R.Key.Ord.cmp (g.R.Rules.machine c.self.inside.memos.rules) g.M.Stamp.point g.O.Outbox.puts (held (record { rules = c.self.inside.memos.rules; places = c.self.inside.memos.places; inputs = c.self.inside.inputs; lanes = c.self.inside.lanes; opened = c.self.inside.opened; clients = c.self.inside.clients; waiting = c.self.inside.waiting.items; runs = c.self.inside.runs; started = c.self.inside.started; claims = c.self.inside.claims })) (record { inputs = c.self.inside.inputs; lanes = c.self.inside.lanes.items; opened = c.self.inside.opened; clients = c.self.inside.clients; runs = c.put_back-in-Err.new.self.items; started = c.self.inside.started }) w.ledger.0 c.args.run c.in-Some.taken c.look-looked.new.self w.ledger.1 here c.look-looked.ensures.same ((c.in-Err.ensures {u = tt}).refused ∙ sym (none_of (out_at c.in-Some.taken.top) (λ e. false_true (sym c.if-is_out.false ∙ c.is_out.ensures.1 e)))) set.found (λ k. refl) (record { inputs = refl; opened = refl; clients = refl; started = refl }));
+      ledger = (w.ledger.0, back_moved g.R.Key.Ord.cmp (g.R.Rules.machine c.self.inside.memos.rules) g.M.Stamp.point told_puts (held (record { rules = c.self.inside.memos.rules; places = c.self.inside.memos.places; inputs = c.self.inside.inputs; accounts = c.self.inside.accounts; opened = c.self.inside.opened; clients = c.self.inside.clients; waiting = c.self.inside.waiting.items; runs = c.self.inside.runs; started = c.self.inside.started; claims = c.self.inside.claims })) (record { inputs = c.self.inside.inputs; accounts = c.self.inside.accounts.items; opened = c.self.inside.opened; clients = c.self.inside.clients; runs = c.put_back-in-Err.new.self.items; started = c.self.inside.started }) w.ledger.0 c.args.run c.in-Some.taken c.look-looked.new.self w.ledger.1 here c.look-looked.ensures.same ((c.in-Err.ensures {u = tt}).refused ∙ sym (none_of (out_at c.in-Some.taken.top) (λ e. false_true (sym c.if-is_out.false ∙ c.is_out.ensures.1 e)))) set.found (λ k. refl) (record { inputs = refl; opened = refl; clients = refl; started = refl }));
     })
 
 pub returns-in-Err-clause-none_lost : goal.returns-in-Err-clause-none_lost
@@ -441,8 +442,8 @@ returns-in-Err-clause-moved g c =
     (rw c.in-Some.is at c.take.ensures.more_room) (rw c.number-id.ensures at c.put_back-in-Err.ensures.found) c.put_back-in-Err.ensures.room c.put_back-in-Err.ensures.above in
     rw (← c.self.view_is)
     (λ l s.
-    let b = goes_on g.R.Key.Ord.cmp (g.R.Rules.machine c.self.inside.memos.rules) g.M.Stamp.point g.O.Outbox.puts c.self.inside.memos.rules (held (record { rules = c.self.inside.memos.rules; places = c.self.inside.memos.places; inputs = c.self.inside.inputs; lanes = c.self.inside.lanes; opened = c.self.inside.opened; clients = c.self.inside.clients; waiting = c.self.inside.waiting.items; runs = c.self.inside.runs; started = c.self.inside.started; claims = c.self.inside.claims })) l c.args.run c.in-Some.taken s here (λ o. false_true (sym c.if-is_overtaken.false ∙ c.is_overtaken.ensures.1 (rw c.now-now.ensures.now o))) (none_of (out_at c.in-Some.taken.top) (λ e. false_true (sym c.if-is_out.false ∙ c.is_out.ensures.1 e))) in
-    (l, (b.0, b.1, refl), back_moved g.R.Key.Ord.cmp (g.R.Rules.machine c.self.inside.memos.rules) g.M.Stamp.point g.O.Outbox.puts (held (record { rules = c.self.inside.memos.rules; places = c.self.inside.memos.places; inputs = c.self.inside.inputs; lanes = c.self.inside.lanes; opened = c.self.inside.opened; clients = c.self.inside.clients; waiting = c.self.inside.waiting.items; runs = c.self.inside.runs; started = c.self.inside.started; claims = c.self.inside.claims })) (record { inputs = c.self.inside.inputs; lanes = c.self.inside.lanes.items; opened = c.self.inside.opened; clients = c.self.inside.clients; runs = c.put_back-in-Err.new.self.items; started = c.self.inside.started }) l c.args.run c.in-Some.taken c.look-looked.new.self s here c.look-looked.ensures.same ((c.in-Err.ensures {u = tt}).refused ∙ sym (none_of (out_at c.in-Some.taken.top) (λ e. false_true (sym c.if-is_out.false ∙ c.is_out.ensures.1 e)))) set.found (λ k. refl) (record { inputs = refl; opened = refl; clients = refl; started = refl })))
+    let b = goes_on g.R.Key.Ord.cmp (g.R.Rules.machine c.self.inside.memos.rules) g.M.Stamp.point told_puts c.self.inside.memos.rules (held (record { rules = c.self.inside.memos.rules; places = c.self.inside.memos.places; inputs = c.self.inside.inputs; accounts = c.self.inside.accounts; opened = c.self.inside.opened; clients = c.self.inside.clients; waiting = c.self.inside.waiting.items; runs = c.self.inside.runs; started = c.self.inside.started; claims = c.self.inside.claims })) l c.args.run c.in-Some.taken s here (λ o. false_true (sym c.if-is_overtaken.false ∙ c.is_overtaken.ensures.1 (rw c.now-now.ensures.now o))) (none_of (out_at c.in-Some.taken.top) (λ e. false_true (sym c.if-is_out.false ∙ c.is_out.ensures.1 e))) in
+    (l, (b.0, b.1, refl), back_moved g.R.Key.Ord.cmp (g.R.Rules.machine c.self.inside.memos.rules) g.M.Stamp.point told_puts (held (record { rules = c.self.inside.memos.rules; places = c.self.inside.memos.places; inputs = c.self.inside.inputs; accounts = c.self.inside.accounts; opened = c.self.inside.opened; clients = c.self.inside.clients; waiting = c.self.inside.waiting.items; runs = c.self.inside.runs; started = c.self.inside.started; claims = c.self.inside.claims })) (record { inputs = c.self.inside.inputs; accounts = c.self.inside.accounts.items; opened = c.self.inside.opened; clients = c.self.inside.clients; runs = c.put_back-in-Err.new.self.items; started = c.self.inside.started }) l c.args.run c.in-Some.taken c.look-looked.new.self s here c.look-looked.ensures.same ((c.in-Err.ensures {u = tt}).refused ∙ sym (none_of (out_at c.in-Some.taken.top) (λ e. false_true (sym c.if-is_out.false ∙ c.is_out.ensures.1 e)))) set.found (λ k. refl) (record { inputs = refl; opened = refl; clients = refl; started = refl })))
 
 pub look-looked-requires-clause-claimed : goal.look-looked-requires-clause-claimed
 look-looked-requires-clause-claimed g c =
@@ -466,8 +467,8 @@ close_ring-requires-clause-runs_kept g c =
     (rw c.in-Some.is at c.take.ensures.more_room) (rw c.number-id.ensures at c.put_back-in-Ring.ensures.found) c.put_back-in-Ring.ensures.room c.put_back-in-Ring.ensures.above in
     rw c.look-looked.ensures.rules
     (stepped_runs _ _ c.self.inside.inputs _ _ _ _ _ _ c.args.run c.in-Some.taken c.look-looked.new.self here set.found c.look-looked.ensures.same
-    ((current g.R.Key.Ord.cmp (g.R.Rules.machine c.self.inside.memos.rules) g.M.Stamp.point g.O.Outbox.puts (held (record { rules = c.self.inside.memos.rules; places = c.self.inside.memos.places; inputs = c.self.inside.inputs; lanes = c.self.inside.lanes; opened = c.self.inside.opened; clients = c.self.inside.clients; waiting = c.self.inside.waiting.items; runs = c.self.inside.runs; started = c.self.inside.started; claims = c.self.inside.claims })) w.ledger.0 c.args.run c.in-Some.taken w.ledger.1 (run_here g.R.Key.Ord.cmp (g.R.Rules.machine c.self.inside.memos.rules) g.M.Stamp.point g.O.Outbox.puts (held (record { rules = c.self.inside.memos.rules; places = c.self.inside.memos.places; inputs = c.self.inside.inputs; lanes = c.self.inside.lanes; opened = c.self.inside.opened; clients = c.self.inside.clients; waiting = c.self.inside.waiting.items; runs = c.self.inside.runs; started = c.self.inside.started; claims = c.self.inside.claims })) w.ledger.0 c.args.run c.in-Some.taken w.ledger.1 here) (λ o. false_true (sym c.if-is_overtaken.false ∙ c.is_overtaken.ensures.1 (rw c.now-now.ensures.now o)))).1)
-    (λ s y h. run_past g.R.Key.Ord.cmp (g.R.Rules.machine c.self.inside.memos.rules) g.M.Stamp.point g.O.Outbox.puts (held (record { rules = c.self.inside.memos.rules; places = c.self.inside.memos.places; inputs = c.self.inside.inputs; lanes = c.self.inside.lanes; opened = c.self.inside.opened; clients = c.self.inside.clients; waiting = c.self.inside.waiting.items; runs = c.self.inside.runs; started = c.self.inside.started; claims = c.self.inside.claims })) w.ledger.0 s y w.ledger.1 h)
+    ((current g.R.Key.Ord.cmp (g.R.Rules.machine c.self.inside.memos.rules) g.M.Stamp.point told_puts (held (record { rules = c.self.inside.memos.rules; places = c.self.inside.memos.places; inputs = c.self.inside.inputs; accounts = c.self.inside.accounts; opened = c.self.inside.opened; clients = c.self.inside.clients; waiting = c.self.inside.waiting.items; runs = c.self.inside.runs; started = c.self.inside.started; claims = c.self.inside.claims })) w.ledger.0 c.args.run c.in-Some.taken w.ledger.1 (run_here g.R.Key.Ord.cmp (g.R.Rules.machine c.self.inside.memos.rules) g.M.Stamp.point told_puts (held (record { rules = c.self.inside.memos.rules; places = c.self.inside.memos.places; inputs = c.self.inside.inputs; accounts = c.self.inside.accounts; opened = c.self.inside.opened; clients = c.self.inside.clients; waiting = c.self.inside.waiting.items; runs = c.self.inside.runs; started = c.self.inside.started; claims = c.self.inside.claims })) w.ledger.0 c.args.run c.in-Some.taken w.ledger.1 here) (λ o. false_true (sym c.if-is_overtaken.false ∙ c.is_overtaken.ensures.1 (rw c.now-now.ensures.now o)))).1)
+    (λ s y h. run_past g.R.Key.Ord.cmp (g.R.Rules.machine c.self.inside.memos.rules) g.M.Stamp.point told_puts (held (record { rules = c.self.inside.memos.rules; places = c.self.inside.memos.places; inputs = c.self.inside.inputs; accounts = c.self.inside.accounts; opened = c.self.inside.opened; clients = c.self.inside.clients; waiting = c.self.inside.waiting.items; runs = c.self.inside.runs; started = c.self.inside.started; claims = c.self.inside.claims })) w.ledger.0 s y w.ledger.1 h)
     c.claims_are_sound.ensures.sound c.claims_are_sound-in-Some.ensures.sound c.look-looked.ensures.renewed c.look-looked.ensures.written
     c.look-looked.ensures.run_kept c.look-looked.ensures.claimed c.look-looked.ensures.others c.look-looked.ensures.stale c.look-looked.ensures.waits w.runs)
 
@@ -478,7 +479,7 @@ close_ring-requires-clause-within g c =
     let set = set_back c.self.inside.runs c.take.new.self c.put_back-in-Ring.new.self c.args.run c.look-looked.new.self (rw c.number-id.ensures at c.take.ensures.found) c.take.ensures.above
     (rw c.in-Some.is at c.take.ensures.more_room) (rw c.number-id.ensures at c.put_back-in-Ring.ensures.found) c.put_back-in-Ring.ensures.room c.put_back-in-Ring.ensures.above in
     past_stepped c.self.inside.inputs.revision _ _ c.args.run c.in-Some.taken c.look-looked.new.self here set.found c.look-looked.ensures.same
-    (λ s y h. run_past g.R.Key.Ord.cmp (g.R.Rules.machine c.self.inside.memos.rules) g.M.Stamp.point g.O.Outbox.puts (held (record { rules = c.self.inside.memos.rules; places = c.self.inside.memos.places; inputs = c.self.inside.inputs; lanes = c.self.inside.lanes; opened = c.self.inside.opened; clients = c.self.inside.clients; waiting = c.self.inside.waiting.items; runs = c.self.inside.runs; started = c.self.inside.started; claims = c.self.inside.claims })) w.ledger.0 s y w.ledger.1 h)
+    (λ s y h. run_past g.R.Key.Ord.cmp (g.R.Rules.machine c.self.inside.memos.rules) g.M.Stamp.point told_puts (held (record { rules = c.self.inside.memos.rules; places = c.self.inside.memos.places; inputs = c.self.inside.inputs; accounts = c.self.inside.accounts; opened = c.self.inside.opened; clients = c.self.inside.clients; waiting = c.self.inside.waiting.items; runs = c.self.inside.runs; started = c.self.inside.started; claims = c.self.inside.claims })) w.ledger.0 s y w.ledger.1 h)
 
 pub close_ring-requires-clause-closes : goal.close_ring-requires-clause-closes
 close_ring-requires-clause-closes g c =
@@ -491,7 +492,7 @@ close_ring-requires-clause-closes g c =
     (rw c.deref.ensures.value (
       c.look-looked.new.self,
       set.found c.args.run ∙ if_at c.args.run (Some c.look-looked.new.self) (found c.self.inside.runs.items c.args.run),
-      c.look-looked.ensures.same.started ∙ (current g.R.Key.Ord.cmp (g.R.Rules.machine c.self.inside.memos.rules) g.M.Stamp.point g.O.Outbox.puts (held (record { rules = c.self.inside.memos.rules; places = c.self.inside.memos.places; inputs = c.self.inside.inputs; lanes = c.self.inside.lanes; opened = c.self.inside.opened; clients = c.self.inside.clients; waiting = c.self.inside.waiting.items; runs = c.self.inside.runs; started = c.self.inside.started; claims = c.self.inside.claims })) w.ledger.0 c.args.run c.in-Some.taken w.ledger.1 (run_here g.R.Key.Ord.cmp (g.R.Rules.machine c.self.inside.memos.rules) g.M.Stamp.point g.O.Outbox.puts (held (record { rules = c.self.inside.memos.rules; places = c.self.inside.memos.places; inputs = c.self.inside.inputs; lanes = c.self.inside.lanes; opened = c.self.inside.opened; clients = c.self.inside.clients; waiting = c.self.inside.waiting.items; runs = c.self.inside.runs; started = c.self.inside.started; claims = c.self.inside.claims })) w.ledger.0 c.args.run c.in-Some.taken w.ledger.1 here) (λ o. false_true (sym c.if-is_overtaken.false ∙ c.is_overtaken.ensures.1 (rw c.now-now.ensures.now o)))).1,
+      c.look-looked.ensures.same.started ∙ (current g.R.Key.Ord.cmp (g.R.Rules.machine c.self.inside.memos.rules) g.M.Stamp.point told_puts (held (record { rules = c.self.inside.memos.rules; places = c.self.inside.memos.places; inputs = c.self.inside.inputs; accounts = c.self.inside.accounts; opened = c.self.inside.opened; clients = c.self.inside.clients; waiting = c.self.inside.waiting.items; runs = c.self.inside.runs; started = c.self.inside.started; claims = c.self.inside.claims })) w.ledger.0 c.args.run c.in-Some.taken w.ledger.1 (run_here g.R.Key.Ord.cmp (g.R.Rules.machine c.self.inside.memos.rules) g.M.Stamp.point told_puts (held (record { rules = c.self.inside.memos.rules; places = c.self.inside.memos.places; inputs = c.self.inside.inputs; accounts = c.self.inside.accounts; opened = c.self.inside.opened; clients = c.self.inside.clients; waiting = c.self.inside.waiting.items; runs = c.self.inside.runs; started = c.self.inside.started; claims = c.self.inside.claims })) w.ledger.0 c.args.run c.in-Some.taken w.ledger.1 here) (λ o. false_true (sym c.if-is_overtaken.false ∙ c.is_overtaken.ensures.1 (rw c.now-now.ensures.now o)))).1,
       closes_still g.R.Key.Ord.cmp (g.R.Rules.machine c.self.inside.memos.rules) c.self.inside.inputs _ _ c.look-looked.new.claims c.args.run c.look-looked.new.self.stack c.look-looked.new.self.top _ c.look-looked.ensures.renewed c.look-looked.ensures.stale told.1,
     ))
 
@@ -506,7 +507,7 @@ invariant_of-self-in-Ok-close_ring g c =
     (record {
       stamped = c.self.invariant.stamped;
       kept = rw c.look-looked.ensures.rules at c.close_ring.ensures.kept;
-      lanes_above = w.lanes_above;
+      accounts_above = w.accounts_above;
       runs_above = c.close_ring.ensures.above c.self.inside.started (set.above c.self.inside.started w.runs_above);
       queue = w.queue;
       room =
@@ -517,8 +518,8 @@ invariant_of-self-in-Ok-close_ring g c =
       runs = rw c.look-looked.ensures.rules at c.close_ring.ensures.runs_kept;
       ledger = (
         w.ledger.0,
-        seen_moved g.R.Key.Ord.cmp (g.R.Rules.machine c.self.inside.memos.rules) g.M.Stamp.point g.O.Outbox.puts (record { inputs = c.self.inside.inputs; lanes = c.self.inside.lanes.items; opened = c.self.inside.opened; clients = c.self.inside.clients; runs = c.put_back-in-Ring.new.self.items; started = c.self.inside.started }) (record { inputs = c.self.inside.inputs; lanes = c.self.inside.lanes.items; opened = c.self.inside.opened; clients = c.self.inside.clients; runs = c.close_ring.new.runs.items; started = c.self.inside.started }) w.ledger.0 c.close_ring.ensures.seen (λ k. refl) (record { inputs = refl; opened = refl; clients = refl; started = refl })
-            (back_moved g.R.Key.Ord.cmp (g.R.Rules.machine c.self.inside.memos.rules) g.M.Stamp.point g.O.Outbox.puts (held (record { rules = c.self.inside.memos.rules; places = c.self.inside.memos.places; inputs = c.self.inside.inputs; lanes = c.self.inside.lanes; opened = c.self.inside.opened; clients = c.self.inside.clients; waiting = c.self.inside.waiting.items; runs = c.self.inside.runs; started = c.self.inside.started; claims = c.self.inside.claims })) (record { inputs = c.self.inside.inputs; lanes = c.self.inside.lanes.items; opened = c.self.inside.opened; clients = c.self.inside.clients; runs = c.put_back-in-Ring.new.self.items; started = c.self.inside.started }) w.ledger.0 c.args.run c.in-Some.taken c.look-looked.new.self w.ledger.1 here c.look-looked.ensures.same (told.0 ∙ sym (none_of (out_at c.in-Some.taken.top) (λ e. false_true (sym c.if-is_out.false ∙ c.is_out.ensures.1 e)))) set.found (λ k. refl) (record { inputs = refl; opened = refl; clients = refl; started = refl })),
+        seen_moved g.R.Key.Ord.cmp (g.R.Rules.machine c.self.inside.memos.rules) g.M.Stamp.point told_puts (record { inputs = c.self.inside.inputs; accounts = c.self.inside.accounts.items; opened = c.self.inside.opened; clients = c.self.inside.clients; runs = c.put_back-in-Ring.new.self.items; started = c.self.inside.started }) (record { inputs = c.self.inside.inputs; accounts = c.self.inside.accounts.items; opened = c.self.inside.opened; clients = c.self.inside.clients; runs = c.close_ring.new.runs.items; started = c.self.inside.started }) w.ledger.0 c.close_ring.ensures.seen (λ k. refl) (record { inputs = refl; opened = refl; clients = refl; started = refl })
+            (back_moved g.R.Key.Ord.cmp (g.R.Rules.machine c.self.inside.memos.rules) g.M.Stamp.point told_puts (held (record { rules = c.self.inside.memos.rules; places = c.self.inside.memos.places; inputs = c.self.inside.inputs; accounts = c.self.inside.accounts; opened = c.self.inside.opened; clients = c.self.inside.clients; waiting = c.self.inside.waiting.items; runs = c.self.inside.runs; started = c.self.inside.started; claims = c.self.inside.claims })) (record { inputs = c.self.inside.inputs; accounts = c.self.inside.accounts.items; opened = c.self.inside.opened; clients = c.self.inside.clients; runs = c.put_back-in-Ring.new.self.items; started = c.self.inside.started }) w.ledger.0 c.args.run c.in-Some.taken c.look-looked.new.self w.ledger.1 here c.look-looked.ensures.same (told.0 ∙ sym (none_of (out_at c.in-Some.taken.top) (λ e. false_true (sym c.if-is_out.false ∙ c.is_out.ensures.1 e)))) set.found (λ k. refl) (record { inputs = refl; opened = refl; clients = refl; started = refl })),
       );
     })
 
@@ -538,11 +539,11 @@ returns-in-Ok-close_ring-clause-moved g c =
     let told = rw c.in-Ring.is at (c.in-Ok.ensures {u = tt}).looked in
     rw (← c.self.view_is)
     (λ l s.
-    let b = goes_on g.R.Key.Ord.cmp (g.R.Rules.machine c.self.inside.memos.rules) g.M.Stamp.point g.O.Outbox.puts c.self.inside.memos.rules (held (record { rules = c.self.inside.memos.rules; places = c.self.inside.memos.places; inputs = c.self.inside.inputs; lanes = c.self.inside.lanes; opened = c.self.inside.opened; clients = c.self.inside.clients; waiting = c.self.inside.waiting.items; runs = c.self.inside.runs; started = c.self.inside.started; claims = c.self.inside.claims })) l c.args.run c.in-Some.taken s here (λ o. false_true (sym c.if-is_overtaken.false ∙ c.is_overtaken.ensures.1 (rw c.now-now.ensures.now o))) (none_of (out_at c.in-Some.taken.top) (λ e. false_true (sym c.if-is_out.false ∙ c.is_out.ensures.1 e))) in (
+    let b = goes_on g.R.Key.Ord.cmp (g.R.Rules.machine c.self.inside.memos.rules) g.M.Stamp.point told_puts c.self.inside.memos.rules (held (record { rules = c.self.inside.memos.rules; places = c.self.inside.memos.places; inputs = c.self.inside.inputs; accounts = c.self.inside.accounts; opened = c.self.inside.opened; clients = c.self.inside.clients; waiting = c.self.inside.waiting.items; runs = c.self.inside.runs; started = c.self.inside.started; claims = c.self.inside.claims })) l c.args.run c.in-Some.taken s here (λ o. false_true (sym c.if-is_overtaken.false ∙ c.is_overtaken.ensures.1 (rw c.now-now.ensures.now o))) (none_of (out_at c.in-Some.taken.top) (λ e. false_true (sym c.if-is_out.false ∙ c.is_out.ensures.1 e))) in (
       l,
       (b.0, b.1, refl),
-      seen_moved g.R.Key.Ord.cmp (g.R.Rules.machine c.self.inside.memos.rules) g.M.Stamp.point g.O.Outbox.puts (record { inputs = c.self.inside.inputs; lanes = c.self.inside.lanes.items; opened = c.self.inside.opened; clients = c.self.inside.clients; runs = c.put_back-in-Ring.new.self.items; started = c.self.inside.started }) (record { inputs = c.self.inside.inputs; lanes = c.self.inside.lanes.items; opened = c.self.inside.opened; clients = c.self.inside.clients; runs = c.close_ring.new.runs.items; started = c.self.inside.started }) l c.close_ring.ensures.seen (λ k. refl) (record { inputs = refl; opened = refl; clients = refl; started = refl })
-          (back_moved g.R.Key.Ord.cmp (g.R.Rules.machine c.self.inside.memos.rules) g.M.Stamp.point g.O.Outbox.puts (held (record { rules = c.self.inside.memos.rules; places = c.self.inside.memos.places; inputs = c.self.inside.inputs; lanes = c.self.inside.lanes; opened = c.self.inside.opened; clients = c.self.inside.clients; waiting = c.self.inside.waiting.items; runs = c.self.inside.runs; started = c.self.inside.started; claims = c.self.inside.claims })) (record { inputs = c.self.inside.inputs; lanes = c.self.inside.lanes.items; opened = c.self.inside.opened; clients = c.self.inside.clients; runs = c.put_back-in-Ring.new.self.items; started = c.self.inside.started }) l c.args.run c.in-Some.taken c.look-looked.new.self s here c.look-looked.ensures.same (told.0 ∙ sym (none_of (out_at c.in-Some.taken.top) (λ e. false_true (sym c.if-is_out.false ∙ c.is_out.ensures.1 e)))) set.found (λ k. refl) (record { inputs = refl; opened = refl; clients = refl; started = refl })),
+      seen_moved g.R.Key.Ord.cmp (g.R.Rules.machine c.self.inside.memos.rules) g.M.Stamp.point told_puts (record { inputs = c.self.inside.inputs; accounts = c.self.inside.accounts.items; opened = c.self.inside.opened; clients = c.self.inside.clients; runs = c.put_back-in-Ring.new.self.items; started = c.self.inside.started }) (record { inputs = c.self.inside.inputs; accounts = c.self.inside.accounts.items; opened = c.self.inside.opened; clients = c.self.inside.clients; runs = c.close_ring.new.runs.items; started = c.self.inside.started }) l c.close_ring.ensures.seen (λ k. refl) (record { inputs = refl; opened = refl; clients = refl; started = refl })
+          (back_moved g.R.Key.Ord.cmp (g.R.Rules.machine c.self.inside.memos.rules) g.M.Stamp.point told_puts (held (record { rules = c.self.inside.memos.rules; places = c.self.inside.memos.places; inputs = c.self.inside.inputs; accounts = c.self.inside.accounts; opened = c.self.inside.opened; clients = c.self.inside.clients; waiting = c.self.inside.waiting.items; runs = c.self.inside.runs; started = c.self.inside.started; claims = c.self.inside.claims })) (record { inputs = c.self.inside.inputs; accounts = c.self.inside.accounts.items; opened = c.self.inside.opened; clients = c.self.inside.clients; runs = c.put_back-in-Ring.new.self.items; started = c.self.inside.started }) l c.args.run c.in-Some.taken c.look-looked.new.self s here c.look-looked.ensures.same (told.0 ∙ sym (none_of (out_at c.in-Some.taken.top) (λ e. false_true (sym c.if-is_out.false ∙ c.is_out.ensures.1 e)))) set.found (λ k. refl) (record { inputs = refl; opened = refl; clients = refl; started = refl })),
     ))
 
 pub invariant_of-self-in-Err-close_ring : goal.invariant_of-self-in-Err-close_ring
@@ -556,7 +557,7 @@ invariant_of-self-in-Err-close_ring g c =
     (record {
       stamped = c.self.invariant.stamped;
       kept = rw c.look-looked.ensures.rules at c.close_ring.ensures.kept;
-      lanes_above = w.lanes_above;
+      accounts_above = w.accounts_above;
       runs_above = c.close_ring.ensures.above c.self.inside.started (set.above c.self.inside.started w.runs_above);
       queue = w.queue;
       room =
@@ -567,8 +568,8 @@ invariant_of-self-in-Err-close_ring g c =
       runs = rw c.look-looked.ensures.rules at c.close_ring.ensures.runs_kept;
       ledger = (
         w.ledger.0,
-        seen_moved g.R.Key.Ord.cmp (g.R.Rules.machine c.self.inside.memos.rules) g.M.Stamp.point g.O.Outbox.puts (record { inputs = c.self.inside.inputs; lanes = c.self.inside.lanes.items; opened = c.self.inside.opened; clients = c.self.inside.clients; runs = c.put_back-in-Ring.new.self.items; started = c.self.inside.started }) (record { inputs = c.self.inside.inputs; lanes = c.self.inside.lanes.items; opened = c.self.inside.opened; clients = c.self.inside.clients; runs = c.close_ring.new.runs.items; started = c.self.inside.started }) w.ledger.0 c.close_ring.ensures.seen (λ k. refl) (record { inputs = refl; opened = refl; clients = refl; started = refl })
-            (back_moved g.R.Key.Ord.cmp (g.R.Rules.machine c.self.inside.memos.rules) g.M.Stamp.point g.O.Outbox.puts (held (record { rules = c.self.inside.memos.rules; places = c.self.inside.memos.places; inputs = c.self.inside.inputs; lanes = c.self.inside.lanes; opened = c.self.inside.opened; clients = c.self.inside.clients; waiting = c.self.inside.waiting.items; runs = c.self.inside.runs; started = c.self.inside.started; claims = c.self.inside.claims })) (record { inputs = c.self.inside.inputs; lanes = c.self.inside.lanes.items; opened = c.self.inside.opened; clients = c.self.inside.clients; runs = c.put_back-in-Ring.new.self.items; started = c.self.inside.started }) w.ledger.0 c.args.run c.in-Some.taken c.look-looked.new.self w.ledger.1 here c.look-looked.ensures.same (told.0 ∙ sym (none_of (out_at c.in-Some.taken.top) (λ e. false_true (sym c.if-is_out.false ∙ c.is_out.ensures.1 e)))) set.found (λ k. refl) (record { inputs = refl; opened = refl; clients = refl; started = refl })),
+        seen_moved g.R.Key.Ord.cmp (g.R.Rules.machine c.self.inside.memos.rules) g.M.Stamp.point told_puts (record { inputs = c.self.inside.inputs; accounts = c.self.inside.accounts.items; opened = c.self.inside.opened; clients = c.self.inside.clients; runs = c.put_back-in-Ring.new.self.items; started = c.self.inside.started }) (record { inputs = c.self.inside.inputs; accounts = c.self.inside.accounts.items; opened = c.self.inside.opened; clients = c.self.inside.clients; runs = c.close_ring.new.runs.items; started = c.self.inside.started }) w.ledger.0 c.close_ring.ensures.seen (λ k. refl) (record { inputs = refl; opened = refl; clients = refl; started = refl })
+            (back_moved g.R.Key.Ord.cmp (g.R.Rules.machine c.self.inside.memos.rules) g.M.Stamp.point told_puts (held (record { rules = c.self.inside.memos.rules; places = c.self.inside.memos.places; inputs = c.self.inside.inputs; accounts = c.self.inside.accounts; opened = c.self.inside.opened; clients = c.self.inside.clients; waiting = c.self.inside.waiting.items; runs = c.self.inside.runs; started = c.self.inside.started; claims = c.self.inside.claims })) (record { inputs = c.self.inside.inputs; accounts = c.self.inside.accounts.items; opened = c.self.inside.opened; clients = c.self.inside.clients; runs = c.put_back-in-Ring.new.self.items; started = c.self.inside.started }) w.ledger.0 c.args.run c.in-Some.taken c.look-looked.new.self w.ledger.1 here c.look-looked.ensures.same (told.0 ∙ sym (none_of (out_at c.in-Some.taken.top) (λ e. false_true (sym c.if-is_out.false ∙ c.is_out.ensures.1 e)))) set.found (λ k. refl) (record { inputs = refl; opened = refl; clients = refl; started = refl })),
       );
     })
 
@@ -588,11 +589,11 @@ returns-in-Err-close_ring-clause-moved g c =
     let told = rw c.in-Ring.is at (c.in-Ok.ensures {u = tt}).looked in
     rw (← c.self.view_is)
     (λ l s.
-    let b = goes_on g.R.Key.Ord.cmp (g.R.Rules.machine c.self.inside.memos.rules) g.M.Stamp.point g.O.Outbox.puts c.self.inside.memos.rules (held (record { rules = c.self.inside.memos.rules; places = c.self.inside.memos.places; inputs = c.self.inside.inputs; lanes = c.self.inside.lanes; opened = c.self.inside.opened; clients = c.self.inside.clients; waiting = c.self.inside.waiting.items; runs = c.self.inside.runs; started = c.self.inside.started; claims = c.self.inside.claims })) l c.args.run c.in-Some.taken s here (λ o. false_true (sym c.if-is_overtaken.false ∙ c.is_overtaken.ensures.1 (rw c.now-now.ensures.now o))) (none_of (out_at c.in-Some.taken.top) (λ e. false_true (sym c.if-is_out.false ∙ c.is_out.ensures.1 e))) in (
+    let b = goes_on g.R.Key.Ord.cmp (g.R.Rules.machine c.self.inside.memos.rules) g.M.Stamp.point told_puts c.self.inside.memos.rules (held (record { rules = c.self.inside.memos.rules; places = c.self.inside.memos.places; inputs = c.self.inside.inputs; accounts = c.self.inside.accounts; opened = c.self.inside.opened; clients = c.self.inside.clients; waiting = c.self.inside.waiting.items; runs = c.self.inside.runs; started = c.self.inside.started; claims = c.self.inside.claims })) l c.args.run c.in-Some.taken s here (λ o. false_true (sym c.if-is_overtaken.false ∙ c.is_overtaken.ensures.1 (rw c.now-now.ensures.now o))) (none_of (out_at c.in-Some.taken.top) (λ e. false_true (sym c.if-is_out.false ∙ c.is_out.ensures.1 e))) in (
       l,
       (b.0, b.1, refl),
-      seen_moved g.R.Key.Ord.cmp (g.R.Rules.machine c.self.inside.memos.rules) g.M.Stamp.point g.O.Outbox.puts (record { inputs = c.self.inside.inputs; lanes = c.self.inside.lanes.items; opened = c.self.inside.opened; clients = c.self.inside.clients; runs = c.put_back-in-Ring.new.self.items; started = c.self.inside.started }) (record { inputs = c.self.inside.inputs; lanes = c.self.inside.lanes.items; opened = c.self.inside.opened; clients = c.self.inside.clients; runs = c.close_ring.new.runs.items; started = c.self.inside.started }) l c.close_ring.ensures.seen (λ k. refl) (record { inputs = refl; opened = refl; clients = refl; started = refl })
-          (back_moved g.R.Key.Ord.cmp (g.R.Rules.machine c.self.inside.memos.rules) g.M.Stamp.point g.O.Outbox.puts (held (record { rules = c.self.inside.memos.rules; places = c.self.inside.memos.places; inputs = c.self.inside.inputs; lanes = c.self.inside.lanes; opened = c.self.inside.opened; clients = c.self.inside.clients; waiting = c.self.inside.waiting.items; runs = c.self.inside.runs; started = c.self.inside.started; claims = c.self.inside.claims })) (record { inputs = c.self.inside.inputs; lanes = c.self.inside.lanes.items; opened = c.self.inside.opened; clients = c.self.inside.clients; runs = c.put_back-in-Ring.new.self.items; started = c.self.inside.started }) l c.args.run c.in-Some.taken c.look-looked.new.self s here c.look-looked.ensures.same (told.0 ∙ sym (none_of (out_at c.in-Some.taken.top) (λ e. false_true (sym c.if-is_out.false ∙ c.is_out.ensures.1 e)))) set.found (λ k. refl) (record { inputs = refl; opened = refl; clients = refl; started = refl })),
+      seen_moved g.R.Key.Ord.cmp (g.R.Rules.machine c.self.inside.memos.rules) g.M.Stamp.point told_puts (record { inputs = c.self.inside.inputs; accounts = c.self.inside.accounts.items; opened = c.self.inside.opened; clients = c.self.inside.clients; runs = c.put_back-in-Ring.new.self.items; started = c.self.inside.started }) (record { inputs = c.self.inside.inputs; accounts = c.self.inside.accounts.items; opened = c.self.inside.opened; clients = c.self.inside.clients; runs = c.close_ring.new.runs.items; started = c.self.inside.started }) l c.close_ring.ensures.seen (λ k. refl) (record { inputs = refl; opened = refl; clients = refl; started = refl })
+          (back_moved g.R.Key.Ord.cmp (g.R.Rules.machine c.self.inside.memos.rules) g.M.Stamp.point told_puts (held (record { rules = c.self.inside.memos.rules; places = c.self.inside.memos.places; inputs = c.self.inside.inputs; accounts = c.self.inside.accounts; opened = c.self.inside.opened; clients = c.self.inside.clients; waiting = c.self.inside.waiting.items; runs = c.self.inside.runs; started = c.self.inside.started; claims = c.self.inside.claims })) (record { inputs = c.self.inside.inputs; accounts = c.self.inside.accounts.items; opened = c.self.inside.opened; clients = c.self.inside.clients; runs = c.put_back-in-Ring.new.self.items; started = c.self.inside.started }) l c.args.run c.in-Some.taken c.look-looked.new.self s here c.look-looked.ensures.same (told.0 ∙ sym (none_of (out_at c.in-Some.taken.top) (λ e. false_true (sym c.if-is_out.false ∙ c.is_out.ensures.1 e)))) set.found (λ k. refl) (record { inputs = refl; opened = refl; clients = refl; started = refl })),
     ))
 
 pub look-looked-requires-clause-idle : goal.look-looked-requires-clause-idle
@@ -667,8 +668,8 @@ returns-in-Carry-clause-counted g c =
     let here = sym (rw c.number-id.ensures at (c.in-Some.ensures {u = tt}).value) in
     let set = set_back c.self.inside.runs c.take.new.self c.put_back-in-Carry.new.self c.args.run c.look-looked.new.self (rw c.number-id.ensures at c.take.ensures.found) c.take.ensures.above
     (rw c.in-Some.is at c.take.ensures.more_room) (rw c.number-id.ensures at c.put_back-in-Carry.ensures.found) c.put_back-in-Carry.ensures.room c.put_back-in-Carry.ensures.above in
-    let began = (current g.R.Key.Ord.cmp (g.R.Rules.machine c.self.inside.memos.rules) g.M.Stamp.point g.O.Outbox.puts (held (record { rules = c.self.inside.memos.rules; places = c.self.inside.memos.places; inputs = c.self.inside.inputs; lanes = c.self.inside.lanes; opened = c.self.inside.opened; clients = c.self.inside.clients; waiting = c.self.inside.waiting.items; runs = c.self.inside.runs; started = c.self.inside.started; claims = c.self.inside.claims })) c.self.invariant.ledger.0 c.args.run c.in-Some.taken c.self.invariant.ledger.1
-    (run_here g.R.Key.Ord.cmp (g.R.Rules.machine c.self.inside.memos.rules) g.M.Stamp.point g.O.Outbox.puts (held (record { rules = c.self.inside.memos.rules; places = c.self.inside.memos.places; inputs = c.self.inside.inputs; lanes = c.self.inside.lanes; opened = c.self.inside.opened; clients = c.self.inside.clients; waiting = c.self.inside.waiting.items; runs = c.self.inside.runs; started = c.self.inside.started; claims = c.self.inside.claims })) c.self.invariant.ledger.0 c.args.run c.in-Some.taken c.self.invariant.ledger.1 here) (λ o. false_true (sym c.if-is_overtaken.false ∙ c.is_overtaken.ensures.1 (rw c.now-now.ensures.now o)))).1 in
+    let began = (current g.R.Key.Ord.cmp (g.R.Rules.machine c.self.inside.memos.rules) g.M.Stamp.point told_puts (held (record { rules = c.self.inside.memos.rules; places = c.self.inside.memos.places; inputs = c.self.inside.inputs; accounts = c.self.inside.accounts; opened = c.self.inside.opened; clients = c.self.inside.clients; waiting = c.self.inside.waiting.items; runs = c.self.inside.runs; started = c.self.inside.started; claims = c.self.inside.claims })) c.self.invariant.ledger.0 c.args.run c.in-Some.taken c.self.invariant.ledger.1
+    (run_here g.R.Key.Ord.cmp (g.R.Rules.machine c.self.inside.memos.rules) g.M.Stamp.point told_puts (held (record { rules = c.self.inside.memos.rules; places = c.self.inside.memos.places; inputs = c.self.inside.inputs; accounts = c.self.inside.accounts; opened = c.self.inside.opened; clients = c.self.inside.clients; waiting = c.self.inside.waiting.items; runs = c.self.inside.runs; started = c.self.inside.started; claims = c.self.inside.claims })) c.self.invariant.ledger.0 c.args.run c.in-Some.taken c.self.invariant.ledger.1 here) (λ o. false_true (sym c.if-is_overtaken.false ∙ c.is_overtaken.ensures.1 (rw c.now-now.ensures.now o)))).1 in
     let handed = rw c.in-Carry.is at (c.in-Ok.ensures {u = tt}).looked in
     let first = rw c.in-Carry.is at (c.in-Ok.ensures {u = tt}).first in
     rw (← c.self.view_is) (rw c.new.ensures (λ log x. carried_counted g.R.Key.Ord.cmp exact (g.R.Rules.machine c.self.inside.memos.rules) c.self.inside.inputs log (memo_at g.R.Key.Ord.cmp c.self.inside.memos.places) (memo_at g.R.Key.Ord.cmp c.look-looked.new.memos.places) c.self.inside.runs.items c.put_back-in-Carry.new.self.items c.args.run c.in-Some.taken here c.look-looked.new.self c.look-looked.ensures.renewed set.found c.look-looked.ensures.same c.look-looked.ensures.begun

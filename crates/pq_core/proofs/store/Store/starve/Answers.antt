@@ -1,6 +1,7 @@
 use Rattle.std.proofs.Common.{◌≤◌, true, length, refl, sym, arith, []}
+use Rattle.pq_core.specs.Told.{told_puts}
 use Rattle.pq_core.specs.RightReply.{answer_by}
-use Rattle.pq_core.specs.Cores.{held}
+use Rattle.pq_core.specs.Stores.{held}
 use Rattle.pq_core.specs.Moves.{Starves, ended}
 use Rattle.pq_core.specs.declared.outcome.Outcome.TheVariants.{Starved}
 use Rattle.pq_core.proofs.RunsKept.{same_runs, stopped_runs}
@@ -17,25 +18,25 @@ use Rattle.pq_core.proofs.store.Store.starve.Goals as goal
 pub end_run-requires-clause-within : goal.end_run-requires-clause-within
 end_run-requires-clause-within g c =
     let here = sym (rw c.number.ensures at (c.in-Some.ensures {u = tt}).value) in
-    λ lane h. run_within g.R.Key.Ord.cmp (g.R.Rules.machine c.self.inside.memos.rules) g.M.Stamp.point g.O.Outbox.puts (held (record { rules = c.self.inside.memos.rules; places = c.self.inside.memos.places; inputs = c.self.inside.inputs; lanes = c.self.inside.lanes; opened = c.self.inside.opened; clients = c.self.inside.clients; waiting = c.self.inside.waiting.items; runs = c.self.inside.runs; started = c.self.inside.started; claims = c.self.inside.claims })) c.self.invariant.ledger.0 c.args.run c.in-Some.taken lane c.self.invariant.ledger.1 here h
+    λ account h. run_within g.R.Key.Ord.cmp (g.R.Rules.machine c.self.inside.memos.rules) g.M.Stamp.point told_puts (held (record { rules = c.self.inside.memos.rules; places = c.self.inside.memos.places; inputs = c.self.inside.inputs; accounts = c.self.inside.accounts; opened = c.self.inside.opened; clients = c.self.inside.clients; waiting = c.self.inside.waiting.items; runs = c.self.inside.runs; started = c.self.inside.started; claims = c.self.inside.claims })) c.self.invariant.ledger.0 c.args.run c.in-Some.taken account c.self.invariant.ledger.1 here h
 
 pub invariant_of-self : goal.invariant_of-self
 invariant_of-self g c =
     let w = c.self.invariant in
     let here = sym (rw c.number.ensures at (c.in-Some.ensures {u = tt}).value) in
     let runs = rw c.number.ensures at c.take.ensures.found in
-    let x = run_here g.R.Key.Ord.cmp (g.R.Rules.machine c.self.inside.memos.rules) g.M.Stamp.point g.O.Outbox.puts (held (record { rules = c.self.inside.memos.rules; places = c.self.inside.memos.places; inputs = c.self.inside.inputs; lanes = c.self.inside.lanes; opened = c.self.inside.opened; clients = c.self.inside.clients; waiting = c.self.inside.waiting.items; runs = c.self.inside.runs; started = c.self.inside.started; claims = c.self.inside.claims })) w.ledger.0 c.args.run c.in-Some.taken w.ledger.1 here in
+    let x = run_here g.R.Key.Ord.cmp (g.R.Rules.machine c.self.inside.memos.rules) g.M.Stamp.point told_puts (held (record { rules = c.self.inside.memos.rules; places = c.self.inside.memos.places; inputs = c.self.inside.inputs; accounts = c.self.inside.accounts; opened = c.self.inside.opened; clients = c.self.inside.clients; waiting = c.self.inside.waiting.items; runs = c.self.inside.runs; started = c.self.inside.started; claims = c.self.inside.claims })) w.ledger.0 c.args.run c.in-Some.taken w.ledger.1 here in
     let move : Starves c.args.run true w.ledger.0 (ended w.ledger.0 x.at true Starved) = (x.at, x.runs, refl) in
-    let stands = end_moved g.R.Key.Ord.cmp (g.R.Rules.machine c.self.inside.memos.rules) g.M.Stamp.point g.O.Outbox.puts (held (record { rules = c.self.inside.memos.rules; places = c.self.inside.memos.places; inputs = c.self.inside.inputs; lanes = c.self.inside.lanes; opened = c.self.inside.opened; clients = c.self.inside.clients; waiting = c.self.inside.waiting.items; runs = c.self.inside.runs; started = c.self.inside.started; claims = c.self.inside.claims })) (record { inputs = c.self.inside.inputs; lanes = c.end_run.new.lanes.items; opened = c.self.inside.opened; clients = c.self.inside.clients; runs = c.take.new.self.items; started = c.self.inside.started }) w.ledger.0 c.args.run c.in-Some.taken true Starved x w.ledger.1 here runs
-    (λ lane h k. rw c.now-now.ensures.now at ((c.end_run.ensures.«open» lane h).found k)) (λ h k. (c.end_run.ensures.closed h).found k) (record { inputs = refl; opened = refl; clients = refl; started = refl })
-    (kept_starves (answer_by g.R.Key.Ord.cmp (g.R.Rules.machine c.self.inside.memos.rules) g.M.Stamp.point) g.O.Outbox.puts c.args.run true w.ledger.0 _ w.ledger.1.kept move) in
+    let stands = end_moved g.R.Key.Ord.cmp (g.R.Rules.machine c.self.inside.memos.rules) g.M.Stamp.point told_puts (held (record { rules = c.self.inside.memos.rules; places = c.self.inside.memos.places; inputs = c.self.inside.inputs; accounts = c.self.inside.accounts; opened = c.self.inside.opened; clients = c.self.inside.clients; waiting = c.self.inside.waiting.items; runs = c.self.inside.runs; started = c.self.inside.started; claims = c.self.inside.claims })) (record { inputs = c.self.inside.inputs; accounts = c.end_run.new.accounts.items; opened = c.self.inside.opened; clients = c.self.inside.clients; runs = c.take.new.self.items; started = c.self.inside.started }) w.ledger.0 c.args.run c.in-Some.taken true Starved x w.ledger.1 here runs
+    (λ account h k. rw c.now-now.ensures.now at ((c.end_run.ensures.«open» account h).found k)) (λ h k. (c.end_run.ensures.closed h).found k) (record { inputs = refl; opened = refl; clients = refl; started = refl })
+    (kept_starves (answer_by g.R.Key.Ord.cmp (g.R.Rules.machine c.self.inside.memos.rules) g.M.Stamp.point) told_puts c.args.run true w.ledger.0 _ w.ledger.1.kept move) in
     record {
       stamped = c.self.invariant.stamped;
       kept = w.kept;
-      lanes_above = c.end_run.ensures.above c.self.inside.clients w.lanes_above;
+      accounts_above = c.end_run.ensures.above c.self.inside.clients w.accounts_above;
       runs_above = c.take.ensures.above c.self.inside.started w.runs_above;
-      queue = end_queue g.R.Key.Ord.cmp (g.R.Rules.machine c.self.inside.memos.rules) g.M.Stamp.point g.O.Outbox.puts _ _ _ w.ledger.0 c.args.run c.in-Some.taken c.in-Some.taken _ w.ledger.1 here (record { client = refl; number = refl; request = refl; started = refl })
-          (λ lane h k. (c.end_run.ensures.«open» lane h).found k) (λ h k. (c.end_run.ensures.closed h).found k) w.queue;
+      queue = end_queue g.R.Key.Ord.cmp (g.R.Rules.machine c.self.inside.memos.rules) g.M.Stamp.point told_puts _ _ _ w.ledger.0 c.args.run c.in-Some.taken c.in-Some.taken _ w.ledger.1 here (record { client = refl; number = refl; request = refl; started = refl })
+          (λ account h k. (c.end_run.ensures.«open» account h).found k) (λ h k. (c.end_run.ensures.closed h).found k) w.queue;
       room =
           let a : length c.self.inside.waiting.items ≤ c.self.inside.runs.room = w.room in
           let b : c.self.inside.runs.room ≤ c.take.new.self.room = c.take.ensures.room in
@@ -50,11 +51,11 @@ returns-in-Some-clause-moved g c =
     let runs = rw c.number.ensures at c.take.ensures.found in
     rw (← c.self.view_is)
     (λ l s.
-    let x = run_here g.R.Key.Ord.cmp (g.R.Rules.machine c.self.inside.memos.rules) g.M.Stamp.point g.O.Outbox.puts (held (record { rules = c.self.inside.memos.rules; places = c.self.inside.memos.places; inputs = c.self.inside.inputs; lanes = c.self.inside.lanes; opened = c.self.inside.opened; clients = c.self.inside.clients; waiting = c.self.inside.waiting.items; runs = c.self.inside.runs; started = c.self.inside.started; claims = c.self.inside.claims })) l c.args.run c.in-Some.taken s here in
+    let x = run_here g.R.Key.Ord.cmp (g.R.Rules.machine c.self.inside.memos.rules) g.M.Stamp.point told_puts (held (record { rules = c.self.inside.memos.rules; places = c.self.inside.memos.places; inputs = c.self.inside.inputs; accounts = c.self.inside.accounts; opened = c.self.inside.opened; clients = c.self.inside.clients; waiting = c.self.inside.waiting.items; runs = c.self.inside.runs; started = c.self.inside.started; claims = c.self.inside.claims })) l c.args.run c.in-Some.taken s here in
     let move : Starves c.args.run true l (ended l x.at true Starved) = (x.at, x.runs, refl) in
-    let stands = end_moved g.R.Key.Ord.cmp (g.R.Rules.machine c.self.inside.memos.rules) g.M.Stamp.point g.O.Outbox.puts (held (record { rules = c.self.inside.memos.rules; places = c.self.inside.memos.places; inputs = c.self.inside.inputs; lanes = c.self.inside.lanes; opened = c.self.inside.opened; clients = c.self.inside.clients; waiting = c.self.inside.waiting.items; runs = c.self.inside.runs; started = c.self.inside.started; claims = c.self.inside.claims })) (record { inputs = c.self.inside.inputs; lanes = c.end_run.new.lanes.items; opened = c.self.inside.opened; clients = c.self.inside.clients; runs = c.take.new.self.items; started = c.self.inside.started }) l c.args.run c.in-Some.taken true Starved x s here runs
-    (λ lane h k. rw c.now-now.ensures.now at ((c.end_run.ensures.«open» lane h).found k)) (λ h k. (c.end_run.ensures.closed h).found k) (record { inputs = refl; opened = refl; clients = refl; started = refl })
-    (kept_starves (answer_by g.R.Key.Ord.cmp (g.R.Rules.machine c.self.inside.memos.rules) g.M.Stamp.point) g.O.Outbox.puts c.args.run true l _ s.kept move) in
+    let stands = end_moved g.R.Key.Ord.cmp (g.R.Rules.machine c.self.inside.memos.rules) g.M.Stamp.point told_puts (held (record { rules = c.self.inside.memos.rules; places = c.self.inside.memos.places; inputs = c.self.inside.inputs; accounts = c.self.inside.accounts; opened = c.self.inside.opened; clients = c.self.inside.clients; waiting = c.self.inside.waiting.items; runs = c.self.inside.runs; started = c.self.inside.started; claims = c.self.inside.claims })) (record { inputs = c.self.inside.inputs; accounts = c.end_run.new.accounts.items; opened = c.self.inside.opened; clients = c.self.inside.clients; runs = c.take.new.self.items; started = c.self.inside.started }) l c.args.run c.in-Some.taken true Starved x s here runs
+    (λ account h k. rw c.now-now.ensures.now at ((c.end_run.ensures.«open» account h).found k)) (λ h k. (c.end_run.ensures.closed h).found k) (record { inputs = refl; opened = refl; clients = refl; started = refl })
+    (kept_starves (answer_by g.R.Key.Ord.cmp (g.R.Rules.machine c.self.inside.memos.rules) g.M.Stamp.point) told_puts c.args.run true l _ s.kept move) in
     (ended l x.at true Starved, move, stands))
 
 pub invariant_of-self-in-None : goal.invariant_of-self-in-None
@@ -65,7 +66,7 @@ invariant_of-self-in-None g c =
     record {
       stamped = c.self.invariant.stamped;
       kept = w.kept;
-      lanes_above = w.lanes_above;
+      accounts_above = w.accounts_above;
       runs_above = same.above c.self.inside.started w.runs_above;
       queue = w.queue;
       room =
@@ -75,9 +76,9 @@ invariant_of-self-in-None g c =
       runs = same_runs _ _ _ _ _ _ _ same.found w.runs;
       ledger = (
         w.ledger.0,
-        unmoved g.R.Key.Ord.cmp (g.R.Rules.machine c.self.inside.memos.rules) g.M.Stamp.point g.O.Outbox.puts _ _ w.ledger.0 (record {
+        unmoved g.R.Key.Ord.cmp (g.R.Rules.machine c.self.inside.memos.rules) g.M.Stamp.point told_puts _ _ w.ledger.0 (record {
           inputs = refl;
-          lanes = λ k. refl;
+          accounts = λ k. refl;
           opened = refl;
           clients = refl;
           runs = same.found;
@@ -93,10 +94,10 @@ returns-in-None-clause-moved g c =
     rw (← c.self.view_is)
     (λ l s. (
       l,
-      (no_run g.R.Key.Ord.cmp (g.R.Rules.machine c.self.inside.memos.rules) g.M.Stamp.point g.O.Outbox.puts (held (record { rules = c.self.inside.memos.rules; places = c.self.inside.memos.places; inputs = c.self.inside.inputs; lanes = c.self.inside.lanes; opened = c.self.inside.opened; clients = c.self.inside.clients; waiting = c.self.inside.waiting.items; runs = c.self.inside.runs; started = c.self.inside.started; claims = c.self.inside.claims })) l c.args.run s nothing, refl),
-      unmoved g.R.Key.Ord.cmp (g.R.Rules.machine c.self.inside.memos.rules) g.M.Stamp.point g.O.Outbox.puts _ _ l (record {
+      (no_run g.R.Key.Ord.cmp (g.R.Rules.machine c.self.inside.memos.rules) g.M.Stamp.point told_puts (held (record { rules = c.self.inside.memos.rules; places = c.self.inside.memos.places; inputs = c.self.inside.inputs; accounts = c.self.inside.accounts; opened = c.self.inside.opened; clients = c.self.inside.clients; waiting = c.self.inside.waiting.items; runs = c.self.inside.runs; started = c.self.inside.started; claims = c.self.inside.claims })) l c.args.run s nothing, refl),
+      unmoved g.R.Key.Ord.cmp (g.R.Rules.machine c.self.inside.memos.rules) g.M.Stamp.point told_puts _ _ l (record {
         inputs = refl;
-        lanes = λ k. refl;
+        accounts = λ k. refl;
         opened = refl;
         clients = refl;
         runs = same.found;
