@@ -14,10 +14,12 @@ use Rattle.pq_memo.specs.declared.look.Why.TheVariants.{Fresh, Changed, Ring}
 use Rattle.std.proofs.lemmas.Bool.{eqb-true}
 use Rattle.pq_core.proofs.Lists.{some_one}
 use Rattle.pq_core.proofs.Changing.{if_at, if_other}
-use Rattle.pq_core.proofs.Calling.{stands_same, run_seen, none_runs, run_at, lane_open, lane_shut}
+use Rattle.pq_core.proofs.Calling.{stands_same, run_seen, none_runs, run_at, seat_open, seat_shut}
 use Rattle.pq_core.proofs.Ending.{end_stands, out_stands}
 use Rattle.pq_core.proofs.Keeping.{runs_placed, kept_looks, kept_gives}
-use Rattle.pq_core.proofs.AccountStanding.{owed_within, running_owed, finished_stands, out_changed_stands}
+use Rattle.pq_core.proofs.AccountStanding.{running_there, finished_stands, out_changed_stands}
+use Rattle.pq_core.proofs.AccountMoves.{one_stage}
+use Rattle.pq_core.proofs.Making.{AllAdvance, all_same, all_set, advances_staged}
 use Rattle.pq_core.proofs.Queued.{queue_same, queue_finished}
 use Rattle.pq_core.specs.Points.{Point, point_now}
 use Rattle.pq_core.specs.Replies.{ReplyView}
@@ -32,9 +34,18 @@ use Rattle.pq_core.specs.aux.Stands.{RunSeen}
 use Rattle.pq_core.specs.declared.rising.Place.{Place}
 use Rattle.pq_core.specs.aux.Rising.{found}
 use Rattle.pq_core.specs.aux.Runs.{RunView, IsSameRun, HandedOut, IsAnswer, out_at}
-use Rattle.pq_core.specs.aux.Lanes.{LaneView, AccountStands, IsOwed, with_owed}
+use Rattle.pq_core.specs.Accounts.{AccountView, IsStage, with_stage}
+use Rattle.pq_core.specs.Truth.{IsTrueReply}
+use Rattle.pq_core.specs.aux.Accounts.{AccountStands}
+use Rattle.pq_core.specs.aux.Rising.{Slots}
+use Rattle.pq_core.specs.aux.Changes.{IsSetAt}
+use Rattle.pq_core.specs.declared.account.Stage.{Stage}
+use Rattle.pq_core.specs.Lanes.{ReadyView}
+use Rattle.pq_core.specs.declared.request.Request.{Request}
+use Rattle.pq_rules.specs.Turns.{over}
+use Rattle.pq_rules.specs.Value.{Means}
 use Rattle.pq_core.specs.aux.Queue.{IsQueue}
-use Rattle.pq_core.specs.declared.account.Owed.TheVariants.{Running as OwedRunning, Ready as OwedReady}
+use Rattle.pq_core.specs.declared.account.Stage.TheVariants.{Running, Made}
 use Rattle.pq_core.specs.declared.outcome.Outcome.{Outcome}
 use Rattle.pq_core.specs.declared.outcome.Outcome.TheVariants.{Cancelled, Answered}
 use Rattle.pq_core.specs.declared.moves.Move.TheVariants.{Carry, Stepped, Answered as MoveAnswered, Stopped}
@@ -49,13 +60,70 @@ pub record RunHere {K P V M O : Type 0} (l : Ledger K V M O) (r : ℕ) (run : Ru
   pub runs : Runs l r at
   pub same : seen_of run ≡ at_seen at
 
--- `lane_reply run revision outcome` is the reply of `outcome` to the request of `run`
-abbrev pub lane_reply : {K P V M : Type 0} → RunView K P → ℕ → Outcome K V M → ReplyView K V M
-lane_reply run revision outcome = record { client = run.client; number = run.number; request = run.request; revision = revision; outcome = outcome }
+-- `run_reply run revision outcome` is the reply of `outcome` to the request of `run`
+abbrev pub run_reply : {K P V M : Type 0} → RunView K P → ℕ → Outcome K V M → ReplyView K V M
+run_reply run revision outcome = record { client = run.client; number = run.number; request = run.request; revision = revision; outcome = outcome }
 
 -- `cancelled_as started seen` is the outcome of a run that was stopped
 abbrev pub cancelled_as : {K V M : Type 0} → ℕ → ℕ → Outcome K V M
 cancelled_as started seen = Cancelled started seen
+
+-- `EndsIn b a account c n reply` is that in the accounts `b`, which are `a` afterwards, the request `n`
+-- of the account `account` of the client `c` was in a run, and that `reply` is made
+pub record EndsIn {K V M : Type 0} (b a : List (Place (AccountView K V M))) (account : AccountView K V M) (c n : ℕ) (reply : ReplyView K V M) : Type 0 where
+  pub accepted : ℕ
+  pub was : IsStage account n (Running accepted)
+  pub set : (k : ℕ) → found a k ≡ (if k == c then Some (with_stage account n (Made (record { reply = reply; accepted = accepted }))) else found b k)
+
+module _ {K V M : Type 0} where
+  pub ends_of : {b a : Slots (AccountView K V M)} {account : AccountView K V M} {c n : ℕ} {reply : ReplyView K V M}
+      → ((accepted : ℕ) × IsStage account n (Running accepted) × IsSetAt b a c (Some (with_stage account n (Made (record { reply = reply; accepted = accepted })))))
+      → EndsIn b.items a.items account c n reply
+  ends_of h = record { accepted = h.0; was = h.1; set = h.2.found }
+
+  -- the queue after a run has ended
+  pub end_queue : (b a : List (Place (AccountView K V M))) (queue : List (ℕ × ℕ)) (c n : ℕ) (reply : ReplyView K V M)
+      → ((account : AccountView K V M) → found b c ≡ Some account → EndsIn b a account c n reply)
+      → (found b c ≡ None → (k : ℕ) → found a k ≡ found b k)
+      → IsQueue b queue → IsQueue a queue
+  end_queue b a queue c n reply set same q = by_account (found b c) refl
+    where
+      by_account : (account : Option (AccountView K V M)) → found b c ≡ account → IsQueue a queue
+      by_account (Some account) here = let e = set account here in queue_finished b a queue c n e.accepted account (record { reply = reply; accepted = e.accepted }) here e.was e.set q
+      by_account None none = queue_same b a queue (same none) q
+
+  -- the accounts after a run has ended
+  pub end_advances : (b a : List (Place (AccountView K V M))) (c n : ℕ) (reply : ReplyView K V M)
+      → ((account : AccountView K V M) → found b c ≡ Some account → EndsIn b a account c n reply)
+      → (found b c ≡ None → (k : ℕ) → found a k ≡ found b k)
+      → AllAdvance b a
+  end_advances b a c n reply set same = by_account (found b c) refl
+    where
+      by_account : (account : Option (AccountView K V M)) → found b c ≡ account → AllAdvance b a
+      by_account (Some account) here = let e = set account here in all_set b a c account _ here e.set (advances_staged account n (Running e.accepted) _ e.was tt tt)
+      by_account None none = all_same b a (same none)
+
+  abbrev running_as : ℕ → Stage K (ReadyView K V M)
+  running_as n = Running n
+
+  running_one : (i j : ℕ) → running_as i ≡ running_as j → i ≡ j
+  running_one i j e = cc
+
+-- the reply of a run that answers is right at its stamp
+pub told_answer : {R K P V M : Type 0} (order : K → K → Ordering) (machine : R → Machine K P V) (rules : R) (point : M → Point) (inputs : Table) (c n revision : ℕ) (asked request : Request K) (answer : Answer K V) (stamp : M)
+    → asked ≡ request → IsAnswer order (machine rules) inputs request answer → point stamp ≡ point_now inputs → revision ≡ inputs.revision
+    → IsTrueReply order machine point (record { client = c; number = n; request = asked; revision = revision; outcome = Answered answer stamp })
+told_answer {K = K} order machine rules point inputs c n revision asked request answer stamp same means stamped now = record {
+  rules = rules;
+  told = (
+    now ∙ ap (λ (p : Point). p.revision) (sym stamped),
+    record {
+      key = means.0;
+      demanded = ap (λ (q : Request K). q.want) same ∙ means.1;
+      means_so = subst (λ (p : Point). Means (over order (machine rules) p.files) means.0 answer) (sym stamped) means.2;
+    },
+  );
+}
 
 -- `SameBut b a` is that but for accounts and runs `a` keeps what `b` keeps
 pub record SameBut {K P V M : Type 0} (b a : Held K P V M) : Type 0 where
@@ -74,38 +142,19 @@ module _ {K P V M O : Type 0} (order : K → K → Ordering) (m : Machine K P V)
   pub no_run : (b : Held K P V M) (l : Ledger K V M O) (r : ℕ) → StandsOf order m point puts b l → found b.runs r ≡ None → NoneRuns l r
   no_run b l r s h = none_runs (AccountStands puts) (answer_by order m point) puts (fields_of b) l r s (ap (option_map seen_of) h)
 
-  -- a run's request is in a run in its account, so in the window of its client; and it is for a key
-  pub run_owed : (b : Held K P V M) (l : Ledger K V M O) (r : ℕ) (run : RunView K P) (account : AccountView K V M) → StandsOf order m point puts b l → found b.runs r ≡ Some run
-      → found b.accounts run.client ≡ Some account → IsOwed account run.number OwedRunning
-  run_owed b l r run account s h there =
+  -- a run's request is in a run in its account
+  pub run_running : (b : Held K P V M) (l : Ledger K V M O) (r : ℕ) (run : RunView K P) (account : AccountView K V M) → StandsOf order m point puts b l → found b.runs r ≡ Some run
+      → found b.accounts run.client ≡ Some account → (accepted : ℕ) × IsStage account run.number (Running accepted)
+  run_running b l r run account s h there =
       let x = run_here b l r run s h in
       let c_is : run.client ≡ x.at.c = ap (λ (y : RunSeen K). y.client) x.same in
       let n_is : run.number ≡ x.at.n = ap (λ (y : RunSeen K). y.number) x.same in
-      let w = lane_open (AccountStands puts) (answer_by order m point) puts (fields_of b) l x.at.c x.at.client account s x.runs.is_entry.client_here (ap (λ (c : ℕ). found b.accounts c) (sym c_is) ∙ there) in
-      subst (λ (n : ℕ). IsOwed account n OwedRunning) (sym n_is)
-      (running_owed puts (answer_by order m point) l.inputs x.at.c account x.at.client x.at.n x.at.entry r x.at.started x.at.out
-      (s.kept.clients x.at.c x.at.client x.runs.is_entry.client_here) w.1 x.runs.is_entry.here x.runs.runs)
-
-  pub run_within : (b : Held K P V M) (l : Ledger K V M O) (r : ℕ) (run : RunView K P) (account : AccountView K V M) → StandsOf order m point puts b l → found b.runs r ≡ Some run
-      → found b.accounts run.client ≡ Some account → (account.seen ≤ run.number) × (run.number < account.seen + length account.stages)
-  run_within b l r run account s h there = let w = run_owed b l r run account s h there in (w.past, owed_within puts account run.number OwedRunning w)
-
-  -- the queue after a run has ended
-  pub end_queue : (b : Held K P V M) (a : List (Place (AccountView K V M))) (queue : List (ℕ × ℕ)) (l : Ledger K V M O) (r : ℕ) (run last : RunView K P) (reply : ReplyView K V M)
-      → StandsOf order m point puts b l → found b.runs r ≡ Some run → IsSameRun run last
-      → ((account : AccountView K V M) → found b.accounts last.client ≡ Some account
-      → (k : ℕ) → found a k ≡ (if k == last.client then Some (with_owed account last.number (OwedReady reply)) else found b.accounts k))
-      → (found b.accounts last.client ≡ None → (k : ℕ) → found a k ≡ found b.accounts k)
-      → IsQueue b.accounts queue → IsQueue a queue
-  end_queue b a queue l r run last reply s h is set same q = by_lane (found b.accounts last.client) refl
-    where
-      owed : (account : AccountView K V M) → found b.accounts last.client ≡ Some account → IsOwed account last.number OwedRunning
-      owed account here =
-          subst (λ (n : ℕ). IsOwed account n OwedRunning) (sym is.number) (run_owed b l r run account s h (ap (λ (c : ℕ). found b.accounts c) (sym is.client) ∙ here))
-
-      by_lane : (account : Option (AccountView K V M)) → found b.accounts last.client ≡ account → IsQueue a queue
-      by_lane (Some account) here = queue_finished b.accounts a queue last.client last.number account reply here (owed account here) (set account here) q
-      by_lane None none = queue_same b.accounts a queue (same none) q
+      let w = seat_open (AccountStands puts) (answer_by order m point) puts (fields_of b) l x.at.c x.at.client account s x.runs.is_entry.client_here (ap (λ (c : ℕ). found b.accounts c) (sym c_is) ∙ there) in (
+        x.at.entry.accepted,
+        subst (λ (n : ℕ). IsStage account n (Running x.at.entry.accepted)) (sym n_is)
+            (running_there puts (answer_by order m point) l.inputs x.at.c account x.at.client x.at.n x.at.entry r x.at.started x.at.out
+            (s.kept.clients x.at.c x.at.client x.runs.is_entry.client_here) w.1 x.runs.is_entry.here x.runs.runs),
+      )
 
   pub run_demands : (b : Held K P V M) (l : Ledger K V M O) (r : ℕ) (run : RunView K P) → StandsOf order m point puts b l → found b.runs r ≡ Some run → IsDemand run.request.want
   run_demands b l r run s h =
@@ -118,7 +167,7 @@ module _ {K P V M O : Type 0} (order : K → K → Ordering) (m : Machine K P V)
   overtaken b l r run s x o = elim o [
     | inl late ↦ inl (subst (λ (t : Table). x.at.started < t.revision) (sym s.inputs) (subst (λ (y : RunSeen K). y.started < b.inputs.revision) x.same late))
     | inr shut ↦
-        inr (lane_shut (AccountStands puts) (answer_by order m point) puts (fields_of b) l x.at.c x.at.client s x.runs.is_entry.client_here
+        inr (seat_shut (AccountStands puts) (answer_by order m point) puts (fields_of b) l x.at.c x.at.client s x.runs.is_entry.client_here
         (subst (λ (y : RunSeen K). found b.accounts y.client ≡ None) x.same shut))
   ]
 
@@ -144,15 +193,14 @@ module _ {K P V M O : Type 0} (order : K → K → Ordering) (m : Machine K P V)
       still : (account : Option (AccountView K V M)) → found b.accounts run.client ≡ account → x.at.client.is_open ≡ true
       still None h = absurd (o (inr h))
       still (Some account) h =
-          (lane_open (AccountStands puts) (answer_by order m point) puts (fields_of b) l x.at.c x.at.client account s x.runs.is_entry.client_here
+          (seat_open (AccountStands puts) (answer_by order m point) puts (fields_of b) l x.at.c x.at.client account s x.runs.is_entry.client_here
           (subst (λ (y : RunSeen K). found b.accounts y.client ≡ Some account) x.same h)).0
 
   -- a run that was taken out ends
   pub end_moved : (b a : Held K P V M) (l : Ledger K V M O) (r : ℕ) (run : RunView K P) (starved : Bool) (outcome : Outcome K V M) (x : RunHere l r run)
       → StandsOf order m point puts b l → found b.runs r ≡ Some run
       → ((k : ℕ) → found a.runs k ≡ (if k == r then None else found b.runs k))
-      → ((account : AccountView K V M) → found b.accounts run.client ≡ Some account
-      → (k : ℕ) → found a.accounts k ≡ (if k == run.client then Some (with_owed account run.number (OwedReady (lane_reply run b.inputs.revision outcome))) else found b.accounts k))
+      → ((account : AccountView K V M) → found b.accounts run.client ≡ Some account → EndsIn b.accounts a.accounts account run.client run.number (run_reply run b.inputs.revision outcome))
       → (found b.accounts run.client ≡ None → (k : ℕ) → found a.accounts k ≡ found b.accounts k)
       → SameBut b a → Kept (answer_by order m point) puts (ended l x.at starved outcome) → StandsOf order m point puts a (ended l x.at starved outcome)
   end_moved b a l r run starved outcome x s h runs set same but kept =
@@ -171,19 +219,19 @@ module _ {K P V M O : Type 0} (order : K → K → Ordering) (m : Machine K P V)
       n_is : run.number ≡ x.at.n
       n_is = ap (λ (y : RunSeen K). y.number) x.same
 
-      reply_is : lane_reply run b.inputs.revision outcome ≡ reply_at l x.at outcome
+      reply_is : run_reply run b.inputs.revision outcome ≡ reply_at l x.at outcome
       reply_is =
-          subst (λ (y : RunSeen K). lane_reply run b.inputs.revision outcome ≡ record { client = y.client; number = y.number; request = y.request; revision = l.inputs.revision; outcome = outcome }) x.same
+          subst (λ (y : RunSeen K). run_reply run b.inputs.revision outcome ≡ record { client = y.client; number = y.number; request = y.request; revision = l.inputs.revision; outcome = outcome }) x.same
           (ap (λ (i : ℕ). record { client = run.client; number = run.number; request = run.request; revision = i; outcome = outcome }) (ap (λ (t : Table). t.revision) (sym s.inputs)))
 
       elsewhere : (account : Option (AccountView K V M)) → found b.accounts run.client ≡ account → (k : ℕ) → k ≢ x.at.c → found a.accounts k ≡ found b.accounts k
       elsewhere None e k ne = same e k
-      elsewhere (Some account) e k ne = set account e k ∙ if_other k run.client (Some _) (found b.accounts k) (λ i. ne (i ∙ c_is))
+      elsewhere (Some account) e k ne = (set account e).set k ∙ if_other k run.client (Some _) (found b.accounts k) (λ i. ne (i ∙ c_is))
 
       shut_so : (account : Option (AccountView K V M)) → found b.accounts run.client ≡ account → x.at.client.is_open ≡ false → found a.accounts x.at.c ≡ None
       shut_so None e o = same e x.at.c ∙ (ap (λ (c : ℕ). found b.accounts c) (sym c_is) ∙ e)
       shut_so (Some account) e o =
-          absurd (both (sym (lane_open (AccountStands puts) (answer_by order m point) puts (fields_of b) l x.at.c x.at.client account s x.runs.is_entry.client_here
+          absurd (both (sym (seat_open (AccountStands puts) (answer_by order m point) puts (fields_of b) l x.at.c x.at.client account s x.runs.is_entry.client_here
           (ap (λ (c : ℕ). found b.accounts c) (sym c_is) ∙ e)).0 ∙ o))
         where
           both : true ≡ false → ⊥
@@ -192,21 +240,25 @@ module _ {K P V M O : Type 0} (order : K → K → Ordering) (m : Machine K P V)
       opened_so : (account : Option (AccountView K V M)) → found b.accounts run.client ≡ account → x.at.client.is_open ≡ true
           → (after : AccountView K V M) × (found a.accounts x.at.c ≡ Some after) × AccountStands puts after (with_entry x.at.client x.at.n (ended_entry l x.at starved outcome))
       opened_so None e o =
-          absurd (both (sym o ∙ lane_shut (AccountStands puts) (answer_by order m point) puts (fields_of b) l x.at.c x.at.client s x.runs.is_entry.client_here
+          absurd (both (sym o ∙ seat_shut (AccountStands puts) (answer_by order m point) puts (fields_of b) l x.at.c x.at.client s x.runs.is_entry.client_here
           (ap (λ (c : ℕ). found b.accounts c) (sym c_is) ∙ e)))
         where
           both : true ≡ false → ⊥
           both z = cc
       opened_so (Some account) e o =
-          let within = run_within b l r run account s h e in
-          let w = lane_open (AccountStands puts) (answer_by order m point) puts (fields_of b) l x.at.c x.at.client account s x.runs.is_entry.client_here (ap (λ (c : ℕ). found b.accounts c) (sym c_is) ∙ e) in (
-            with_owed account run.number (OwedReady (lane_reply run b.inputs.revision outcome)),
-            ap (λ (c : ℕ). found a.accounts c) (sym c_is) ∙ (set account e run.client ∙ if_at run.client (Some _) (found b.accounts run.client)),
-            subst (λ (n : ℕ). AccountStands puts (with_owed account n (OwedReady (lane_reply run b.inputs.revision outcome))) (with_entry x.at.client x.at.n (ended_entry l x.at starved outcome))) (sym n_is)
-                (subst (λ (y : ReplyView K V M). AccountStands puts (with_owed account x.at.n (OwedReady y)) (with_entry x.at.client x.at.n (ended_entry l x.at starved outcome))) (sym reply_is)
-                (finished_stands puts account x.at.client x.at.n (ended_entry l x.at starved outcome) (reply_at l x.at outcome) w.1
-                (subst (λ (n : ℕ). account.seen ≤ n) n_is within.0) (subst (λ (n : ℕ). n < account.seen + length account.stages) n_is within.1)
-                (ap (λ (f : Bool). place_ended f (reply_at l x.at outcome)) o))),
+          let ends = set account e in
+          let w = seat_open (AccountStands puts) (answer_by order m point) puts (fields_of b) l x.at.c x.at.client account s x.runs.is_entry.client_here (ap (λ (c : ℕ). found b.accounts c) (sym c_is) ∙ e) in
+          let there = running_there puts (answer_by order m point) l.inputs x.at.c account x.at.client x.at.n x.at.entry r x.at.started x.at.out
+          (s.kept.clients x.at.c x.at.client x.runs.is_entry.client_here) w.1 x.runs.is_entry.here x.runs.runs in
+          let was : IsStage account x.at.n (Running ends.accepted) = subst (λ (n : ℕ). IsStage account n (Running ends.accepted)) n_is ends.was in
+          let accepted : x.at.entry.accepted ≡ ends.accepted =
+          running_one {K = K} {V = V} {M = M} x.at.entry.accepted ends.accepted (one_stage account x.at.n (Running x.at.entry.accepted) (Running ends.accepted) there was) in (
+            with_stage account run.number (Made (record { reply = run_reply run b.inputs.revision outcome; accepted = ends.accepted })),
+            ap (λ (c : ℕ). found a.accounts c) (sym c_is) ∙ (ends.set run.client ∙ if_at run.client (Some _) (found b.accounts run.client)),
+            subst (λ (n : ℕ). AccountStands puts (with_stage account n (Made (record { reply = run_reply run b.inputs.revision outcome; accepted = ends.accepted }))) (with_entry x.at.client x.at.n (ended_entry l x.at starved outcome))) (sym n_is)
+                (subst (λ (y : ReplyView K V M). AccountStands puts (with_stage account x.at.n (Made (record { reply = y; accepted = ends.accepted }))) (with_entry x.at.client x.at.n (ended_entry l x.at starved outcome))) (sym reply_is)
+                (finished_stands puts account x.at.client x.at.n ends.accepted (ended_entry l x.at starved outcome) (reply_at l x.at outcome) w.1 was
+                (ap (λ (f : Bool). place_ended f (reply_at l x.at outcome)) o) accepted)),
           )
 
   -- the work of a run that was taken out and put back is another
@@ -240,7 +292,7 @@ module _ {K P V M O : Type 0} (order : K → K → Ordering) (m : Machine K P V)
       stands_same (AccountStands puts) (answer_by order m point) puts (fields_of b) (fields_of a) l
       (record {
         counts = record { inputs = but.inputs; opened = but.opened; clients = but.clients };
-        accounts = accounts;
+        seats = accounts;
         runs = λ k. same_seen k (k == r) refl;
         started = but.started;
       })
@@ -268,7 +320,7 @@ module _ {K P V M O : Type 0} (order : K → K → Ordering) (m : Machine K P V)
       stands_same (AccountStands puts) (answer_by order m point) puts (fields_of b) (fields_of a) l
       (record {
         counts = record { inputs = but.inputs; opened = but.opened; clients = but.clients };
-        accounts = accounts;
+        seats = accounts;
         runs = runs;
         started = but.started;
       })
@@ -279,8 +331,7 @@ module _ {R K P V M O : Type 0} (order : K → K → Ordering) (m : Machine K P 
   pub stop_moved : (b a : Held K P V M) (l : Ledger K V M O) (r : ℕ) (run : RunView K P) (x : RunHere l r run)
       → StandsOf order m point puts b l → found b.runs r ≡ Some run → (run.started < b.inputs.revision) ⊎ (found b.accounts run.client ≡ None)
       → ((k : ℕ) → found a.runs k ≡ (if k == r then None else found b.runs k))
-      → ((account : AccountView K V M) → found b.accounts run.client ≡ Some account
-      → (k : ℕ) → found a.accounts k ≡ (if k == run.client then Some (with_owed account run.number (OwedReady (lane_reply run b.inputs.revision (Cancelled run.started b.inputs.revision)))) else found b.accounts k))
+      → ((account : AccountView K V M) → found b.accounts run.client ≡ Some account → EndsIn b.accounts a.accounts account run.client run.number (run_reply run b.inputs.revision (Cancelled run.started b.inputs.revision)))
       → (found b.accounts run.client ≡ None → (k : ℕ) → found a.accounts k ≡ found b.accounts k)
       → SameBut b a → Stops l r (ended l x.at x.at.entry.starved (Cancelled x.at.started l.inputs.revision))
       × StandsOf order m point puts a (ended l x.at x.at.entry.starved (Cancelled x.at.started l.inputs.revision))
@@ -288,7 +339,7 @@ module _ {R K P V M O : Type 0} (order : K → K → Ordering) (m : Machine K P 
       let stops : Stops l r (ended l x.at x.at.entry.starved (Cancelled x.at.started l.inputs.revision)) = (x.at, x.runs, overtaken order m point puts b l r run s x late, refl) in (
         stops,
         end_moved order m point puts b a l r run x.at.entry.starved (Cancelled x.at.started l.inputs.revision) x s h runs
-            (λ account e k. subst (λ (y : Outcome K V M). found a.accounts k ≡ (if k == run.client then Some (with_owed account run.number (OwedReady (lane_reply run b.inputs.revision y))) else found b.accounts k)) same_outcome (set account e k))
+            (λ account e. subst (λ (y : Outcome K V M). EndsIn b.accounts a.accounts account run.client run.number (run_reply run b.inputs.revision y)) same_outcome (set account e))
             same but
             (kept_looks (answer_by order m point) puts {P = P} rules r (Ok Stopped) l _ s.kept stops),
       )
@@ -418,8 +469,7 @@ module _ {R K P V M O : Type 0} (order : K → K → Ordering) (m : Machine K P 
       → StandsOf order m point puts b l → found b.runs r ≡ Some run → ((run.started < b.inputs.revision) ⊎ (found b.accounts run.client ≡ None) → ⊥) → out_at run.top ≡ None
       → IsAnswer order m b.inputs run.request answer → point stamp ≡ point_now b.inputs
       → ((k : ℕ) → found a.runs k ≡ (if k == r then None else found b.runs k))
-      → ((account : AccountView K V M) → found b.accounts run.client ≡ Some account
-      → (k : ℕ) → found a.accounts k ≡ (if k == run.client then Some (with_owed account run.number (OwedReady (lane_reply run b.inputs.revision (Answered answer stamp)))) else found b.accounts k))
+      → ((account : AccountView K V M) → found b.accounts run.client ≡ Some account → EndsIn b.accounts a.accounts account run.client run.number (run_reply run b.inputs.revision (Answered answer stamp)))
       → (found b.accounts run.client ≡ None → (k : ℕ) → found a.accounts k ≡ found b.accounts k) → SameBut b a
       → Reaches (LooksFor {P = P} (answer_by order m point) rules r (Ok MoveAnswered)) l (StandsOf order m point puts a)
   answer_moved b a l r run answer stamp s h early empty means stamped runs set accounts but =
@@ -470,17 +520,15 @@ why_then A B front (Some w) h f = (h.0, f w h.1)
 
 -- what ended as `after` ended as `run`
 pub ended_as : {K P V M : Type 0} (b a : Held K P V M) (run after : RunView K P) (revision : ℕ) (outcome : Outcome K V M) → IsSameRun run after
-    → ((account : AccountView K V M) → found b.accounts after.client ≡ Some account
-    → (k : ℕ) → found a.accounts k ≡ (if k == after.client then Some (with_owed account after.number (OwedReady (lane_reply after revision outcome))) else found b.accounts k))
-    → (account : AccountView K V M) → found b.accounts run.client ≡ Some account
-    → (k : ℕ) → found a.accounts k ≡ (if k == run.client then Some (with_owed account run.number (OwedReady (lane_reply run revision outcome))) else found b.accounts k)
-ended_as {K} {P} {V} {M} {O} b a run after revision outcome same f =
+    → ((account : AccountView K V M) → found b.accounts after.client ≡ Some account → EndsIn b.accounts a.accounts account after.client after.number (run_reply after revision outcome))
+    → (account : AccountView K V M) → found b.accounts run.client ≡ Some account → EndsIn b.accounts a.accounts account run.client run.number (run_reply run revision outcome)
+ended_as {K} {P} {V} {M} b a run after revision outcome same f =
     subst (λ (c : ℕ). (account : AccountView K V M) → found b.accounts c ≡ Some account
-    → (k : ℕ) → found a.accounts k ≡ (if k == c then Some (with_owed account run.number (OwedReady (record { client = c; number = run.number; request = run.request; revision = revision; outcome = outcome }))) else found b.accounts k))
+    → EndsIn b.accounts a.accounts account c run.number (record { client = c; number = run.number; request = run.request; revision = revision; outcome = outcome }))
     same.client
     (subst (λ (n : ℕ). (account : AccountView K V M) → found b.accounts after.client ≡ Some account
-    → (k : ℕ) → found a.accounts k ≡ (if k == after.client then Some (with_owed account n (OwedReady (record { client = after.client; number = n; request = run.request; revision = revision; outcome = outcome }))) else found b.accounts k))
+    → EndsIn b.accounts a.accounts account after.client n (record { client = after.client; number = n; request = run.request; revision = revision; outcome = outcome }))
     same.number
     (subst (λ q. (account : AccountView K V M) → found b.accounts after.client ≡ Some account
-    → (k : ℕ) → found a.accounts k ≡ (if k == after.client then Some (with_owed account after.number (OwedReady (record { client = after.client; number = after.number; request = q; revision = revision; outcome = outcome }))) else found b.accounts k))
+    → EndsIn b.accounts a.accounts account after.client after.number (record { client = after.client; number = after.number; request = q; revision = revision; outcome = outcome }))
     same.request f))

@@ -1,5 +1,6 @@
 use Rattle.std.proofs.Common.{◌≡◌, ◌≤◌, length, Some, refl, sym, ◌∙◌, subst, arith, [], inl}
 use Rattle.pq_memo.specs.Table.{memo_at}
+use Rattle.pq_core.proofs.Making.{goes_by, all_same}
 use Rattle.pq_core.specs.Told.{told_puts}
 use Rattle.pq_core.specs.Stores.{StoreView, held}
 use Rattle.pq_core.specs.Works.{DoneView}
@@ -10,7 +11,7 @@ use Rattle.pq_core.proofs.RunsKept.{back_runs, own_claimed, own_stale, same_runs
 use Rattle.pq_core.proofs.Changing.{none_taken, set_back}
 use Rattle.pq_core.proofs.StoreOpening.{unmoved}
 use Rattle.pq_core.proofs.StoreAccepting.{false_true, run_past}
-use Rattle.pq_core.proofs.StoreRunning.{end_queue, run_here, no_run, run_within, current, stop_moved, back_moved, not_fitting, give_stopped, give_moved, give_refused}
+use Rattle.pq_core.proofs.StoreRunning.{ends_of, end_queue, end_advances, run_here, no_run, run_running, current, stop_moved, back_moved, not_fitting, give_stopped, give_moved, give_refused}
 use Rattle.pq_core.proofs.Renewed.{renewed_same, renewed_none_lost, same_none_lost}
 use Rattle.pq_rules.proofs.Weight.{Exact}
 use Rattle.pq_core.proofs.StoreCounting.{lost_counted, same_counted, stepped_counted}
@@ -54,6 +55,7 @@ returns-in-None-clause-moved g c =
     let nothing = sym (rw c.number-id.ensures at (c.in-None.ensures {u = tt}).value) in
     let same = none_taken c.self.inside.runs c.take.new.self c.args.run nothing (rw c.number-id.ensures at c.take.ensures.found) c.take.ensures.above c.take.ensures.room in
     rw (← c.self.view_is)
+    (goes_by g.R.Key.Ord.cmp (g.R.Rules.machine c.self.inside.memos.rules) g.M.Stamp.point _ _ _ (all_same _ _ (λ k. refl))
     (λ l s. (
       l,
       (refl, λ at h o. no_run g.R.Key.Ord.cmp (g.R.Rules.machine c.self.inside.memos.rules) g.M.Stamp.point told_puts (held (record { rules = c.self.inside.memos.rules; places = c.self.inside.memos.places; inputs = c.self.inside.inputs; accounts = c.self.inside.accounts; opened = c.self.inside.opened; clients = c.self.inside.clients; waiting = c.self.inside.waiting.items; runs = c.self.inside.runs; started = c.self.inside.started; claims = c.self.inside.claims })) l c.args.run s nothing at h, refl),
@@ -65,7 +67,7 @@ returns-in-None-clause-moved g c =
         runs = same.found;
         started = refl;
       }) s,
-    ))
+    )))
 
 pub invariant_of-self-then-not-fits : goal.invariant_of-self-then-not-fits
 invariant_of-self-then-not-fits g c =
@@ -99,12 +101,13 @@ returns-then-not-fits-clause-moved g c =
     let wrong : (c.args.done.run ≡ c.args.run) × (c.args.done.started ≡ c.in-Some.taken.started) × (out_at c.in-Some.taken.top ≡ Some (out_of c.args.done)) → ⊥ =
     λ f. false_true (sym c.if-not-fits.true ∙ c.fits.ensures.1 (rw (← c.done.view_is) at f)) in
     rw (← c.self.view_is)
-    (λ l s. (l, (refl, not_fitting g.R.Key.Ord.cmp (g.R.Rules.machine c.self.inside.memos.rules) g.M.Stamp.point told_puts c.self.inside.memos.rules (held (record { rules = c.self.inside.memos.rules; places = c.self.inside.memos.places; inputs = c.self.inside.inputs; accounts = c.self.inside.accounts; opened = c.self.inside.opened; clients = c.self.inside.clients; waiting = c.self.inside.waiting.items; runs = c.self.inside.runs; started = c.self.inside.started; claims = c.self.inside.claims })) l c.args.run c.in-Some.taken c.args.done s here wrong, refl), back_moved g.R.Key.Ord.cmp (g.R.Rules.machine c.self.inside.memos.rules) g.M.Stamp.point told_puts (held (record { rules = c.self.inside.memos.rules; places = c.self.inside.memos.places; inputs = c.self.inside.inputs; accounts = c.self.inside.accounts; opened = c.self.inside.opened; clients = c.self.inside.clients; waiting = c.self.inside.waiting.items; runs = c.self.inside.runs; started = c.self.inside.started; claims = c.self.inside.claims })) (record { inputs = c.self.inside.inputs; accounts = c.self.inside.accounts.items; opened = c.self.inside.opened; clients = c.self.inside.clients; runs = c.put_back.new.self.items; started = c.self.inside.started }) l c.args.run c.in-Some.taken c.in-Some.taken s here (record { client = refl; number = refl; request = refl; started = refl }) refl set.found (λ k. refl) (record { inputs = refl; opened = refl; clients = refl; started = refl })))
+    (goes_by g.R.Key.Ord.cmp (g.R.Rules.machine c.self.inside.memos.rules) g.M.Stamp.point _ _ _ (all_same _ _ (λ k. refl))
+    (λ l s. (l, (refl, not_fitting g.R.Key.Ord.cmp (g.R.Rules.machine c.self.inside.memos.rules) g.M.Stamp.point told_puts c.self.inside.memos.rules (held (record { rules = c.self.inside.memos.rules; places = c.self.inside.memos.places; inputs = c.self.inside.inputs; accounts = c.self.inside.accounts; opened = c.self.inside.opened; clients = c.self.inside.clients; waiting = c.self.inside.waiting.items; runs = c.self.inside.runs; started = c.self.inside.started; claims = c.self.inside.claims })) l c.args.run c.in-Some.taken c.args.done s here wrong, refl), back_moved g.R.Key.Ord.cmp (g.R.Rules.machine c.self.inside.memos.rules) g.M.Stamp.point told_puts (held (record { rules = c.self.inside.memos.rules; places = c.self.inside.memos.places; inputs = c.self.inside.inputs; accounts = c.self.inside.accounts; opened = c.self.inside.opened; clients = c.self.inside.clients; waiting = c.self.inside.waiting.items; runs = c.self.inside.runs; started = c.self.inside.started; claims = c.self.inside.claims })) (record { inputs = c.self.inside.inputs; accounts = c.self.inside.accounts.items; opened = c.self.inside.opened; clients = c.self.inside.clients; runs = c.put_back.new.self.items; started = c.self.inside.started }) l c.args.run c.in-Some.taken c.in-Some.taken s here (record { client = refl; number = refl; request = refl; started = refl }) refl set.found (λ k. refl) (record { inputs = refl; opened = refl; clients = refl; started = refl }))))
 
-pub stop_run-requires-clause-within : goal.stop_run-requires-clause-within
-stop_run-requires-clause-within g c =
+pub stop_run-requires-clause-running : goal.stop_run-requires-clause-running
+stop_run-requires-clause-running g c =
     let here = sym (rw c.number-id.ensures at (c.in-Some.ensures {u = tt}).value) in
-    λ account h. run_within g.R.Key.Ord.cmp (g.R.Rules.machine c.self.inside.memos.rules) g.M.Stamp.point told_puts (held (record { rules = c.self.inside.memos.rules; places = c.self.inside.memos.places; inputs = c.self.inside.inputs; accounts = c.self.inside.accounts; opened = c.self.inside.opened; clients = c.self.inside.clients; waiting = c.self.inside.waiting.items; runs = c.self.inside.runs; started = c.self.inside.started; claims = c.self.inside.claims })) c.self.invariant.ledger.0 c.args.run c.in-Some.taken account c.self.invariant.ledger.1 here h
+    λ account h. run_running g.R.Key.Ord.cmp (g.R.Rules.machine c.self.inside.memos.rules) g.M.Stamp.point told_puts (held (record { rules = c.self.inside.memos.rules; places = c.self.inside.memos.places; inputs = c.self.inside.inputs; accounts = c.self.inside.accounts; opened = c.self.inside.opened; clients = c.self.inside.clients; waiting = c.self.inside.waiting.items; runs = c.self.inside.runs; started = c.self.inside.started; claims = c.self.inside.claims })) c.self.invariant.ledger.0 c.args.run c.in-Some.taken account c.self.invariant.ledger.1 here h
 
 pub invariant_of-self-then-is_overtaken : goal.invariant_of-self-then-is_overtaken
 invariant_of-self-then-is_overtaken g c =
@@ -114,14 +117,14 @@ invariant_of-self-then-is_overtaken g c =
     let x = run_here g.R.Key.Ord.cmp (g.R.Rules.machine c.self.inside.memos.rules) g.M.Stamp.point told_puts (held (record { rules = c.self.inside.memos.rules; places = c.self.inside.memos.places; inputs = c.self.inside.inputs; accounts = c.self.inside.accounts; opened = c.self.inside.opened; clients = c.self.inside.clients; waiting = c.self.inside.waiting.items; runs = c.self.inside.runs; started = c.self.inside.started; claims = c.self.inside.claims })) w.ledger.0 c.args.run c.in-Some.taken w.ledger.1 here in
     let moved = stop_moved g.R.Key.Ord.cmp (g.R.Rules.machine c.self.inside.memos.rules) g.M.Stamp.point told_puts c.self.inside.memos.rules (held (record { rules = c.self.inside.memos.rules; places = c.self.inside.memos.places; inputs = c.self.inside.inputs; accounts = c.self.inside.accounts; opened = c.self.inside.opened; clients = c.self.inside.clients; waiting = c.self.inside.waiting.items; runs = c.self.inside.runs; started = c.self.inside.started; claims = c.self.inside.claims })) (record { inputs = c.self.inside.inputs; accounts = c.stop_run.new.accounts.items; opened = c.self.inside.opened; clients = c.self.inside.clients; runs = c.take.new.self.items; started = c.self.inside.started }) w.ledger.0 c.args.run c.in-Some.taken x w.ledger.1 here
     (rw c.now-now.ensures.now at (c.is_overtaken.ensures.0 c.if-is_overtaken.true)) runs
-    (λ account h k. rw c.now-now.ensures.now at ((c.stop_run.ensures.«open» account h).found k)) (λ h k. (c.stop_run.ensures.closed h).found k) (record { inputs = refl; opened = refl; clients = refl; started = refl }) in
+    (λ account h. ends_of (rw c.now-now.ensures.now at (c.stop_run.ensures.«open» account h))) (λ h k. (c.stop_run.ensures.closed h).found k) (record { inputs = refl; opened = refl; clients = refl; started = refl }) in
     record {
       stamped = c.self.invariant.stamped;
       kept = w.kept;
       accounts_above = c.stop_run.ensures.above c.self.inside.clients w.accounts_above;
       runs_above = c.take.ensures.above c.self.inside.started w.runs_above;
-      queue = end_queue g.R.Key.Ord.cmp (g.R.Rules.machine c.self.inside.memos.rules) g.M.Stamp.point told_puts _ _ _ w.ledger.0 c.args.run c.in-Some.taken c.in-Some.taken _ w.ledger.1 here (record { client = refl; number = refl; request = refl; started = refl })
-          (λ account h k. (c.stop_run.ensures.«open» account h).found k) (λ h k. (c.stop_run.ensures.closed h).found k) w.queue;
+      queue = end_queue _ _ _ c.in-Some.taken.client c.in-Some.taken.number _
+          (λ account h. ends_of (c.stop_run.ensures.«open» account h)) (λ h k. (c.stop_run.ensures.closed h).found k) w.queue;
       room =
           let a : length c.self.inside.waiting.items ≤ c.self.inside.runs.room = w.room in
           let b = c.take.ensures.room in
@@ -139,12 +142,13 @@ returns-then-is_overtaken-clause-moved g c =
     let here = sym (rw c.number-id.ensures at (c.in-Some.ensures {u = tt}).value) in
     let runs = rw c.number-id.ensures at c.take.ensures.found in
     rw (← c.self.view_is)
+    (goes_by g.R.Key.Ord.cmp (g.R.Rules.machine c.self.inside.memos.rules) g.M.Stamp.point _ _ _ (end_advances _ _ c.in-Some.taken.client c.in-Some.taken.number _ (λ account h. ends_of (c.stop_run.ensures.«open» account h)) (λ h k. (c.stop_run.ensures.closed h).found k))
     (λ l s.
     let x = run_here g.R.Key.Ord.cmp (g.R.Rules.machine c.self.inside.memos.rules) g.M.Stamp.point told_puts (held (record { rules = c.self.inside.memos.rules; places = c.self.inside.memos.places; inputs = c.self.inside.inputs; accounts = c.self.inside.accounts; opened = c.self.inside.opened; clients = c.self.inside.clients; waiting = c.self.inside.waiting.items; runs = c.self.inside.runs; started = c.self.inside.started; claims = c.self.inside.claims })) l c.args.run c.in-Some.taken s here in
     let moved = stop_moved g.R.Key.Ord.cmp (g.R.Rules.machine c.self.inside.memos.rules) g.M.Stamp.point told_puts c.self.inside.memos.rules (held (record { rules = c.self.inside.memos.rules; places = c.self.inside.memos.places; inputs = c.self.inside.inputs; accounts = c.self.inside.accounts; opened = c.self.inside.opened; clients = c.self.inside.clients; waiting = c.self.inside.waiting.items; runs = c.self.inside.runs; started = c.self.inside.started; claims = c.self.inside.claims })) (record { inputs = c.self.inside.inputs; accounts = c.stop_run.new.accounts.items; opened = c.self.inside.opened; clients = c.self.inside.clients; runs = c.take.new.self.items; started = c.self.inside.started }) l c.args.run c.in-Some.taken x s here
     (rw c.now-now.ensures.now at (c.is_overtaken.ensures.0 c.if-is_overtaken.true)) runs
-    (λ account h k. rw c.now-now.ensures.now at ((c.stop_run.ensures.«open» account h).found k)) (λ h k. (c.stop_run.ensures.closed h).found k) (record { inputs = refl; opened = refl; clients = refl; started = refl }) in
-    give_stopped g.R.Key.Ord.cmp (g.R.Rules.machine c.self.inside.memos.rules) g.M.Stamp.point told_puts c.self.inside.memos.rules (held (record { rules = c.self.inside.memos.rules; places = c.self.inside.memos.places; inputs = c.self.inside.inputs; accounts = c.self.inside.accounts; opened = c.self.inside.opened; clients = c.self.inside.clients; waiting = c.self.inside.waiting.items; runs = c.self.inside.runs; started = c.self.inside.started; claims = c.self.inside.claims })) (record { inputs = c.self.inside.inputs; accounts = c.stop_run.new.accounts.items; opened = c.self.inside.opened; clients = c.self.inside.clients; runs = c.take.new.self.items; started = c.self.inside.started }) l c.args.run c.in-Some.taken c.args.done x (rw c.done.view_is at (c.fits.ensures.0 c.if-not-fits.false)) moved s (rw c.now-now.ensures.now at (c.is_overtaken.ensures.0 c.if-is_overtaken.true)))
+    (λ account h. ends_of (rw c.now-now.ensures.now at (c.stop_run.ensures.«open» account h))) (λ h k. (c.stop_run.ensures.closed h).found k) (record { inputs = refl; opened = refl; clients = refl; started = refl }) in
+    give_stopped g.R.Key.Ord.cmp (g.R.Rules.machine c.self.inside.memos.rules) g.M.Stamp.point told_puts c.self.inside.memos.rules (held (record { rules = c.self.inside.memos.rules; places = c.self.inside.memos.places; inputs = c.self.inside.inputs; accounts = c.self.inside.accounts; opened = c.self.inside.opened; clients = c.self.inside.clients; waiting = c.self.inside.waiting.items; runs = c.self.inside.runs; started = c.self.inside.started; claims = c.self.inside.claims })) (record { inputs = c.self.inside.inputs; accounts = c.stop_run.new.accounts.items; opened = c.self.inside.opened; clients = c.self.inside.clients; runs = c.take.new.self.items; started = c.self.inside.started }) l c.args.run c.in-Some.taken c.args.done x (rw c.done.view_is at (c.fits.ensures.0 c.if-not-fits.false)) moved s (rw c.now-now.ensures.now at (c.is_overtaken.ensures.0 c.if-is_overtaken.true))))
 
 pub give-given-requires-clause-rules : goal.give-given-requires-clause-rules
 give-given-requires-clause-rules g c =
@@ -221,7 +225,8 @@ returns-in-Ok-clause-moved g c =
     let set = set_back c.self.inside.runs c.take.new.self c.put_back-in-Ok.new.self c.args.run c.give-given.new.self (rw c.number-id.ensures at c.take.ensures.found) c.take.ensures.above
     (rw c.in-Some.is at c.take.ensures.more_room) (rw c.number-id.ensures at c.put_back-in-Ok.ensures.found) c.put_back-in-Ok.ensures.room c.put_back-in-Ok.ensures.above in
     rw (← c.self.view_is)
-    (λ l s. give_moved g.R.Key.Ord.cmp (g.R.Rules.machine c.self.inside.memos.rules) g.M.Stamp.point told_puts c.self.inside.memos.rules (held (record { rules = c.self.inside.memos.rules; places = c.self.inside.memos.places; inputs = c.self.inside.inputs; accounts = c.self.inside.accounts; opened = c.self.inside.opened; clients = c.self.inside.clients; waiting = c.self.inside.waiting.items; runs = c.self.inside.runs; started = c.self.inside.started; claims = c.self.inside.claims })) (record { inputs = c.self.inside.inputs; accounts = c.self.inside.accounts.items; opened = c.self.inside.opened; clients = c.self.inside.clients; runs = c.put_back-in-Ok.new.self.items; started = c.self.inside.started }) l c.args.run c.in-Some.taken c.give-given.new.self c.args.done s here (λ o. false_true (sym c.if-is_overtaken.false ∙ c.is_overtaken.ensures.1 (rw c.now-now.ensures.now o))) (rw c.done.view_is at (c.fits.ensures.0 c.if-not-fits.false)) c.give-given.ensures.same (c.in-Ok.ensures {u = tt}).taken set.found (λ k. refl) (record { inputs = refl; opened = refl; clients = refl; started = refl }))
+    (goes_by g.R.Key.Ord.cmp (g.R.Rules.machine c.self.inside.memos.rules) g.M.Stamp.point _ _ _ (all_same _ _ (λ k. refl))
+    (λ l s. give_moved g.R.Key.Ord.cmp (g.R.Rules.machine c.self.inside.memos.rules) g.M.Stamp.point told_puts c.self.inside.memos.rules (held (record { rules = c.self.inside.memos.rules; places = c.self.inside.memos.places; inputs = c.self.inside.inputs; accounts = c.self.inside.accounts; opened = c.self.inside.opened; clients = c.self.inside.clients; waiting = c.self.inside.waiting.items; runs = c.self.inside.runs; started = c.self.inside.started; claims = c.self.inside.claims })) (record { inputs = c.self.inside.inputs; accounts = c.self.inside.accounts.items; opened = c.self.inside.opened; clients = c.self.inside.clients; runs = c.put_back-in-Ok.new.self.items; started = c.self.inside.started }) l c.args.run c.in-Some.taken c.give-given.new.self c.args.done s here (λ o. false_true (sym c.if-is_overtaken.false ∙ c.is_overtaken.ensures.1 (rw c.now-now.ensures.now o))) (rw c.done.view_is at (c.fits.ensures.0 c.if-not-fits.false)) c.give-given.ensures.same (c.in-Ok.ensures {u = tt}).taken set.found (λ k. refl) (record { inputs = refl; opened = refl; clients = refl; started = refl })))
 
 pub invariant_of-self-in-Err : goal.invariant_of-self-in-Err
 invariant_of-self-in-Err g c =
@@ -261,11 +266,12 @@ returns-in-Err-clause-moved g c =
     (rw c.in-Some.is at c.take.ensures.more_room) (rw c.number-id.ensures at c.put_back-in-Err.ensures.found) c.put_back-in-Err.ensures.room c.put_back-in-Err.ensures.above in
     let fit = (rw c.done.view_is at (c.fits.ensures.0 c.if-not-fits.false)) in
     rw (← c.self.view_is)
+    (goes_by g.R.Key.Ord.cmp (g.R.Rules.machine c.self.inside.memos.rules) g.M.Stamp.point _ _ _ (all_same _ _ (λ k. refl))
     (λ l s. (
       l,
       ((c.in-Err.ensures {u = tt}).back ∙ c.done.view_is, give_refused g.R.Key.Ord.cmp (g.R.Rules.machine c.self.inside.memos.rules) g.M.Stamp.point told_puts c.self.inside.memos.rules (held (record { rules = c.self.inside.memos.rules; places = c.self.inside.memos.places; inputs = c.self.inside.inputs; accounts = c.self.inside.accounts; opened = c.self.inside.opened; clients = c.self.inside.clients; waiting = c.self.inside.waiting.items; runs = c.self.inside.runs; started = c.self.inside.started; claims = c.self.inside.claims })) l c.args.run c.in-Some.taken c.args.done s here (λ o. false_true (sym c.if-is_overtaken.false ∙ c.is_overtaken.ensures.1 (rw c.now-now.ensures.now o))) fit, refl),
       back_moved g.R.Key.Ord.cmp (g.R.Rules.machine c.self.inside.memos.rules) g.M.Stamp.point told_puts (held (record { rules = c.self.inside.memos.rules; places = c.self.inside.memos.places; inputs = c.self.inside.inputs; accounts = c.self.inside.accounts; opened = c.self.inside.opened; clients = c.self.inside.clients; waiting = c.self.inside.waiting.items; runs = c.self.inside.runs; started = c.self.inside.started; claims = c.self.inside.claims })) (record { inputs = c.self.inside.inputs; accounts = c.self.inside.accounts.items; opened = c.self.inside.opened; clients = c.self.inside.clients; runs = c.put_back-in-Err.new.self.items; started = c.self.inside.started }) l c.args.run c.in-Some.taken c.give-given.new.self s here c.give-given.ensures.same ((c.in-Err.ensures {u = tt}).refused ∙ sym (c.fits.ensures.0 c.if-not-fits.false).2) set.found (λ k. refl) (record { inputs = refl; opened = refl; clients = refl; started = refl }),
-    ))
+    )))
 
 pub give-given-requires-clause-claimed : goal.give-given-requires-clause-claimed
 give-given-requires-clause-claimed g c =

@@ -2,6 +2,9 @@ use Rattle.std.proofs.Common.{◌≡◌, ℕ, ◌≤◌, ◌<◌, ◌+◌, List,
 use Rattle.pq_inputs.specs.Sources.{Sources}
 use Rattle.pq_rules.specs.Relations.{In}
 use Rattle.pq_memo.specs.Table.{memo_at, HasIn}
+use Rattle.pq_core.specs.Accounts.{IsStage}
+use Rattle.pq_core.specs.declared.account.Stage.TheVariants.{Running}
+use Rattle.pq_core.proofs.Making.{goes_by, all_same}
 use Rattle.pq_core.specs.Told.{told_puts}
 use Rattle.pq_core.specs.aux.Rising.{found}
 use Rattle.pq_core.specs.Stores.{held}
@@ -14,7 +17,7 @@ use Rattle.pq_core.proofs.RunsKept.{back_runs, closes_still, ended_runs, own_cla
 use Rattle.pq_core.proofs.Changing.{if_at, none_taken, set_back}
 use Rattle.pq_core.proofs.StoreOpening.{unmoved}
 use Rattle.pq_core.proofs.StoreAccepting.{false_true, run_past}
-use Rattle.pq_core.proofs.StoreRunning.{end_queue, run_here, no_run, run_within, run_demands, current, stop_moved, back_moved, seen_moved, none_of, goes_on, look_blocked, carry_moved, answer_moved, why_cause, why_then, ended_as, look_held}
+use Rattle.pq_core.proofs.StoreRunning.{told_answer, ends_of, end_queue, end_advances, run_here, no_run, run_running, run_demands, current, stop_moved, back_moved, seen_moved, none_of, goes_on, look_blocked, carry_moved, answer_moved, why_cause, why_then, ended_as, look_held}
 use Rattle.pq_core.proofs.Renewed.{renewed_none_lost, renewed_then, same_none_lost}
 use Rattle.pq_rules.proofs.Weight.{Exact}
 use Rattle.pq_core.specs.Moves.{out_of}
@@ -60,6 +63,7 @@ returns-in-None-clause-moved g c =
     let nothing = sym (rw c.number-id.ensures at (c.in-None.ensures {u = tt}).value) in
     let same = none_taken c.self.inside.runs c.take.new.self c.args.run nothing (rw c.number-id.ensures at c.take.ensures.found) c.take.ensures.above c.take.ensures.room in
     rw (← c.self.view_is)
+    (goes_by g.R.Key.Ord.cmp (g.R.Rules.machine c.self.inside.memos.rules) g.M.Stamp.point _ _ _ (all_same _ _ (λ k. refl))
     (λ l s. (
       l,
       (no_run g.R.Key.Ord.cmp (g.R.Rules.machine c.self.inside.memos.rules) g.M.Stamp.point told_puts (held (record { rules = c.self.inside.memos.rules; places = c.self.inside.memos.places; inputs = c.self.inside.inputs; accounts = c.self.inside.accounts; opened = c.self.inside.opened; clients = c.self.inside.clients; waiting = c.self.inside.waiting.items; runs = c.self.inside.runs; started = c.self.inside.started; claims = c.self.inside.claims })) l c.args.run s nothing, refl),
@@ -71,12 +75,12 @@ returns-in-None-clause-moved g c =
         runs = same.found;
         started = refl;
       }) s,
-    ))
+    )))
 
-pub stop_run-requires-clause-within : goal.stop_run-requires-clause-within
-stop_run-requires-clause-within g c =
+pub stop_run-requires-clause-running : goal.stop_run-requires-clause-running
+stop_run-requires-clause-running g c =
     let here = sym (rw c.number-id.ensures at (c.in-Some.ensures {u = tt}).value) in
-    λ account h. run_within g.R.Key.Ord.cmp (g.R.Rules.machine c.self.inside.memos.rules) g.M.Stamp.point told_puts (held (record { rules = c.self.inside.memos.rules; places = c.self.inside.memos.places; inputs = c.self.inside.inputs; accounts = c.self.inside.accounts; opened = c.self.inside.opened; clients = c.self.inside.clients; waiting = c.self.inside.waiting.items; runs = c.self.inside.runs; started = c.self.inside.started; claims = c.self.inside.claims })) c.self.invariant.ledger.0 c.args.run c.in-Some.taken account c.self.invariant.ledger.1 here h
+    λ account h. run_running g.R.Key.Ord.cmp (g.R.Rules.machine c.self.inside.memos.rules) g.M.Stamp.point told_puts (held (record { rules = c.self.inside.memos.rules; places = c.self.inside.memos.places; inputs = c.self.inside.inputs; accounts = c.self.inside.accounts; opened = c.self.inside.opened; clients = c.self.inside.clients; waiting = c.self.inside.waiting.items; runs = c.self.inside.runs; started = c.self.inside.started; claims = c.self.inside.claims })) c.self.invariant.ledger.0 c.args.run c.in-Some.taken account c.self.invariant.ledger.1 here h
 
 pub invariant_of-self-then-is_overtaken : goal.invariant_of-self-then-is_overtaken
 invariant_of-self-then-is_overtaken g c =
@@ -86,14 +90,14 @@ invariant_of-self-then-is_overtaken g c =
     let x = run_here g.R.Key.Ord.cmp (g.R.Rules.machine c.self.inside.memos.rules) g.M.Stamp.point told_puts (held (record { rules = c.self.inside.memos.rules; places = c.self.inside.memos.places; inputs = c.self.inside.inputs; accounts = c.self.inside.accounts; opened = c.self.inside.opened; clients = c.self.inside.clients; waiting = c.self.inside.waiting.items; runs = c.self.inside.runs; started = c.self.inside.started; claims = c.self.inside.claims })) w.ledger.0 c.args.run c.in-Some.taken w.ledger.1 here in
     let moved = stop_moved g.R.Key.Ord.cmp (g.R.Rules.machine c.self.inside.memos.rules) g.M.Stamp.point told_puts c.self.inside.memos.rules (held (record { rules = c.self.inside.memos.rules; places = c.self.inside.memos.places; inputs = c.self.inside.inputs; accounts = c.self.inside.accounts; opened = c.self.inside.opened; clients = c.self.inside.clients; waiting = c.self.inside.waiting.items; runs = c.self.inside.runs; started = c.self.inside.started; claims = c.self.inside.claims })) (record { inputs = c.self.inside.inputs; accounts = c.stop_run.new.accounts.items; opened = c.self.inside.opened; clients = c.self.inside.clients; runs = c.take.new.self.items; started = c.self.inside.started }) w.ledger.0 c.args.run c.in-Some.taken x w.ledger.1 here
     (rw c.now-now.ensures.now at (c.is_overtaken.ensures.0 c.if-is_overtaken.true)) runs
-    (λ account h k. rw c.now-now.ensures.now at ((c.stop_run.ensures.«open» account h).found k)) (λ h k. (c.stop_run.ensures.closed h).found k) (record { inputs = refl; opened = refl; clients = refl; started = refl }) in
+    (λ account h. ends_of (rw c.now-now.ensures.now at (c.stop_run.ensures.«open» account h))) (λ h k. (c.stop_run.ensures.closed h).found k) (record { inputs = refl; opened = refl; clients = refl; started = refl }) in
     record {
       stamped = c.self.invariant.stamped;
       kept = w.kept;
       accounts_above = c.stop_run.ensures.above c.self.inside.clients w.accounts_above;
       runs_above = c.take.ensures.above c.self.inside.started w.runs_above;
-      queue = end_queue g.R.Key.Ord.cmp (g.R.Rules.machine c.self.inside.memos.rules) g.M.Stamp.point told_puts _ _ _ w.ledger.0 c.args.run c.in-Some.taken c.in-Some.taken _ w.ledger.1 here (record { client = refl; number = refl; request = refl; started = refl })
-          (λ account h k. (c.stop_run.ensures.«open» account h).found k) (λ h k. (c.stop_run.ensures.closed h).found k) w.queue;
+      queue = end_queue _ _ _ c.in-Some.taken.client c.in-Some.taken.number _
+          (λ account h. ends_of (c.stop_run.ensures.«open» account h)) (λ h k. (c.stop_run.ensures.closed h).found k) w.queue;
       room =
           let a : length c.self.inside.waiting.items ≤ c.self.inside.runs.room = w.room in
           let b = c.take.ensures.room in
@@ -111,12 +115,13 @@ returns-then-is_overtaken-clause-moved g c =
     let here = sym (rw c.number-id.ensures at (c.in-Some.ensures {u = tt}).value) in
     let runs = rw c.number-id.ensures at c.take.ensures.found in
     rw (← c.self.view_is)
+    (goes_by g.R.Key.Ord.cmp (g.R.Rules.machine c.self.inside.memos.rules) g.M.Stamp.point _ _ _ (end_advances _ _ c.in-Some.taken.client c.in-Some.taken.number _ (λ account h. ends_of (c.stop_run.ensures.«open» account h)) (λ h k. (c.stop_run.ensures.closed h).found k))
     (λ l s.
     let x = run_here g.R.Key.Ord.cmp (g.R.Rules.machine c.self.inside.memos.rules) g.M.Stamp.point told_puts (held (record { rules = c.self.inside.memos.rules; places = c.self.inside.memos.places; inputs = c.self.inside.inputs; accounts = c.self.inside.accounts; opened = c.self.inside.opened; clients = c.self.inside.clients; waiting = c.self.inside.waiting.items; runs = c.self.inside.runs; started = c.self.inside.started; claims = c.self.inside.claims })) l c.args.run c.in-Some.taken s here in
     let moved = stop_moved g.R.Key.Ord.cmp (g.R.Rules.machine c.self.inside.memos.rules) g.M.Stamp.point told_puts c.self.inside.memos.rules (held (record { rules = c.self.inside.memos.rules; places = c.self.inside.memos.places; inputs = c.self.inside.inputs; accounts = c.self.inside.accounts; opened = c.self.inside.opened; clients = c.self.inside.clients; waiting = c.self.inside.waiting.items; runs = c.self.inside.runs; started = c.self.inside.started; claims = c.self.inside.claims })) (record { inputs = c.self.inside.inputs; accounts = c.stop_run.new.accounts.items; opened = c.self.inside.opened; clients = c.self.inside.clients; runs = c.take.new.self.items; started = c.self.inside.started }) l c.args.run c.in-Some.taken x s here
     (rw c.now-now.ensures.now at (c.is_overtaken.ensures.0 c.if-is_overtaken.true)) runs
-    (λ account h k. rw c.now-now.ensures.now at ((c.stop_run.ensures.«open» account h).found k)) (λ h k. (c.stop_run.ensures.closed h).found k) (record { inputs = refl; opened = refl; clients = refl; started = refl }) in
-    (ended l x.at x.at.entry.starved (Cancelled x.at.started l.inputs.revision), moved.0, moved.1))
+    (λ account h. ends_of (rw c.now-now.ensures.now at (c.stop_run.ensures.«open» account h))) (λ h k. (c.stop_run.ensures.closed h).found k) (record { inputs = refl; opened = refl; clients = refl; started = refl }) in
+    (ended l x.at x.at.entry.starved (Cancelled x.at.started l.inputs.revision), moved.0, moved.1)))
 
 pub invariant_of-self-then-is_out : goal.invariant_of-self-then-is_out
 invariant_of-self-then-is_out g c =
@@ -148,9 +153,10 @@ returns-then-is_out-clause-moved g c =
     let set = set_back c.self.inside.runs c.take.new.self c.put_back.new.self c.args.run c.in-Some.taken (rw c.number-id.ensures at c.take.ensures.found) c.take.ensures.above
     (rw c.in-Some.is at c.take.ensures.more_room) (rw c.number-id.ensures at c.put_back.ensures.found) c.put_back.ensures.room c.put_back.ensures.above in
     rw (← c.self.view_is)
+    (goes_by g.R.Key.Ord.cmp (g.R.Rules.machine c.self.inside.memos.rules) g.M.Stamp.point _ _ _ (all_same _ _ (λ k. refl))
     (λ l s.
     let b = look_blocked g.R.Key.Ord.cmp (g.R.Rules.machine c.self.inside.memos.rules) g.M.Stamp.point told_puts c.self.inside.memos.rules (held (record { rules = c.self.inside.memos.rules; places = c.self.inside.memos.places; inputs = c.self.inside.inputs; accounts = c.self.inside.accounts; opened = c.self.inside.opened; clients = c.self.inside.clients; waiting = c.self.inside.waiting.items; runs = c.self.inside.runs; started = c.self.inside.started; claims = c.self.inside.claims })) l c.args.run c.in-Some.taken s here (λ o. false_true (sym c.if-is_overtaken.false ∙ c.is_overtaken.ensures.1 (rw c.now-now.ensures.now o))) (c.is_out.ensures.0 c.if-is_out.true) in
-    (l, (b.0, b.1, b.2, inl (b.3, refl), refl), back_moved g.R.Key.Ord.cmp (g.R.Rules.machine c.self.inside.memos.rules) g.M.Stamp.point told_puts (held (record { rules = c.self.inside.memos.rules; places = c.self.inside.memos.places; inputs = c.self.inside.inputs; accounts = c.self.inside.accounts; opened = c.self.inside.opened; clients = c.self.inside.clients; waiting = c.self.inside.waiting.items; runs = c.self.inside.runs; started = c.self.inside.started; claims = c.self.inside.claims })) (record { inputs = c.self.inside.inputs; accounts = c.self.inside.accounts.items; opened = c.self.inside.opened; clients = c.self.inside.clients; runs = c.put_back.new.self.items; started = c.self.inside.started }) l c.args.run c.in-Some.taken c.in-Some.taken s here (record { client = refl; number = refl; request = refl; started = refl }) refl set.found (λ k. refl) (record { inputs = refl; opened = refl; clients = refl; started = refl })))
+    (l, (b.0, b.1, b.2, inl (b.3, refl), refl), back_moved g.R.Key.Ord.cmp (g.R.Rules.machine c.self.inside.memos.rules) g.M.Stamp.point told_puts (held (record { rules = c.self.inside.memos.rules; places = c.self.inside.memos.places; inputs = c.self.inside.inputs; accounts = c.self.inside.accounts; opened = c.self.inside.opened; clients = c.self.inside.clients; waiting = c.self.inside.waiting.items; runs = c.self.inside.runs; started = c.self.inside.started; claims = c.self.inside.claims })) (record { inputs = c.self.inside.inputs; accounts = c.self.inside.accounts.items; opened = c.self.inside.opened; clients = c.self.inside.clients; runs = c.put_back.new.self.items; started = c.self.inside.started }) l c.args.run c.in-Some.taken c.in-Some.taken s here (record { client = refl; number = refl; request = refl; started = refl }) refl set.found (λ k. refl) (record { inputs = refl; opened = refl; clients = refl; started = refl }))))
 
 pub invariant_of-self-in-None-ok : goal.invariant_of-self-in-None-ok
 invariant_of-self-in-None-ok g c =
@@ -182,9 +188,10 @@ returns-in-None-ok-clause-moved g c =
     let set = set_back c.self.inside.runs c.take.new.self c.put_back-in-None-ok.new.self c.args.run c.in-Some.taken (rw c.number-id.ensures at c.take.ensures.found) c.take.ensures.above
     (rw c.in-Some.is at c.take.ensures.more_room) (rw c.number-id.ensures at c.put_back-in-None-ok.ensures.found) c.put_back-in-None-ok.ensures.room c.put_back-in-None-ok.ensures.above in
     rw (← c.self.view_is)
+    (goes_by g.R.Key.Ord.cmp (g.R.Rules.machine c.self.inside.memos.rules) g.M.Stamp.point _ _ _ (all_same _ _ (λ k. refl))
     (λ l s.
     let b = goes_on g.R.Key.Ord.cmp (g.R.Rules.machine c.self.inside.memos.rules) g.M.Stamp.point told_puts c.self.inside.memos.rules (held (record { rules = c.self.inside.memos.rules; places = c.self.inside.memos.places; inputs = c.self.inside.inputs; accounts = c.self.inside.accounts; opened = c.self.inside.opened; clients = c.self.inside.clients; waiting = c.self.inside.waiting.items; runs = c.self.inside.runs; started = c.self.inside.started; claims = c.self.inside.claims })) l c.args.run c.in-Some.taken s here (λ o. false_true (sym c.if-is_overtaken.false ∙ c.is_overtaken.ensures.1 (rw c.now-now.ensures.now o))) (none_of (out_at c.in-Some.taken.top) (λ e. false_true (sym c.if-is_out.false ∙ c.is_out.ensures.1 e))) in
-    (l, (b.0, b.1, refl), back_moved g.R.Key.Ord.cmp (g.R.Rules.machine c.self.inside.memos.rules) g.M.Stamp.point told_puts (held (record { rules = c.self.inside.memos.rules; places = c.self.inside.memos.places; inputs = c.self.inside.inputs; accounts = c.self.inside.accounts; opened = c.self.inside.opened; clients = c.self.inside.clients; waiting = c.self.inside.waiting.items; runs = c.self.inside.runs; started = c.self.inside.started; claims = c.self.inside.claims })) (record { inputs = c.self.inside.inputs; accounts = c.self.inside.accounts.items; opened = c.self.inside.opened; clients = c.self.inside.clients; runs = c.put_back-in-None-ok.new.self.items; started = c.self.inside.started }) l c.args.run c.in-Some.taken c.in-Some.taken s here (record { client = refl; number = refl; request = refl; started = refl }) refl set.found (λ k. refl) (record { inputs = refl; opened = refl; clients = refl; started = refl })))
+    (l, (b.0, b.1, refl), back_moved g.R.Key.Ord.cmp (g.R.Rules.machine c.self.inside.memos.rules) g.M.Stamp.point told_puts (held (record { rules = c.self.inside.memos.rules; places = c.self.inside.memos.places; inputs = c.self.inside.inputs; accounts = c.self.inside.accounts; opened = c.self.inside.opened; clients = c.self.inside.clients; waiting = c.self.inside.waiting.items; runs = c.self.inside.runs; started = c.self.inside.started; claims = c.self.inside.claims })) (record { inputs = c.self.inside.inputs; accounts = c.self.inside.accounts.items; opened = c.self.inside.opened; clients = c.self.inside.clients; runs = c.put_back-in-None-ok.new.self.items; started = c.self.inside.started }) l c.args.run c.in-Some.taken c.in-Some.taken s here (record { client = refl; number = refl; request = refl; started = refl }) refl set.found (λ k. refl) (record { inputs = refl; opened = refl; clients = refl; started = refl }))))
 
 pub look-looked-requires-clause-demand : goal.look-looked-requires-clause-demand
 look-looked-requires-clause-demand g c =
@@ -243,7 +250,8 @@ returns-in-Carry-clause-moved g c =
     (rw c.in-Some.is at c.take.ensures.more_room) (rw c.number-id.ensures at c.put_back-in-Carry.ensures.found) c.put_back-in-Carry.ensures.room c.put_back-in-Carry.ensures.above in
     rw (← c.self.view_is)
     (rw c.new.ensures
-    (λ l s. carry_moved g.R.Key.Ord.cmp (g.R.Rules.machine c.self.inside.memos.rules) g.M.Stamp.point told_puts c.self.inside.memos.rules (held (record { rules = c.self.inside.memos.rules; places = c.self.inside.memos.places; inputs = c.self.inside.inputs; accounts = c.self.inside.accounts; opened = c.self.inside.opened; clients = c.self.inside.clients; waiting = c.self.inside.waiting.items; runs = c.self.inside.runs; started = c.self.inside.started; claims = c.self.inside.claims })) (record { inputs = c.self.inside.inputs; accounts = c.self.inside.accounts.items; opened = c.self.inside.opened; clients = c.self.inside.clients; runs = c.put_back-in-Carry.new.self.items; started = c.self.inside.started }) l c.args.run c.in-Some.taken c.look-looked.new.self c.in-Carry.work (memo_at g.R.Key.Ord.cmp c.self.inside.memos.places) s here (λ o. false_true (sym c.if-is_overtaken.false ∙ c.is_overtaken.ensures.1 (rw c.now-now.ensures.now o))) (none_of (out_at c.in-Some.taken.top) (λ e. false_true (sym c.if-is_out.false ∙ c.is_out.ensures.1 e))) c.look-looked.ensures.same (rw c.in-Carry.is at (c.in-Ok.ensures {u = tt}).looked) set.found (λ k. refl) (record { inputs = refl; opened = refl; clients = refl; started = refl })))
+    (goes_by g.R.Key.Ord.cmp (g.R.Rules.machine c.self.inside.memos.rules) g.M.Stamp.point _ _ _ (all_same _ _ (λ k. refl))
+    (λ l s. carry_moved g.R.Key.Ord.cmp (g.R.Rules.machine c.self.inside.memos.rules) g.M.Stamp.point told_puts c.self.inside.memos.rules (held (record { rules = c.self.inside.memos.rules; places = c.self.inside.memos.places; inputs = c.self.inside.inputs; accounts = c.self.inside.accounts; opened = c.self.inside.opened; clients = c.self.inside.clients; waiting = c.self.inside.waiting.items; runs = c.self.inside.runs; started = c.self.inside.started; claims = c.self.inside.claims })) (record { inputs = c.self.inside.inputs; accounts = c.self.inside.accounts.items; opened = c.self.inside.opened; clients = c.self.inside.clients; runs = c.put_back-in-Carry.new.self.items; started = c.self.inside.started }) l c.args.run c.in-Some.taken c.look-looked.new.self c.in-Carry.work (memo_at g.R.Key.Ord.cmp c.self.inside.memos.places) s here (λ o. false_true (sym c.if-is_overtaken.false ∙ c.is_overtaken.ensures.1 (rw c.now-now.ensures.now o))) (none_of (out_at c.in-Some.taken.top) (λ e. false_true (sym c.if-is_out.false ∙ c.is_out.ensures.1 e))) c.look-looked.ensures.same (rw c.in-Carry.is at (c.in-Ok.ensures {u = tt}).looked) set.found (λ k. refl) (record { inputs = refl; opened = refl; clients = refl; started = refl }))))
 
 pub returns-in-Carry-clause-handed : goal.returns-in-Carry-clause-handed
 returns-in-Carry-clause-handed g c =
@@ -298,9 +306,10 @@ returns-in-Stepped-clause-moved g c =
     let set = set_back c.self.inside.runs c.take.new.self c.put_back-in-Stepped.new.self c.args.run c.look-looked.new.self (rw c.number-id.ensures at c.take.ensures.found) c.take.ensures.above
     (rw c.in-Some.is at c.take.ensures.more_room) (rw c.number-id.ensures at c.put_back-in-Stepped.ensures.found) c.put_back-in-Stepped.ensures.room c.put_back-in-Stepped.ensures.above in
     rw (← c.self.view_is)
+    (goes_by g.R.Key.Ord.cmp (g.R.Rules.machine c.self.inside.memos.rules) g.M.Stamp.point _ _ _ (all_same _ _ (λ k. refl))
     (λ l s.
     let b = goes_on g.R.Key.Ord.cmp (g.R.Rules.machine c.self.inside.memos.rules) g.M.Stamp.point told_puts c.self.inside.memos.rules (held (record { rules = c.self.inside.memos.rules; places = c.self.inside.memos.places; inputs = c.self.inside.inputs; accounts = c.self.inside.accounts; opened = c.self.inside.opened; clients = c.self.inside.clients; waiting = c.self.inside.waiting.items; runs = c.self.inside.runs; started = c.self.inside.started; claims = c.self.inside.claims })) l c.args.run c.in-Some.taken s here (λ o. false_true (sym c.if-is_overtaken.false ∙ c.is_overtaken.ensures.1 (rw c.now-now.ensures.now o))) (none_of (out_at c.in-Some.taken.top) (λ e. false_true (sym c.if-is_out.false ∙ c.is_out.ensures.1 e))) in
-    (l, (b.0, b.1, refl), back_moved g.R.Key.Ord.cmp (g.R.Rules.machine c.self.inside.memos.rules) g.M.Stamp.point told_puts (held (record { rules = c.self.inside.memos.rules; places = c.self.inside.memos.places; inputs = c.self.inside.inputs; accounts = c.self.inside.accounts; opened = c.self.inside.opened; clients = c.self.inside.clients; waiting = c.self.inside.waiting.items; runs = c.self.inside.runs; started = c.self.inside.started; claims = c.self.inside.claims })) (record { inputs = c.self.inside.inputs; accounts = c.self.inside.accounts.items; opened = c.self.inside.opened; clients = c.self.inside.clients; runs = c.put_back-in-Stepped.new.self.items; started = c.self.inside.started }) l c.args.run c.in-Some.taken c.look-looked.new.self s here c.look-looked.ensures.same ((rw c.in-Stepped.is at (c.in-Ok.ensures {u = tt}).looked) ∙ sym (none_of (out_at c.in-Some.taken.top) (λ e. false_true (sym c.if-is_out.false ∙ c.is_out.ensures.1 e)))) set.found (λ k. refl) (record { inputs = refl; opened = refl; clients = refl; started = refl })))
+    (l, (b.0, b.1, refl), back_moved g.R.Key.Ord.cmp (g.R.Rules.machine c.self.inside.memos.rules) g.M.Stamp.point told_puts (held (record { rules = c.self.inside.memos.rules; places = c.self.inside.memos.places; inputs = c.self.inside.inputs; accounts = c.self.inside.accounts; opened = c.self.inside.opened; clients = c.self.inside.clients; waiting = c.self.inside.waiting.items; runs = c.self.inside.runs; started = c.self.inside.started; claims = c.self.inside.claims })) (record { inputs = c.self.inside.inputs; accounts = c.self.inside.accounts.items; opened = c.self.inside.opened; clients = c.self.inside.clients; runs = c.put_back-in-Stepped.new.self.items; started = c.self.inside.started }) l c.args.run c.in-Some.taken c.look-looked.new.self s here c.look-looked.ensures.same ((rw c.in-Stepped.is at (c.in-Ok.ensures {u = tt}).looked) ∙ sym (none_of (out_at c.in-Some.taken.top) (λ e. false_true (sym c.if-is_out.false ∙ c.is_out.ensures.1 e)))) set.found (λ k. refl) (record { inputs = refl; opened = refl; clients = refl; started = refl }))))
 
 pub invariant_of-self-in-Blocked : goal.invariant_of-self-in-Blocked
 invariant_of-self-in-Blocked g c =
@@ -338,12 +347,13 @@ returns-in-Blocked-clause-moved g c =
     let set = set_back c.self.inside.runs c.take.new.self c.put_back-in-Blocked.new.self c.args.run c.look-looked.new.self (rw c.number-id.ensures at c.take.ensures.found) c.take.ensures.above
     (rw c.in-Some.is at c.take.ensures.more_room) (rw c.number-id.ensures at c.put_back-in-Blocked.ensures.found) c.put_back-in-Blocked.ensures.room c.put_back-in-Blocked.ensures.above in
     rw (← c.self.view_is)
+    (goes_by g.R.Key.Ord.cmp (g.R.Rules.machine c.self.inside.memos.rules) g.M.Stamp.point _ _ _ (all_same _ _ (λ k. refl))
     (λ l s.
     let told = rw c.in-Blocked.is at (c.in-Ok.ensures {u = tt}).looked in
     let there = holder_there c.self.inside.claims c.self.inside.runs.items c.in-Blocked.other told.1.1.0 c.self.invariant.runs.claimed
     (subst (λ (ks : List g.row.R-Key.Denot). In told.1.1.0 ks) (c.look-looked.ensures.others c.in-Blocked.other told.1.0).0 told.1.1.2) in
     let b = look_held g.R.Key.Ord.cmp (g.R.Rules.machine c.self.inside.memos.rules) g.M.Stamp.point told_puts c.self.inside.memos.rules (held (record { rules = c.self.inside.memos.rules; places = c.self.inside.memos.places; inputs = c.self.inside.inputs; accounts = c.self.inside.accounts; opened = c.self.inside.opened; clients = c.self.inside.clients; waiting = c.self.inside.waiting.items; runs = c.self.inside.runs; started = c.self.inside.started; claims = c.self.inside.claims })) l c.args.run c.in-Some.taken c.in-Blocked.other there.0 s here (λ o. false_true (sym c.if-is_overtaken.false ∙ c.is_overtaken.ensures.1 (rw c.now-now.ensures.now o))) (none_of (out_at c.in-Some.taken.top) (λ e. false_true (sym c.if-is_out.false ∙ c.is_out.ensures.1 e))) told.1.0 there.1 in
-    (l, (b.0, b.1, b.2, b.3, refl), back_moved g.R.Key.Ord.cmp (g.R.Rules.machine c.self.inside.memos.rules) g.M.Stamp.point told_puts (held (record { rules = c.self.inside.memos.rules; places = c.self.inside.memos.places; inputs = c.self.inside.inputs; accounts = c.self.inside.accounts; opened = c.self.inside.opened; clients = c.self.inside.clients; waiting = c.self.inside.waiting.items; runs = c.self.inside.runs; started = c.self.inside.started; claims = c.self.inside.claims })) (record { inputs = c.self.inside.inputs; accounts = c.self.inside.accounts.items; opened = c.self.inside.opened; clients = c.self.inside.clients; runs = c.put_back-in-Blocked.new.self.items; started = c.self.inside.started }) l c.args.run c.in-Some.taken c.look-looked.new.self s here c.look-looked.ensures.same ((rw c.in-Blocked.is at (c.in-Ok.ensures {u = tt}).looked).0 ∙ sym (none_of (out_at c.in-Some.taken.top) (λ e. false_true (sym c.if-is_out.false ∙ c.is_out.ensures.1 e)))) set.found (λ k. refl) (record { inputs = refl; opened = refl; clients = refl; started = refl })))
+    (l, (b.0, b.1, b.2, b.3, refl), back_moved g.R.Key.Ord.cmp (g.R.Rules.machine c.self.inside.memos.rules) g.M.Stamp.point told_puts (held (record { rules = c.self.inside.memos.rules; places = c.self.inside.memos.places; inputs = c.self.inside.inputs; accounts = c.self.inside.accounts; opened = c.self.inside.opened; clients = c.self.inside.clients; waiting = c.self.inside.waiting.items; runs = c.self.inside.runs; started = c.self.inside.started; claims = c.self.inside.claims })) (record { inputs = c.self.inside.inputs; accounts = c.self.inside.accounts.items; opened = c.self.inside.opened; clients = c.self.inside.clients; runs = c.put_back-in-Blocked.new.self.items; started = c.self.inside.started }) l c.args.run c.in-Some.taken c.look-looked.new.self s here c.look-looked.ensures.same ((rw c.in-Blocked.is at (c.in-Ok.ensures {u = tt}).looked).0 ∙ sym (none_of (out_at c.in-Some.taken.top) (λ e. false_true (sym c.if-is_out.false ∙ c.is_out.ensures.1 e)))) set.found (λ k. refl) (record { inputs = refl; opened = refl; clients = refl; started = refl }))))
 
 pub returns-in-Blocked-clause-holder : goal.returns-in-Blocked-clause-holder
 returns-in-Blocked-clause-holder g c =
@@ -353,12 +363,12 @@ returns-in-Blocked-clause-holder g c =
 pub returns-then-is_out-clause-holder : goal.returns-then-is_out-clause-holder
 returns-then-is_out-clause-holder g c = inl refl
 
-pub end_run-requires-clause-within : goal.end_run-requires-clause-within
-end_run-requires-clause-within g c =
+pub end_run-requires-clause-running : goal.end_run-requires-clause-running
+end_run-requires-clause-running g c =
     let here = sym (rw c.number-id.ensures at (c.in-Some.ensures {u = tt}).value) in
     λ account h.
-    subst (λ (n : ℕ). (account.put ≤ n) × (n < account.put + length account.owed)) (sym c.look-looked.ensures.same.number)
-    (run_within g.R.Key.Ord.cmp (g.R.Rules.machine c.self.inside.memos.rules) g.M.Stamp.point told_puts (held (record { rules = c.self.inside.memos.rules; places = c.self.inside.memos.places; inputs = c.self.inside.inputs; accounts = c.self.inside.accounts; opened = c.self.inside.opened; clients = c.self.inside.clients; waiting = c.self.inside.waiting.items; runs = c.self.inside.runs; started = c.self.inside.started; claims = c.self.inside.claims })) c.self.invariant.ledger.0 c.args.run c.in-Some.taken account c.self.invariant.ledger.1 here
+    subst (λ (n : ℕ). (accepted : ℕ) × IsStage account n (Running accepted)) (sym c.look-looked.ensures.same.number)
+    (run_running g.R.Key.Ord.cmp (g.R.Rules.machine c.self.inside.memos.rules) g.M.Stamp.point told_puts (held (record { rules = c.self.inside.memos.rules; places = c.self.inside.memos.places; inputs = c.self.inside.inputs; accounts = c.self.inside.accounts; opened = c.self.inside.opened; clients = c.self.inside.clients; waiting = c.self.inside.waiting.items; runs = c.self.inside.runs; started = c.self.inside.started; claims = c.self.inside.claims })) c.self.invariant.ledger.0 c.args.run c.in-Some.taken account c.self.invariant.ledger.1 here
     (ap (λ (n : ℕ). found c.self.inside.accounts.items n) (sym c.look-looked.ensures.same.client) ∙ h))
 
 pub invariant_of-self-in-Answered : goal.invariant_of-self-in-Answered
@@ -370,7 +380,7 @@ invariant_of-self-in-Answered g c =
     let told = rw c.in-Answered.is at (c.in-Ok.ensures {u = tt}).looked in
     let moved = answer_moved g.R.Key.Ord.cmp (g.R.Rules.machine c.self.inside.memos.rules) g.M.Stamp.point told_puts c.self.inside.memos.rules (held (record { rules = c.self.inside.memos.rules; places = c.self.inside.memos.places; inputs = c.self.inside.inputs; accounts = c.self.inside.accounts; opened = c.self.inside.opened; clients = c.self.inside.clients; waiting = c.self.inside.waiting.items; runs = c.self.inside.runs; started = c.self.inside.started; claims = c.self.inside.claims })) (record { inputs = c.self.inside.inputs; accounts = c.end_run.new.accounts.items; opened = c.self.inside.opened; clients = c.self.inside.clients; runs = c.take.new.self.items; started = c.self.inside.started }) w.ledger.0 c.args.run c.in-Some.taken c.in-Answered.answer c.in-Some-ok.stamp w.ledger.1 here (λ o. false_true (sym c.if-is_overtaken.false ∙ c.is_overtaken.ensures.1 (rw c.now-now.ensures.now o))) (none_of (out_at c.in-Some.taken.top) (λ e. false_true (sym c.if-is_out.false ∙ c.is_out.ensures.1 e))) told.0 (ap (λ (m : g.row.M.Denot). g.M.Stamp.point m) same ∙ c.self.invariant.stamped) runs
     (ended_as (held (record { rules = c.self.inside.memos.rules; places = c.self.inside.memos.places; inputs = c.self.inside.inputs; accounts = c.self.inside.accounts; opened = c.self.inside.opened; clients = c.self.inside.clients; waiting = c.self.inside.waiting.items; runs = c.self.inside.runs; started = c.self.inside.started; claims = c.self.inside.claims })) (record { inputs = c.self.inside.inputs; accounts = c.end_run.new.accounts.items; opened = c.self.inside.opened; clients = c.self.inside.clients; runs = c.take.new.self.items; started = c.self.inside.started }) c.in-Some.taken c.look-looked.new.self c.self.inside.inputs.revision (Answered c.in-Answered.answer c.in-Some-ok.stamp) c.look-looked.ensures.same
-    (λ account h k. rw c.now-now.ensures.now at ((c.end_run.ensures.«open» account h).found k)))
+    (λ account h. ends_of (rw c.now-now.ensures.now at (c.end_run.ensures.«open» account h))))
     (λ h k. (c.end_run.ensures.closed (ap (λ (n : ℕ). found c.self.inside.accounts.items n) c.look-looked.ensures.same.client ∙ h)).found k) (record { inputs = refl; opened = refl; clients = refl; started = refl }) in
     rw c.look-looked.ensures.rules
     (record {
@@ -378,8 +388,8 @@ invariant_of-self-in-Answered g c =
       kept = c.look-looked.ensures.kept;
       accounts_above = c.end_run.ensures.above c.self.inside.clients w.accounts_above;
       runs_above = c.take.ensures.above c.self.inside.started w.runs_above;
-      queue = end_queue g.R.Key.Ord.cmp (g.R.Rules.machine c.self.inside.memos.rules) g.M.Stamp.point told_puts _ _ _ w.ledger.0 c.args.run c.in-Some.taken _ _ w.ledger.1 here c.look-looked.ensures.same
-          (λ account h k. (c.end_run.ensures.«open» account h).found k) (λ h k. (c.end_run.ensures.closed h).found k) w.queue;
+      queue = end_queue _ _ _ c.look-looked.new.self.client c.look-looked.new.self.number _
+          (λ account h. ends_of (c.end_run.ensures.«open» account h)) (λ h k. (c.end_run.ensures.closed h).found k) w.queue;
       room =
           let a : length c.self.inside.waiting.items ≤ c.self.inside.runs.room = w.room in
           let b = c.take.ensures.room in
@@ -400,10 +410,11 @@ returns-in-Answered-clause-moved g c =
     let runs = rw c.number-id.ensures at c.take.ensures.found in
     let told = rw c.in-Answered.is at (c.in-Ok.ensures {u = tt}).looked in
     rw (← c.self.view_is)
+    (goes_by g.R.Key.Ord.cmp (g.R.Rules.machine c.self.inside.memos.rules) g.M.Stamp.point _ _ _ (end_advances _ _ c.look-looked.new.self.client c.look-looked.new.self.number _ (λ account h. ends_of (c.end_run.ensures.«open» account h)) (λ h k. (c.end_run.ensures.closed h).found k))
     (λ l s. answer_moved g.R.Key.Ord.cmp (g.R.Rules.machine c.self.inside.memos.rules) g.M.Stamp.point told_puts c.self.inside.memos.rules (held (record { rules = c.self.inside.memos.rules; places = c.self.inside.memos.places; inputs = c.self.inside.inputs; accounts = c.self.inside.accounts; opened = c.self.inside.opened; clients = c.self.inside.clients; waiting = c.self.inside.waiting.items; runs = c.self.inside.runs; started = c.self.inside.started; claims = c.self.inside.claims })) (record { inputs = c.self.inside.inputs; accounts = c.end_run.new.accounts.items; opened = c.self.inside.opened; clients = c.self.inside.clients; runs = c.take.new.self.items; started = c.self.inside.started }) l c.args.run c.in-Some.taken c.in-Answered.answer c.in-Some-ok.stamp s here (λ o. false_true (sym c.if-is_overtaken.false ∙ c.is_overtaken.ensures.1 (rw c.now-now.ensures.now o))) (none_of (out_at c.in-Some.taken.top) (λ e. false_true (sym c.if-is_out.false ∙ c.is_out.ensures.1 e))) told.0 (ap (λ (m : g.row.M.Denot). g.M.Stamp.point m) same ∙ c.self.invariant.stamped) runs
     (ended_as (held (record { rules = c.self.inside.memos.rules; places = c.self.inside.memos.places; inputs = c.self.inside.inputs; accounts = c.self.inside.accounts; opened = c.self.inside.opened; clients = c.self.inside.clients; waiting = c.self.inside.waiting.items; runs = c.self.inside.runs; started = c.self.inside.started; claims = c.self.inside.claims })) (record { inputs = c.self.inside.inputs; accounts = c.end_run.new.accounts.items; opened = c.self.inside.opened; clients = c.self.inside.clients; runs = c.take.new.self.items; started = c.self.inside.started }) c.in-Some.taken c.look-looked.new.self c.self.inside.inputs.revision (Answered c.in-Answered.answer c.in-Some-ok.stamp) c.look-looked.ensures.same
-    (λ account h k. rw c.now-now.ensures.now at ((c.end_run.ensures.«open» account h).found k)))
-    (λ h k. (c.end_run.ensures.closed (ap (λ (n : ℕ). found c.self.inside.accounts.items n) c.look-looked.ensures.same.client ∙ h)).found k) (record { inputs = refl; opened = refl; clients = refl; started = refl }))
+    (λ account h. ends_of (rw c.now-now.ensures.now at (c.end_run.ensures.«open» account h))))
+    (λ h k. (c.end_run.ensures.closed (ap (λ (n : ℕ). found c.self.inside.accounts.items n) c.look-looked.ensures.same.client ∙ h)).found k) (record { inputs = refl; opened = refl; clients = refl; started = refl })))
 
 pub invariant_of-self-in-Err : goal.invariant_of-self-in-Err
 invariant_of-self-in-Err g c =
@@ -441,9 +452,10 @@ returns-in-Err-clause-moved g c =
     let set = set_back c.self.inside.runs c.take.new.self c.put_back-in-Err.new.self c.args.run c.look-looked.new.self (rw c.number-id.ensures at c.take.ensures.found) c.take.ensures.above
     (rw c.in-Some.is at c.take.ensures.more_room) (rw c.number-id.ensures at c.put_back-in-Err.ensures.found) c.put_back-in-Err.ensures.room c.put_back-in-Err.ensures.above in
     rw (← c.self.view_is)
+    (goes_by g.R.Key.Ord.cmp (g.R.Rules.machine c.self.inside.memos.rules) g.M.Stamp.point _ _ _ (all_same _ _ (λ k. refl))
     (λ l s.
     let b = goes_on g.R.Key.Ord.cmp (g.R.Rules.machine c.self.inside.memos.rules) g.M.Stamp.point told_puts c.self.inside.memos.rules (held (record { rules = c.self.inside.memos.rules; places = c.self.inside.memos.places; inputs = c.self.inside.inputs; accounts = c.self.inside.accounts; opened = c.self.inside.opened; clients = c.self.inside.clients; waiting = c.self.inside.waiting.items; runs = c.self.inside.runs; started = c.self.inside.started; claims = c.self.inside.claims })) l c.args.run c.in-Some.taken s here (λ o. false_true (sym c.if-is_overtaken.false ∙ c.is_overtaken.ensures.1 (rw c.now-now.ensures.now o))) (none_of (out_at c.in-Some.taken.top) (λ e. false_true (sym c.if-is_out.false ∙ c.is_out.ensures.1 e))) in
-    (l, (b.0, b.1, refl), back_moved g.R.Key.Ord.cmp (g.R.Rules.machine c.self.inside.memos.rules) g.M.Stamp.point told_puts (held (record { rules = c.self.inside.memos.rules; places = c.self.inside.memos.places; inputs = c.self.inside.inputs; accounts = c.self.inside.accounts; opened = c.self.inside.opened; clients = c.self.inside.clients; waiting = c.self.inside.waiting.items; runs = c.self.inside.runs; started = c.self.inside.started; claims = c.self.inside.claims })) (record { inputs = c.self.inside.inputs; accounts = c.self.inside.accounts.items; opened = c.self.inside.opened; clients = c.self.inside.clients; runs = c.put_back-in-Err.new.self.items; started = c.self.inside.started }) l c.args.run c.in-Some.taken c.look-looked.new.self s here c.look-looked.ensures.same ((c.in-Err.ensures {u = tt}).refused ∙ sym (none_of (out_at c.in-Some.taken.top) (λ e. false_true (sym c.if-is_out.false ∙ c.is_out.ensures.1 e)))) set.found (λ k. refl) (record { inputs = refl; opened = refl; clients = refl; started = refl })))
+    (l, (b.0, b.1, refl), back_moved g.R.Key.Ord.cmp (g.R.Rules.machine c.self.inside.memos.rules) g.M.Stamp.point told_puts (held (record { rules = c.self.inside.memos.rules; places = c.self.inside.memos.places; inputs = c.self.inside.inputs; accounts = c.self.inside.accounts; opened = c.self.inside.opened; clients = c.self.inside.clients; waiting = c.self.inside.waiting.items; runs = c.self.inside.runs; started = c.self.inside.started; claims = c.self.inside.claims })) (record { inputs = c.self.inside.inputs; accounts = c.self.inside.accounts.items; opened = c.self.inside.opened; clients = c.self.inside.clients; runs = c.put_back-in-Err.new.self.items; started = c.self.inside.started }) l c.args.run c.in-Some.taken c.look-looked.new.self s here c.look-looked.ensures.same ((c.in-Err.ensures {u = tt}).refused ∙ sym (none_of (out_at c.in-Some.taken.top) (λ e. false_true (sym c.if-is_out.false ∙ c.is_out.ensures.1 e)))) set.found (λ k. refl) (record { inputs = refl; opened = refl; clients = refl; started = refl }))))
 
 pub look-looked-requires-clause-claimed : goal.look-looked-requires-clause-claimed
 look-looked-requires-clause-claimed g c =
@@ -538,13 +550,14 @@ returns-in-Ok-close_ring-clause-moved g c =
     (rw c.in-Some.is at c.take.ensures.more_room) (rw c.number-id.ensures at c.put_back-in-Ring.ensures.found) c.put_back-in-Ring.ensures.room c.put_back-in-Ring.ensures.above in
     let told = rw c.in-Ring.is at (c.in-Ok.ensures {u = tt}).looked in
     rw (← c.self.view_is)
+    (goes_by g.R.Key.Ord.cmp (g.R.Rules.machine c.self.inside.memos.rules) g.M.Stamp.point _ _ _ (all_same _ _ (λ k. refl))
     (λ l s.
     let b = goes_on g.R.Key.Ord.cmp (g.R.Rules.machine c.self.inside.memos.rules) g.M.Stamp.point told_puts c.self.inside.memos.rules (held (record { rules = c.self.inside.memos.rules; places = c.self.inside.memos.places; inputs = c.self.inside.inputs; accounts = c.self.inside.accounts; opened = c.self.inside.opened; clients = c.self.inside.clients; waiting = c.self.inside.waiting.items; runs = c.self.inside.runs; started = c.self.inside.started; claims = c.self.inside.claims })) l c.args.run c.in-Some.taken s here (λ o. false_true (sym c.if-is_overtaken.false ∙ c.is_overtaken.ensures.1 (rw c.now-now.ensures.now o))) (none_of (out_at c.in-Some.taken.top) (λ e. false_true (sym c.if-is_out.false ∙ c.is_out.ensures.1 e))) in (
       l,
       (b.0, b.1, refl),
       seen_moved g.R.Key.Ord.cmp (g.R.Rules.machine c.self.inside.memos.rules) g.M.Stamp.point told_puts (record { inputs = c.self.inside.inputs; accounts = c.self.inside.accounts.items; opened = c.self.inside.opened; clients = c.self.inside.clients; runs = c.put_back-in-Ring.new.self.items; started = c.self.inside.started }) (record { inputs = c.self.inside.inputs; accounts = c.self.inside.accounts.items; opened = c.self.inside.opened; clients = c.self.inside.clients; runs = c.close_ring.new.runs.items; started = c.self.inside.started }) l c.close_ring.ensures.seen (λ k. refl) (record { inputs = refl; opened = refl; clients = refl; started = refl })
           (back_moved g.R.Key.Ord.cmp (g.R.Rules.machine c.self.inside.memos.rules) g.M.Stamp.point told_puts (held (record { rules = c.self.inside.memos.rules; places = c.self.inside.memos.places; inputs = c.self.inside.inputs; accounts = c.self.inside.accounts; opened = c.self.inside.opened; clients = c.self.inside.clients; waiting = c.self.inside.waiting.items; runs = c.self.inside.runs; started = c.self.inside.started; claims = c.self.inside.claims })) (record { inputs = c.self.inside.inputs; accounts = c.self.inside.accounts.items; opened = c.self.inside.opened; clients = c.self.inside.clients; runs = c.put_back-in-Ring.new.self.items; started = c.self.inside.started }) l c.args.run c.in-Some.taken c.look-looked.new.self s here c.look-looked.ensures.same (told.0 ∙ sym (none_of (out_at c.in-Some.taken.top) (λ e. false_true (sym c.if-is_out.false ∙ c.is_out.ensures.1 e)))) set.found (λ k. refl) (record { inputs = refl; opened = refl; clients = refl; started = refl })),
-    ))
+    )))
 
 pub invariant_of-self-in-Err-close_ring : goal.invariant_of-self-in-Err-close_ring
 invariant_of-self-in-Err-close_ring g c =
@@ -588,13 +601,14 @@ returns-in-Err-close_ring-clause-moved g c =
     (rw c.in-Some.is at c.take.ensures.more_room) (rw c.number-id.ensures at c.put_back-in-Ring.ensures.found) c.put_back-in-Ring.ensures.room c.put_back-in-Ring.ensures.above in
     let told = rw c.in-Ring.is at (c.in-Ok.ensures {u = tt}).looked in
     rw (← c.self.view_is)
+    (goes_by g.R.Key.Ord.cmp (g.R.Rules.machine c.self.inside.memos.rules) g.M.Stamp.point _ _ _ (all_same _ _ (λ k. refl))
     (λ l s.
     let b = goes_on g.R.Key.Ord.cmp (g.R.Rules.machine c.self.inside.memos.rules) g.M.Stamp.point told_puts c.self.inside.memos.rules (held (record { rules = c.self.inside.memos.rules; places = c.self.inside.memos.places; inputs = c.self.inside.inputs; accounts = c.self.inside.accounts; opened = c.self.inside.opened; clients = c.self.inside.clients; waiting = c.self.inside.waiting.items; runs = c.self.inside.runs; started = c.self.inside.started; claims = c.self.inside.claims })) l c.args.run c.in-Some.taken s here (λ o. false_true (sym c.if-is_overtaken.false ∙ c.is_overtaken.ensures.1 (rw c.now-now.ensures.now o))) (none_of (out_at c.in-Some.taken.top) (λ e. false_true (sym c.if-is_out.false ∙ c.is_out.ensures.1 e))) in (
       l,
       (b.0, b.1, refl),
       seen_moved g.R.Key.Ord.cmp (g.R.Rules.machine c.self.inside.memos.rules) g.M.Stamp.point told_puts (record { inputs = c.self.inside.inputs; accounts = c.self.inside.accounts.items; opened = c.self.inside.opened; clients = c.self.inside.clients; runs = c.put_back-in-Ring.new.self.items; started = c.self.inside.started }) (record { inputs = c.self.inside.inputs; accounts = c.self.inside.accounts.items; opened = c.self.inside.opened; clients = c.self.inside.clients; runs = c.close_ring.new.runs.items; started = c.self.inside.started }) l c.close_ring.ensures.seen (λ k. refl) (record { inputs = refl; opened = refl; clients = refl; started = refl })
           (back_moved g.R.Key.Ord.cmp (g.R.Rules.machine c.self.inside.memos.rules) g.M.Stamp.point told_puts (held (record { rules = c.self.inside.memos.rules; places = c.self.inside.memos.places; inputs = c.self.inside.inputs; accounts = c.self.inside.accounts; opened = c.self.inside.opened; clients = c.self.inside.clients; waiting = c.self.inside.waiting.items; runs = c.self.inside.runs; started = c.self.inside.started; claims = c.self.inside.claims })) (record { inputs = c.self.inside.inputs; accounts = c.self.inside.accounts.items; opened = c.self.inside.opened; clients = c.self.inside.clients; runs = c.put_back-in-Ring.new.self.items; started = c.self.inside.started }) l c.args.run c.in-Some.taken c.look-looked.new.self s here c.look-looked.ensures.same (told.0 ∙ sym (none_of (out_at c.in-Some.taken.top) (λ e. false_true (sym c.if-is_out.false ∙ c.is_out.ensures.1 e)))) set.found (λ k. refl) (record { inputs = refl; opened = refl; clients = refl; started = refl })),
-    ))
+    )))
 
 pub look-looked-requires-clause-idle : goal.look-looked-requires-clause-idle
 look-looked-requires-clause-idle g c = none_of (out_at c.in-Some.taken.top) (λ e. false_true (sym c.if-is_out.false ∙ c.is_out.ensures.1 e))
@@ -702,3 +716,10 @@ returns-in-Err-close_ring-clause-counted g c =
     let again = rw c.look-looked.ensures.rules at c.close_ring.ensures.renewed in
     let begun = rw c.look-looked.ensures.rules at c.close_ring.ensures.begun in
     rw (← c.self.view_is) (λ log x. ring_counted g.R.Key.Ord.cmp exact (g.R.Rules.machine c.self.inside.memos.rules) c.self.inside.inputs log (memo_at g.R.Key.Ord.cmp c.self.inside.memos.places) (memo_at g.R.Key.Ord.cmp c.look-looked.new.memos.places) c.self.inside.runs.items c.put_back-in-Ring.new.self.items c.args.run c.in-Some.taken here (memo_at g.R.Key.Ord.cmp c.close_ring.new.memos.places) c.close_ring.new.runs.items c.look-looked.new.self c.look-looked.ensures.renewed set.found c.look-looked.ensures.same c.look-looked.ensures.begun again begun x)
+
+pub end_run-requires-clause-told : goal.end_run-requires-clause-told
+end_run-requires-clause-told g c =
+    let same : c.in-Some-ok.stamp ≡ c.self.inside.stamp = of_ok c.again.result (λ m. m ≡ c.self.inside.stamp) c.in-Some-ok.stamp (sym c.ok.ensures.value ∙ c.in-Some-ok.is) c.again.ensures.again in
+    let told = rw c.in-Answered.is at (c.in-Ok.ensures {u = tt}).looked in
+    told_answer g.R.Key.Ord.cmp g.R.Rules.machine c.self.inside.memos.rules g.M.Stamp.point c.self.inside.inputs _ _ c.now-now.result _ c.in-Some.taken.request c.in-Answered.answer c.in-Some-ok.stamp c.look-looked.ensures.same.request told.0
+    (ap (λ (m : g.row.M.Denot). g.M.Stamp.point m) same ∙ c.self.invariant.stamped) c.now-now.ensures.now

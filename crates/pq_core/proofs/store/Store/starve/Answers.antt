@@ -1,4 +1,5 @@
 use Rattle.std.proofs.Common.{◌≤◌, true, length, refl, sym, arith, []}
+use Rattle.pq_core.proofs.Making.{goes_by, all_same}
 use Rattle.pq_core.specs.Told.{told_puts}
 use Rattle.pq_core.specs.RightReply.{answer_by}
 use Rattle.pq_core.specs.Stores.{held}
@@ -8,17 +9,17 @@ use Rattle.pq_core.proofs.RunsKept.{same_runs, stopped_runs}
 use Rattle.pq_core.proofs.Changing.{none_taken}
 use Rattle.pq_core.proofs.Keeping.{kept_starves}
 use Rattle.pq_core.proofs.StoreOpening.{unmoved}
-use Rattle.pq_core.proofs.StoreRunning.{end_queue, run_here, no_run, run_within, end_moved}
+use Rattle.pq_core.proofs.StoreRunning.{ends_of, end_queue, end_advances, run_here, no_run, run_running, end_moved}
 use Rattle.pq_rules.proofs.Weight.{Exact}
 use Rattle.pq_memo.specs.Table.{memo_at}
 use Rattle.pq_core.proofs.StoreCounting.{lost_counted, same_counted}
 use Rattle.pq_core.proofs.Renewed.{renewed_same}
 use Rattle.pq_core.proofs.store.Store.starve.Goals as goal
 
-pub end_run-requires-clause-within : goal.end_run-requires-clause-within
-end_run-requires-clause-within g c =
+pub end_run-requires-clause-running : goal.end_run-requires-clause-running
+end_run-requires-clause-running g c =
     let here = sym (rw c.number.ensures at (c.in-Some.ensures {u = tt}).value) in
-    λ account h. run_within g.R.Key.Ord.cmp (g.R.Rules.machine c.self.inside.memos.rules) g.M.Stamp.point told_puts (held (record { rules = c.self.inside.memos.rules; places = c.self.inside.memos.places; inputs = c.self.inside.inputs; accounts = c.self.inside.accounts; opened = c.self.inside.opened; clients = c.self.inside.clients; waiting = c.self.inside.waiting.items; runs = c.self.inside.runs; started = c.self.inside.started; claims = c.self.inside.claims })) c.self.invariant.ledger.0 c.args.run c.in-Some.taken account c.self.invariant.ledger.1 here h
+    λ account h. run_running g.R.Key.Ord.cmp (g.R.Rules.machine c.self.inside.memos.rules) g.M.Stamp.point told_puts (held (record { rules = c.self.inside.memos.rules; places = c.self.inside.memos.places; inputs = c.self.inside.inputs; accounts = c.self.inside.accounts; opened = c.self.inside.opened; clients = c.self.inside.clients; waiting = c.self.inside.waiting.items; runs = c.self.inside.runs; started = c.self.inside.started; claims = c.self.inside.claims })) c.self.invariant.ledger.0 c.args.run c.in-Some.taken account c.self.invariant.ledger.1 here h
 
 pub invariant_of-self : goal.invariant_of-self
 invariant_of-self g c =
@@ -28,15 +29,15 @@ invariant_of-self g c =
     let x = run_here g.R.Key.Ord.cmp (g.R.Rules.machine c.self.inside.memos.rules) g.M.Stamp.point told_puts (held (record { rules = c.self.inside.memos.rules; places = c.self.inside.memos.places; inputs = c.self.inside.inputs; accounts = c.self.inside.accounts; opened = c.self.inside.opened; clients = c.self.inside.clients; waiting = c.self.inside.waiting.items; runs = c.self.inside.runs; started = c.self.inside.started; claims = c.self.inside.claims })) w.ledger.0 c.args.run c.in-Some.taken w.ledger.1 here in
     let move : Starves c.args.run true w.ledger.0 (ended w.ledger.0 x.at true Starved) = (x.at, x.runs, refl) in
     let stands = end_moved g.R.Key.Ord.cmp (g.R.Rules.machine c.self.inside.memos.rules) g.M.Stamp.point told_puts (held (record { rules = c.self.inside.memos.rules; places = c.self.inside.memos.places; inputs = c.self.inside.inputs; accounts = c.self.inside.accounts; opened = c.self.inside.opened; clients = c.self.inside.clients; waiting = c.self.inside.waiting.items; runs = c.self.inside.runs; started = c.self.inside.started; claims = c.self.inside.claims })) (record { inputs = c.self.inside.inputs; accounts = c.end_run.new.accounts.items; opened = c.self.inside.opened; clients = c.self.inside.clients; runs = c.take.new.self.items; started = c.self.inside.started }) w.ledger.0 c.args.run c.in-Some.taken true Starved x w.ledger.1 here runs
-    (λ account h k. rw c.now-now.ensures.now at ((c.end_run.ensures.«open» account h).found k)) (λ h k. (c.end_run.ensures.closed h).found k) (record { inputs = refl; opened = refl; clients = refl; started = refl })
+    (λ account h. ends_of (rw c.now-now.ensures.now at (c.end_run.ensures.«open» account h))) (λ h k. (c.end_run.ensures.closed h).found k) (record { inputs = refl; opened = refl; clients = refl; started = refl })
     (kept_starves (answer_by g.R.Key.Ord.cmp (g.R.Rules.machine c.self.inside.memos.rules) g.M.Stamp.point) told_puts c.args.run true w.ledger.0 _ w.ledger.1.kept move) in
     record {
       stamped = c.self.invariant.stamped;
       kept = w.kept;
       accounts_above = c.end_run.ensures.above c.self.inside.clients w.accounts_above;
       runs_above = c.take.ensures.above c.self.inside.started w.runs_above;
-      queue = end_queue g.R.Key.Ord.cmp (g.R.Rules.machine c.self.inside.memos.rules) g.M.Stamp.point told_puts _ _ _ w.ledger.0 c.args.run c.in-Some.taken c.in-Some.taken _ w.ledger.1 here (record { client = refl; number = refl; request = refl; started = refl })
-          (λ account h k. (c.end_run.ensures.«open» account h).found k) (λ h k. (c.end_run.ensures.closed h).found k) w.queue;
+      queue = end_queue _ _ _ c.in-Some.taken.client c.in-Some.taken.number _
+          (λ account h. ends_of (c.end_run.ensures.«open» account h)) (λ h k. (c.end_run.ensures.closed h).found k) w.queue;
       room =
           let a : length c.self.inside.waiting.items ≤ c.self.inside.runs.room = w.room in
           let b : c.self.inside.runs.room ≤ c.take.new.self.room = c.take.ensures.room in
@@ -50,13 +51,14 @@ returns-in-Some-clause-moved g c =
     let here = sym (rw c.number.ensures at (c.in-Some.ensures {u = tt}).value) in
     let runs = rw c.number.ensures at c.take.ensures.found in
     rw (← c.self.view_is)
+    (goes_by g.R.Key.Ord.cmp (g.R.Rules.machine c.self.inside.memos.rules) g.M.Stamp.point _ _ _ (end_advances _ _ c.in-Some.taken.client c.in-Some.taken.number _ (λ account h. ends_of (c.end_run.ensures.«open» account h)) (λ h k. (c.end_run.ensures.closed h).found k))
     (λ l s.
     let x = run_here g.R.Key.Ord.cmp (g.R.Rules.machine c.self.inside.memos.rules) g.M.Stamp.point told_puts (held (record { rules = c.self.inside.memos.rules; places = c.self.inside.memos.places; inputs = c.self.inside.inputs; accounts = c.self.inside.accounts; opened = c.self.inside.opened; clients = c.self.inside.clients; waiting = c.self.inside.waiting.items; runs = c.self.inside.runs; started = c.self.inside.started; claims = c.self.inside.claims })) l c.args.run c.in-Some.taken s here in
     let move : Starves c.args.run true l (ended l x.at true Starved) = (x.at, x.runs, refl) in
     let stands = end_moved g.R.Key.Ord.cmp (g.R.Rules.machine c.self.inside.memos.rules) g.M.Stamp.point told_puts (held (record { rules = c.self.inside.memos.rules; places = c.self.inside.memos.places; inputs = c.self.inside.inputs; accounts = c.self.inside.accounts; opened = c.self.inside.opened; clients = c.self.inside.clients; waiting = c.self.inside.waiting.items; runs = c.self.inside.runs; started = c.self.inside.started; claims = c.self.inside.claims })) (record { inputs = c.self.inside.inputs; accounts = c.end_run.new.accounts.items; opened = c.self.inside.opened; clients = c.self.inside.clients; runs = c.take.new.self.items; started = c.self.inside.started }) l c.args.run c.in-Some.taken true Starved x s here runs
-    (λ account h k. rw c.now-now.ensures.now at ((c.end_run.ensures.«open» account h).found k)) (λ h k. (c.end_run.ensures.closed h).found k) (record { inputs = refl; opened = refl; clients = refl; started = refl })
+    (λ account h. ends_of (rw c.now-now.ensures.now at (c.end_run.ensures.«open» account h))) (λ h k. (c.end_run.ensures.closed h).found k) (record { inputs = refl; opened = refl; clients = refl; started = refl })
     (kept_starves (answer_by g.R.Key.Ord.cmp (g.R.Rules.machine c.self.inside.memos.rules) g.M.Stamp.point) told_puts c.args.run true l _ s.kept move) in
-    (ended l x.at true Starved, move, stands))
+    (ended l x.at true Starved, move, stands)))
 
 pub invariant_of-self-in-None : goal.invariant_of-self-in-None
 invariant_of-self-in-None g c =
@@ -92,6 +94,7 @@ returns-in-None-clause-moved g c =
     let nothing = sym (rw c.number.ensures at (c.in-None.ensures {u = tt}).value) in
     let same = none_taken c.self.inside.runs c.take.new.self c.args.run nothing (rw c.number.ensures at c.take.ensures.found) c.take.ensures.above c.take.ensures.room in
     rw (← c.self.view_is)
+    (goes_by g.R.Key.Ord.cmp (g.R.Rules.machine c.self.inside.memos.rules) g.M.Stamp.point _ _ _ (all_same _ _ (λ k. refl))
     (λ l s. (
       l,
       (no_run g.R.Key.Ord.cmp (g.R.Rules.machine c.self.inside.memos.rules) g.M.Stamp.point told_puts (held (record { rules = c.self.inside.memos.rules; places = c.self.inside.memos.places; inputs = c.self.inside.inputs; accounts = c.self.inside.accounts; opened = c.self.inside.opened; clients = c.self.inside.clients; waiting = c.self.inside.waiting.items; runs = c.self.inside.runs; started = c.self.inside.started; claims = c.self.inside.claims })) l c.args.run s nothing, refl),
@@ -103,7 +106,7 @@ returns-in-None-clause-moved g c =
         runs = same.found;
         started = refl;
       }) s,
-    ))
+    )))
 
 pub returns-in-Some-clause-counted : goal.returns-in-Some-clause-counted
 returns-in-Some-clause-counted g c =
