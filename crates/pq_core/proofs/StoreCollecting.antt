@@ -1,5 +1,5 @@
 -- Replies that are collected, and what was put, at what a store keeps.
-use Rattle.std.proofs.Common.{◌≡◌, ◌≢◌, ℕ, zero, suc, ◌+◌, ◌-◌, ◌<◌, ◌≤◌, ◌==◌, if◌then◌else◌, ◌⊎◌, List, [], ◌∷◌, ◌++◌, drop, length, slice_get, Option, Some, None, refl, sym, ◌∙◌, ap, subst, inl, inr, arith, length-drop}
+use Rattle.std.proofs.Common.{◌≡◌, ◌≢◌, ℕ, false, zero, suc, ◌+◌, ◌-◌, ◌<◌, ◌≤◌, ◌==◌, if◌then◌else◌, ◌⊎◌, List, [], ◌∷◌, ◌++◌, drop, length, slice_get, Option, Some, None, refl, sym, ◌∙◌, ap, subst, inl, inr, arith, length-drop}
 use Rattle.std.specs.Option.{option_map}
 use Rattle.std.specs.declared.cmp.Ordering.{Ordering}
 use Rattle.pq_rules.specs.declared.turn.Answer.{Answer}
@@ -65,6 +65,9 @@ drop_first [] (suc k) = refl
 drop_first (x ∷ xs) k = refl
 
 module _ {K V M : Type 0} where
+  after_none : (account : AccountView K V M) → account_after account 0 ≡ account
+  after_none account = ap (λ (n : ℕ). record { seen = n; stages = account.stages }) (let e : account.seen + 0 ≡ account.seen = omega arith in e)
+
   after_after : (account : AccountView K V M) (k : ℕ) → account_after account (suc k) ≡ account_after (account_after account 1) k
   after_after account k =
       let e : account.seen + suc k ≡ (account.seen + 1) + k = omega arith in
@@ -129,7 +132,7 @@ module _ {K V M : Type 0} (means : M → Point → K → Answer K V → Type 0) 
   unfolding Tells
   tells zero f g l c account s here all set counts q =
       let w = open_of (AccountStands told_puts) means told_puts f l c account s here in
-      (l, refl, reseated (AccountStands told_puts) means told_puts f g l c w.0 account s w.1 (record { here = set.here; others = set.others }) counts q w.2)
+      (l, refl, reseated (AccountStands told_puts) means told_puts f g l c w.0 account s w.1 (record { here = set.here ∙ ap (λ (a : AccountView K V M). Some a) (after_none account); others = set.others }) counts q w.2)
   tells (suc k) f g l c account s here all set counts q =
       let mid : Fields K (AccountView K V M) = record {
         inputs = f.inputs;
