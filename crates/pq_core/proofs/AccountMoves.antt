@@ -372,7 +372,7 @@ module _ {K V M : Type 0} where
       by (inr same) = omega arith
 
   -- the first stages of an account that may be told
-  gone_of : (a : AccountView K V M) (n : ℕ) → MaySee a n → (i : ℕ) → i < n - a.seen → slice_get a.stages i ≡ Some Collected
+  pub gone_of : (a : AccountView K V M) (n : ℕ) → MaySee a n → (i : ℕ) → i < n - a.seen → slice_get a.stages i ≡ Some Collected
   gone_of a n h i less =
       let later = h.later in
       let e : (a.seen + i) - a.seen ≡ i = omega arith in
@@ -396,10 +396,10 @@ module _ {K V M : Type 0} where
     ignored = λ f. absurd (f h);
   }
 
-  seen_here : (a : AccountView K V M) (n m : ℕ) → a.seen ≤ n → n ≤ m → slice_get (drop (n - a.seen) a.stages) (m - n) ≡ slice_get a.stages (m - a.seen)
+  pub seen_here : (a : AccountView K V M) (n m : ℕ) → a.seen ≤ n → n ≤ m → slice_get (drop (n - a.seen) a.stages) (m - n) ≡ slice_get a.stages (m - a.seen)
   seen_here a n m later past = get_drop a.stages (n - a.seen) (m - n) (m - a.seen) (omega arith)
 
-  was_seen : (a : AccountView K V M) (n m : ℕ) (s : Stage K (ReadyView K V M)) → a.seen ≤ n → IsStage (seen_below a n) m s → IsStage a m s
+  pub was_seen : (a : AccountView K V M) (n m : ℕ) (s : Stage K (ReadyView K V M)) → a.seen ≤ n → IsStage (seen_below a n) m s → IsStage a m s
   was_seen a n m s later h =
       let past : n ≤ m = h.past in
       record { past = omega arith; here = sym (seen_here a n m later past) ∙ h.here }
@@ -428,3 +428,30 @@ module _ {K V M : Type 0} where
         once = k.once;
         numbered = λ m ready g. k.numbered m ready (was_seen a n m (Made ready) later g);
       }
+
+-- whether an account may be told
+module _ {K V M : Type 0} where
+  -- whether the first `k` stages are of replies that were collected
+  all_or_not : (stages : List (Stage K (ReadyView K V M))) (k : ℕ) → ((i : ℕ) → i < k → slice_get stages i ≡ Some Collected) ⊎ (((i : ℕ) → i < k → slice_get stages i ≡ Some Collected) → ⊥)
+  all_or_not stages zero = inl (λ i less. absurd (omega arith))
+  all_or_not [] (suc k) = inr (λ f. nothing_there Collected (f 0 (omega arith)))
+  all_or_not (Waiting request accepted ∷ stages) (suc k) = inr (λ f. let e = some_one (Waiting request accepted) Collected (f 0 (omega arith)) in cc)
+  all_or_not (Running accepted ∷ stages) (suc k) = inr (λ f. let e = some_one (Running accepted) Collected (f 0 (omega arith)) in cc)
+  all_or_not (Made ready ∷ stages) (suc k) = inr (λ f. let e = some_one (Made ready) Collected (f 0 (omega arith)) in cc)
+  all_or_not (Collected ∷ stages) (suc k) = elim (all_or_not stages k) [
+    | inl f ↦ inl (first_too f)
+    | inr f ↦ inr (λ g. f (λ i less. g (suc i) (omega arith)))
+  ]
+    where
+      first_too : ((i : ℕ) → i < k → slice_get stages i ≡ Some Collected) → (i : ℕ) → i < suc k → slice_get (Collected ∷ stages) i ≡ Some Collected
+      first_too f zero less = refl
+      first_too f (suc i) less = f i (omega arith)
+
+  pub may_or_not : (a : AccountView K V M) (n : ℕ) → MaySee a n ⊎ (MaySee a n → ⊥)
+  may_or_not a n = elim (before_or_not n a.seen) [
+    | inl early ↦ inr (λ h. let later = h.later in absurd (omega arith))
+    | inr late ↦ elim (all_or_not a.stages (n - a.seen)) [
+      | inl f ↦ inl (may_see a n late f)
+      | inr f ↦ inr (λ h. f (gone_of a n h))
+    ]
+  ]

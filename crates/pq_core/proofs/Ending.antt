@@ -99,6 +99,42 @@ module _ {K V M L O : Type 0} (AsSeat : L → Client K V M O → Type 0) (means 
       both : true ≡ false → ⊥
       both o = cc
 
+  -- an open client gets another seat, and the ledger stays as it is
+  pub reseated : (f g : Fields K L) (l : Ledger K V M O) (c : ℕ) (client : Client K V M O) (seat : L) → Stands AsSeat means puts f l → IsOpen l c client
+      → SeatSet f g c (Some seat) → SameCounts f g → SameRuns f g → AsSeat seat client → Stands AsSeat means puts g l
+  reseated f g l c client seat s is_open set counts q as_seat = record {
+    inputs = s.inputs ∙ sym counts.inputs;
+    clients = s.clients ∙ sym counts.clients;
+    opened = s.opened ∙ sym counts.opened;
+    started = s.started ∙ sym q.started;
+    within = λ k other h. elim (same_or_other k c) [
+      | inl is ↦ subst (λ (j : ℕ). j < g.clients) (sym is) (subst (λ (n : ℕ). c < n) (s.clients ∙ sym counts.clients) (get_within l.clients c client is_open.here))
+      | inr ne ↦ subst (λ (n : ℕ). k < n) (sym counts.clients) (s.within k other (sym (set.others k ne) ∙ h))
+    ];
+    each = λ k x h. elim (same_or_other k c) [
+      | inl is ↦
+          subst (λ (y : ℕ). ClientStands AsSeat g y x) (sym is)
+          (subst (λ (y : Client K V M O). ClientStands AsSeat g c y) (some_one client x (sym is_open.here ∙ (ap (slice_get l.clients) (sym is) ∙ h))) here_stands)
+      | inr ne ↦ client_elsewhere AsSeat f g c 0 k x (elsewhere_seat f g c 0 (Some seat) set q) ne (s.each k x h)
+    ];
+    runs = λ r run h. s.runs r run (sym (q.runs r) ∙ h);
+    kept = s.kept;
+  }
+    where
+      both : true ≡ false → ⊥
+      both o = cc
+
+      here_stands : ClientStands AsSeat g c client
+      here_stands = record {
+        seat = λ o. (seat, set.here, as_seat);
+        shut = λ o. absurd (both (sym is_open.open_yet ∙ o));
+        dropped = λ o. absurd (both (sym is_open.open_yet ∙ o));
+        entries = λ i entry h.
+            entry_elsewhere f g c (suc i) c i entry entry.place (elsewhere_seat f g c (suc i) (Some seat) set q)
+            (λ v. let e : i ≡ suc i = v.1 in absurd (omega arith))
+            ((s.each c client is_open.here).entries i entry h);
+      }
+
   -- a reply that was ready is put
   pub put_stands : (f g : Fields K L) (l m : Ledger K V M O) (c n : ℕ) (client : Client K V M O) (entry : Entry K V M) (reply : ReplyView K V M) (seat : L) (o : O)
       → Stands AsSeat means puts f l → IsOpen l c client → slice_get client.entries n ≡ Some entry → entry.place ≡ Ready reply

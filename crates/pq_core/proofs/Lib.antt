@@ -31,6 +31,7 @@ pub mod RingRuns
 pub mod RingMembers
 pub mod RingLeaving
 pub mod StoreClosing
+pub mod StoreCollecting
 pub mod StoreResting
 pub mod StoreStarting
 pub mod Counting

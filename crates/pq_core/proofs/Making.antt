@@ -158,7 +158,7 @@ module _ {K V M : Type 0} where
 
 module _ {K V M : Type 0} where
   -- a stage of a request whose reply is ready
-  made_or_collected : (stage : Stage K (ReadyView K V M)) (entry : Entry K V M) (reply : ReplyView K V M) → entry.place ≡ PlaceReady reply → StageStands stage entry
+  pub made_or_collected : (stage : Stage K (ReadyView K V M)) (entry : Entry K V M) (reply : ReplyView K V M) → entry.place ≡ PlaceReady reply → StageStands stage entry
       → (stage ≡ Made (record { reply = reply; accepted = entry.accepted })) ⊎ (stage ≡ Collected)
   made_or_collected (Waiting request accepted) entry reply is s = let e = s.0 in absurd (cc)
   made_or_collected (Running accepted) entry reply is s = let e = s.3 in absurd (cc)

@@ -33,6 +33,10 @@ pub true_not : (t : Bool) → (t ≡ true → ⊥) → not t ≡ true
 true_not true f = absurd (f refl)
 true_not false f = refl
 
+pub all_true : (t : Bool) → ((t ≡ true → ⊥) → ⊥) → t ≡ true
+all_true true f = refl
+all_true false f = absurd (f (λ e. not_both false refl e))
+
 -- a list without a length is empty
 pub no_length : {A : Type 0} (xs : List A) → length xs ≡ 0 → xs ≡ []
 no_length [] h = refl
