@@ -38,3 +38,9 @@ pub mod Counting
 pub mod RulesBegun
 pub mod StoreCounting
 pub mod RingBegun
+pub mod Told
+pub mod PlaceMoves
+pub mod CorePassing
+pub mod CoreServing
+pub mod CoreLeaving
+pub mod CoreResting

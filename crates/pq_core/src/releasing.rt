@@ -46,12 +46,25 @@ impl<R: Rules, M: Stamp, O: Outbox<R, M> + Drop> Core<R, M, O> {
             None => return Released::Nothing,
             Some(taken) => {
                 let mut lane = taken;
-                let released = lane.release();
-                if let Released::Put(_) = released {
-                    self.store.put_seen(client, lane.put());
+                match lane.release() {
+                    Released::Put(number) => {
+                        self.store.put_seen(client, lane.put());
+                        self.lanes.put_back(seat, lane);
+                        return Released::Put(number);
+                    }
+                    Released::Full => {
+                        self.lanes.put_back(seat, lane);
+                        return Released::Full;
+                    }
+                    Released::Gone => {
+                        self.lanes.put_back(seat, lane);
+                        return Released::Gone;
+                    }
+                    Released::Nothing => {
+                        self.lanes.put_back(seat, lane);
+                        return Released::Nothing;
+                    }
                 }
-                self.lanes.put_back(seat, lane);
-                return released;
             }
         }
     }

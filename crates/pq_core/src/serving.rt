@@ -179,6 +179,7 @@ impl<R: Rules, M: Stamp, O: Outbox<R, M> + Drop> Core<R, M, O> {
             Ok(moved) => {
                 if ends(&moved) {
                     pass_on_asked(&mut self.store, &mut self.lanes, asked);
+                    return Ok(moved);
                 }
                 return Ok(moved);
             }
@@ -212,6 +213,7 @@ impl<R: Rules, M: Stamp, O: Outbox<R, M> + Drop> Core<R, M, O> {
             Ok(moved) => {
                 if ends(&moved) {
                     pass_on_asked(&mut self.store, &mut self.lanes, asked);
+                    return Ok(moved);
                 }
                 return Ok(moved);
             }
