@@ -33,7 +33,7 @@ pub record SameButAccounts {K P V M : Type 0} (b a : Held K P V M) : Type 0 wher
 module _ {K P V M O : Type 0} (order : K → K → Ordering) (m : Machine K P V) (point : M → Point) (puts : O → List (ReplyView K V M)) where
   pub same_runs : (b a : Held K P V M) → SameButAccounts b a → SameRuns (fields_of b) (fields_of a)
   same_runs b a e = record {
-    runs = λ r. ap (λ (x : List (Slot _)). option_map run_seen (found x r)) e.runs;
+    runs = λ r. ap (λ (x : List (Place _)). option_map run_seen (found x r)) e.runs;
     started = e.started;
   }
 
@@ -43,7 +43,7 @@ module _ {K P V M O : Type 0} (order : K → K → Ordering) (m : Machine K P V)
     accounts = accounts;
     opened = count;
     clients = e.clients;
-    runs = λ k. ap (λ (x : List (Slot _)). found x k) e.runs;
+    runs = λ k. ap (λ (x : List (Place _)). found x k) e.runs;
     started = e.started;
   }
 
@@ -57,7 +57,7 @@ module _ {K P V M O : Type 0} (order : K → K → Ordering) (m : Machine K P V)
   -- a client that has an account is counted
   pub some_opened : (b : Held K P V M) (l : Ledger K V M O) (c : ℕ) (account : AccountView K V M) → StandsOf order m point puts b l → found b.accounts c ≡ Some account → 1 ≤ b.opened
   some_opened b l c account s h =
-      let w = open_of (AccountStands told_puts) (answer_by order m point) told_puts (fields_of b) l c account s h in
+      let w = open_of (AccountStands puts) (answer_by order m point) puts (fields_of b) l c account s h in
       let less = count_closed l.clients c w.0 (closed w.0) w.1.here w.1.open_yet refl in
       let all = s.opened in
       omega arith
@@ -84,8 +84,8 @@ module _ {K P V M O : Type 0} (order : K → K → Ordering) (m : Machine K P V)
       → SameButAccounts b a → a.opened ≡ b.opened → StandsOf order m point puts b l → Reaches (Shuts c false) l (StandsOf order m point puts a)
   close_none b a c l none accounts e count s = (
     l,
-    (λ client o. none_open (AccountStands told_puts) (answer_by order m point) told_puts (fields_of b) l c s none client o, refl),
-    unmoved order m point told_puts b a l (same_maps b a e count accounts) s,
+    (λ client o. none_open (AccountStands puts) (answer_by order m point) puts (fields_of b) l c s none client o, refl),
+    unmoved order m point puts b a l (same_maps b a e count (λ k. accounts k ∙ as_was k)) s,
   )
     where
       as_was : (k : ℕ) → (if k == c then None else found b.accounts k) ≡ found b.accounts k

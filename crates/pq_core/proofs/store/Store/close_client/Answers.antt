@@ -52,15 +52,15 @@ returns-in-Some-clause-moved g c =
 pub invariant_of-self-in-None : goal.invariant_of-self-in-None
 invariant_of-self-in-None g c =
     let w = c.self.invariant in
-    let same = (none_taken c.self.inside.accounts c.take.new.self c.number-seat.result (sym c.in-None.ensures.value) c.take.ensures.found c.take.ensures.above c.take.ensures.room) in
-    let moved = close_none g.R.Key.Ord.cmp (g.R.Rules.machine c.self.inside.memos.rules) g.M.Stamp.point _ _ c.number-seat.result w.ledger.0 (sym c.in-None.ensures.value) same.found
+    let moved = close_none g.R.Key.Ord.cmp (g.R.Rules.machine c.self.inside.memos.rules) g.M.Stamp.point told_puts _ _ c.number-seat.result w.ledger.0
+    (sym c.in-None.ensures.value) c.take.ensures.found
     (record { inputs = refl; clients = refl; runs = refl; started = refl }) refl w.ledger.1 in
     record {
       stamped = c.self.invariant.stamped;
       kept = w.kept;
       accounts_above = c.take.ensures.above c.self.inside.clients w.accounts_above;
       runs_above = w.runs_above;
-      queue = queue_same _ _ _ same.found w.queue;
+      queue = queue_same _ _ _ (none_taken c.self.inside.accounts c.take.new.self c.number-seat.result (sym c.in-None.ensures.value) c.take.ensures.found c.take.ensures.above c.take.ensures.room).found w.queue;
       room = w.room;
       runs = w.runs;
       ledger = (moved.0, moved.2);
@@ -68,7 +68,6 @@ invariant_of-self-in-None g c =
 
 pub returns-in-None-clause-moved : goal.returns-in-None-clause-moved
 returns-in-None-clause-moved g c =
-    let same = (none_taken c.self.inside.accounts c.take.new.self c.number-seat.result (sym c.in-None.ensures.value) c.take.ensures.found c.take.ensures.above c.take.ensures.room) in
     rw (← c.self.view_is)
     (rw (← c.number-seat.ensures)
     (goes_by g.R.Key.Ord.cmp (g.R.Rules.machine c.self.inside.memos.rules) g.M.Stamp.point _ _ _ (all_same _ _ (none_taken c.self.inside.accounts c.take.new.self c.number-seat.result (sym c.in-None.ensures.value) c.take.ensures.found c.take.ensures.above c.take.ensures.room).found)
