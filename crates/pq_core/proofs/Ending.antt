@@ -4,63 +4,63 @@ use Rattle.std.proofs.Common.{◌≡◌, ◌≢◌, ℕ, zero, suc, ◌+◌, ◌
 use Rattle.pq_rules.specs.declared.turn.Answer.{Answer}
 use Rattle.pq_core.proofs.Lists.{get_set, get_within, get_map, set_long, set_same, set_other, same_or_other, some_one, none_some}
 use Rattle.pq_core.proofs.Standing.{entry_elsewhere, client_elsewhere, count_same, count_closed, restand}
-use Rattle.pq_core.proofs.Calling.{LaneSet, RunSet, SameCounts, run_entry, placed}
-use Rattle.pq_core.proofs.Moving.{SameRuns, elsewhere_lane, none_there, waiting_place}
+use Rattle.pq_core.proofs.Calling.{SeatSet, RunSet, SameCounts, run_entry, placed}
+use Rattle.pq_core.proofs.Moving.{SameRuns, elsewhere_seat, none_there}
 use Rattle.pq_core.specs.Points.{Point}
 use Rattle.pq_core.specs.Replies.{ReplyView}
 use Rattle.pq_core.specs.Ledger.{Out, Place, Waiting, Running, Ready, Put, Dropped, Entry, Client, Ledger, IsOpen, with_client, with_entry, moved_to, with_outbox, place_closed, entry_closed, closed}
 use Rattle.pq_core.specs.Moves.{RunAt, Runs, open_count, ended, ended_entry, place_ended, reply_at, with_out}
 use Rattle.pq_core.specs.Kept.{Kept}
-use Rattle.pq_core.specs.aux.Stands.{RunSeen, Fields, EntryStands, ClientStands, HasRun, Stands}
+use Rattle.pq_core.specs.aux.Stands.{RunSeen, Fields, EntryStands, IsOwedNothing, ClientStands, HasRun, Stands}
 use Rattle.pq_core.specs.declared.outcome.Outcome.{Outcome}
 
 abbrev ready_place : {K V M : Type 0} → ReplyView K V M → Place K V M
 ready_place reply = Ready reply
 
-module _ {K V M L O : Type 0} (AsLane : L → Client K V M O → Type 0) (means : M → Point → K → Answer K V → Type 0) (puts : O → List (ReplyView K V M)) where
+module _ {K V M L O : Type 0} (AsSeat : L → Client K V M O → Type 0) (means : M → Point → K → Answer K V → Type 0) (puts : O → List (ReplyView K V M)) where
   ended_entry_stands : (g : Fields K L) (c n : ℕ) (entry : Entry K V M) (flag : Bool) (reply : ReplyView K V M) → EntryStands g c n entry (place_ended flag reply)
   ended_entry_stands g c n entry true reply = tt
   ended_entry_stands g c n entry false reply = tt
 
-  ended_not_waiting : (flag : Bool) (reply : ReplyView K V M) → place_ended flag reply ≡ waiting_place → ⊥
-  ended_not_waiting true reply e = cc
-  ended_not_waiting false reply e = cc
+  ended_nothing : (flag : Bool) (reply : ReplyView K V M) → flag ≡ false → IsOwedNothing (place_ended flag reply)
+  ended_nothing true reply e = absurd (both e)
+    where
+      both : true ≡ false → ⊥
+      both f = cc
+  ended_nothing false reply e = tt
 
-  -- a run ends: its reply is in the lane of its client, if that is open
+  -- a run ends: its reply is in the seat of its client, if that is open
   pub end_stands : (f g : Fields K L) (l m : Ledger K V M O) (r : ℕ) (at : RunAt K V M O) (starved : Bool) (outcome : Outcome K V M)
-      → Stands AsLane means puts f l → Runs l r at → SameCounts f g → RunSet f g r None → g.started ≡ f.started
-      → ((k : ℕ) → k ≢ at.c → g.lanes k ≡ f.lanes k)
-      → (at.client.is_open ≡ true → (lane : L) × (g.lanes at.c ≡ Some lane) × AsLane lane (with_entry at.client at.n (ended_entry l at starved outcome)))
-      → (at.client.is_open ≡ false → g.lanes at.c ≡ None)
-      → m ≡ ended l at starved outcome → Kept means puts m → Stands AsLane means puts g m
-  end_stands f g l m r at starved outcome s h counts runs started lanes lane shut e kept =
-      run_entry AsLane means puts f g l m r at (ended_entry l at starved outcome) None s h counts runs started lanes lane shut
-      (λ o p. ended_not_waiting at.client.is_open (reply_at l at outcome) p)
+      → Stands AsSeat means puts f l → Runs l r at → SameCounts f g → RunSet f g r None → g.started ≡ f.started
+      → ((k : ℕ) → k ≢ at.c → g.seats k ≡ f.seats k)
+      → (at.client.is_open ≡ true → (seat : L) × (g.seats at.c ≡ Some seat) × AsSeat seat (with_entry at.client at.n (ended_entry l at starved outcome)))
+      → (at.client.is_open ≡ false → g.seats at.c ≡ None)
+      → m ≡ ended l at starved outcome → Kept means puts m → Stands AsSeat means puts g m
+  end_stands f g l m r at starved outcome s h counts runs started seats seat shut e kept =
+      run_entry AsSeat means puts f g l m r at (ended_entry l at starved outcome) None s h counts runs started seats seat shut
+      (λ o. ended_nothing at.client.is_open (reply_at l at outcome) o)
       (ended_entry_stands g at.c at.n (ended_entry l at starved outcome) at.client.is_open (reply_at l at outcome))
       (λ seen x. absurd (none_some seen x))
       e kept
 
   -- the work of a run is handed out, or its result was taken
   pub out_stands : (f g : Fields K L) (l m : Ledger K V M O) (r : ℕ) (at : RunAt K V M O) (out : Option (Out K))
-      → Stands AsLane means puts f l → Runs l r at → SameCounts f g
+      → Stands AsSeat means puts f l → Runs l r at → SameCounts f g
       → RunSet f g r (Some (record { client = at.c; number = at.n; request = at.entry.request; started = at.started; out = out }))
-      → g.started ≡ f.started → ((k : ℕ) → g.lanes k ≡ f.lanes k)
-      → ((lane : L) → AsLane lane at.client → AsLane lane (with_entry at.client at.n (moved_to at.entry (Running r at.started out))))
-      → m ≡ with_out l r at out → Kept means puts m → Stands AsLane means puts g m
-  out_stands f g l m r at out s h counts runs started lanes as_lane e kept =
+      → g.started ≡ f.started → ((k : ℕ) → g.seats k ≡ f.seats k)
+      → ((seat : L) → AsSeat seat at.client → AsSeat seat (with_entry at.client at.n (moved_to at.entry (Running r at.started out))))
+      → m ≡ with_out l r at out → Kept means puts m → Stands AsSeat means puts g m
+  out_stands f g l m r at out s h counts runs started seats as_seat e kept =
       let x = s.each at.c at.client h.is_entry.client_here in
       let below = (subst (λ (p : Place K V M). EntryStands f at.c at.n at.entry p) h.runs (x.entries at.n at.entry h.is_entry.here)).0 in
-      run_entry AsLane means puts f g l m r at (moved_to at.entry (Running r at.started out)) _ s h counts runs started (λ k ne. lanes k)
-      (λ o. let w = x.lane o in (w.0, lanes at.c ∙ w.1, as_lane w.0 w.2))
-      (λ o. lanes at.c ∙ x.shut o)
-      (λ o p. running_not p)
+      run_entry AsSeat means puts f g l m r at (moved_to at.entry (Running r at.started out)) _ s h counts runs started (λ k ne. seats k)
+      (λ o. let w = x.seat o in (w.0, seats at.c ∙ w.1, as_seat w.0 w.2))
+      (λ o. seats at.c ∙ x.shut o)
+      (λ o. tt)
       (subst (λ (i : ℕ). r < i) (sym started) below, runs.here)
       (λ seen y. fits seen (sym (some_one _ seen y)))
       e kept
     where
-      running_not : placed {K = K} {V = V} {M = M} r at.started out ≡ waiting_place → ⊥
-      running_not p = cc
-
       fits : (seen : RunSeen K) → seen ≡ record { client = at.c; number = at.n; request = at.entry.request; started = at.started; out = out }
           → (seen.client ≡ at.c) × (seen.number ≡ at.n) × (placed {K = K} {V = V} {M = M} r at.started out ≡ placed r seen.started seen.out) × (seen.request ≡ at.entry.request)
       fits seen y = (
@@ -71,21 +71,21 @@ module _ {K V M L O : Type 0} (AsLane : L → Client K V M O → Type 0) (means 
       )
 
   -- an open client stays open, and at most its request `n` changes, which is in no run
-  pub open_restand : (f g : Fields K L) (l m : Ledger K V M O) (c n : ℕ) (client after : Client K V M O) (lane : L)
-      → Stands AsLane means puts f l → IsOpen l c client → after.is_open ≡ true → LaneSet f g c (Some lane) → SameCounts f g → SameRuns f g
+  pub open_restand : (f g : Fields K L) (l m : Ledger K V M O) (c n : ℕ) (client after : Client K V M O) (seat : L)
+      → Stands AsSeat means puts f l → IsOpen l c client → after.is_open ≡ true → SeatSet f g c (Some seat) → SameCounts f g → SameRuns f g
       → ((i : ℕ) (entry : Entry K V M) → i ≢ n → slice_get client.entries i ≡ Some entry → slice_get after.entries i ≡ Some entry)
       → ((i : ℕ) (entry : Entry K V M) → slice_get after.entries i ≡ Some entry → (slice_get client.entries i ≡ Some entry) × (i ≢ n) ⊎ EntryStands g c i entry entry.place)
       → ((entry : Entry K V M) (r s : ℕ) (o : Option (Out K)) → slice_get client.entries n ≡ Some entry → entry.place ≡ Running r s o → ⊥)
-      → AsLane lane after → m ≡ with_client l c after → Kept means puts m → Stands AsLane means puts g m
-  open_restand f g l m c n client after lane s is_open still set counts q same entries none as_lane e kept =
-      let elsewhere = elsewhere_lane f g c n (Some lane) set q in
+      → AsSeat seat after → m ≡ with_client l c after → Kept means puts m → Stands AsSeat means puts g m
+  open_restand f g l m c n client after seat s is_open still set counts q same entries none as_seat e kept =
+      let elsewhere = elsewhere_seat f g c n (Some seat) set q in
       let x = s.each c client is_open.here in
-      restand AsLane means puts f g l m c n client after s is_open.here elsewhere counts.inputs counts.clients
+      restand AsSeat means puts f g l m c n client after s is_open.here elsewhere counts.inputs counts.clients
       (ap (λ (y : Ledger K V M O). y.inputs) e) (ap (λ (y : Ledger K V M O). y.clients) e) (ap (λ (y : Ledger K V M O). y.runs) e ∙ (s.started ∙ sym q.started))
       (count_same l.clients c client after is_open.here (still ∙ sym is_open.open_yet) ∙ (s.opened ∙ sym counts.opened))
       same
       (record {
-        lane = λ o. (lane, set.here, as_lane);
+        seat = λ o. (seat, set.here, as_seat);
         shut = λ o. absurd (both (sym still ∙ o));
         dropped = λ o. absurd (both (sym still ∙ o));
         entries = λ i entry h. elim (entries i entry h) [
@@ -93,49 +93,85 @@ module _ {K V M L O : Type 0} (AsLane : L → Client K V M O → Type 0) (means 
           | inr w ↦ w
         ];
       })
-      (none_there AsLane means puts f g l c n client after.entries s is_open.here q.runs none)
+      (none_there AsSeat means puts f g l c n client after.entries s is_open.here q.runs none)
       kept
     where
       both : true ≡ false → ⊥
       both o = cc
 
+  -- an open client gets another seat, and the ledger stays as it is
+  pub reseated : (f g : Fields K L) (l : Ledger K V M O) (c : ℕ) (client : Client K V M O) (seat : L) → Stands AsSeat means puts f l → IsOpen l c client
+      → SeatSet f g c (Some seat) → SameCounts f g → SameRuns f g → AsSeat seat client → Stands AsSeat means puts g l
+  reseated f g l c client seat s is_open set counts q as_seat = record {
+    inputs = s.inputs ∙ sym counts.inputs;
+    clients = s.clients ∙ sym counts.clients;
+    opened = s.opened ∙ sym counts.opened;
+    started = s.started ∙ sym q.started;
+    within = λ k other h. elim (same_or_other k c) [
+      | inl is ↦ subst (λ (j : ℕ). j < g.clients) (sym is) (subst (λ (n : ℕ). c < n) (s.clients ∙ sym counts.clients) (get_within l.clients c client is_open.here))
+      | inr ne ↦ subst (λ (n : ℕ). k < n) (sym counts.clients) (s.within k other (sym (set.others k ne) ∙ h))
+    ];
+    each = λ k x h. elim (same_or_other k c) [
+      | inl is ↦
+          subst (λ (y : ℕ). ClientStands AsSeat g y x) (sym is)
+          (subst (λ (y : Client K V M O). ClientStands AsSeat g c y) (some_one client x (sym is_open.here ∙ (ap (slice_get l.clients) (sym is) ∙ h))) here_stands)
+      | inr ne ↦ client_elsewhere AsSeat f g c 0 k x (elsewhere_seat f g c 0 (Some seat) set q) ne (s.each k x h)
+    ];
+    runs = λ r run h. s.runs r run (sym (q.runs r) ∙ h);
+    kept = s.kept;
+  }
+    where
+      both : true ≡ false → ⊥
+      both o = cc
+
+      here_stands : ClientStands AsSeat g c client
+      here_stands = record {
+        seat = λ o. (seat, set.here, as_seat);
+        shut = λ o. absurd (both (sym is_open.open_yet ∙ o));
+        dropped = λ o. absurd (both (sym is_open.open_yet ∙ o));
+        entries = λ i entry h.
+            entry_elsewhere f g c (suc i) c i entry entry.place (elsewhere_seat f g c (suc i) (Some seat) set q)
+            (λ v. let e : i ≡ suc i = v.1 in absurd (omega arith))
+            ((s.each c client is_open.here).entries i entry h);
+      }
+
   -- a reply that was ready is put
-  pub put_stands : (f g : Fields K L) (l m : Ledger K V M O) (c n : ℕ) (client : Client K V M O) (entry : Entry K V M) (reply : ReplyView K V M) (lane : L) (o : O)
-      → Stands AsLane means puts f l → IsOpen l c client → slice_get client.entries n ≡ Some entry → entry.place ≡ Ready reply
-      → LaneSet f g c (Some lane) → SameCounts f g → SameRuns f g
-      → AsLane lane (with_outbox (with_entry client n (moved_to entry Put)) o false)
-      → m ≡ with_client l c (with_outbox (with_entry client n (moved_to entry Put)) o false) → Kept means puts m → Stands AsLane means puts g m
-  put_stands f g l m c n client entry reply lane o s is_open here ready set counts q as_lane e kept =
-      open_restand f g l m c n client (with_outbox (with_entry client n (moved_to entry Put)) o false) lane s is_open is_open.open_yet set counts q
+  pub put_stands : (f g : Fields K L) (l m : Ledger K V M O) (c n : ℕ) (client : Client K V M O) (entry : Entry K V M) (reply : ReplyView K V M) (seat : L) (o : O)
+      → Stands AsSeat means puts f l → IsOpen l c client → slice_get client.entries n ≡ Some entry → entry.place ≡ Ready reply
+      → SeatSet f g c (Some seat) → SameCounts f g → SameRuns f g
+      → AsSeat seat (with_outbox (with_entry client n (moved_to entry Put)) o false)
+      → m ≡ with_client l c (with_outbox (with_entry client n (moved_to entry Put)) o false) → Kept means puts m → Stands AsSeat means puts g m
+  put_stands f g l m c n client entry reply seat o s is_open here ready set counts q as_seat e kept =
+      open_restand f g l m c n client (with_outbox (with_entry client n (moved_to entry Put)) o false) seat s is_open is_open.open_yet set counts q
       (λ i other ne w. set_other client.entries n (moved_to entry Put) i ne ∙ w)
       (λ i other h. elim (get_set client.entries n (moved_to entry Put) i other h) [
         | inl w ↦ inr (subst (λ (y : Entry K V M). EntryStands g c i y y.place) (sym w.1) tt)
         | inr w ↦ inl (w.1, w.0)
       ])
       (λ other r st u h p. ready_not (sym ready ∙ (ap (λ (y : Entry K V M). y.place) (some_one entry other (sym here ∙ h)) ∙ p)))
-      as_lane e kept
+      as_seat e kept
     where
       ready_not : {r st : ℕ} {u : Option (Out K)} → ready_place {K = K} {V = V} {M = M} reply ≡ placed {K = K} {V = V} {M = M} r st u → ⊥
       ready_not x = cc
 
   -- the outbox of an open client changes, and not its requests
-  pub outbox_stands : (f g : Fields K L) (l m : Ledger K V M O) (c : ℕ) (client : Client K V M O) (lane : L) (o : O) (refused : Bool)
-      → Stands AsLane means puts f l → IsOpen l c client → LaneSet f g c (Some lane) → SameCounts f g → SameRuns f g
-      → AsLane lane (with_outbox client o refused) → m ≡ with_client l c (with_outbox client o refused) → Kept means puts m → Stands AsLane means puts g m
-  outbox_stands f g l m c client lane o refused s is_open set counts q as_lane e kept =
-      open_restand f g l m c (length client.entries) client (with_outbox client o refused) lane s is_open is_open.open_yet set counts q
+  pub outbox_stands : (f g : Fields K L) (l m : Ledger K V M O) (c : ℕ) (client : Client K V M O) (seat : L) (o : O) (refused : Bool)
+      → Stands AsSeat means puts f l → IsOpen l c client → SeatSet f g c (Some seat) → SameCounts f g → SameRuns f g
+      → AsSeat seat (with_outbox client o refused) → m ≡ with_client l c (with_outbox client o refused) → Kept means puts m → Stands AsSeat means puts g m
+  outbox_stands f g l m c client seat o refused s is_open set counts q as_seat e kept =
+      open_restand f g l m c (length client.entries) client (with_outbox client o refused) seat s is_open is_open.open_yet set counts q
       (λ i other ne w. w)
       (λ i other h. inl (h, below i other h))
       (λ other r st u h p. below (length client.entries) other h refl)
-      as_lane e kept
+      as_seat e kept
     where
       below : (i : ℕ) (other : Entry K V M) → slice_get client.entries i ≡ Some other → i ≢ length client.entries
       below i other h w = let a : i < length client.entries = get_within client.entries i other h in let b : i ≡ length client.entries = w in absurd (omega arith)
 
   -- a client is closed
-  pub close_stands : (f g : Fields K L) (l m : Ledger K V M O) (c : ℕ) (client : Client K V M O) → Stands AsLane means puts f l → IsOpen l c client
-      → LaneSet f g c None → g.inputs ≡ f.inputs → g.opened + 1 ≡ f.opened → g.clients ≡ f.clients → SameRuns f g
-      → m ≡ with_client l c (closed client) → Kept means puts m → Stands AsLane means puts g m
+  pub close_stands : (f g : Fields K L) (l m : Ledger K V M O) (c : ℕ) (client : Client K V M O) → Stands AsSeat means puts f l → IsOpen l c client
+      → SeatSet f g c None → g.inputs ≡ f.inputs → g.opened + 1 ≡ f.opened → g.clients ≡ f.clients → SameRuns f g
+      → m ≡ with_client l c (closed client) → Kept means puts m → Stands AsSeat means puts g m
   close_stands f g l m c client s is_open set inputs count clients q e kept = record {
     inputs = ap (λ (y : Ledger K V M O). y.inputs) e ∙ (s.inputs ∙ sym inputs);
     clients = ap (λ (xs : List (Client K V M O)). length xs) clients_set ∙ (set_long l.clients c (closed client) ∙ (s.clients ∙ sym clients));
@@ -145,15 +181,15 @@ module _ {K V M L O : Type 0} (AsLane : L → Client K V M O → Type 0) (means 
         let d : g.opened + 1 ≡ f.opened = count in
         ap (λ (xs : List (Client K V M O)). open_count xs) clients_set ∙ omega arith;
     started = ap (λ (y : Ledger K V M O). y.runs) e ∙ (s.started ∙ sym q.started);
-    within = λ k lane h. elim (same_or_other k c) [
-      | inl w ↦ absurd (none_some lane (sym set.here ∙ (ap g.lanes (sym w) ∙ h)))
-      | inr w ↦ subst (λ (i : ℕ). k < i) (sym clients) (s.within k lane (sym (set.others k w) ∙ h))
+    within = λ k seat h. elim (same_or_other k c) [
+      | inl w ↦ absurd (none_some seat (sym set.here ∙ (ap g.seats (sym w) ∙ h)))
+      | inr w ↦ subst (λ (i : ℕ). k < i) (sym clients) (s.within k seat (sym (set.others k w) ∙ h))
     ];
     each = λ k x h. elim (get_set l.clients c (closed client) k x (ap (λ (xs : List (Client K V M O)). slice_get xs k) (sym clients_set) ∙ h)) [
       | inl w ↦
-          subst (λ (y : ℕ). ClientStands AsLane g y x) (sym w.0)
-          (subst (λ (y : Client K V M O). ClientStands AsLane g c y) (sym w.1) closed_stands)
-      | inr w ↦ client_elsewhere AsLane f g c 0 k x (elsewhere_lane f g c 0 None set q) w.0 (s.each k x w.1)
+          subst (λ (y : ℕ). ClientStands AsSeat g y x) (sym w.0)
+          (subst (λ (y : Client K V M O). ClientStands AsSeat g c y) (sym w.1) closed_stands)
+      | inr w ↦ client_elsewhere AsSeat f g c 0 k x (elsewhere_seat f g c 0 None set q) w.0 (s.each k x w.1)
     ];
     runs = λ r run h. run_closed r run (s.runs r run (sym (q.runs r) ∙ h));
     kept = kept;
@@ -172,18 +208,18 @@ module _ {K V M L O : Type 0} (AsLane : L → Client K V M O → Type 0) (means 
       entry_after n entry Put x = tt
       entry_after n entry Dropped x = tt
 
-      closed_not : (place : Place K V M) → place_closed place ≡ waiting_place → ⊥
-      closed_not Waiting p = cc
-      closed_not (Running r st o) p = cc
-      closed_not (Ready reply) p = cc
-      closed_not Put p = cc
-      closed_not Dropped p = cc
+      closed_nothing : (place : Place K V M) → IsOwedNothing (place_closed place)
+      closed_nothing Waiting = tt
+      closed_nothing (Running r st o) = tt
+      closed_nothing (Ready reply) = tt
+      closed_nothing Put = tt
+      closed_nothing Dropped = tt
 
-      closed_stands : ClientStands AsLane g c (closed client)
+      closed_stands : ClientStands AsSeat g c (closed client)
       closed_stands = record {
-        lane = λ o. absurd (both o);
+        seat = λ o. absurd (both o);
         shut = λ o. set.here;
-        dropped = λ o n entry h p. let w = get_map entry_closed client.entries n entry h in closed_not w.0.place (ap (λ (y : Entry K V M). y.place) (sym w.2) ∙ p);
+        dropped = λ o n entry h. let w = get_map entry_closed client.entries n entry h in subst (λ (y : Entry K V M). IsOwedNothing y.place) (sym w.2) (closed_nothing w.0.place);
         entries = λ n entry h.
             let w = get_map entry_closed client.entries n entry h in
             subst (λ (y : Entry K V M). EntryStands g c n y y.place) (sym w.2)

@@ -5,7 +5,7 @@ use Rattle.pq_inputs.specs.Sources.{Table}
 use Rattle.pq_rules.specs.declared.turn.Answer.{Answer}
 use Rattle.pq_core.proofs.Lists.{get_append, get_longer, get_within, set_same, set_other, append_long, same_or_other, some_one, none_some}
 use Rattle.pq_core.proofs.Standing.{Elsewhere, RunsThere, entry_elsewhere, client_elsewhere, client_entry, count_same, count_opened, restand}
-use Rattle.pq_core.proofs.Calling.{LaneSet, RunSet, SameCounts, SameFields, stands_same, placed}
+use Rattle.pq_core.proofs.Calling.{SeatSet, RunSet, SameCounts, SameFields, stands_same, placed}
 use Rattle.pq_core.specs.Points.{Point}
 use Rattle.pq_core.specs.Replies.{ReplyView}
 use Rattle.pq_core.specs.Changes.{ChangeView}
@@ -24,24 +24,24 @@ abbrev pub waiting_place : {K V M : Type 0} → Place K V M
 waiting_place = Waiting
 
 module _ {K L : Type 0} where
-  -- but for a lane nothing differs
-  pub elsewhere_lane : (f g : Fields K L) (c n : ℕ) (lane : Option L) → LaneSet f g c lane → SameRuns f g → Elsewhere f g c n
-  elsewhere_lane f g c n lane s q = record {
-    lanes = s.others;
+  -- but for a seat nothing differs
+  pub elsewhere_seat : (f g : Fields K L) (c n : ℕ) (seat : Option L) → SeatSet f g c seat → SameRuns f g → Elsewhere f g c n
+  elsewhere_seat f g c n seat s q = record {
+    seats = s.others;
     later = let a : g.started ≡ f.started = q.started in omega arith;
     kept = λ r run h ne. q.runs r ∙ h;
     back = λ r run h ne. sym (q.runs r) ∙ h;
   }
 
-module _ {K V M L O : Type 0} (AsLane : L → Client K V M O → Type 0) (means : M → Point → K → Answer K V → Type 0) (puts : O → List (ReplyView K V M)) where
+module _ {K V M L O : Type 0} (AsSeat : L → Client K V M O → Type 0) (means : M → Point → K → Answer K V → Type 0) (puts : O → List (ReplyView K V M)) where
   -- a run of the core is older than the next
-  pub run_below : (f : Fields K L) (l : Ledger K V M O) (r : ℕ) (run : RunSeen K) → Stands AsLane means puts f l → f.runs r ≡ Some run → r < f.started
+  pub run_below : (f : Fields K L) (l : Ledger K V M O) (r : ℕ) (run : RunSeen K) → Stands AsSeat means puts f l → f.runs r ≡ Some run → r < f.started
   run_below f l r run s h =
       let x = s.runs r run h in
       (subst (λ (p : Place K V M). EntryStands f run.client run.number x.entry p) x.runs ((s.each run.client x.client x.client_here).entries run.number x.entry x.here)).0
 
   -- no run is of a request that is not in a run
-  pub none_there : (f g : Fields K L) (l : Ledger K V M O) (c n : ℕ) (client : Client K V M O) (entries : List (Entry K V M)) → Stands AsLane means puts f l
+  pub none_there : (f g : Fields K L) (l : Ledger K V M O) (c n : ℕ) (client : Client K V M O) (entries : List (Entry K V M)) → Stands AsSeat means puts f l
       → slice_get l.clients c ≡ Some client → ((r : ℕ) → g.runs r ≡ f.runs r)
       → ((entry : Entry K V M) (r s : ℕ) (o : Option (Out K)) → slice_get client.entries n ≡ Some entry → entry.place ≡ Running r s o → ⊥)
       → RunsThere g c n entries
@@ -53,11 +53,11 @@ module _ {K V M L O : Type 0} (AsLane : L → Client K V M O → Type 0) (means 
       x.runs)
 
   -- a client is opened
-  pub open_stands : (f g : Fields K L) (l m : Ledger K V M O) (lane : L) (outbox : O) → Stands AsLane means puts f l
-      → LaneSet f g f.clients (Some lane) → SameRuns f g → g.inputs ≡ f.inputs → g.opened ≡ f.opened + 1 → g.clients ≡ f.clients + 1
-      → AsLane lane (opened outbox) → m ≡ record { inputs = l.inputs; clients = l.clients ++ opened outbox ∷ []; runs = l.runs }
-      → Kept means puts m → Stands AsLane means puts g m
-  open_stands f g l m lane outbox s set q inputs count clients as_lane e kept = record {
+  pub open_stands : (f g : Fields K L) (l m : Ledger K V M O) (seat : L) (outbox : O) → Stands AsSeat means puts f l
+      → SeatSet f g f.clients (Some seat) → SameRuns f g → g.inputs ≡ f.inputs → g.opened ≡ f.opened + 1 → g.clients ≡ f.clients + 1
+      → AsSeat seat (opened outbox) → m ≡ record { inputs = l.inputs; clients = l.clients ++ opened outbox ∷ []; runs = l.runs }
+      → Kept means puts m → Stands AsSeat means puts g m
+  open_stands f g l m seat outbox s set q inputs count clients as_seat e kept = record {
     inputs = ap (λ (y : Ledger K V M O). y.inputs) e ∙ (s.inputs ∙ sym inputs);
     clients = ap (λ (xs : List (Client K V M O)). length xs) clients_set ∙ (append_long l.clients (opened outbox) ∙ (ap (λ (n : ℕ). n + 1) s.clients ∙ sym clients));
     opened = ap (λ (xs : List (Client K V M O)). open_count xs) clients_set ∙ (count_opened l.clients outbox ∙ (ap (λ (n : ℕ). n + 1) s.opened ∙ sym count));
@@ -67,8 +67,8 @@ module _ {K V M L O : Type 0} (AsLane : L → Client K V M O → Type 0) (means 
       | inr w ↦ let a : c < f.clients = s.within c x (sym (set.others c w) ∙ h) in let d : g.clients ≡ f.clients + 1 = clients in omega arith
     ];
     each = λ c client h. elim (get_append l.clients (opened outbox) c client (ap (λ (xs : List (Client K V M O)). slice_get xs c) (sym clients_set) ∙ h)) [
-      | inl w ↦ subst (λ (y : Client K V M O). ClientStands AsLane g c y) (sym w.1) (new_client c (w.0 ∙ s.clients))
-      | inr w ↦ client_elsewhere AsLane f g f.clients 0 c client (elsewhere_lane f g f.clients 0 (Some lane) set q) (not_new c client w) (s.each c client w)
+      | inl w ↦ subst (λ (y : Client K V M O). ClientStands AsSeat g c y) (sym w.1) (new_client c (w.0 ∙ s.clients))
+      | inr w ↦ client_elsewhere AsSeat f g f.clients 0 c client (elsewhere_seat f g f.clients 0 (Some seat) set q) (not_new c client w) (s.each c client w)
     ];
     runs = λ r run h.
         let x = s.runs r run (sym (q.runs r) ∙ h) in
@@ -93,9 +93,9 @@ module _ {K V M L O : Type 0} (AsLane : L → Client K V M O → Type 0) (means 
           let is : c ≡ f.clients = w in
           absurd (omega arith)
 
-      new_client : (c : ℕ) → c ≡ f.clients → ClientStands AsLane g c (opened outbox)
+      new_client : (c : ℕ) → c ≡ f.clients → ClientStands AsSeat g c (opened outbox)
       new_client c w = record {
-        lane = λ o. (lane, ap g.lanes w ∙ set.here, as_lane);
+        seat = λ o. (seat, ap g.seats w ∙ set.here, as_seat);
         shut = λ o. absurd (not_shut o);
         dropped = λ o. absurd (not_shut o);
         entries = λ n entry h. absurd (none_some entry h);
@@ -105,13 +105,13 @@ module _ {K V M L O : Type 0} (AsLane : L → Client K V M O → Type 0) (means 
           not_shut o = cc
 
   -- a request is accepted
-  pub accept_stands : (f g : Fields K L) (l m : Ledger K V M O) (c n : ℕ) (client : Client K V M O) (lane : L) (request : Request K) → Stands AsLane means puts f l
-      → IsOpen l c client → n ≡ length client.entries → LaneSet f g c (Some lane) → SameCounts f g → ((r : ℕ) → g.runs r ≡ f.runs r) → g.started ≡ f.started
+  pub accept_stands : (f g : Fields K L) (l m : Ledger K V M O) (c n : ℕ) (client : Client K V M O) (seat : L) (request : Request K) → Stands AsSeat means puts f l
+      → IsOpen l c client → n ≡ length client.entries → SeatSet f g c (Some seat) → SameCounts f g → ((r : ℕ) → g.runs r ≡ f.runs r) → g.started ≡ f.started
       → EntryStands g c n (new_entry {V = V} {M = M} c n request l.inputs.revision) (first_place c n request l.inputs.revision request.want)
-      → AsLane lane (with_new client (new_entry c n request l.inputs.revision))
-      → m ≡ with_client l c (with_new client (new_entry c n request l.inputs.revision)) → Kept means puts m → Stands AsLane means puts g m
-  accept_stands f g l m c n client lane request s is_open number set counts runs started there as_lane e kept =
-      restand AsLane means puts f g l m c n client after s is_open.here elsewhere counts.inputs counts.clients
+      → AsSeat seat (with_new client (new_entry c n request l.inputs.revision))
+      → m ≡ with_client l c (with_new client (new_entry c n request l.inputs.revision)) → Kept means puts m → Stands AsSeat means puts g m
+  accept_stands f g l m c n client seat request s is_open number set counts runs started there as_seat e kept =
+      restand AsSeat means puts f g l m c n client after s is_open.here elsewhere counts.inputs counts.clients
       (ap (λ (y : Ledger K V M O). y.inputs) e) (ap (λ (y : Ledger K V M O). y.clients) e) (ap (λ (y : Ledger K V M O). y.runs) e ∙ (s.started ∙ sym started))
       (count_same l.clients c client after is_open.here refl ∙ (s.opened ∙ sym counts.opened))
       (λ i entry ne h. get_longer client.entries (entry_new ∷ []) i entry h)
@@ -128,15 +128,15 @@ module _ {K V M L O : Type 0} (AsLane : L → Client K V M O → Type 0) (means 
 
       elsewhere : Elsewhere f g c n
       elsewhere = record {
-        lanes = set.others;
+        seats = set.others;
         later = let a : g.started ≡ f.started = started in omega arith;
         kept = λ r run h ne. runs r ∙ h;
         back = λ r run h ne. sym (runs r) ∙ h;
       }
 
-      stands : ClientStands AsLane g c after
+      stands : ClientStands AsSeat g c after
       stands = record {
-        lane = λ o. (lane, set.here, as_lane);
+        seat = λ o. (seat, set.here, as_seat);
         shut = λ o. absurd (both (sym is_open.open_yet ∙ o));
         dropped = λ o. absurd (both (sym is_open.open_yet ∙ o));
         entries = λ i entry h. elim (get_append client.entries entry_new i entry h) [
@@ -154,17 +154,17 @@ module _ {K V M L O : Type 0} (AsLane : L → Client K V M O → Type 0) (means 
           both o = cc
 
   -- an edit is accepted
-  pub edit_stands : (f g : Fields K L) (l m : Ledger K V M O) (change : ChangeView) → Stands AsLane means puts f l
-      → g.inputs ≡ changed f.inputs change → g.opened ≡ f.opened → g.clients ≡ f.clients → ((c : ℕ) → g.lanes c ≡ f.lanes c) → SameRuns f g
-      → m ≡ record { inputs = changed l.inputs change; clients = l.clients; runs = l.runs } → Kept means puts m → Stands AsLane means puts g m
-  edit_stands f g l m change s inputs count clients lanes q e kept =
-      let h : SameFields f (record { inputs = f.inputs; lanes = g.lanes; opened = g.opened; clients = g.clients; runs = g.runs; started = g.started }) = record {
+  pub edit_stands : (f g : Fields K L) (l m : Ledger K V M O) (change : ChangeView) → Stands AsSeat means puts f l
+      → g.inputs ≡ changed f.inputs change → g.opened ≡ f.opened → g.clients ≡ f.clients → ((c : ℕ) → g.seats c ≡ f.seats c) → SameRuns f g
+      → m ≡ record { inputs = changed l.inputs change; clients = l.clients; runs = l.runs } → Kept means puts m → Stands AsSeat means puts g m
+  edit_stands f g l m change s inputs count clients seats q e kept =
+      let h : SameFields f (record { inputs = f.inputs; seats = g.seats; opened = g.opened; clients = g.clients; runs = g.runs; started = g.started }) = record {
         counts = record { inputs = refl; opened = count; clients = clients };
-        lanes = lanes;
+        seats = seats;
         runs = q.runs;
         started = q.started;
       } in
-      let x = stands_same AsLane means puts f _ l h s in
+      let x = stands_same AsSeat means puts f _ l h s in
       record {
         inputs = ap (λ (y : Ledger K V M O). y.inputs) e ∙ (ap (λ (t : Table). changed t change) s.inputs ∙ sym inputs);
         clients = ap (λ (y : Ledger K V M O). length y.clients) e ∙ x.clients;
@@ -173,7 +173,7 @@ module _ {K V M L O : Type 0} (AsLane : L → Client K V M O → Type 0) (means 
         within = x.within;
         each = λ c client w.
             let y = x.each c client (ap (λ (z : Ledger K V M O). slice_get z.clients c) (sym e) ∙ w) in
-            record { lane = y.lane; shut = y.shut; dropped = y.dropped; entries = λ n entry v. entry_same c n entry entry.place (y.entries n entry v) };
+            record { seat = y.seat; shut = y.shut; dropped = y.dropped; entries = λ n entry v. entry_same c n entry entry.place (y.entries n entry v) };
         runs = λ r run w.
             let y = x.runs r run w in
             record {
@@ -188,7 +188,7 @@ module _ {K V M L O : Type 0} (AsLane : L → Client K V M O → Type 0) (means 
       }
     where
       entry_same : (c n : ℕ) (entry : Entry K V M) (place : Place K V M)
-          → EntryStands (record { inputs = f.inputs; lanes = g.lanes; opened = g.opened; clients = g.clients; runs = g.runs; started = g.started }) c n entry place
+          → EntryStands (record { inputs = f.inputs; seats = g.seats; opened = g.opened; clients = g.clients; runs = g.runs; started = g.started }) c n entry place
           → EntryStands g c n entry place
       entry_same c n entry Waiting x = x
       entry_same c n entry (Running r st o) x = x
@@ -197,21 +197,21 @@ module _ {K V M L O : Type 0} (AsLane : L → Client K V M O → Type 0) (means 
       entry_same c n entry Dropped x = x
 
   -- a request is started
-  pub start_stands : (f g : Fields K L) (l m : Ledger K V M O) (c n : ℕ) (client : Client K V M O) (entry : Entry K V M) (lane : L) → Stands AsLane means puts f l
-      → client.is_open ≡ true → Waits l c client n entry → LaneSet f g c (Some lane) → SameCounts f g
+  pub start_stands : (f g : Fields K L) (l m : Ledger K V M O) (c n : ℕ) (client : Client K V M O) (entry : Entry K V M) (seat : L) → Stands AsSeat means puts f l
+      → client.is_open ≡ true → Waits l c client n entry → SeatSet f g c (Some seat) → SameCounts f g
       → RunSet f g f.started (Some (record { client = c; number = n; request = entry.request; started = l.inputs.revision; out = None }))
       → g.started ≡ f.started + 1
-      → AsLane lane (with_entry client n (moved_to entry (Running f.started l.inputs.revision None)))
-      → m ≡ started_at l f.started c client n entry → Kept means puts m → Stands AsLane means puts g m
-  start_stands f g l m c n client entry lane s is_open w set counts runs started as_lane e kept =
-      restand AsLane means puts f g l m c n client after s w.is_entry.client_here elsewhere counts.inputs counts.clients
+      → AsSeat seat (with_entry client n (moved_to entry (Running f.started l.inputs.revision None)))
+      → m ≡ started_at l f.started c client n entry → Kept means puts m → Stands AsSeat means puts g m
+  start_stands f g l m c n client entry seat s is_open w set counts runs started as_seat e kept =
+      restand AsSeat means puts f g l m c n client after s w.is_entry.client_here elsewhere counts.inputs counts.clients
       (ap (λ (y : Ledger K V M O). y.inputs) e) (ap (λ (y : Ledger K V M O). y.clients) e)
       (ap (λ (y : Ledger K V M O). y.runs) e ∙ (ap (λ (i : ℕ). i + 1) s.started ∙ sym started))
       (count_same l.clients c client after w.is_entry.client_here refl ∙ (s.opened ∙ sym counts.opened))
       (λ i other ne h. set_other client.entries n entry_after i ne ∙ h)
-      (client_entry AsLane f g c n client entry_after elsewhere (s.each c client w.is_entry.client_here)
+      (client_entry AsSeat f g c n client entry_after elsewhere (s.each c client w.is_entry.client_here)
       (let a : g.started ≡ f.started + 1 = started in omega arith, runs.here)
-      (λ o. (lane, set.here, as_lane))
+      (λ o. (seat, set.here, as_seat))
       (λ o. absurd (both (sym is_open ∙ o)))
       (λ o. absurd (both (sym is_open ∙ o))))
       there
@@ -228,7 +228,7 @@ module _ {K V M L O : Type 0} (AsLane : L → Client K V M O → Type 0) (means 
 
       elsewhere : Elsewhere f g c n
       elsewhere = record {
-        lanes = set.others;
+        seats = set.others;
         later = let a : g.started ≡ f.started + 1 = started in omega arith;
         kept = λ r run h ne. runs.others r (let a : r < f.started = run_below f l r run s h in omega arith) ∙ h;
         back = λ r run h ne. elim (same_or_other r f.started) [

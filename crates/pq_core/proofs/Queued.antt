@@ -1,26 +1,23 @@
--- The queue of the requests that wait, after each change of lanes. Only proofs need these lemmas.
+-- The queue of the requests that wait, after each change of accounts. Only proofs need these lemmas.
 use Rattle.std.proofs.Common.{◌≡◌, ◌≢◌, ℕ, suc, ◌+◌, ◌-◌, ◌≤◌, ◌==◌, if◌then◌else◌, ◌⊎◌, Bool, true, false, cond, not, List, [], ◌∷◌, ◌++◌, drop, length, slice_get, Option, Some, None, refl, sym, ◌∙◌, ap, subst, inl, inr, arith}
 use Rattle.std.specs.Prelude.{filter, Result, Ok, Err}
 use Rattle.std.specs.List.{items_where_true}
 use Rattle.std.specs.List.Retain.{IsFiltered, ReturnsInTurn}
 use Rattle.std.proofs.lemmas.Bool.{ne_eqb, eq-eqb}
 use Rattle.pq_rules.specs.Relations.{In}
-use Rattle.pq_rules.proofs.ListLemmas.{get_last}
-use Rattle.pq_core.proofs.Lists.{some_one, none_some, same_or_other, get_set, get_append, get_longer, get_within, set_other}
-use Rattle.pq_core.proofs.Writes.{drop_get}
+use Rattle.pq_core.proofs.Lists.{some_one, none_some, same_or_other}
+use Rattle.pq_core.proofs.AccountMoves.{one_stage, stage_within, set_at, was_at, added_at, was_before, other_at, longer_at}
 use Rattle.pq_core.proofs.Changing.{if_at, if_other}
-use Rattle.pq_core.specs.Replies.{ReplyView}
+use Rattle.pq_core.specs.Lanes.{ReadyView}
+use Rattle.pq_core.specs.Accounts.{AccountView, no_requests, next_of, IsStage, with_stage, with_request, first_stage, seen_below}
 use Rattle.pq_core.specs.declared.rising.Place.{Place}
 use Rattle.pq_core.specs.declared.request.Request.{Request}
 use Rattle.pq_core.specs.declared.request.Want.{Want}
 use Rattle.pq_core.specs.declared.request.Want.TheVariants.{Demand, Fixed}
-use Rattle.pq_core.specs.declared.moves.Released.{Released}
-use Rattle.pq_core.specs.declared.moves.Released.TheVariants.{Put as ReleasedPut, Full as ReleasedFull, Gone as ReleasedGone, Nothing as ReleasedNothing}
-use Rattle.pq_core.specs.declared.lane.Owed.{Owed}
-use Rattle.pq_core.specs.declared.lane.Owed.TheVariants.{Waiting as OwedWaiting, Running as OwedRunning, Ready as OwedReady}
+use Rattle.pq_core.specs.declared.account.Stage.{Stage}
+use Rattle.pq_core.specs.declared.account.Stage.TheVariants.{Waiting, Running, Made, Collected}
 use Rattle.pq_core.specs.Kept.{IsDemand}
 use Rattle.pq_core.specs.aux.Rising.{found}
-use Rattle.pq_core.specs.aux.Lanes.{LaneView, IsOwed, with_owed, pushed, first_owed, LaneReleases, LaneTakes}
 use Rattle.pq_core.specs.aux.Queue.{is_of_other, WaitsIn, IsOnce, IsQueue}
 
 -- what `retain` leaves, where the closure's answer is a function's and the closure stays as it is
@@ -117,133 +114,153 @@ once_none A = tt
 
 -- ---- what waits
 
-abbrev waits_item : {K V M : Type 0} → Request K → Owed K V M
-waits_item request = OwedWaiting request
+-- `waits_stage request accepted` is the stage of a request that waits
+abbrev waits_stage : {K T : Type 0} → Request K → ℕ → Stage K T
+waits_stage request accepted = Waiting request accepted
 
-ready_waits_not : {K V M : Type 0} (reply : ReplyView K V M) (request : Request K) → waits_item {K = K} {V = V} {M = M} request ≡ OwedReady reply → ⊥
-ready_waits_not reply request e = cc
+-- `WaitsNot stage` is that `stage` is not that of a request that waits
+abbrev pub WaitsNot : {K T : Type 0} → Stage K T → Type 0
+WaitsNot {K} {T} stage = (request : Request K) (accepted : ℕ) → waits_stage {K = K} {T = T} request accepted ≡ stage → ⊥
 
-running_waits_not : {K V M : Type 0} (request : Request K) → waits_item {K = K} {V = V} {M = M} request ≡ OwedRunning → ⊥
-running_waits_not request e = cc
+made_waits_not : {K T : Type 0} (ready : T) → WaitsNot {K = K} (Made ready)
+made_waits_not ready request accepted e = cc
+
+running_waits_not : {K T : Type 0} (accepted : ℕ) → WaitsNot {K = K} {T = T} (Running accepted)
+running_waits_not accepted request other e = cc
+
+collected_waits_not : {K T : Type 0} → WaitsNot {K = K} {T = T} Collected
+collected_waits_not request accepted e = cc
 
 seat_one : (c n k i : ℕ) → (k ≡ c) × (i ≡ n) → ◌≡◌ {A = ℕ × ℕ} (k, i) (c, n)
 seat_one c n k i w = ap (λ (j : ℕ). (j, i)) w.0 ∙ ap (λ (j : ℕ). (c, j)) w.1
 
-module _ {K V M O : Type 0} where
-  -- `IsWaiting lane n` is that the request `n` of `lane` waits
-  abbrev IsWaiting : LaneView K V M O → ℕ → Request K → Type 0
-  IsWaiting lane n request = IsOwed lane n (OwedWaiting request)
+module _ {K V M : Type 0} where
+  -- `IsWaiting account n request` is that `request`, the request `n` of `account`, waits
+  pub record IsWaiting (account : AccountView K V M) (n : ℕ) (request : Request K) : Type 0 where
+    pub accepted : ℕ
+    pub waits : IsStage account n (Waiting request accepted)
 
-  -- the lanes stay as they are
-  pub queue_same : (b a : List (Place (LaneView K V M O))) (queue : List (ℕ × ℕ)) → ((k : ℕ) → found a k ≡ found b k) → IsQueue b queue → IsQueue a queue
+  -- the accounts stay as they are
+  pub queue_same : (b a : List (Place (AccountView K V M))) (queue : List (ℕ × ℕ)) → ((k : ℕ) → found a k ≡ found b k) → IsQueue b queue → IsQueue a queue
   queue_same b a queue same q = record {
-    waits = λ c n w. let x = q.waits c n w in (x.0, record { lane = x.1.lane; here = same c ∙ x.1.here; waits = x.1.waits });
-    queued = λ c n request w. q.queued c n request (record { lane = w.lane; here = sym (same c) ∙ w.here; waits = w.waits });
+    waits = λ c n w. let x = q.waits c n w in (x.0, record { account = x.1.account; here = same c ∙ x.1.here; accepted = x.1.accepted; waits = x.1.waits });
+    queued = λ c n request w. q.queued c n request (record { account = w.account; here = sym (same c) ∙ w.here; accepted = w.accepted; waits = w.waits });
     once = q.once;
   }
 
-  -- another lane than the one that is set
-  waits_other : (b a : List (Place (LaneView K V M O))) (c : ℕ) (value : Option (LaneView K V M O)) → ((k : ℕ) → found a k ≡ (if k == c then value else found b k))
+  -- another account than the one that is set
+  waits_other : (b a : List (Place (AccountView K V M))) (c : ℕ) (value : Option (AccountView K V M)) → ((k : ℕ) → found a k ≡ (if k == c then value else found b k))
       → (k i : ℕ) (request : Request K) → k ≢ c → WaitsIn b k i request → WaitsIn a k i request
-  waits_other b a c value set k i request ne w = record { lane = w.lane; here = set k ∙ (if_other k c value (found b k) ne ∙ w.here); waits = w.waits }
+  waits_other b a c value set k i request ne w = record { account = w.account; here = set k ∙ (if_other k c value (found b k) ne ∙ w.here); accepted = w.accepted; waits = w.waits }
 
-  waits_before : (b a : List (Place (LaneView K V M O))) (c : ℕ) (value : Option (LaneView K V M O)) → ((k : ℕ) → found a k ≡ (if k == c then value else found b k))
+  waits_before : (b a : List (Place (AccountView K V M))) (c : ℕ) (value : Option (AccountView K V M)) → ((k : ℕ) → found a k ≡ (if k == c then value else found b k))
       → (k i : ℕ) (request : Request K) → k ≢ c → WaitsIn a k i request → WaitsIn b k i request
-  waits_before b a c value set k i request ne w = record { lane = w.lane; here = sym (set k ∙ if_other k c value (found b k) ne) ∙ w.here; waits = w.waits }
+  waits_before b a c value set k i request ne w = record { account = w.account; here = sym (set k ∙ if_other k c value (found b k) ne) ∙ w.here; accepted = w.accepted; waits = w.waits }
 
-  -- the lane that is set
-  waits_set : (b a : List (Place (LaneView K V M O))) (c : ℕ) (after : LaneView K V M O) → ((k : ℕ) → found a k ≡ (if k == c then Some after else found b k))
+  -- the account that is set
+  waits_set : (b a : List (Place (AccountView K V M))) (c : ℕ) (after : AccountView K V M) → ((k : ℕ) → found a k ≡ (if k == c then Some after else found b k))
       → (k i : ℕ) (request : Request K) → k ≡ c → IsWaiting after i request → WaitsIn a k i request
-  waits_set b a c after set k i request is w = record { lane = after; here = ap (found a) is ∙ (set c ∙ if_at c (Some after) (found b c)); waits = w }
+  waits_set b a c after set k i request is w = record { account = after; here = ap (found a) is ∙ (set c ∙ if_at c (Some after) (found b c)); accepted = w.accepted; waits = w.waits }
 
-  waits_there : (b a : List (Place (LaneView K V M O))) (c : ℕ) (after : LaneView K V M O) → ((k : ℕ) → found a k ≡ (if k == c then Some after else found b k))
+  waits_account : (b : List (Place (AccountView K V M))) (c : ℕ) (account : AccountView K V M) → found b c ≡ Some account
+      → (k i : ℕ) (request : Request K) → k ≡ c → WaitsIn b k i request → IsWaiting account i request
+  waits_account b c account here k i request is w = record {
+    accepted = w.accepted;
+    waits = subst (λ (x : AccountView K V M). IsStage x i (Waiting request w.accepted)) (some_one w.account account (sym w.here ∙ (ap (found b) is ∙ here))) w.waits;
+  }
+
+  waits_there : (b a : List (Place (AccountView K V M))) (c : ℕ) (after : AccountView K V M) → ((k : ℕ) → found a k ≡ (if k == c then Some after else found b k))
       → (k i : ℕ) (request : Request K) → k ≡ c → WaitsIn a k i request → IsWaiting after i request
-  waits_there b a c after set k i request is w =
-      subst (λ (x : LaneView K V M O). IsWaiting x i request)
-      (some_one w.lane after (sym w.here ∙ (ap (found a) is ∙ (set c ∙ if_at c (Some after) (found b c))))) w.waits
+  waits_there b a c after set k i request is w = waits_account a c after (set c ∙ if_at c (Some after) (found b c)) k i request is w
 
-  waits_lane : (b : List (Place (LaneView K V M O))) (c : ℕ) (lane : LaneView K V M O) → found b c ≡ Some lane
-      → (k i : ℕ) (request : Request K) → k ≡ c → WaitsIn b k i request → IsWaiting lane i request
-  waits_lane b c lane here k i request is w =
-      subst (λ (x : LaneView K V M O). IsWaiting x i request) (some_one w.lane lane (sym w.here ∙ (ap (found b) is ∙ here))) w.waits
-
-  -- the lane of one client changes, and what waits in it stays
-  pub queue_lane : (b a : List (Place (LaneView K V M O))) (queue : List (ℕ × ℕ)) (c : ℕ) (lane after : LaneView K V M O) → found b c ≡ Some lane
+  -- the account of one client changes, and what waits in it stays
+  pub queue_account : (b a : List (Place (AccountView K V M))) (queue : List (ℕ × ℕ)) (c : ℕ) (account after : AccountView K V M) → found b c ≡ Some account
       → ((k : ℕ) → found a k ≡ (if k == c then Some after else found b k))
-      → ((n : ℕ) (request : Request K) → IsWaiting lane n request → IsWaiting after n request)
-      → ((n : ℕ) (request : Request K) → IsWaiting after n request → IsWaiting lane n request)
+      → ((n : ℕ) (request : Request K) → IsWaiting account n request → IsWaiting after n request)
+      → ((n : ℕ) (request : Request K) → IsWaiting after n request → IsWaiting account n request)
       → IsQueue b queue → IsQueue a queue
-  queue_lane b a queue c lane after here set stays back q = record {
+  queue_account b a queue c account after here set stays back q = record {
     waits = λ k i w. (
         let x = q.waits k i w in
         elim (same_or_other k c) [
-          | inl is ↦ (x.0, waits_set b a c after set k i x.0 is (stays i x.0 (waits_lane b c lane here k i x.0 is x.1)))
+          | inl is ↦ (x.0, waits_set b a c after set k i x.0 is (stays i x.0 (waits_account b c account here k i x.0 is x.1)))
           | inr ne ↦ (x.0, waits_other b a c (Some after) set k i x.0 ne x.1)
         ]);
     queued = λ k i request w. elim (same_or_other k c) [
       | inl is ↦
-          q.queued k i request
-          (record { lane = lane; here = ap (found b) is ∙ here; waits = back i request (waits_there b a c after set k i request is w) })
+          let y = back i request (waits_there b a c after set k i request is w) in
+          q.queued k i request (record { account = account; here = ap (found b) is ∙ here; accepted = y.accepted; waits = y.waits })
       | inr ne ↦ q.queued k i request (waits_before b a c (Some after) set k i request ne w)
     ];
     once = q.once;
   }
 
-  -- ---- one request of a lane is written
+  -- ---- one request of an account is written
 
   -- the others stay
-  owed_other : (lane : LaneView K V M O) (n k : ℕ) (item : Owed K V M) (request : Request K) → lane.put ≤ n → k ≢ n → IsWaiting lane k request
-      → IsWaiting (with_owed lane n item) k request
-  owed_other lane n k item request past ne w =
-      let at = w.past in
-      record { past = w.past; here = set_other lane.owed (n - lane.put) item (k - lane.put) (omega arith) ∙ w.here }
+  stays_other : (account : AccountView K V M) (n k : ℕ) (stage : Stage K (ReadyView K V M)) (request : Request K) → account.seen ≤ n → k ≢ n → IsWaiting account k request
+      → IsWaiting (with_stage account n stage) k request
+  stays_other account n k stage request past ne w = record { accepted = w.accepted; waits = other_at account n k (Waiting request w.accepted) stage past ne w.waits }
 
-  owed_before : (lane : LaneView K V M O) (n k : ℕ) (item : Owed K V M) (request : Request K) → (waits_item request ≡ item → ⊥) → IsWaiting (with_owed lane n item) k request
-      → (k ≢ n) × IsWaiting lane k request
-  owed_before lane n k item request waits_not w =
-      elim (get_set lane.owed (n - lane.put) item (k - lane.put) (OwedWaiting request) w.here) [
-        | inl x ↦ absurd (waits_not x.1)
-        | inr x ↦ (let ne : k - lane.put ≢ n - lane.put = x.0 in omega arith, record { past = w.past; here = x.1 })
+  waited_before : (account : AccountView K V M) (n k : ℕ) (stage : Stage K (ReadyView K V M)) (request : Request K) → account.seen ≤ n → WaitsNot stage → IsWaiting (with_stage account n stage) k request
+      → (k ≢ n) × IsWaiting account k request
+  waited_before account n k stage request past waits_not w =
+      elim (was_at account n k (Waiting request w.accepted) stage past w.waits) [
+        | inl x ↦ absurd (waits_not request w.accepted x.1)
+        | inr x ↦ (x.0, record { accepted = w.accepted; waits = x.1 })
       ]
 
-  not_there : (lane : LaneView K V M O) (n k : ℕ) (item : Owed K V M) (request : Request K) → IsOwed lane n item → (waits_item request ≡ item → ⊥)
-      → IsWaiting lane k request → k ≢ n
-  not_there lane n k item request at waits_not w is =
-      waits_not (some_one (OwedWaiting request) item (sym w.here ∙ (ap (λ (i : ℕ). slice_get lane.owed (i - lane.put)) is ∙ at.here)))
+  not_there : (account : AccountView K V M) (n k : ℕ) (stage : Stage K (ReadyView K V M)) (request : Request K) → IsStage account n stage → WaitsNot stage
+      → IsWaiting account k request → k ≢ n
+  not_there account n k stage request at waits_not w is =
+      waits_not request w.accepted
+      (one_stage account n (Waiting request w.accepted) stage (subst (λ (i : ℕ). IsStage account i (Waiting request w.accepted)) is w.waits) at)
 
-  -- the reply to a request in a run is made
-  pub queue_finished : (b a : List (Place (LaneView K V M O))) (queue : List (ℕ × ℕ)) (c n : ℕ) (lane : LaneView K V M O) (reply : ReplyView K V M) → found b c ≡ Some lane
-      → IsOwed lane n OwedRunning → ((k : ℕ) → found a k ≡ (if k == c then Some (with_owed lane n (OwedReady reply)) else found b k)) → IsQueue b queue → IsQueue a queue
-  queue_finished b a queue c n lane reply here runs set q =
-      queue_lane b a queue c lane (with_owed lane n (OwedReady reply)) here set
-      (λ k request w. owed_other lane n k (OwedReady reply) request runs.past (not_there lane n k OwedRunning request runs (running_waits_not request) w) w)
-      (λ k request w. (owed_before lane n k (OwedReady reply) request (ready_waits_not reply request) w).1)
+  -- a request that does not wait gets another stage, in which it does not wait
+  pub queue_staged : (b a : List (Place (AccountView K V M))) (queue : List (ℕ × ℕ)) (c n : ℕ) (account : AccountView K V M) (old stage : Stage K (ReadyView K V M)) → found b c ≡ Some account
+      → IsStage account n old → WaitsNot old → WaitsNot stage → ((k : ℕ) → found a k ≡ (if k == c then Some (with_stage account n stage) else found b k)) → IsQueue b queue → IsQueue a queue
+  queue_staged b a queue c n account old stage here at was_not is_not set q =
+      queue_account b a queue c account (with_stage account n stage) here set
+      (λ k request w. stays_other account n k stage request at.past (not_there account n k old request at was_not w) w)
+      (λ k request w. (waited_before account n k stage request at.past is_not w).1)
       q
 
+  -- the reply to a request in a run is made
+  pub queue_finished : (b a : List (Place (AccountView K V M))) (queue : List (ℕ × ℕ)) (c n accepted : ℕ) (account : AccountView K V M) (ready : ReadyView K V M) → found b c ≡ Some account
+      → IsStage account n (Running accepted) → ((k : ℕ) → found a k ≡ (if k == c then Some (with_stage account n (Made ready)) else found b k)) → IsQueue b queue → IsQueue a queue
+  queue_finished b a queue c n accepted account ready here runs set q =
+      queue_staged b a queue c n account (Running accepted) (Made ready) here runs (running_waits_not accepted) (made_waits_not ready) set q
+
+  -- a reply is collected
+  pub queue_collected : (b a : List (Place (AccountView K V M))) (queue : List (ℕ × ℕ)) (c n : ℕ) (account : AccountView K V M) (ready : ReadyView K V M) → found b c ≡ Some account
+      → IsStage account n (Made ready) → ((k : ℕ) → found a k ≡ (if k == c then Some (with_stage account n Collected) else found b k)) → IsQueue b queue → IsQueue a queue
+  queue_collected b a queue c n account ready here made set q =
+      queue_staged b a queue c n account (Made ready) Collected here made (made_waits_not ready) collected_waits_not set q
+
   -- the first of the queue is in a run
-  pub queue_started : (b a : List (Place (LaneView K V M O))) (rest : List (ℕ × ℕ)) (c n : ℕ) (lane : LaneView K V M O) (request : Request K) → found b c ≡ Some lane
-      → IsWaiting lane n request → ((k : ℕ) → found a k ≡ (if k == c then Some (with_owed lane n OwedRunning) else found b k)) → IsQueue b ((c, n) ∷ rest) → IsQueue a rest
+  pub queue_started : (b a : List (Place (AccountView K V M))) (rest : List (ℕ × ℕ)) (c n accepted : ℕ) (account : AccountView K V M) (request : Request K) → found b c ≡ Some account
+      → IsStage account n (Waiting request accepted) → ((k : ℕ) → found a k ≡ (if k == c then Some (with_stage account n (Running accepted)) else found b k)) → IsQueue b ((c, n) ∷ rest) → IsQueue a rest
   unfolding IsOnce
-  queue_started b a rest c n lane request here at set q = record {
+  queue_started b a rest c n accepted account request here at set q = record {
     waits = λ k i w. (
         let x = q.waits k i (inr w) in
         elim (same_or_other k c) [
           | inl is ↦ (
             x.0,
-            waits_set b a c (with_owed lane n OwedRunning) set k i x.0 is
-                (owed_other lane n i OwedRunning x.0 at.past (λ v. q.once.0 (subst (λ (z : ℕ × ℕ). In z rest) (seat_one c n k i (is, v)) w))
-                (waits_lane b c lane here k i x.0 is x.1)),
+            waits_set b a c (with_stage account n (Running accepted)) set k i x.0 is
+                (stays_other account n i (Running accepted) x.0 at.past (λ v. q.once.0 (subst (λ (z : ℕ × ℕ). In z rest) (seat_one c n k i (is, v)) w))
+                (waits_account b c account here k i x.0 is x.1)),
           )
-          | inr ne ↦ (x.0, waits_other b a c (Some (with_owed lane n OwedRunning)) set k i x.0 ne x.1)
+          | inr ne ↦ (x.0, waits_other b a c (Some (with_stage account n (Running accepted))) set k i x.0 ne x.1)
         ]);
     queued = λ k i other w. elim (same_or_other k c) [
       | inl is ↦ (
-          let v = owed_before lane n i OwedRunning other (running_waits_not other) (waits_there b a c (with_owed lane n OwedRunning) set k i other is w) in
-          after_first k i (λ z. v.0 (ap (λ (y : ℕ × ℕ). y.1) z))
-          (q.queued k i other (record { lane = lane; here = ap (found b) is ∙ here; waits = v.1 })))
+          let v = waited_before account n i (Running accepted) other at.past (running_waits_not accepted) (waits_there b a c (with_stage account n (Running accepted)) set k i other is w) in
+          after_first k i (λ e. v.0 (ap (λ (z : ℕ × ℕ). z.1) e))
+          (q.queued k i other (record { account = account; here = ap (found b) is ∙ here; accepted = v.1.accepted; waits = v.1.waits })))
       | inr ne ↦
-          after_first k i (λ z. ne (ap (λ (y : ℕ × ℕ). y.0) z))
-          (q.queued k i other (waits_before b a c (Some (with_owed lane n OwedRunning)) set k i other ne w))
+          after_first k i (λ e. ne (ap (λ (z : ℕ × ℕ). z.0) e))
+          (q.queued k i other (waits_before b a c (Some (with_stage account n (Running accepted))) set k i other ne w))
     ];
     once = q.once.1;
   }
@@ -253,34 +270,32 @@ module _ {K V M O : Type 0} where
 
   -- ---- a request is accepted
 
-  before_first : (lane : LaneView K V M O) (k : ℕ) (item : Owed K V M) (request : Request K) → IsWaiting (pushed lane item) k request
-      → ((k ≡ lane.put + length lane.owed) × (waits_item request ≡ item)) ⊎ IsWaiting lane k request
-  before_first lane k item request w =
-      let past = w.past in
-      elim (get_append lane.owed item (k - lane.put) (OwedWaiting request) w.here) [
-        | inl x ↦ inl (let e : k - lane.put ≡ length lane.owed = x.0 in omega arith, x.1)
-        | inr x ↦ inr (record { past = w.past; here = x })
-      ]
+  before_first : (account : AccountView K V M) (k : ℕ) (stage : Stage K (ReadyView K V M)) (request : Request K) → (w : IsWaiting (with_request account stage) k request)
+      → ((k ≡ next_of account) × (waits_stage request w.accepted ≡ stage)) ⊎ IsWaiting account k request
+  before_first account k stage request w = elim (was_before account k (Waiting request w.accepted) stage w.waits) [
+    | inl x ↦ inl x
+    | inr x ↦ inr (record { accepted = w.accepted; waits = x })
+  ]
 
-  stays_pushed : (lane : LaneView K V M O) (k : ℕ) (item : Owed K V M) (request : Request K) → IsWaiting lane k request → IsWaiting (pushed lane item) k request
-  stays_pushed lane k item request w = record { past = w.past; here = get_longer lane.owed (item ∷ []) (k - lane.put) (OwedWaiting request) w.here }
+  stays_longer : (account : AccountView K V M) (k : ℕ) (stage : Stage K (ReadyView K V M)) (request : Request K) → IsWaiting account k request → IsWaiting (with_request account stage) k request
+  stays_longer account k stage request w = record { accepted = w.accepted; waits = longer_at account k (Waiting request w.accepted) stage w.waits }
 
   -- its reply is ready
-  pub queue_fixed : (b a : List (Place (LaneView K V M O))) (queue : List (ℕ × ℕ)) (c n revision : ℕ) (lane : LaneView K V M O) (request : Request K) (want : Want K) → (IsDemand want → ⊥)
-      → found b c ≡ Some lane → ((k : ℕ) → found a k ≡ (if k == c then Some (pushed lane (first_owed c n request revision want)) else found b k)) → IsQueue b queue → IsQueue a queue
-  queue_fixed b a queue c n revision lane request (Demand key) not_so here set q = absurd (not_so tt)
-  queue_fixed b a queue c n revision lane request (Fixed text) not_so here set q =
-      queue_lane b a queue c lane (pushed lane (first_owed c n request revision (Fixed text))) here set
-      (λ k other w. stays_pushed lane k (first_owed c n request revision (Fixed text)) other w)
-      (λ k other w. elim (before_first lane k (first_owed c n request revision (Fixed text)) other w) [ inl x ↦ absurd (ready_waits_not _ other x.1) | inr v ↦ v ])
+  pub queue_fixed : (b a : List (Place (AccountView K V M))) (queue : List (ℕ × ℕ)) (c n revision : ℕ) (account : AccountView K V M) (request : Request K) (want : Want K) → (IsDemand want → ⊥)
+      → found b c ≡ Some account → ((k : ℕ) → found a k ≡ (if k == c then Some (with_request account (first_stage c n request revision want)) else found b k)) → IsQueue b queue → IsQueue a queue
+  queue_fixed b a queue c n revision account request (Demand key) not_so here set q = absurd (not_so tt)
+  queue_fixed b a queue c n revision account request (Fixed text) not_so here set q =
+      queue_account b a queue c account (with_request account (first_stage c n request revision (Fixed text))) here set
+      (λ k other w. stays_longer account k (first_stage c n request revision (Fixed text)) other w)
+      (λ k other w. elim (before_first account k (first_stage c n request revision (Fixed text)) other w) [ inl x ↦ absurd (made_waits_not _ other w.accepted x.1) | inr v ↦ v ])
       q
 
   -- it waits
-  pub queue_pushed : (b a : List (Place (LaneView K V M O))) (queue after : List (ℕ × ℕ)) (c n revision : ℕ) (lane : LaneView K V M O) (request : Request K) (want : Want K) → IsDemand want
-      → n ≡ lane.put + length lane.owed → found b c ≡ Some lane → ((k : ℕ) → found a k ≡ (if k == c then Some (pushed lane (first_owed c n request revision want)) else found b k))
+  pub queue_pushed : (b a : List (Place (AccountView K V M))) (queue after : List (ℕ × ℕ)) (c n revision : ℕ) (account : AccountView K V M) (request : Request K) (want : Want K) → IsDemand want
+      → n ≡ next_of account → found b c ≡ Some account → ((k : ℕ) → found a k ≡ (if k == c then Some (with_request account (first_stage c n request revision want)) else found b k))
       → after ≡ queue ++ (c, n) ∷ [] → IsQueue b queue → IsQueue a after
-  queue_pushed b a queue after c n revision lane request (Fixed text) so number here set e q = absurd so
-  queue_pushed b a queue after c n revision lane request (Demand key) so number here set e q =
+  queue_pushed b a queue after c n revision account request (Fixed text) so number here set e q = absurd so
+  queue_pushed b a queue after c n revision account request (Demand key) so number here set e q =
       rw e
       (record {
         waits = λ k i w. elim (in_before queue (c, n) (k, i) w) [
@@ -292,52 +307,50 @@ module _ {K V M O : Type 0} where
           | inr v ↦ (
               let x = q.waits k i v in
               elim (same_or_other k c) [
-                | inl is ↦ (x.0, waits_set b a c longer set k i x.0 is (stays_pushed lane i (OwedWaiting request) x.0 (waits_lane b c lane here k i x.0 is x.1)))
+                | inl is ↦ (x.0, waits_set b a c longer set k i x.0 is (stays_longer account i (Waiting request revision) x.0 (waits_account b c account here k i x.0 is x.1)))
                 | inr ne ↦ (x.0, waits_other b a c (Some longer) set k i x.0 ne x.1)
               ])
         ];
         queued = λ k i other w. elim (same_or_other k c) [
-          | inl is ↦ elim (before_first lane i (OwedWaiting request) other (waits_there b a c longer set k i other is w)) [
+          | inl is ↦ elim (before_first account i (Waiting request revision) other (waits_there b a c longer set k i other is w)) [
             | inl x ↦ subst (λ (z : ℕ × ℕ). In z (queue ++ (c, n) ∷ [])) (sym (seat_one c n k i (is, x.0 ∙ sym number))) (in_last queue (c, n))
-            | inr v ↦ in_longer queue (c, n) (k, i) (q.queued k i other (record { lane = lane; here = ap (found b) is ∙ here; waits = v }))
+            | inr v ↦ in_longer queue (c, n) (k, i) (q.queued k i other (record { account = account; here = ap (found b) is ∙ here; accepted = v.accepted; waits = v.waits }))
           ]
           | inr ne ↦ in_longer queue (c, n) (k, i) (q.queued k i other (waits_before b a c (Some longer) set k i other ne w))
         ];
         once = once_longer queue (c, n) q.once (λ w. new (q.waits c n w));
       })
     where
-      longer : LaneView K V M O
-      longer = pushed lane (OwedWaiting request)
+      longer : AccountView K V M
+      longer = with_request account (Waiting request revision)
 
       last : IsWaiting longer n request
-      last = record {
-        past = omega (arith, number);
-        here = ap (slice_get (lane.owed ++ OwedWaiting request ∷ [])) (let e : n - lane.put ≡ length lane.owed = omega (arith, number) in e) ∙ get_last lane.owed (OwedWaiting request);
-      }
+      last = record { accepted = revision; waits = subst (λ (i : ℕ). IsStage longer i (Waiting request revision)) (sym number) (added_at account (Waiting request revision)) }
 
       new : (other : Request K) × WaitsIn b c n other → ⊥
       new x =
-          let w = waits_lane b c lane here c n x.0 refl x.1 in
-          let lt = get_within lane.owed (n - lane.put) (OwedWaiting x.0) w.here in
-          let past = w.past in
-          absurd (omega (arith, number, lt, past))
+          let w = waits_account b c account here c n x.0 refl x.1 in
+          let lt = stage_within account n (Waiting x.0 w.accepted) w.waits in
+          absurd (omega (arith, number, lt))
 
   -- ---- clients
 
   -- a client is opened
-  pub queue_opened : (b a : List (Place (LaneView K V M O))) (queue : List (ℕ × ℕ)) (c : ℕ) (outbox : O) → found b c ≡ None
-      → ((k : ℕ) → found a k ≡ (if k == c then Some (record { outbox = outbox; put = 0; owed = []; refused = false }) else found b k)) → IsQueue b queue → IsQueue a queue
-  queue_opened b a queue c outbox none set q = record {
-    waits = λ k i w. (let x = q.waits k i w in (x.0, waits_other b a c (Some _) set k i x.0 (λ is. none_some x.1.lane (sym none ∙ (ap (found b) (sym is) ∙ x.1.here))) x.1));
+  pub queue_opened : (b a : List (Place (AccountView K V M))) (queue : List (ℕ × ℕ)) (c : ℕ) → found b c ≡ None
+      → ((k : ℕ) → found a k ≡ (if k == c then Some no_requests else found b k)) → IsQueue b queue → IsQueue a queue
+  queue_opened b a queue c none set q = record {
+    waits = λ k i w. (let x = q.waits k i w in (x.0, waits_other b a c (Some no_requests) set k i x.0 (λ is. none_some x.1.account (sym none ∙ (ap (found b) (sym is) ∙ x.1.here))) x.1));
     queued = λ k i request w. elim (same_or_other k c) [
-      | inl is ↦ absurd (none_some (OwedWaiting request) (waits_there b a c (record { outbox = outbox; put = 0; owed = []; refused = false }) set k i request is w).here)
-      | inr ne ↦ q.queued k i request (waits_before b a c (Some _) set k i request ne w)
+      | inl is ↦ (
+          let y = waits_there b a c no_requests set k i request is w in
+          absurd (none_some (waits_stage request y.accepted) y.waits.here))
+      | inr ne ↦ q.queued k i request (waits_before b a c (Some no_requests) set k i request ne w)
     ];
     once = q.once;
   }
 
   -- a client is closed
-  pub queue_closed : (b a : List (Place (LaneView K V M O))) (queue after : List (ℕ × ℕ)) (c : ℕ) → ((k : ℕ) → found a k ≡ (if k == c then None else found b k))
+  pub queue_closed : (b a : List (Place (AccountView K V M))) (queue after : List (ℕ × ℕ)) (c : ℕ) → ((k : ℕ) → found a k ≡ (if k == c then None else found b k))
       → after ≡ filter (λ seat. is_of_other c seat) queue → IsQueue b queue → IsQueue a after
   queue_closed b a queue after c set e q =
       rw e
@@ -358,70 +371,7 @@ module _ {K V M O : Type 0} where
           not_so f = cc
 
       is_left : (k i : ℕ) (request : Request K) → WaitsIn a k i request → k ≢ c
-      is_left k i request w is = none_some w.lane (sym (set c ∙ if_at c None (found b c)) ∙ (ap (found a) (sym is) ∙ w.here))
-
-  -- ---- releases and takes
-
-  with_outbox : (lane : LaneView K V M O) (o : O) (refused : Bool) (n : ℕ) (request : Request K) → IsWaiting lane n request
-      → IsWaiting (record { outbox = o; put = lane.put; owed = lane.owed; refused = refused }) n request
-  with_outbox lane o refused n request w = record { past = w.past; here = w.here }
-
-  without_outbox : (lane : LaneView K V M O) (o : O) (refused : Bool) (n : ℕ) (request : Request K)
-      → IsWaiting (record { outbox = o; put = lane.put; owed = lane.owed; refused = refused }) n request → IsWaiting lane n request
-  without_outbox lane o refused n request w = record { past = w.past; here = w.here }
-
-  -- what waits in a lane waits in another
-  abbrev pub SameWaiting : LaneView K V M O → LaneView K V M O → Type 0
-  SameWaiting l m = ((n : ℕ) (request : Request K) → IsWaiting l n request → IsWaiting m n request) × ((n : ℕ) (request : Request K) → IsWaiting m n request → IsWaiting l n request)
-
-  as_lane : (l m x : LaneView K V M O) → m ≡ x → SameWaiting l x → SameWaiting l m
-  as_lane l m x e s = subst (λ (y : LaneView K V M O). SameWaiting l y) (sym e) s
-
-  after_put : (lane : LaneView K V M O) (o : O) (reply : ReplyView K V M) → slice_get lane.owed 0 ≡ Some (OwedReady reply)
-      → SameWaiting lane (record { outbox = o; put = lane.put + 1; owed = drop 1 lane.owed; refused = false })
-  after_put lane o reply first = (
-    λ n request w.
-        let past = w.past in
-        let ne : n ≢ lane.put = λ is. first_not n request w is in
-        let at : suc (n - (lane.put + 1)) ≡ n - lane.put = omega (arith, past, ne) in
-        record {
-          past = omega (arith, past, ne);
-          here = drop_get lane.owed (n - (lane.put + 1)) ∙ (ap (slice_get lane.owed) at ∙ w.here);
-        },
-    λ n request w.
-        let past : lane.put + 1 ≤ n = w.past in
-        let at : suc (n - (lane.put + 1)) ≡ n - lane.put = omega (arith, past) in
-        record {
-          past = omega (arith, past);
-          here = sym (drop_get lane.owed (n - (lane.put + 1)) ∙ ap (slice_get lane.owed) at) ∙ w.here;
-        },
-  )
-    where
-      first_not : (n : ℕ) (request : Request K) → IsWaiting lane n request → n ≡ lane.put → ⊥
-      first_not n request w is =
-          let zero_at : n - lane.put ≡ 0 = omega (arith, is) in
-          ready_waits_not reply request (some_one (OwedWaiting request) (OwedReady reply) (sym w.here ∙ (ap (slice_get lane.owed) zero_at ∙ first)))
-
-  pub released_waits : (puts takes : O → List (ReplyView K V M)) (was_full was_gone : O → Type 0) (answer : Released) (l m : LaneView K V M O) → LaneReleases puts takes was_full was_gone answer l m → SameWaiting l m
-  released_waits puts takes was_full was_gone (ReleasedPut n) l m (reply, first, e, (o, more, taken, is)) = as_lane l m _ is (after_put l o reply first)
-  released_waits puts takes was_full was_gone ReleasedFull l m (reply, first, (o, same, full, is)) = as_lane l m _ is (with_outbox l o true, without_outbox l o true)
-  released_waits puts takes was_full was_gone ReleasedGone l m (reply, first, (o, same, gone, is)) = as_lane l m _ is (with_outbox l o true, without_outbox l o true)
-  released_waits puts takes was_full was_gone ReleasedNothing l m (none, is) = as_lane l m l is (λ n request w. w, λ n request w. w)
-
-  pub taken_waits : {A : Type 0} (puts takes : O → List (ReplyView K V M)) (answer : Result Bool A) (l m : LaneView K V M O) → LaneTakes puts takes answer l m → SameWaiting l m
-  taken_waits puts takes (Ok true) l m (o, same, next, is) = as_lane l m _ is (with_outbox l o l.refused, without_outbox l o l.refused)
-  taken_waits puts takes (Ok false) l m (all, is) = as_lane l m l is (λ n request w. w, λ n request w. w)
-  taken_waits puts takes (Err failure) l m is = as_lane l m l is (λ n request w. w, λ n request w. w)
-
-  -- a call for the lane of one client that leaves what waits in it
-  pub queue_called : {R : Type 0} (b a : List (Place (LaneView K V M O))) (queue : List (ℕ × ℕ)) (c : ℕ)
-      → ((lane : LaneView K V M O) → found b c ≡ Some lane → (after : LaneView K V M O) × SameWaiting lane after × ((k : ℕ) → found a k ≡ (if k == c then Some after else found b k)))
-      → (found b c ≡ None → R × ((k : ℕ) → found a k ≡ found b k)) → IsQueue b queue → IsQueue a queue
-  queue_called {R} b a queue c opens closes q = by_lane (found b c) refl
-    where
-      by_lane : (lane : Option (LaneView K V M O)) → found b c ≡ lane → IsQueue a queue
-      by_lane (Some lane) here = (let x = opens lane here in queue_lane b a queue c lane x.0 here x.2 x.1.0 x.1.1 q)
-      by_lane None none = queue_same b a queue (closes none).1 q
+      is_left k i request w is = none_some w.account (sym (set c ∙ if_at c None (found b c)) ∙ (ap (found a) (sym is) ∙ w.here))
 
 -- it is no longer than before
 pub no_longer : (c : ℕ) (queue rest : List (ℕ × ℕ)) → rest ≡ filter (λ seat. is_of_other c seat) queue → length rest ≤ length queue

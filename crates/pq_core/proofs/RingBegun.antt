@@ -26,7 +26,7 @@ use Rattle.pq_core.specs.aux.Rings.{IsCut, IsFrameOf, KeyLeaves}
 use Rattle.pq_core.specs.aux.Begun.{IsBegun, IsBegunIn}
 use Rattle.pq_core.proofs.Lists.{some_one}
 use Rattle.pq_core.proofs.Claiming.{lowered_keys}
-use Rattle.pq_core.proofs.CoreCounting.{begun_held}
+use Rattle.pq_core.proofs.StoreCounting.{begun_held}
 use Rattle.pq_core.proofs.RingRuns.{differ_front, frames_differ, in_frames, one_in, top_frames}
 use Rattle.pq_core.proofs.Rounds.{last_in, one_back, precedes_in, ring_next}
 use Rattle.pq_core.proofs.RulesBegun.{lowered_frame}

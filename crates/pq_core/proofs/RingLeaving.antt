@@ -23,7 +23,7 @@ use Rattle.pq_claims.specs.Claims.{Hold, hold_of, Holds, IsSet, WaitsFor, AreSou
 use Rattle.pq_core.specs.declared.rising.Place.{Place}
 use Rattle.pq_core.specs.declared.frames.Top.{Top}
 use Rattle.pq_core.specs.declared.frames.Top.TheVariants.{Empty, At, Away}
-use Rattle.pq_core.specs.Cores.{run_seen}
+use Rattle.pq_core.specs.Stores.{run_seen}
 use Rattle.pq_core.specs.aux.Rising.{found}
 use Rattle.pq_core.specs.aux.Runs.{RunView, RunKept, RunsKept, AreClaimed, FramesKept, HoldsBelow, IsLowered, IsSameRun, OthersHold, Renewed, TopAwaits, WaitStands, claimed_keys, out_at, run_keys}
 use Rattle.pq_core.specs.aux.Rings.{IsCut, KeyLeaves, LeavesRun}

@@ -7,12 +7,12 @@ use Rattle.pq_core.specs.Replies.{ReplyView}
 use Rattle.pq_core.specs.Ledger.{Place, Waiting, Running, Ready, Put, Dropped, Entry, Client, Ledger, with_entry, opened}
 use Rattle.pq_core.specs.Moves.{open_count, one_if}
 use Rattle.pq_core.specs.Kept.{Kept}
-use Rattle.pq_core.specs.aux.Stands.{RunSeen, Fields, EntryStands, ClientStands, HasRun, Stands}
+use Rattle.pq_core.specs.aux.Stands.{RunSeen, Fields, EntryStands, IsOwedNothing, ClientStands, HasRun, Stands}
 
 -- `Elsewhere f g c n` is that `g` keeps of all requests but the request `n` of the client `c`, and
--- of the lanes of other clients, what `f` keeps
+-- of the seats of other clients, what `f` keeps
 pub record Elsewhere {K L : Type 0} (f g : Fields K L) (c n : ℕ) : Type 0 where
-  pub lanes : (k : ℕ) → k ≢ c → g.lanes k ≡ f.lanes k
+  pub seats : (k : ℕ) → k ≢ c → g.seats k ≡ f.seats k
   pub later : f.started ≤ g.started
   pub kept : (r : ℕ) (run : RunSeen K) → f.runs r ≡ Some run → ((run.client ≡ c) × (run.number ≡ n) → ⊥) → g.runs r ≡ Some run
   pub back : (r : ℕ) (run : RunSeen K) → g.runs r ≡ Some run → ((run.client ≡ c) × (run.number ≡ n) → ⊥) → f.runs r ≡ Some run
@@ -37,30 +37,30 @@ module _ {K V M L : Type 0} where
   entry_elsewhere f g c n k i entry Put e ne x = x
   entry_elsewhere f g c n k i entry Dropped e ne x = x
 
-module _ {K V M L O : Type 0} (AsLane : L → Client K V M O → Type 0) where
+module _ {K V M L O : Type 0} (AsSeat : L → Client K V M O → Type 0) where
   -- another client
   pub client_elsewhere : (f g : Fields K L) (c n k : ℕ) (client : Client K V M O) → Elsewhere f g c n → k ≢ c
-      → ClientStands AsLane f k client → ClientStands AsLane g k client
+      → ClientStands AsSeat f k client → ClientStands AsSeat g k client
   client_elsewhere f g c n k client e ne x = record {
-    lane = λ o. let w = x.lane o in (w.0, e.lanes k ne ∙ w.1, w.2);
-    shut = λ s. e.lanes k ne ∙ x.shut s;
+    seat = λ o. let w = x.seat o in (w.0, e.seats k ne ∙ w.1, w.2);
+    shut = λ s. e.seats k ne ∙ x.shut s;
     dropped = x.dropped;
     entries = λ i entry h. entry_elsewhere f g c n k i entry entry.place e (λ w. ne w.0) (x.entries i entry h);
   }
 
   -- the client with another request `n`
   pub client_entry : (f g : Fields K L) (c n : ℕ) (client : Client K V M O) (entry : Entry K V M) → Elsewhere f g c n
-      → ClientStands AsLane f c client → EntryStands g c n entry entry.place
-      → (client.is_open ≡ true → (lane : L) × (g.lanes c ≡ Some lane) × AsLane lane (with_entry client n entry))
-      → (client.is_open ≡ false → g.lanes c ≡ None)
-      → (client.is_open ≡ false → entry.place ≡ Waiting → ⊥)
-      → ClientStands AsLane g c (with_entry client n entry)
-  client_entry f g c n client entry e x here lane shut dropped = record {
-    lane = lane;
+      → ClientStands AsSeat f c client → EntryStands g c n entry entry.place
+      → (client.is_open ≡ true → (seat : L) × (g.seats c ≡ Some seat) × AsSeat seat (with_entry client n entry))
+      → (client.is_open ≡ false → g.seats c ≡ None)
+      → (client.is_open ≡ false → IsOwedNothing entry.place)
+      → ClientStands AsSeat g c (with_entry client n entry)
+  client_entry f g c n client entry e x here seat shut dropped = record {
+    seat = seat;
     shut = shut;
-    dropped = λ o i other h p. elim (get_set client.entries n entry i other h) [
-      | inl w ↦ dropped o (ap (λ (y : Entry K V M). y.place) (sym w.1) ∙ p)
-      | inr w ↦ x.dropped o i other w.1 p
+    dropped = λ o i other h. elim (get_set client.entries n entry i other h) [
+      | inl w ↦ subst (λ (y : Entry K V M). IsOwedNothing y.place) (sym w.1) (dropped o)
+      | inr w ↦ x.dropped o i other w.1
     ];
     entries = λ i other h. elim (get_set client.entries n entry i other h) [
       | inl w ↦
@@ -100,7 +100,7 @@ module _ {K V M O : Type 0} where
       let r : open_count (xs ++ opened outbox ∷ []) ≡ open_count xs + 1 = count_opened xs outbox in
       omega arith
 
-module _ {K V M L O : Type 0} (AsLane : L → Client K V M O → Type 0) (means : M → Point → K → Answer K V → Type 0) (puts : O → List (ReplyView K V M)) where
+module _ {K V M L O : Type 0} (AsSeat : L → Client K V M O → Type 0) (means : M → Point → K → Answer K V → Type 0) (puts : O → List (ReplyView K V M)) where
   -- a run elsewhere
   run_elsewhere : (l m : Ledger K V M O) (c n r : ℕ) (client other : Client K V M O) (run : RunSeen K) → slice_get l.clients c ≡ Some client
       → m.clients ≡ slice_set l.clients c other
@@ -131,18 +131,18 @@ module _ {K V M L O : Type 0} (AsLane : L → Client K V M O → Type 0) (means 
   ]
 
   -- one client of the ledger changes, at its request `n`
-  pub restand : (f g : Fields K L) (l m : Ledger K V M O) (c n : ℕ) (client other : Client K V M O) → Stands AsLane means puts f l
+  pub restand : (f g : Fields K L) (l m : Ledger K V M O) (c n : ℕ) (client other : Client K V M O) → Stands AsSeat means puts f l
       → slice_get l.clients c ≡ Some client → Elsewhere f g c n
       → g.inputs ≡ f.inputs → g.clients ≡ f.clients → m.inputs ≡ l.inputs → m.clients ≡ slice_set l.clients c other → m.runs ≡ g.started
       → open_count (slice_set l.clients c other) ≡ g.opened
       → ((i : ℕ) (entry : Entry K V M) → i ≢ n → slice_get client.entries i ≡ Some entry → slice_get other.entries i ≡ Some entry)
-      → ClientStands AsLane g c other → RunsThere g c n other.entries → Kept means puts m → Stands AsLane means puts g m
+      → ClientStands AsSeat g c other → RunsThere g c n other.entries → Kept means puts m → Stands AsSeat means puts g m
   restand f g l m c n client other s here e inputs clients inputs_same clients_set started counted same stands there kept = record {
     inputs = inputs_same ∙ (s.inputs ∙ sym inputs);
     clients = ap (λ (xs : List (Client K V M O)). length xs) clients_set ∙ (set_long l.clients c other ∙ (s.clients ∙ sym clients));
     opened = ap (λ (xs : List (Client K V M O)). open_count xs) clients_set ∙ counted;
     started = started;
-    within = λ k lane h. elim (same_or_other k c) [
+    within = λ k seat h. elim (same_or_other k c) [
       | inl w ↦
           let a : c < length l.clients = get_within l.clients c client here in
           let b : length l.clients ≡ f.clients = s.clients in
@@ -150,15 +150,15 @@ module _ {K V M L O : Type 0} (AsLane : L → Client K V M O → Type 0) (means 
           let k_is : k ≡ c = w in
           omega arith
       | inr w ↦
-          let a : k < f.clients = s.within k lane (sym (e.lanes k w) ∙ h) in
+          let a : k < f.clients = s.within k seat (sym (e.seats k w) ∙ h) in
           let d : g.clients ≡ f.clients = clients in
           omega arith
     ];
     each = λ k x h. elim (get_set l.clients c other k x (ap (λ (xs : List (Client K V M O)). slice_get xs k) (sym clients_set) ∙ h)) [
       | inl w ↦
-          subst (λ (y : ℕ). ClientStands AsLane g y x) (sym w.0)
-          (subst (λ (y : Client K V M O). ClientStands AsLane g c y) (sym w.1) stands)
-      | inr w ↦ client_elsewhere AsLane f g c n k x e w.0 (s.each k x w.1)
+          subst (λ (y : ℕ). ClientStands AsSeat g y x) (sym w.0)
+          (subst (λ (y : Client K V M O). ClientStands AsSeat g c y) (sym w.1) stands)
+      | inr w ↦ client_elsewhere AsSeat f g c n k x e w.0 (s.each k x w.1)
     ];
     runs = λ r run h. elim (same_or_other run.client c) [
       | inl w ↦ elim (same_or_other run.number n) [

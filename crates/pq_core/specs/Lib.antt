@@ -8,6 +8,10 @@ pub mod Truth
 pub mod Outboxes
 pub mod Moves
 pub mod Kept
+pub mod Told
+pub mod Lanes
+pub mod Accounts
+pub mod Stores
 pub mod Cores
 pub mod Starts
 pub mod aux

@@ -5,7 +5,8 @@
 -- or starved. No core keeps a log: contracts alone speak of it. What a call adds to it is a function
 -- of its answer and of the core before the call (`log_moved`, `log_starved`); all other calls add
 -- nothing. The empty log is counted for a new core, and each call keeps that (`IsCountedFor`). So the
--- bound of `IsCounted` holds of the log of every list of calls.
+-- bound of `IsCounted` holds of the log of every list of calls. The same holds of a store
+-- (`log_moved_in`, `log_starved_in`, `IsCountedIn`), and a core's is that of its store.
 use Rattle.std.specs.Prelude.{ℕ, ◌≡◌, ◌+◌, ◌≤◌, ◌⊎◌, ◌&&◌, Bool, true, false, eqb, List, [], ◌∷◌, ◌++◌, map, Option, Some, None, Result, Ok, Err}
 use Rattle.std.specs.Ordering.{is_eq}
 use Rattle.std.specs.declared.cmp.Ordering.{Ordering}
@@ -16,6 +17,7 @@ use Rattle.pq_memo.specs.Look.{IsUpToDate}
 use Rattle.pq_memo.specs.Table.{memo_at, HasIn}
 use Rattle.pq_claims.specs.Claims.{hold_of}
 use Rattle.pq_core.specs.Works.{WorkView}
+use Rattle.pq_core.specs.Stores.{StoreView}
 use Rattle.pq_core.specs.Cores.{CoreView}
 use Rattle.pq_core.specs.declared.moves.Move.{Move}
 use Rattle.pq_core.specs.declared.moves.Move.TheVariants.{Carry, Blocked, Stepped, Answered, Stopped}
@@ -58,22 +60,32 @@ abbrev pub log_end : {K P : Type 0} → ℕ → Option (RunView K P) → List K 
 log_end run None keys log = log
 log_end run (Some there) keys log = record { starts = log.starts; lost = log.lost ++ events_of run there.started keys }
 
--- `log_moved core run answer log` is `log` after `run` was looked at, or a result was given to it.
--- `core` is the core before the call. Work that starts a rule adds a start at the revision now. A
+-- `log_moved_in store run answer log` is `log` after `run` was looked at, or a result was given to it.
+-- `store` is the store before the call. Work that starts a rule adds a start at the revision now. A
 -- run that is stopped adds the keys that it held to those lost, at the revision of its start.
+abbrev pub log_moved_in : {R K P V M E : Type 0} → StoreView R K P V M → ℕ → Result (Move (WorkView R K P V)) E → Log K → Log K
+log_moved_in store run (Ok (Carry work)) log = log_work (record { run = run; key = work.done.key; revision = store.inputs.revision }) work.why log
+log_moved_in store run (Ok (Blocked other)) log = log
+log_moved_in store run (Ok Stepped) log = log
+log_moved_in store run (Ok Answered) log = log
+log_moved_in store run (Ok Stopped) log = log_end run (found store.runs.items run) (hold_of store.claims run).keys log
+log_moved_in store run (Err fault) log = log
+
+-- `log_starved_in store run answer log` is `log` after `run` was starved, if the answer is that it was
+-- a run. `store` is the store before the call.
+abbrev pub log_starved_in : {R K P V M : Type 0} → StoreView R K P V M → ℕ → Bool → Log K → Log K
+log_starved_in store run true log = log_end run (found store.runs.items run) (hold_of store.claims run).keys log
+log_starved_in store run false log = log
+
+-- `log_moved core run answer log` is `log` after `run` was looked at, or a result was given to it.
+-- `core` is the core before the call.
 abbrev pub log_moved : {R K P V M O E : Type 0} → CoreView R K P V M O → ℕ → Result (Move (WorkView R K P V)) E → Log K → Log K
-log_moved core run (Ok (Carry work)) log = log_work (record { run = run; key = work.done.key; revision = core.inputs.revision }) work.why log
-log_moved core run (Ok (Blocked other)) log = log
-log_moved core run (Ok Stepped) log = log
-log_moved core run (Ok Answered) log = log
-log_moved core run (Ok Stopped) log = log_end run (found core.runs.items run) (hold_of core.claims run).keys log
-log_moved core run (Err fault) log = log
+log_moved core run answer log = log_moved_in core.store run answer log
 
 -- `log_starved core run answer log` is `log` after `run` was starved, if the answer is that it was a
 -- run. `core` is the core before the call.
 abbrev pub log_starved : {R K P V M O : Type 0} → CoreView R K P V M O → ℕ → Bool → Log K → Log K
-log_starved core run true log = log_end run (found core.runs.items run) (hold_of core.claims run).keys log
-log_starved core run false log = log
+log_starved core run answer log = log_starved_in core.store run answer log
 
 -- ---- the bound
 
@@ -96,13 +108,18 @@ pub record IsCounted {K : Type 0} (order : K → K → Ordering) (now : ℕ) (ta
   pub each : (revision : ℕ) (key : K) → count order revision key log.starts ≤ count order revision key log.lost + 1
   pub latest : (key : K) → (count order now key log.starts ≤ count order now key log.lost) ⊎ taken key
 
--- `IsTaken order m core k` is that `k` is up to date now, or that a run that was started at the
+-- `IsTakenIn order m store k` is that `k` is up to date now, or that a run that was started at the
 -- revision now has begun the rule of `k`
-abbrev pub IsTaken : {R K P V M O : Type 0} → (K → K → Ordering) → Machine K P V → CoreView R K P V M O → K → Type 0
-IsTaken order m core k =
-    IsUpToDate m core.inputs.revision (HasIn (memo_at order core.places)) k ⊎ IsBegunIn core.inputs.revision core.runs.items k
+abbrev pub IsTakenIn : {R K P V M : Type 0} → (K → K → Ordering) → Machine K P V → StoreView R K P V M → K → Type 0
+IsTakenIn order m store k =
+    IsUpToDate m store.inputs.revision (HasIn (memo_at order store.places)) k ⊎ IsBegunIn store.inputs.revision store.runs.items k
+
+-- `IsCountedIn order m store log` is that the starts of `log` are bounded, where the last call left
+-- `store`
+abbrev pub IsCountedIn : {R K P V M : Type 0} → (K → K → Ordering) → Machine K P V → StoreView R K P V M → Log K → Type 0
+IsCountedIn order m store log = IsCounted order store.inputs.revision (λ k. IsTakenIn order m store k) log
 
 -- `IsCountedFor order m core log` is that the starts of `log` are bounded, where the last call left
 -- `core`
 abbrev pub IsCountedFor : {R K P V M O : Type 0} → (K → K → Ordering) → Machine K P V → CoreView R K P V M O → Log K → Type 0
-IsCountedFor order m core log = IsCounted order core.inputs.revision (λ k. IsTaken order m core k) log
+IsCountedFor order m core log = IsCountedIn order m core.store log

@@ -5,7 +5,10 @@ pub mod Pictures
 pub mod Stands
 pub mod Rising
 pub mod Changes
-pub mod Lanes
+pub mod Accounts
+pub mod Trays
+pub mod Places
+pub mod Passing
 pub mod Runs
 pub mod Rings
 pub mod Begun

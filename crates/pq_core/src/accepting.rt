@@ -3,23 +3,22 @@ ghost use Rattle.std.specs.Prelude.{◌≡◌, ◌≤◌, ◌<◌, ◌+◌, IfEr
 ghost use Rattle.std.specs.VecDeque.{deque_capacity};
 ghost use Rattle.pq_core.specs.Kept.{IsDemand};
 ghost use Rattle.pq_core.specs.Points.{point_now};
-ghost use Rattle.pq_core.specs.Ledger.{Ledger};
-ghost use Rattle.pq_core.specs.Moves.{Reaches, Accepts, Edits, changed, inputs_after};
-ghost use Rattle.pq_core.specs.Cores.{StandsFor};
-ghost use Rattle.pq_core.specs.Starts.{IsCountedFor, Log};
+ghost use Rattle.pq_core.specs.Moves.{Accepts, Edits, changed, inputs_after};
+ghost use Rattle.pq_core.specs.Stores.{Goes};
+ghost use Rattle.pq_core.specs.Told.{told_puts};
+ghost use Rattle.pq_core.specs.Starts.{IsCountedIn, Log};
 ghost use Rattle.pq_core.specs.aux.Rising.{found};
 ghost use Rattle.pq_core.specs.aux.Changes.{IsSameMap};
-ghost use Rattle.pq_core.specs.aux.Lanes.{LaneView};
+ghost use Rattle.pq_core.specs.Accounts.{AccountView};
 ghost use Rattle.pq_core.specs.aux.Accepting.{MayNot, MayPost, MayNotEdit};
 
-use crate::cores::Core;
 use crate::fault::{AcceptFault, AcceptRefused, EditFault, EditRefused, Memory};
 use crate::ids::{ClientId, Number};
-use crate::in_lanes::accept_in;
-use crate::outbox::Outbox;
+use crate::in_accounts::accept_in;
 use crate::request::{Change, Request, Want};
 use crate::rising::Rising;
 use crate::stamp::Stamp;
+use crate::store::Store;
 use pq_inputs::{Revision, SetRefused};
 use pq_memo::kept_is_sound;
 use pq_rules::Rules;
@@ -51,8 +50,8 @@ fn is_demand<K>(want: &Want<K>) -> bool
     }
 }
 
-impl<R: Rules, M: Stamp, O: Outbox<R, M> + Drop> Core<R, M, O> {
-    ghost use Rattle.pq_core.specs.Cores.{held};
+impl<R: Rules, M: Stamp> Store<R, M> {
+    ghost use Rattle.pq_core.specs.Stores.{held};
 
     /// The reason to refuse a request of `client` whatever memory there is.
     fn accept_refusal(&self, client: u64) -> Option<AcceptFault>
@@ -62,9 +61,9 @@ impl<R: Rules, M: Stamp, O: Outbox<R, M> + Drop> Core<R, M, O> {
         if client >= self.clients {
             return Some(AcceptFault::NoClient);
         }
-        match self.lanes.get(client) {
-            Some(lane) => {
-                if lane.is_full() {
+        match self.accounts.get(client) {
+            Some(account) => {
+                if account.is_full() {
                     return Some(AcceptFault::WindowFull);
                 }
                 return None;
@@ -87,9 +86,8 @@ impl<R: Rules, M: Stamp, O: Outbox<R, M> + Drop> Core<R, M, O> {
         ensures inputs { self.new.inputs ≡ self.old.inputs }
         ensures places { self.new.places ≡ self.old.places }
         ensures back { IfErr result (λ refused. refused.request ≡ request) }
-        ensures moved { (l : Ledger R.Key R.Value M O) → StandsFor R.Key.cmp (R.machine self.old.rules) M.point O.puts self.old l
-            → Reaches (Accepts O.puts client request result) l (StandsFor R.Key.cmp (R.machine self.old.rules) M.point O.puts self.new) }
-        ensures counted { (log : Log R.Key) → IsCountedFor R.Key.cmp (R.machine self.old.rules) self.old log → IsCountedFor R.Key.cmp (R.machine self.old.rules) self.new log }
+        ensures moved { Goes R.Key.cmp (R.machine self.old.rules) M.point self.old self.new (Accepts told_puts client request result) }
+        ensures counted { (log : Log R.Key) → IsCountedIn R.Key.cmp (R.machine self.old.rules) self.old log → IsCountedIn R.Key.cmp (R.machine self.old.rules) self.new log }
     {
         if let Some(fault) = self.accept_refusal(client.number()) {
             return Err(AcceptRefused { fault, request });
@@ -100,7 +98,7 @@ impl<R: Rules, M: Stamp, O: Outbox<R, M> + Drop> Core<R, M, O> {
         }
         let revision = self.inputs.now();
         let waits = is_demand(&request.want);
-        match accept_in(&mut self.lanes, client, request, revision) {
+        match accept_in(&mut self.accounts, client, request, revision) {
             Ok(number) => {
                 if waits {
                     self.waiting
@@ -119,12 +117,12 @@ impl<R: Rules, M: Stamp, O: Outbox<R, M> + Drop> Core<R, M, O> {
     /// The reason to refuse an edit of `client` whatever the change is.
     fn edit_refusal(&self, client: u64) -> Option<EditFault>
         ensures refused { IfSome result (λ fault. MayNotEdit (held self.now) client fault) }
-        ensures may { IfNone result ((lane : LaneView R.Key R.Value M O) × (found self.now.lanes.items client ≡ Some lane)) }
+        ensures may { IfNone result ((account : AccountView R.Key R.Value M) × (found self.now.accounts.items client ≡ Some account)) }
     {
         if client >= self.clients {
             return Some(EditFault::NoClient);
         }
-        match self.lanes.get(client) {
+        match self.accounts.get(client) {
             Some(_) => return None,
             None => return Some(EditFault::Closed),
         }
@@ -147,9 +145,8 @@ impl<R: Rules, M: Stamp, O: Outbox<R, M> + Drop> Core<R, M, O> {
         ensures inputs { self.new.inputs ≡ inputs_after self.old.inputs change result }
         ensures places { self.new.places ≡ self.old.places }
         ensures back { IfErr result (λ refused. refused.change ≡ change) }
-        ensures moved { (l : Ledger R.Key R.Value M O) → StandsFor R.Key.cmp (R.machine self.old.rules) M.point O.puts self.old l
-            → Reaches (Edits client change result) l (StandsFor R.Key.cmp (R.machine self.old.rules) M.point O.puts self.new) }
-        ensures counted { (log : Log R.Key) → IsCountedFor R.Key.cmp (R.machine self.old.rules) self.old log → IsCountedFor R.Key.cmp (R.machine self.old.rules) self.new log }
+        ensures moved { Goes R.Key.cmp (R.machine self.old.rules) M.point self.old self.new (Edits client change result) }
+        ensures counted { (log : Log R.Key) → IsCountedIn R.Key.cmp (R.machine self.old.rules) self.old log → IsCountedIn R.Key.cmp (R.machine self.old.rules) self.new log }
     {
         if let Some(fault) = self.edit_refusal(client.number()) {
             return Err(EditRefused { fault, change });

@@ -12,7 +12,7 @@ ghost use Rattle.pq_memo.specs.Table.{memo_at, HasIn, IsSameTable, KeptOver};
 ghost use Rattle.pq_memo.specs.Writes.{RingWritten, ring_keys};
 ghost use Rattle.pq_memo.specs.Frames.{AreMembers, Awaits, frame_keys};
 ghost use Rattle.pq_claims.specs.Claims.{Differ, Holds};
-ghost use Rattle.pq_core.specs.Cores.{run_seen};
+ghost use Rattle.pq_core.specs.Stores.{run_seen};
 ghost use Rattle.pq_core.specs.aux.Rising.{found, IsAbove};
 ghost use Rattle.pq_core.specs.aux.Runs.{AreClaimed, ClosesRing, HoldsBelow, Renewed, RunView, RunsKept};
 ghost use Rattle.pq_core.specs.declared.frames.Top.TheVariants.{At};

@@ -1,18 +1,9 @@
-//! The core: open clients, runs, inputs and memos.
+//! The core: a store, and a lane for each open client.
 //!
-//! A client that is open has a lane; the queue holds the numbers of exactly the requests that wait;
-//! each run keeps its request. Of a closed client only its runs are kept. Lanes and runs are found by their
-//! numbers in logarithmic time. `accept` makes the room that `start` needs, so that starting,
-//! starving, releasing and closing take no memory.
-//!
-//! A run claims the keys of its frames. A run that needs a key of another run waits until that run
-//! releases it. A run that was overtaken keeps its claims until it is looked at, given to or starved.
-//! A ring of keys, in one run or through several, is published by the look that meets it.
-//!
-//! The core has the stamp of the last revision. Work and answers leave with a copy of it.
-//!
-//! A run is current while no edit was accepted since its start. The invariant of a current run is
-//! that of its frames over the table of memos; it outlasts the steps of other runs.
+//! The store knows the clients, their requests, the inputs, the memos and the runs. A reply that a
+//! call makes is collected from the store and filled into the lane of its client in the same call. A
+//! lane puts its replies into its outbox in the order of their numbers; the store is told of each
+//! reply that was put. So between two calls each reply that is ready is in its lane.
 ghost use Rattle.std.specs.Prelude.{◌≡◌, None};
 ghost use Rattle.pq_memo.specs.Table.{memo_at};
 ghost use Rattle.pq_core.specs.Points.{point_now};
@@ -23,40 +14,28 @@ ghost use Rattle.pq_core.specs.Starts.{IsCountedFor, no_log};
 use crate::lane::Lane;
 use crate::outbox::Outbox;
 use crate::rising::Rising;
-use crate::run::Run;
 use crate::stamp::Stamp;
-use pq_claims::Claims;
+use crate::store::Store;
 use pq_inputs::Inputs;
-use pq_memo::Memos;
 use pq_rules::Rules;
 use std::alloc::Global;
-use std::collections::VecDeque;
 use std::marker::Model;
 
 /// The core of the server. Each call is one step of the whole, and no call waits.
 #[derive(Drop)]
 pub struct Core<R: Rules, M: Stamp, O: Outbox<R, M>> {
-    pub(crate) alloc: Global,
-    pub(crate) memos: Memos<R>,
-    pub(crate) inputs: Inputs,
-    pub(crate) stamp: M,
-    pub(crate) lanes: Rising<Lane<R::Key, R::Value, M, O>>,
-    pub(crate) opened: usize,
-    pub(crate) clients: u64,
-    pub(crate) waiting: VecDeque<(u64, u64)>,
-    pub(crate) runs: Rising<Run<R>>,
-    pub(crate) started: u64,
-    pub(crate) claims: Claims<R>,
+    pub(crate) store: Store<R, M>,
+    pub(crate) lanes: Rising<Lane<R, M, O>>,
 }
 
 impl<R: Rules, M: Stamp, O: Outbox<R, M>> Model for Core<R, M, O> {
-    ghost use Rattle.pq_core.specs.Cores.{CoreView, IsWhole};
+    ghost use Rattle.pq_core.specs.Cores.{CoreView, core_of, IsWhole};
 
     ghost Value = { CoreView R R.Key R.Part R.Value M O };
 
-    ghost view = { λ c. record { rules = c.memos.rules; places = c.memos.places; inputs = c.inputs; lanes = c.lanes; opened = c.opened; clients = c.clients; waiting = c.waiting.items; runs = c.runs; started = c.started; claims = c.claims } };
+    ghost view = { λ c. core_of c.store c.lanes };
 
-    ghost invariant = { λ c. IsWhole R.Key.cmp (R.machine c.memos.rules) M.point O.puts c.stamp (record { rules = c.memos.rules; places = c.memos.places; inputs = c.inputs; lanes = c.lanes; opened = c.opened; clients = c.clients; waiting = c.waiting.items; runs = c.runs; started = c.started; claims = c.claims }) };
+    ghost invariant = { λ c. IsWhole R.Key.cmp (R.machine c.store.rules) M.point O.puts (core_of c.store c.lanes) };
 }
 
 impl<R: Rules, M: Stamp, O: Outbox<R, M> + Drop> Core<R, M, O> {
@@ -69,19 +48,9 @@ impl<R: Rules, M: Stamp, O: Outbox<R, M> + Drop> Core<R, M, O> {
         ensures stands { StandsFor R.Key.cmp (R.machine rules) M.point O.puts result (unused inputs) }
         ensures counted { IsCountedFor R.Key.cmp (R.machine rules) result no_log }
     {
-        let _latest = inputs.now();
         Core {
-            alloc,
-            memos: Memos::new(alloc, rules),
-            inputs,
-            stamp,
+            store: Store::new(alloc, rules, inputs, stamp),
             lanes: Rising::new(alloc),
-            opened: 0,
-            clients: 0,
-            waiting: VecDeque::new(alloc),
-            runs: Rising::new(alloc),
-            started: 0,
-            claims: Claims::new(alloc, rules),
         }
     }
 
@@ -89,13 +58,13 @@ impl<R: Rules, M: Stamp, O: Outbox<R, M> + Drop> Core<R, M, O> {
     pub fn inputs(&self) -> &Inputs
         ensures { result.now ≡ self.now.inputs }
     {
-        &self.inputs
+        self.store.inputs()
     }
 
     /// The stamp of the last revision.
     pub fn stamp(&self) -> &M
         ensures { M.point result.now ≡ point_now self.now.inputs }
     {
-        &self.stamp
+        self.store.stamp()
     }
 }

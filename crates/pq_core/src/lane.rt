@@ -1,297 +1,304 @@
-//! A lane: an open client with its outbox and the requests that are owed a reply.
+//! A lane: the outbox of a client, and the replies that wait for their turn.
 //!
-//! The requests of a client are numbered from 0, and replies leave in this order. So the lane keeps
-//! the count of the replies put and a queue of the requests after those. Each call takes constant
-//! time, and only `accept` allocates.
-ghost use Rattle.std.specs.Prelude.{◌≡◌, ◌+◌, ◌<◌, ◌≤◌, ◌⊎◌, ◌^◌, ◌↔◌, [], false, drop, length, slice_get, slice_set, Some, None, IsTrue, IfSome, IfNone, IfOk, IfErr, OnErr};
-ghost use Rattle.pq_core.specs.Replies.{ReplyView};
+//! The requests of a client are numbered from 0, and replies leave in this order. A lane has a place
+//! for each of the `WINDOW` numbers after those put. `fill` puts a reply into its place, in any
+//! order; `release` hands the first one to the outbox. Each call takes constant time, and only `new`
+//! allocates.
+ghost use Rattle.std.specs.Prelude.{◌≡◌, ◌+◌, ◌-◌, ◌≤◌, ◌↔◌, [], length, drop, replicate, slice_get, Some, None, IsTrue, IfOk};
 ghost use Rattle.pq_core.specs.Truth.{IsTrueReply};
 ghost use Rattle.pq_core.specs.Moves.{window};
-ghost use Rattle.pq_core.specs.aux.Lanes.{IsOwed, with_owed, pushed, first_owed, LetsOut, LaneReleases, LaneTakes};
-ghost use Rattle.pq_core.specs.declared.request.Request.{Request};
-ghost use Rattle.pq_core.specs.declared.lane.Owed.TheVariants.{Waiting as OwedWaiting, Running as OwedRunning, Ready as OwedReady};
+ghost use Rattle.pq_core.specs.Lanes.{ReadyView, ReadyKept, empty_tray, HasPlace, HasNext, Fills, LetsOutOf, TakesOutOf, ClosesLane, TrayKept, after_next};
+ghost use Rattle.pq_core.specs.aux.Trays.{LetsOut};
 
 use crate::fault::Memory;
 use crate::ids::{ClientId, Number};
 use crate::limits::WINDOW;
 use crate::moves::Released;
 use crate::outbox::{Outbox, PutFault, Taking};
+use crate::ready::{Ready, ready_is_right};
 use crate::reply::Reply;
-use crate::request::{Request, Want};
 use crate::stamp::Stamp;
 use pq_inputs::Revision;
 use pq_rules::Rules;
 use std::alloc::Global;
 use std::collections::VecDeque;
 use std::marker::Model;
-use std::mem;
 
-/// A request that was accepted from an open client, and whose reply was not put.
+/// The lane of a client, which is open or closed.
 #[derive(Drop)]
-pub(crate) enum Owed<K, V, M> {
-    /// It waits for a run.
-    Waiting(Request<K>),
-    /// It is in a run, which keeps the request.
-    Running,
-    /// Its reply is made.
-    Ready(Reply<K, V, M>),
-}
-
-/// An open client.
-#[derive(Drop)]
-pub(crate) struct Lane<K, V, M, O> {
-    outbox: O,
+pub struct Lane<R: Rules, M: Stamp, O: Outbox<R, M>> {
+    client: ClientId,
+    outbox: Option<O>,
     put: u64,
-    owed: VecDeque<Owed<K, V, M>>,
+    places: VecDeque<Option<Ready<R, M>>>,
     refused: bool,
 }
 
-impl<K, V, M, O> Model for Lane<K, V, M, O> {
-    ghost use Rattle.std.specs.Prelude.{◌+◌, ◌<◌, ◌^◌, length};
-    ghost use Rattle.pq_core.specs.aux.Lanes.{LaneView};
+impl<R: Rules, M: Stamp, O: Outbox<R, M>> Model for Lane<R, M, O> {
+    ghost use Rattle.pq_core.specs.Lanes.{Tray, TrayKept};
+    ghost use Rattle.pq_core.specs.Truth.{IsTrueReply};
 
-    ghost Value = { LaneView K V M O };
+    ghost Value = { Tray R.Key R.Value M O };
 
-    ghost view = { λ l. record { outbox = l.outbox; put = l.put; owed = l.owed.items; refused = l.refused } };
+    ghost view = { λ l. record { client = l.client; outbox = l.outbox; put = l.put; places = l.places.items; refused = l.refused } };
 
-    ghost invariant = { λ l. l.put + length l.owed.items < 2 ^ 64 };
+    ghost invariant = { λ l. TrayKept (IsTrueReply R.Key.cmp R.machine M.point) O.puts (record { client = l.client; outbox = l.outbox; put = l.put; places = l.places.items; refused = l.refused }) };
 }
 
-impl<K: Drop, V: Drop, M: Drop> Owed<K, V, M> {
-    /// Hands out the request, which waits. It is in a run afterwards.
-    fn start(&mut self) -> Request<K>
-        requires { (request : Request K) × (self.old ≡ OwedWaiting request) }
-        ensures waited { self.old ≡ OwedWaiting result }
-        ensures runs { self.new ≡ OwedRunning }
-    {
-        match mem::replace(self, Owed::Running) {
-            Owed::Waiting(request) => request,
-            _ => unreachable!(),
-        }
-    }
+/// The places of a lane, before its client is known.
+#[derive(Drop)]
+pub(crate) struct Places<R: Rules, M: Stamp> {
+    places: VecDeque<Option<Ready<R, M>>>,
+}
 
-    /// Hands out the reply if it is ready.
-    fn reply(&mut self) -> Option<Reply<K, V, M>>
-        ensures ready { IfSome result (λ reply. self.old ≡ OwedReady reply) }
-        ensures none { IfNone result (((reply : ReplyView K V M) → self.old ≡ OwedReady reply → ⊥) × (self.new ≡ self.old)) }
-    {
-        match mem::replace(self, Owed::Running) {
-            Owed::Waiting(request) => {
-                *self = Owed::Waiting(request);
-                return None;
-            }
-            Owed::Running => return None,
-            Owed::Ready(reply) => return Some(reply),
-        }
-    }
+impl<R: Rules, M: Stamp> Model for Places<R, M> {
+    ghost use Rattle.std.specs.Prelude.{◌≡◌, List, Option, None, replicate};
+    ghost use Rattle.pq_core.specs.Moves.{window};
+    ghost use Rattle.pq_core.specs.Lanes.{ReadyView};
 
-    /// Whether its reply is ready.
-    fn is_ready(&self) -> bool
-        ensures { IsTrue result ↔ ((reply : ReplyView K V M) × (self.now ≡ OwedReady reply)) }
-    {
-        match self {
-            Owed::Waiting(_) => return false,
-            Owed::Running => return false,
-            Owed::Ready(_) => return true,
+    ghost Value = { List (Option (ReadyView R.Key R.Value M)) };
+
+    ghost view = { λ p. p.places.items };
+
+    ghost invariant = { λ p. p.places.items ≡ replicate window None };
+}
+
+impl<R: Rules, M: Stamp> Places<R, M> {
+    /// Vacant places.
+    pub(crate) fn new(alloc: Global) -> Result<Self, Memory> {
+        let mut places = VecDeque::with_capacity(alloc, WINDOW)?;
+        'places: while places.len() < WINDOW {
+            places.push_back_reserved(None);
         }
+        Ok(Places { places })
     }
 }
 
-impl<K: Drop, V: Drop, M: Drop, O> Lane<K, V, M, O> {
-    /// A client without requests.
-    pub(crate) fn new(alloc: Global, outbox: O) -> Self
-        ensures { result ≡ record { outbox = outbox; put = 0; owed = []; refused = false } }
+impl<R: Rules, M: Stamp, O: Outbox<R, M> + Drop> Lane<R, M, O> {
+    /// The lane of `client`, before its first reply. Its replies go to `outbox`.
+    ///
+    /// # Errors
+    ///
+    /// `Memory` where the places cannot be allocated. The outbox is dropped then.
+    pub fn new(alloc: Global, client: ClientId, outbox: O) -> Result<Self, Memory>
+        requires { O.puts outbox ≡ [] }
+        ensures { IfOk result (λ lane. lane ≡ empty_tray client outbox) }
     {
+        let places = Places::new(alloc)?;
+        Ok(Lane::with_places(client, outbox, places))
+    }
+
+    /// The lane of `client`, before its first reply, with `places`.
+    pub(crate) fn with_places(client: ClientId, outbox: O, places: Places<R, M>) -> Self
+        requires { O.puts outbox ≡ [] }
+        ensures { result ≡ empty_tray client outbox }
+    {
+        let Places { places } = places;
         Lane {
-            outbox,
+            client,
+            outbox: Some(outbox),
             put: 0,
-            owed: VecDeque::new(alloc),
+            places,
             refused: false,
         }
     }
 
-    /// Whether `WINDOW` requests are owed a reply, or the numbers are used up.
-    pub(crate) fn is_full(&self) -> bool
-        ensures { IsTrue result ↔ ((window ≤ length self.now.owed) ⊎ (2 ^ 64 ≤ self.now.put + length self.now.owed + 1)) }
+    /// Puts `ready` into its place. It comes back where the lane is closed, where it is of another
+    /// client, where its number was put or is `WINDOW` or more above the next one, and where its
+    /// place is filled.
+    pub fn fill(&mut self, ready: Ready<R, M>) -> Result<(), Ready<R, M>>
+        ensures { Fills ready result self.old self.new }
     {
-        self.owed.len() >= WINDOW || self.put + self.owed.len() as u64 == u64::MAX
-    }
-
-    /// The number of the next request.
-    pub(crate) fn next_number(&self) -> Number
-        ensures { result ≡ self.now.put + length self.now.owed }
-    {
-        Number::new(self.put + self.owed.len() as u64)
-    }
-
-    /// Accepts `request`. If an allocation fails, it comes back.
-    pub(crate) fn accept(
-        &mut self,
-        client: ClientId,
-        request: Request<K>,
-        revision: Revision,
-    ) -> Result<Number, Request<K>>
-        requires { self.old.put + length self.old.owed + 1 < 2 ^ 64 }
-        ensures accepted { IfOk result (λ n. (n ≡ self.old.put + length self.old.owed) × (self.new ≡ pushed self.old (first_owed client n request revision request.want))) }
-        ensures refused { OnErr result (self.new ≡ self.old) }
-        ensures back { IfErr result (λ back. back ≡ request) }
-    {
-        let number = self.next_number();
-        match self.owed.reserve(1) {
-            Ok(()) => {
-                self.owed
-                    .push_back_reserved(owed_first(client, number, request, revision));
-                return Ok(number);
-            }
-            Err(_refused) => return Err(request),
+        if !self.has_place(&ready) {
+            return Err(ready);
         }
+        ready_is_right(&ready);
+        let place = (ready.number().number() - self.put) as usize;
+        put_in(&mut self.places[place], ready);
+        Ok(())
     }
 
-    /// Hands out the request `number`, which waits. It is in a run afterwards.
-    pub(crate) fn start(&mut self, number: u64) -> Request<K>
-        requires { (request : Request K) × IsOwed self.old number (OwedWaiting request) }
-        ensures waited { IsOwed self.old number (OwedWaiting result) }
-        ensures runs { self.new ≡ with_owed self.old number OwedRunning }
+    /// Whether the lane takes `ready`.
+    fn has_place(&self, ready: &Ready<R, M>) -> bool
+        ensures { IsTrue result ↔ HasPlace self.now ready.now }
     {
-        self.owed[(number - self.put) as usize].start()
-    }
-
-    /// Makes `reply` to the request `number`.
-    pub(crate) fn finish(&mut self, number: u64, reply: Reply<K, V, M>)
-        requires past { self.old.put ≤ number }
-        requires within { number < self.old.put + length self.old.owed }
-        ensures { self.new ≡ with_owed self.old number (OwedReady reply) }
-    {
-        self.owed[(number - self.put) as usize] = Owed::Ready(reply);
-    }
-
-    /// Whether the reply to the first request that is owed one is ready.
-    pub(crate) fn is_ready(&self) -> bool
-        ensures { IsTrue result ↔ ((reply : ReplyView K V M) × (slice_get self.now.owed 0 ≡ Some (OwedReady reply))) }
-    {
-        if self.owed.is_empty() {
+        if !self.is_open() || ready.client() != self.client {
             return false;
         }
-        self.owed[0].is_ready()
+        let number = ready.number().number();
+        if number < self.put || number - self.put >= WINDOW as u64 {
+            return false;
+        }
+        !holds(&self.places[(number - self.put) as usize])
+    }
+
+    /// Puts the next reply into the outbox, if it is there and the lane is open.
+    pub fn release(&mut self) -> Released
+        ensures { LetsOutOf O.puts O.takes O.was_full O.was_gone result self.old self.new }
+    {
+        let put = self.put;
+        match &mut self.outbox {
+            None => return Released::Nothing,
+            Some(outbox) => match let_out(&mut self.places, outbox, put) {
+                Released::Put(number) => {
+                    self.put = put + 1;
+                    self.refused = false;
+                    return Released::Put(number);
+                }
+                Released::Full => {
+                    self.refused = true;
+                    return Released::Full;
+                }
+                Released::Gone => {
+                    self.refused = true;
+                    return Released::Gone;
+                }
+                Released::Nothing => return Released::Nothing,
+            },
+        }
+    }
+
+    /// Closes the lane. Returns its outbox the first time. The replies that have places are dropped.
+    pub fn close(&mut self) -> Option<O>
+        ensures { ClosesLane result self.old self.new }
+    {
+        match self.outbox.take() {
+            None => return None,
+            Some(outbox) => {
+                self.places.clear();
+                return Some(outbox);
+            }
+        }
+    }
+
+    /// Whether the lane is open and its next reply is there.
+    pub fn is_ready(&self) -> bool
+        ensures { IsTrue result ↔ HasNext self.now }
+    {
+        match &self.outbox {
+            None => return false,
+            Some(_) => return holds(&self.places[0]),
+        }
+    }
+
+    /// The count of the replies put, which is the number of the next one.
+    pub fn put(&self) -> Number
+        ensures { result ≡ self.now.put }
+    {
+        Number::new(self.put)
     }
 
     /// Whether the last release was refused.
-    pub(crate) fn is_refused(&self) -> bool
+    pub fn is_refused(&self) -> bool
         ensures { result ≡ self.now.refused }
     {
         self.refused
     }
 
-    /// The outbox.
-    pub(crate) fn into_outbox(self) -> O
-        ensures { result ≡ self.outbox }
+    /// Whether the lane is open.
+    pub fn is_open(&self) -> bool
+        ensures { IsTrue result ↔ ((outbox : O) × (self.now.outbox ≡ Some outbox)) }
     {
-        let Lane { outbox, .. } = self;
-        outbox
-    }
-}
-
-/// Puts the first reply that is owed by `lane` into its outbox, if it is ready.
-pub(crate) fn release<R: Rules, M: Stamp, O: Outbox<R, M>>(
-    lane: &mut Lane<R::Key, R::Value, M, O>,
-) -> Released
-    requires put { lane.old.put ≡ length (O.puts lane.old.outbox) }
-    requires numbered { (reply : ReplyView R.Key R.Value M) → slice_get lane.old.owed 0 ≡ Some (OwedReady reply) → reply.number ≡ lane.old.put }
-    requires right { (reply : ReplyView R.Key R.Value M) → slice_get lane.old.owed 0 ≡ Some (OwedReady reply) → IsTrueReply R.Key.cmp R.machine M.point reply }
-    ensures { LaneReleases O.puts O.takes O.was_full O.was_gone result lane.old lane.new }
-{
-    let put = lane.put;
-    match let_out(&mut lane.owed, &mut lane.outbox, put) {
-        Released::Put(number) => {
-            lane.put = put + 1;
-            lane.refused = false;
-            return Released::Put(number);
+        match &self.outbox {
+            None => return false,
+            Some(_) => return true,
         }
-        Released::Full => {
-            lane.refused = true;
-            return Released::Full;
+    }
+}
+
+impl<R: Rules, M: Stamp, O: Taking<R, M> + Drop> Lane<R, M, O> {
+    /// Takes the first reply that was put and not taken, if the lane is open. Returns whether there
+    /// was one.
+    pub fn take(&mut self) -> Result<bool, Memory>
+        ensures { TakesOutOf O.puts O.takes result self.old self.new }
+    {
+        match &mut self.outbox {
+            None => return Ok(false),
+            Some(outbox) => match outbox.take() {
+                Ok(true) => return Ok(true),
+                Ok(false) => return Ok(false),
+                Err(failure) => return Err(failure),
+            },
         }
-        Released::Gone => {
-            lane.refused = true;
-            return Released::Gone;
-        }
-        Released::Nothing => return Released::Nothing,
     }
 }
 
-/// Takes the first reply that was put to the client of `lane` and not taken. Returns whether there
-/// was one.
-pub(crate) fn take<R: Rules, M: Stamp, O: Taking<R, M>>(
-    lane: &mut Lane<R::Key, R::Value, M, O>,
-) -> Result<bool, Memory>
-    ensures { LaneTakes O.puts O.takes result lane.old lane.new }
+/// The replies put are of the lane's client, numbered from 0 on in order, and right at their stamps,
+/// as are those that have places.
+pub fn lane_is_kept<R: Rules, M: Stamp, O: Outbox<R, M>>(lane: &Lane<R, M, O>)
+    ensures { TrayKept (IsTrueReply R.Key.cmp R.machine M.point) O.puts lane.now }
 {
-    match lane.outbox.take() {
-        Ok(true) => return Ok(true),
-        Ok(false) => return Ok(false),
-        Err(failure) => return Err(failure),
+    let _client = &lane.client;
+}
+
+/// Whether `place` is filled.
+fn holds<R: Rules, M: Stamp>(place: &Option<Ready<R, M>>) -> bool
+    ensures { IsTrue result ↔ ((ready : ReadyView R.Key R.Value M) × (place.now ≡ Some ready)) }
+{
+    match place {
+        None => return false,
+        Some(_) => return true,
     }
 }
 
-/// The request `number` at its acceptance.
-fn owed_first<K, V, M>(
-    client: ClientId,
-    number: Number,
-    request: Request<K>,
-    revision: Revision,
-) -> Owed<K, V, M>
-    ensures { result ≡ first_owed client number request revision request.want }
+/// Puts `ready` into `place`.
+fn put_in<R: Rules, M: Stamp>(place: &mut Option<Ready<R, M>>, ready: Ready<R, M>)
+    ensures { place.new ≡ Some ready }
 {
-    match &request.want {
-        Want::Demand(_) => return Owed::Waiting(request),
-        Want::Fixed(_) => return Owed::Ready(Reply::plain(client, number, request, revision)),
-    }
+    *place = Some(ready);
 }
 
-/// Puts `reply` into `item`.
-fn restore<K: Drop, V: Drop, M: Drop>(item: &mut Owed<K, V, M>, reply: Reply<K, V, M>)
-    ensures { item.new ≡ OwedReady reply }
+/// Puts the parts of a reply back into its place.
+fn restore<R: Rules, M: Stamp>(
+    place: &mut Option<Ready<R, M>>,
+    reply: Reply<R::Key, R::Value, M>,
+    accepted: Revision,
+)
+    requires { ReadyKept R.Key.cmp R.machine M.point (record { reply = reply; accepted = accepted }) }
+    ensures { place.new ≡ Some (record { reply = reply; accepted = accepted }) }
 {
-    *item = Owed::Ready(reply);
+    put_in(place, Ready::new(reply, accepted));
 }
 
-/// Drops the first of `owed`.
-fn drop_first<K: Drop, V: Drop, M: Drop>(owed: &mut VecDeque<Owed<K, V, M>>)
-    ensures { owed.new.items ≡ drop 1 owed.old.items }
+/// Removes the first of `places`, and adds a vacant one.
+fn shift<R: Rules, M: Stamp>(places: &mut VecDeque<Option<Ready<R, M>>>)
+    requires { length places.old.items ≡ window }
+    ensures { places.new.items ≡ after_next places.old.items }
 {
-    let _first = owed.pop_front();
+    let _first = places.pop_front();
+    places.push_back_reserved(None);
 }
 
-/// Puts the first reply that is owed, which has the number `put`, into `outbox` if it is ready.
+/// Puts the first of `places`, which has the number `put`, into `outbox` if it is there.
 fn let_out<R: Rules, M: Stamp, O: Outbox<R, M>>(
-    owed: &mut VecDeque<Owed<R::Key, R::Value, M>>,
+    places: &mut VecDeque<Option<Ready<R, M>>>,
     outbox: &mut O,
     put: u64,
 ) -> Released
+    requires room { length places.old.items ≡ window }
     requires put { put ≡ length (O.puts outbox.old) }
-    requires numbered { (reply : ReplyView R.Key R.Value M) → slice_get owed.old.items 0 ≡ Some (OwedReady reply) → reply.number ≡ put }
-    requires right { (reply : ReplyView R.Key R.Value M) → slice_get owed.old.items 0 ≡ Some (OwedReady reply) → IsTrueReply R.Key.cmp R.machine M.point reply }
-    ensures { LetsOut O.puts O.takes O.was_full O.was_gone result put owed.old.items owed.new.items outbox.old outbox.new }
+    requires numbered { (ready : ReadyView R.Key R.Value M) → slice_get places.old.items 0 ≡ Some (Some ready) → ready.reply.number ≡ put }
+    ensures { LetsOut R.Key.cmp R.machine M.point O.puts O.takes O.was_full O.was_gone result put places.old.items places.new.items outbox.old outbox.new }
 {
-    if owed.is_empty() {
-        return Released::Nothing;
-    }
-    let item = &mut owed[0];
-    match item.reply() {
+    let place = &mut places[0];
+    match place.take() {
         None => return Released::Nothing,
-        Some(reply) => match outbox.put(reply) {
-            Ok(()) => {
-                drop_first(owed);
-                return Released::Put(Number::new(put));
+        Some(ready) => {
+            let (reply, accepted) = ready.into_parts();
+            match outbox.put(reply) {
+                Ok(()) => {
+                    shift(places);
+                    return Released::Put(Number::new(put));
+                }
+                Err(PutFault::Full(reply)) => {
+                    restore(place, reply, accepted);
+                    return Released::Full;
+                }
+                Err(PutFault::Gone(reply)) => {
+                    restore(place, reply, accepted);
+                    return Released::Gone;
+                }
             }
-            Err(PutFault::Full(reply)) => {
-                restore(item, reply);
-                return Released::Full;
-            }
-            Err(PutFault::Gone(reply)) => {
-                restore(item, reply);
-                return Released::Gone;
-            }
-        },
+        }
     }
 }

@@ -9,8 +9,10 @@ ghost use Rattle.pq_core.specs.Ledger.{Ledger, IsClosed};
 ghost use Rattle.pq_core.specs.Moves.{Opens, Accepts, Edits, Starts, Looks, Gives, Starves, Releases, Closes, TakesOut, RunAt, Runs};
 ghost use Rattle.pq_core.specs.RightReply.{answer_by};
 ghost use Rattle.pq_core.specs.Kept.{Kept};
+ghost use Rattle.pq_core.specs.Told.{Told, told_puts};
+ghost use Rattle.pq_core.specs.Stores.{StandsFor as StoreStandsFor};
 ghost use Rattle.pq_core.specs.Cores.{StandsFor};
-ghost use Rattle.pq_core.specs.Starts.{IsCountedFor, Log, count};
+ghost use Rattle.pq_core.specs.Starts.{IsCountedFor, IsCountedIn, Log, count};
 ghost use Rattle.pq_memo.specs.Sound.{Sound};
 ghost use Rattle.pq_memo.specs.Look.{IsUpToDate};
 ghost use Rattle.pq_memo.specs.Table.{memo_at, HasIn};
@@ -27,6 +29,7 @@ ghost use Rattle.pq_core.specs.declared.moves.Released.{Released};
 use crate::cores::Core;
 use crate::outbox::Outbox;
 use crate::stamp::Stamp;
+use crate::store::Store;
 use pq_claims::claims_are_sound;
 use pq_memo::kept_is_sound;
 use pq_rules::Rules;
@@ -62,12 +65,39 @@ pub fn closed_for_good<R: Rules, M: Stamp, O: Outbox<R, M>>(_rules: &R)
 {}
 
 /// Between any two calls the table of memos is sound, as `engine_is_sound` says of an engine's. And
+/// the store stands for some ledger.
+pub fn store_is_sound<R: Rules, M: Stamp>(store: &Store<R, M>)
+    ensures sound { Sound R.Key.cmp (R.machine store.now.rules) store.now.inputs.history store.now.inputs.revision (HasIn (memo_at R.Key.cmp store.now.places)) }
+    ensures stands { (l : Ledger R.Key R.Value M (Told R.Key R.Value M)) × StoreStandsFor R.Key.cmp (R.machine store.now.rules) M.point store.now l × Kept (answer_by R.Key.cmp (R.machine store.now.rules) M.point) told_puts l }
+{
+    kept_is_sound(&store.memos);
+}
+
+/// Between any two calls a key has one holder at most, and waits between runs form no ring. A run
+/// that holds a key exists. No key that a run holds is up to date: so a key is released in the call
+/// that brings it up to date, and after a ring was published no run holds a key of it.
+pub fn store_holds_keys<R: Rules, M: Stamp>(store: &Store<R, M>)
+    ensures sound { AreSound store.now.claims }
+    ensures runs { (run : ℕ) (key : R.Key) → Holds store.now.claims run key → (l : Ledger R.Key R.Value M (Told R.Key R.Value M)) → StoreStandsFor R.Key.cmp (R.machine store.now.rules) M.point store.now l → (at : RunAt R.Key R.Value M (Told R.Key R.Value M)) × Runs l run at }
+    ensures stale { (run : ℕ) (key : R.Key) → Holds store.now.claims run key → IsUpToDate (R.machine store.now.rules) store.now.inputs.revision (HasIn (memo_at R.Key.cmp store.now.places)) key → ⊥ }
+{
+    claims_are_sound(&store.claims);
+}
+
+/// In one revision a key's rule is started at most once, and once more for each run that was stopped
+/// or starved while it held the key. It holds of the log of every list of calls: the empty log is
+/// counted for a new store, and each call keeps that.
+pub fn store_counts_starts<R: Rules, M: Stamp>(store: &Store<R, M>)
+    ensures { (log : Log R.Key) → IsCountedIn R.Key.cmp (R.machine store.now.rules) store.now log → (revision : ℕ) (key : R.Key) → count R.Key.cmp revision key log.starts ≤ count R.Key.cmp revision key log.lost + 1 }
+{}
+
+/// Between any two calls the table of memos is sound, as `engine_is_sound` says of an engine's. And
 /// the core stands for some ledger.
 pub fn core_is_sound<R: Rules, M: Stamp, O: Outbox<R, M>>(core: &Core<R, M, O>)
     ensures sound { Sound R.Key.cmp (R.machine core.now.rules) core.now.inputs.history core.now.inputs.revision (HasIn (memo_at R.Key.cmp core.now.places)) }
     ensures stands { (l : Ledger R.Key R.Value M O) × StandsFor R.Key.cmp (R.machine core.now.rules) M.point O.puts core.now l × Kept (answer_by R.Key.cmp (R.machine core.now.rules) M.point) O.puts l }
 {
-    kept_is_sound(&core.memos);
+    store_is_sound(&core.store);
 }
 
 /// Between any two calls a key has one holder at most, and waits between runs form no ring. A run
@@ -78,7 +108,7 @@ pub fn runs_hold_their_keys<R: Rules, M: Stamp, O: Outbox<R, M>>(core: &Core<R, 
     ensures runs { (run : ℕ) (key : R.Key) → Holds core.now.claims run key → (l : Ledger R.Key R.Value M O) → StandsFor R.Key.cmp (R.machine core.now.rules) M.point O.puts core.now l → (at : RunAt R.Key R.Value M O) × Runs l run at }
     ensures stale { (run : ℕ) (key : R.Key) → Holds core.now.claims run key → IsUpToDate (R.machine core.now.rules) core.now.inputs.revision (HasIn (memo_at R.Key.cmp core.now.places)) key → ⊥ }
 {
-    claims_are_sound(&core.claims);
+    store_holds_keys(&core.store);
 }
 
 /// In one revision a key's rule is started at most once, and once more for each run that was stopped

@@ -1,37 +1,23 @@
-//! Replies that leave, clients that close, and rest.
-ghost use Rattle.std.specs.Prelude.{◌≡◌, ◌↔◌, IsTrue, Some, None, true, filter};
+//! Replies that leave a core, clients that close, and rest.
+ghost use Rattle.std.specs.Prelude.{◌≡◌, ◌↔◌, IsTrue};
 ghost use Rattle.pq_core.specs.Ledger.{Ledger};
 ghost use Rattle.pq_core.specs.Moves.{Reaches, Releases, Closes, TakesOut, IsAtRest};
 ghost use Rattle.pq_core.specs.Cores.{StandsFor};
 ghost use Rattle.pq_core.specs.Starts.{IsCountedFor, Log};
-ghost use Rattle.pq_core.specs.aux.Queue.{is_of_other};
 ghost use Rattle.pq_core.specs.aux.Resting.{HasReadyLane};
 
 use crate::cores::Core;
 use crate::fault::Memory;
 use crate::ids::ClientId;
-use crate::in_lanes::{release_in, take_in};
 use crate::lane::Lane;
 use crate::moves::Released;
 use crate::outbox::{Outbox, Taking};
 use crate::rising::Rising;
 use crate::stamp::Stamp;
 use pq_rules::Rules;
-use std::collections::VecDeque;
 
-/// Removes the requests of `client` from the queue.
-fn drop_queued(waiting: &mut VecDeque<(u64, u64)>, client: u64)
-    ensures { waiting.new.items ≡ filter (λ seat. is_of_other client seat) waiting.old.items }
-{
-    waiting.retain(
-        |seat: &(u64, u64)| -> bool
-            ensures { result ≡ is_of_other client seat.now }
-        { seat.0 != client },
-    );
-}
-
-/// Whether the next reply to an open client is ready, and its last release was not refused.
-fn has_ready<K: Drop, V: Drop, M: Drop, O: Drop>(lanes: &Rising<Lane<K, V, M, O>>) -> bool
+/// Whether the next reply to an open client is in its lane, and its last release was not refused.
+fn has_ready<R: Rules, M: Stamp, O: Outbox<R, M> + Drop>(lanes: &Rising<Lane<R, M, O>>) -> bool
     ensures { IsTrue result ↔ HasReadyLane lanes.now }
 {
     let places = lanes.places();
@@ -56,7 +42,31 @@ impl<R: Rules, M: Stamp, O: Outbox<R, M> + Drop> Core<R, M, O> {
         ensures counted { (log : Log R.Key) → IsCountedFor R.Key.cmp (R.machine self.old.rules) self.old log → IsCountedFor R.Key.cmp (R.machine self.old.rules) self.new log }
     {
         let seat = client.number();
-        release_in::<R, M, O>(&mut self.lanes, seat)
+        match self.lanes.take(seat) {
+            None => return Released::Nothing,
+            Some(taken) => {
+                let mut lane = taken;
+                match lane.release() {
+                    Released::Put(number) => {
+                        self.store.put_seen(client, lane.put());
+                        self.lanes.put_back(seat, lane);
+                        return Released::Put(number);
+                    }
+                    Released::Full => {
+                        self.lanes.put_back(seat, lane);
+                        return Released::Full;
+                    }
+                    Released::Gone => {
+                        self.lanes.put_back(seat, lane);
+                        return Released::Gone;
+                    }
+                    Released::Nothing => {
+                        self.lanes.put_back(seat, lane);
+                        return Released::Nothing;
+                    }
+                }
+            }
+        }
     }
 
     /// Closes `client`. Returns its outbox the first time. Replies that are ready and requests that
@@ -70,14 +80,13 @@ impl<R: Rules, M: Stamp, O: Outbox<R, M> + Drop> Core<R, M, O> {
             → Reaches (Closes client result) l (StandsFor R.Key.cmp (R.machine self.old.rules) M.point O.puts self.new) }
         ensures counted { (log : Log R.Key) → IsCountedFor R.Key.cmp (R.machine self.old.rules) self.old log → IsCountedFor R.Key.cmp (R.machine self.old.rules) self.new log }
     {
-        let seat = client.number();
-        match self.lanes.take(seat) {
-            Some(lane) => {
-                self.opened -= 1;
-                drop_queued(&mut self.waiting, seat);
-                return Some(lane.into_outbox());
-            }
+        match self.lanes.take(client.number()) {
             None => return None,
+            Some(taken) => {
+                let mut lane = taken;
+                let _was_open = self.store.close_client(client);
+                return lane.close();
+            }
         }
     }
 
@@ -87,10 +96,7 @@ impl<R: Rules, M: Stamp, O: Outbox<R, M> + Drop> Core<R, M, O> {
     pub fn is_at_rest(&self) -> bool
         ensures { (l : Ledger R.Key R.Value M O) → StandsFor R.Key.cmp (R.machine self.now.rules) M.point O.puts self.now l → (IsTrue result ↔ IsAtRest O.puts l) }
     {
-        if !self.waiting.is_empty() {
-            return false;
-        }
-        if !self.runs.is_empty() {
+        if !self.store.is_idle() {
             return false;
         }
         !has_ready(&self.lanes)
@@ -109,6 +115,14 @@ impl<R: Rules, M: Stamp, O: Taking<R, M> + Drop> Core<R, M, O> {
         ensures counted { (log : Log R.Key) → IsCountedFor R.Key.cmp (R.machine self.old.rules) self.old log → IsCountedFor R.Key.cmp (R.machine self.old.rules) self.new log }
     {
         let seat = client.number();
-        take_in::<R, M, O>(&mut self.lanes, seat)
+        match self.lanes.take(seat) {
+            None => return Ok(false),
+            Some(lane) => {
+                let mut lane = lane;
+                let taken = lane.take();
+                self.lanes.put_back(seat, lane);
+                return taken;
+            }
+        }
     }
 }

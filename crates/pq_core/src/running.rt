@@ -7,28 +7,29 @@ ghost use Rattle.pq_memo.specs.Table.{memo_at};
 ghost use Rattle.pq_memo.specs.Demand.{NoneLost};
 ghost use Rattle.pq_core.specs.Replies.{IsFair};
 ghost use Rattle.pq_core.specs.Ledger.{Ledger};
-ghost use Rattle.pq_core.specs.Moves.{Reaches, Looks, Gives, Starves, IsMade, IsRequestOf};
-ghost use Rattle.pq_core.specs.Cores.{StandsFor, HandsOut, HasCause, NamesHolder};
-ghost use Rattle.pq_core.specs.Starts.{IsCountedFor, Log, log_moved, log_starved};
+ghost use Rattle.pq_core.specs.Moves.{Looks, Gives, Starves, IsMade, IsRequestOf};
+ghost use Rattle.pq_core.specs.Stores.{StandsFor, HandsOut, HasCause, NamesHolder, Goes};
+ghost use Rattle.pq_core.specs.Told.{Told};
+ghost use Rattle.pq_core.specs.Truth.{IsTrueReply};
+ghost use Rattle.pq_core.specs.Starts.{IsCountedIn, Log, log_moved_in, log_starved_in};
 ghost use Rattle.pq_core.specs.aux.Rising.{found, IsAbove};
 ghost use Rattle.pq_core.specs.aux.Changes.{IsSetAt, IsSameMap};
-ghost use Rattle.pq_core.specs.aux.Lanes.{LaneView, with_owed};
-ghost use Rattle.pq_core.specs.declared.lane.Owed.TheVariants.{Ready as OwedReady};
+ghost use Rattle.pq_core.specs.Accounts.{AccountView, IsStage, with_stage};
+ghost use Rattle.pq_core.specs.declared.account.Stage.TheVariants.{Running, Made};
 ghost use Rattle.pq_core.specs.declared.outcome.Outcome.TheVariants.{Cancelled, Starved, Answered};
 
+use crate::account::Account;
 use crate::closing::close_ring;
-use crate::cores::Core;
 use crate::fault::{GiveFault, GiveRefused, LookFault};
 use crate::ids::{ClientId, Number};
-use crate::in_lanes::finish_in;
-use crate::lane::Lane;
+use crate::in_accounts::finish_in;
 use crate::moves::Move;
-use crate::outbox::Outbox;
 use crate::outcome::Outcome;
 use crate::reply::Reply;
 use crate::rising::Rising;
 use crate::run::{Looked, Run};
 use crate::stamp::Stamp;
+use crate::store::Store;
 use crate::work::{Done, Work};
 use pq_claims::{RunId, claims_are_sound};
 use pq_inputs::Revision;
@@ -37,32 +38,34 @@ use pq_rules::Rules;
 use std::alloc::Global;
 
 /// Whether `run` was overtaken: an edit was accepted since its start, or its client was closed.
-fn is_overtaken<R: Rules, M: Drop, O: Drop>(
-    lanes: &Rising<Lane<R::Key, R::Value, M, O>>,
+fn is_overtaken<R: Rules, M: Stamp>(
+    accounts: &Rising<Account<R, M>>,
     run: &Run<R>,
     now: Revision,
 ) -> bool
-    ensures { IsTrue result ↔ ((run.now.started < now) ⊎ (found lanes.now.items run.now.client ≡ None)) }
+    ensures { IsTrue result ↔ ((run.now.started < now) ⊎ (found accounts.now.items run.now.client ≡ None)) }
 {
     if run.started < now {
         return true;
     }
-    lanes.get(run.client).is_none()
+    accounts.get(run.client).is_none()
 }
 
 /// Makes the reply of `outcome` to the request of `run`, which is over, if its client is open.
-fn end_run<R: Rules, M: Drop, O: Drop>(
-    lanes: &mut Rising<Lane<R::Key, R::Value, M, O>>,
+fn end_run<R: Rules, M: Stamp>(
+    accounts: &mut Rising<Account<R, M>>,
     run: Run<R>,
     revision: Revision,
     outcome: Outcome<R::Key, R::Value, M>,
 )
     requires fair { IsFair revision outcome }
-    requires within { (lane : LaneView R.Key R.Value M O) → found lanes.old.items run.client ≡ Some lane → (lane.put ≤ run.number) × (run.number < lane.put + length lane.owed) }
-    ensures open { (lane : LaneView R.Key R.Value M O) → found lanes.old.items run.client ≡ Some lane
-        → IsSetAt lanes.old lanes.new run.client (Some (with_owed lane run.number (OwedReady (record { client = run.client; number = run.number; request = run.request; revision = revision; outcome = outcome })))) }
-    ensures closed { found lanes.old.items run.client ≡ None → IsSameMap lanes.old lanes.new }
-    ensures above { (m : ℕ) → IsAbove m lanes.old.items → IsAbove m lanes.new.items }
+    requires told { IsTrueReply R.Key.cmp R.machine M.point (record { client = run.client; number = run.number; request = run.request; revision = revision; outcome = outcome }) }
+    requires running { (account : AccountView R.Key R.Value M) → found accounts.old.items run.client ≡ Some account → (accepted : ℕ) × IsStage account run.number (Running accepted) }
+    ensures open { (account : AccountView R.Key R.Value M) → found accounts.old.items run.client ≡ Some account
+        → (accepted : ℕ) × IsStage account run.number (Running accepted)
+        × IsSetAt accounts.old accounts.new run.client (Some (with_stage account run.number (Made (record { reply = record { client = run.client; number = run.number; request = run.request; revision = revision; outcome = outcome }; accepted = accepted })))) }
+    ensures closed { found accounts.old.items run.client ≡ None → IsSameMap accounts.old accounts.new }
+    ensures above { (m : ℕ) → IsAbove m accounts.old.items → IsAbove m accounts.new.items }
 {
     let client = run.client;
     let number = run.number;
@@ -73,33 +76,31 @@ fn end_run<R: Rules, M: Drop, O: Drop>(
         revision,
         outcome,
     );
-    finish_in(lanes, client, number, reply);
+    finish_in(accounts, client, number, reply);
 }
 
 /// Ends `run`, which was overtaken. It is cancelled at the revision `seen`, if its client is open.
-fn stop_run<R: Rules, M: Drop, O: Drop>(
-    lanes: &mut Rising<Lane<R::Key, R::Value, M, O>>,
-    run: Run<R>,
-    seen: Revision,
-)
-    requires overtaken { (run.started < seen) ⊎ (found lanes.old.items run.client ≡ None) }
-    requires within { (lane : LaneView R.Key R.Value M O) → found lanes.old.items run.client ≡ Some lane → (lane.put ≤ run.number) × (run.number < lane.put + length lane.owed) }
-    ensures open { (lane : LaneView R.Key R.Value M O) → found lanes.old.items run.client ≡ Some lane
-        → IsSetAt lanes.old lanes.new run.client (Some (with_owed lane run.number (OwedReady (record { client = run.client; number = run.number; request = run.request; revision = seen; outcome = Cancelled run.started seen })))) }
-    ensures closed { found lanes.old.items run.client ≡ None → IsSameMap lanes.old lanes.new }
-    ensures above { (m : ℕ) → IsAbove m lanes.old.items → IsAbove m lanes.new.items }
+fn stop_run<R: Rules, M: Stamp>(accounts: &mut Rising<Account<R, M>>, run: Run<R>, seen: Revision)
+    requires ruled { R }
+    requires overtaken { (run.started < seen) ⊎ (found accounts.old.items run.client ≡ None) }
+    requires running { (account : AccountView R.Key R.Value M) → found accounts.old.items run.client ≡ Some account → (accepted : ℕ) × IsStage account run.number (Running accepted) }
+    ensures open { (account : AccountView R.Key R.Value M) → found accounts.old.items run.client ≡ Some account
+        → (accepted : ℕ) × IsStage account run.number (Running accepted)
+        × IsSetAt accounts.old accounts.new run.client (Some (with_stage account run.number (Made (record { reply = record { client = run.client; number = run.number; request = run.request; revision = seen; outcome = Cancelled run.started seen }; accepted = accepted })))) }
+    ensures closed { found accounts.old.items run.client ≡ None → IsSameMap accounts.old accounts.new }
+    ensures above { (m : ℕ) → IsAbove m accounts.old.items → IsAbove m accounts.new.items }
 {
     let started = run.started;
     if started < seen {
-        end_run(lanes, run, seen, Outcome::Cancelled { started, seen });
+        end_run(accounts, run, seen, Outcome::Cancelled { started, seen });
         return;
     }
 }
 
-impl<R: Rules, M: Stamp, O: Outbox<R, M> + Drop> Core<R, M, O> {
+impl<R: Rules, M: Stamp> Store<R, M> {
     /// The client and the number of the request of `run`, if it exists.
     pub fn request_of(&self, run: RunId) -> Option<(ClientId, Number)>
-        ensures { (l : Ledger R.Key R.Value M O) → StandsFor R.Key.cmp (R.machine self.now.rules) M.point O.puts self.now l → IsRequestOf l run result }
+        ensures { (l : Ledger R.Key R.Value M (Told R.Key R.Value M)) → StandsFor R.Key.cmp (R.machine self.now.rules) M.point self.now l → IsRequestOf l run result }
     {
         match self.runs.get(run.number()) {
             Some(run) => return Some((ClientId::new(run.client), Number::new(run.number))),
@@ -116,12 +117,11 @@ impl<R: Rules, M: Stamp, O: Outbox<R, M> + Drop> Core<R, M, O> {
         ensures rules { self.new.rules ≡ self.old.rules }
         ensures inputs { self.new.inputs ≡ self.old.inputs }
         ensures none_lost { NoneLost (memo_at R.Key.cmp self.old.places) (memo_at R.Key.cmp self.new.places) }
-        ensures moved { (l : Ledger R.Key R.Value M O) → StandsFor R.Key.cmp (R.machine self.old.rules) M.point O.puts self.old l
-            → Reaches (Looks R.Key.cmp (R.machine self.old.rules) M.point self.old.rules run result) l (StandsFor R.Key.cmp (R.machine self.old.rules) M.point O.puts self.new) }
+        ensures moved { Goes R.Key.cmp (R.machine self.old.rules) M.point self.old self.new (Looks R.Key.cmp (R.machine self.old.rules) M.point self.old.rules run result) }
         ensures handed { IfOk result (HandsOut self.old run) }
         ensures holder { IfOk result (NamesHolder self.new.claims run) }
         ensures cause { IfOk result (HasCause R.Key.cmp (R.machine self.old.rules) self.old) }
-        ensures counted { (log : Log R.Key) → IsCountedFor R.Key.cmp (R.machine self.old.rules) self.old log → IsCountedFor R.Key.cmp (R.machine self.old.rules) self.new (log_moved self.old run result log) }
+        ensures counted { (log : Log R.Key) → IsCountedIn R.Key.cmp (R.machine self.old.rules) self.old log → IsCountedIn R.Key.cmp (R.machine self.old.rules) self.new (log_moved_in self.old run result log) }
     {
         look_is_right(&self.memos);
         claims_are_sound(&self.claims);
@@ -132,9 +132,9 @@ impl<R: Rules, M: Stamp, O: Outbox<R, M> + Drop> Core<R, M, O> {
             None => return Err(LookFault::NoRun),
             Some(taken) => {
                 let mut run = taken;
-                if is_overtaken(&self.lanes, &run, now) {
+                if is_overtaken(&self.accounts, &run, now) {
                     self.claims.release_all(who);
-                    stop_run(&mut self.lanes, run, now);
+                    stop_run(&mut self.accounts, run, now);
                     return Ok(Move::Stopped);
                 }
                 if run.is_out() {
@@ -181,7 +181,12 @@ impl<R: Rules, M: Stamp, O: Outbox<R, M> + Drop> Core<R, M, O> {
                         }
                         Looked::Answered(answer) => {
                             self.claims.release_all(who);
-                            end_run(&mut self.lanes, run, now, Outcome::Answered(answer, stamp));
+                            end_run(
+                                &mut self.accounts,
+                                run,
+                                now,
+                                Outcome::Answered(answer, stamp),
+                            );
                             return Ok(Move::Answered);
                         }
                     },
@@ -211,9 +216,8 @@ impl<R: Rules, M: Stamp, O: Outbox<R, M> + Drop> Core<R, M, O> {
         ensures inputs { self.new.inputs ≡ self.old.inputs }
         ensures none_lost { NoneLost (memo_at R.Key.cmp self.old.places) (memo_at R.Key.cmp self.new.places) }
         ensures back { IfErr result (λ refused. refused.done ≡ done) }
-        ensures moved { (l : Ledger R.Key R.Value M O) → StandsFor R.Key.cmp (R.machine self.old.rules) M.point O.puts self.old l
-            → Reaches (Gives run done result) l (StandsFor R.Key.cmp (R.machine self.old.rules) M.point O.puts self.new) }
-        ensures counted { (log : Log R.Key) → IsCountedFor R.Key.cmp (R.machine self.old.rules) self.old log → IsCountedFor R.Key.cmp (R.machine self.old.rules) self.new (log_moved self.old run result log) }
+        ensures moved { Goes R.Key.cmp (R.machine self.old.rules) M.point self.old self.new (Gives run done result) }
+        ensures counted { (log : Log R.Key) → IsCountedIn R.Key.cmp (R.machine self.old.rules) self.old log → IsCountedIn R.Key.cmp (R.machine self.old.rules) self.new (log_moved_in self.old run result log) }
     {
         claims_are_sound(&self.claims);
         let who = run;
@@ -231,9 +235,9 @@ impl<R: Rules, M: Stamp, O: Outbox<R, M> + Drop> Core<R, M, O> {
                     let fault = GiveFault::NotThisRun;
                     return Err(GiveRefused { fault, done });
                 }
-                if is_overtaken(&self.lanes, &run, now) {
+                if is_overtaken(&self.accounts, &run, now) {
                     self.claims.release_all(who);
-                    stop_run(&mut self.lanes, run, now);
+                    stop_run(&mut self.accounts, run, now);
                     return Ok(Move::Stopped);
                 }
                 let Done { made, stamp } = done;
@@ -267,15 +271,14 @@ impl<R: Rules, M: Stamp, O: Outbox<R, M> + Drop> Core<R, M, O> {
         ensures rules { self.new.rules ≡ self.old.rules }
         ensures inputs { self.new.inputs ≡ self.old.inputs }
         ensures places { self.new.places ≡ self.old.places }
-        ensures moved { (l : Ledger R.Key R.Value M O) → StandsFor R.Key.cmp (R.machine self.old.rules) M.point O.puts self.old l
-            → Reaches (Starves run result) l (StandsFor R.Key.cmp (R.machine self.old.rules) M.point O.puts self.new) }
-        ensures counted { (log : Log R.Key) → IsCountedFor R.Key.cmp (R.machine self.old.rules) self.old log → IsCountedFor R.Key.cmp (R.machine self.old.rules) self.new (log_starved self.old run result log) }
+        ensures moved { Goes R.Key.cmp (R.machine self.old.rules) M.point self.old self.new (Starves run result) }
+        ensures counted { (log : Log R.Key) → IsCountedIn R.Key.cmp (R.machine self.old.rules) self.old log → IsCountedIn R.Key.cmp (R.machine self.old.rules) self.new (log_starved_in self.old run result log) }
     {
         let now = self.inputs.now();
         match self.runs.take(run.number()) {
             Some(taken) => {
                 self.claims.release_all(run);
-                end_run(&mut self.lanes, taken, now, Outcome::Starved);
+                end_run(&mut self.accounts, taken, now, Outcome::Starved);
                 return true;
             }
             None => return false,

@@ -1,7 +1,7 @@
 use Rattle.std.proofs.Common.{◌≡◌, ℕ, ◌≤◌, drop}
 use Rattle.std.specs.Option.{option_map}
 use Rattle.pq_memo.specs.Table.{memo_at}
-use Rattle.pq_core.specs.Cores.{run_seen}
+use Rattle.pq_core.specs.Stores.{run_seen}
 use Rattle.pq_core.specs.aux.Rising.{found, IsAbove}
 use Rattle.pq_core.proofs.RingBegun.{IsPartOf, LeftOn}
 use Rattle.pq_core.proofs.RingLeaving.{IsLeaving}

@@ -10,7 +10,7 @@ returns-then-not-is_refused g c =
     let x = (c.if-is_ready.ensures {u = tt}).0 refl in
     let here = ap (λ (ps : List (Place _)). slice_get ps c.loop-i.i) (sym c.places-places.ensures.now)
     ∙ index_there c.places-places.result.now c.loop-i.i c.index-places-i.result c.loop-i-test.true c.index-places-i.is in (
-      λ t. lane_found c.args.lanes.now c.loop-i.i c.index-places-i.result c.in-Some.lane x.0 c.places-places.ensures.rises here (ap (λ (p : Place _). p.value) c.index-places-i.is ∙ c.in-Some.is) x.1
+      λ t. lane_found c.args.lanes.now c.loop-i.i c.index-places-i.result c.in-Some.lane c.places-places.ensures.rises here (ap (λ (p : Place _). p.value) c.index-places-i.is ∙ c.in-Some.is) x
           (sym c.is_refused.ensures ∙ c.if-not-is_refused.true),
       λ w. refl,
     )
@@ -30,14 +30,14 @@ loop-i-preserved g c =
       ]
       | in_default w ↦
           done_more c.args.lanes.now.items c.loop-i.i c.index-places-i.result here
-          (λ lane reply h. absurd (none_some lane (sym (ap (λ (p : Place _). p.value) c.index-places-i.is ∙ w.in_default.is) ∙ h))) c.loop-i.invariant
+          (λ lane h. absurd (none_some lane (sym (ap (λ (p : Place _). p.value) c.index-places-i.is ∙ w.in_default.is) ∙ h))) c.loop-i.invariant
     ]
 
 pub returns : goal.returns
 returns g c = (
   λ t. absurd (cc),
   λ w. absurd (all_done c.args.lanes.now
-      (λ j p lane reply lt h. c.loop-i.invariant j p lane reply
+      (λ j p lane lt h. c.loop-i.invariant j p lane
       (let long : length c.places-places.result.now ≡ length c.args.lanes.now.items = ap (λ (ps : List (Place _)). length ps) c.places-places.ensures.now in
       let past : length c.places-places.result.now ≤ c.loop-i.i = c.loop-i-test.false in omega arith) h)
       w),

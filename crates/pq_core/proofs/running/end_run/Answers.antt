@@ -1,7 +1,8 @@
+use Rattle.std.proofs.Common.{sym, ◌∙◌}
 use Rattle.pq_core.proofs.running.end_run.Goals as goal
 
-pub finish_in-requires : goal.finish_in-requires
-finish_in-requires g c = rw (← c.run.view_is) at c.requires.within
+pub finish_in-requires-clause-running : goal.finish_in-requires-clause-running
+finish_in-requires-clause-running g c = rw (← c.run.view_is) at c.requires.running
 
 pub returns-clause-open : goal.returns-clause-open
 returns-clause-open g c =

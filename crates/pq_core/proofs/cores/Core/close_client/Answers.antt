@@ -1,80 +1,31 @@
-use Rattle.std.proofs.Common.{◌≡◌, ◌≤◌, ◌+◌, ◌-◌, ℕ, refl, sym, arith}
-use Rattle.pq_core.proofs.CoreReleasing.{some_opened, close_moved, close_none}
-use Rattle.pq_core.proofs.Queued.{queue_closed, queue_same, no_longer}
+use Rattle.std.proofs.Common.{refl, sym, ◌∙◌}
+use Rattle.pq_core.proofs.CorePassing.{call_moved, call_whole}
+use Rattle.std.specs.Prelude.{None}
+use Rattle.pq_core.specs.Moves.{Closes}
 use Rattle.pq_core.proofs.Changing.{none_taken}
+use Rattle.pq_core.proofs.CoreLeaving.{close_none_so, close_so}
 use Rattle.pq_core.proofs.cores.Core.close_client.Goals as goal
-
-less_one : (n : ℕ) → 1 ≤ n → n - 1 + 1 ≡ n
-less_one n h = omega arith
-
-pub overflow_sub-self : goal.overflow_sub-self
-overflow_sub-self g c =
-    let w = c.self.invariant.ledger in
-    some_opened g.R.Key.Ord.cmp (g.R.Rules.machine c.self.inside.memos.rules) g.M.Stamp.point g.O.Outbox.puts _ w.0 c.number-seat.result c.in-Some.lane w.1 (sym c.in-Some.ensures.value)
-
-pub invariant_of-self : goal.invariant_of-self
-invariant_of-self g c =
-    let w = c.self.invariant in
-    let here = sym c.in-Some.ensures.value in
-    let some = some_opened g.R.Key.Ord.cmp (g.R.Rules.machine c.self.inside.memos.rules) g.M.Stamp.point g.O.Outbox.puts _ w.ledger.0 c.number-seat.result c.in-Some.lane w.ledger.1 here in
-    let moved = close_moved g.R.Key.Ord.cmp (g.R.Rules.machine c.self.inside.memos.rules) g.M.Stamp.point g.O.Outbox.puts _ _ c.number-seat.result c.in-Some.lane
-    c.into_outbox.result w.ledger.0 here c.take.ensures.found c.into_outbox.ensures
-    (record { inputs = refl; clients = refl; runs = refl; started = refl }) (less_one c.self.inside.opened some)
-    w.ledger.1 in
-    let fewer = no_longer c.number-seat.result _ _ c.drop_queued.ensures in
-    let room = w.room in
-    record {
-      stamped = c.self.invariant.stamped;
-      kept = w.kept;
-      lanes_above = c.take.ensures.above c.self.inside.clients w.lanes_above;
-      runs_above = w.runs_above;
-      queue = queue_closed _ _ _ _ c.number-seat.result c.take.ensures.found c.drop_queued.ensures w.queue;
-      room = omega arith;
-      runs = w.runs;
-      ledger = (moved.0, moved.2);
-    }
-
-pub returns-in-Some-clause-moved : goal.returns-in-Some-clause-moved
-returns-in-Some-clause-moved g c =
-    let here = sym c.in-Some.ensures.value in
-    let w = c.self.invariant in
-    let some = some_opened g.R.Key.Ord.cmp (g.R.Rules.machine c.self.inside.memos.rules) g.M.Stamp.point g.O.Outbox.puts _ w.ledger.0 c.number-seat.result c.in-Some.lane w.ledger.1 here in
-    rw (← c.self.view_is)
-    (rw (← c.number-seat.ensures)
-    (λ l s. close_moved g.R.Key.Ord.cmp (g.R.Rules.machine c.self.inside.memos.rules) g.M.Stamp.point g.O.Outbox.puts _ _ c.number-seat.result c.in-Some.lane
-    c.into_outbox.result l here c.take.ensures.found c.into_outbox.ensures
-    (record { inputs = refl; clients = refl; runs = refl; started = refl }) (less_one c.self.inside.opened some)
-    s))
-
-pub invariant_of-self-in-None : goal.invariant_of-self-in-None
-invariant_of-self-in-None g c =
-    let w = c.self.invariant in
-    let moved = close_none g.R.Key.Ord.cmp (g.R.Rules.machine c.self.inside.memos.rules) g.M.Stamp.point g.O.Outbox.puts _ _ c.number-seat.result w.ledger.0
-    (sym c.in-None.ensures.value) c.take.ensures.found
-    (record { inputs = refl; clients = refl; runs = refl; started = refl }) refl w.ledger.1 in
-    record {
-      stamped = c.self.invariant.stamped;
-      kept = w.kept;
-      lanes_above = c.take.ensures.above c.self.inside.clients w.lanes_above;
-      runs_above = w.runs_above;
-      queue = queue_same _ _ _ (none_taken c.self.inside.lanes c.take.new.self c.number-seat.result (sym c.in-None.ensures.value) c.take.ensures.found c.take.ensures.above c.take.ensures.room).found w.queue;
-      room = w.room;
-      runs = w.runs;
-      ledger = (moved.0, moved.2);
-    }
 
 pub returns-in-None-clause-moved : goal.returns-in-None-clause-moved
 returns-in-None-clause-moved g c =
-    rw (← c.self.view_is)
-    (rw (← c.number-seat.ensures)
-    (λ l s. close_none g.R.Key.Ord.cmp (g.R.Rules.machine c.self.inside.memos.rules) g.M.Stamp.point g.O.Outbox.puts _ _ c.number-seat.result l
-    (sym c.in-None.ensures.value) c.take.ensures.found
-    (record { inputs = refl; clients = refl; runs = refl; started = refl }) refl s))
+    rw (← c.self.view_is) (call_moved g.R.Key.Ord.cmp g.R.Rules.machine g.M.Stamp.point g.O.Outbox.puts (Closes c.args.client None) c.self.inside.store c.self.inside.store c.self.inside.lanes c.take.new.self
+    (λ l s. close_none_so g.R.Key.Ord.cmp (g.R.Rules.machine c.self.inside.store.rules) g.M.Stamp.point g.O.Outbox.puts c.args.client c.self.inside.store c.self.inside.lanes c.take.new.self l c.self.invariant.none_handed s (sym (rw c.number.ensures at c.in-None.ensures.value)) (none_taken c.self.inside.lanes c.take.new.self c.number.result (sym c.in-None.ensures.value) c.take.ensures.found c.take.ensures.above c.take.ensures.room).found (none_taken c.self.inside.lanes c.take.new.self c.number.result (sym c.in-None.ensures.value) c.take.ensures.found c.take.ensures.above c.take.ensures.room).above))
+
+pub invariant_of-self : goal.invariant_of-self
+invariant_of-self g c =
+    call_whole g.R.Key.Ord.cmp g.R.Rules.machine g.M.Stamp.point g.O.Outbox.puts (Closes c.args.client None) c.self.inside.store c.self.inside.store c.self.inside.lanes c.take.new.self c.self.invariant (refl)
+    (λ l s. close_none_so g.R.Key.Ord.cmp (g.R.Rules.machine c.self.inside.store.rules) g.M.Stamp.point g.O.Outbox.puts c.args.client c.self.inside.store c.self.inside.lanes c.take.new.self l c.self.invariant.none_handed s (sym (rw c.number.ensures at c.in-None.ensures.value)) (none_taken c.self.inside.lanes c.take.new.self c.number.result (sym c.in-None.ensures.value) c.take.ensures.found c.take.ensures.above c.take.ensures.room).found (none_taken c.self.inside.lanes c.take.new.self c.number.result (sym c.in-None.ensures.value) c.take.ensures.found c.take.ensures.above c.take.ensures.room).above)
+
+pub returns-in-Some-clause-moved : goal.returns-in-Some-clause-moved
+returns-in-Some-clause-moved g c =
+    rw (← c.self.view_is) (call_moved g.R.Key.Ord.cmp g.R.Rules.machine g.M.Stamp.point g.O.Outbox.puts (Closes c.args.client c.close.result) c.self.inside.store c.close_client-was_open.new.self c.self.inside.lanes c.take.new.self
+    (λ l s. close_so g.R.Key.Ord.cmp (g.R.Rules.machine c.self.inside.store.rules) g.M.Stamp.point g.O.Outbox.puts c.args.client c.close.result c.close_client-was_open.result c.self.inside.store c.close_client-was_open.new.self c.self.inside.lanes c.take.new.self c.in-Some.taken c.close.new.self l c.self.invariant.none_handed s (sym (rw c.number.ensures at c.in-Some.ensures.value)) c.close_client-was_open.ensures.moved c.close.ensures (rw c.number.ensures at c.take.ensures.found) c.take.ensures.above))
+
+pub invariant_of-self-in-Some : goal.invariant_of-self-in-Some
+invariant_of-self-in-Some g c =
+    call_whole g.R.Key.Ord.cmp g.R.Rules.machine g.M.Stamp.point g.O.Outbox.puts (Closes c.args.client c.close.result) c.self.inside.store c.close_client-was_open.new.self c.self.inside.lanes c.take.new.self c.self.invariant (c.close_client-was_open.ensures.rules)
+    (λ l s. close_so g.R.Key.Ord.cmp (g.R.Rules.machine c.self.inside.store.rules) g.M.Stamp.point g.O.Outbox.puts c.args.client c.close.result c.close_client-was_open.result c.self.inside.store c.close_client-was_open.new.self c.self.inside.lanes c.take.new.self c.in-Some.taken c.close.new.self l c.self.invariant.none_handed s (sym (rw c.number.ensures at c.in-Some.ensures.value)) c.close_client-was_open.ensures.moved c.close.ensures (rw c.number.ensures at c.take.ensures.found) c.take.ensures.above)
 
 pub returns-in-Some-clause-counted : goal.returns-in-Some-clause-counted
 returns-in-Some-clause-counted g c =
-    rw (← c.self.view_is) (λ log x. x)
-
-pub returns-in-None-clause-counted : goal.returns-in-None-clause-counted
-returns-in-None-clause-counted g c =
-    rw (← c.self.view_is) (λ log x. x)
+    rw (← c.self.view_is) c.close_client-was_open.ensures.counted

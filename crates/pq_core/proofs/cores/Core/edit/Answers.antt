@@ -1,110 +1,19 @@
-use Rattle.std.proofs.Common.{◌≡◌, refl, sym, ◌∙◌, subst, ap, Some, []}
-use Rattle.std.specs.Option.{option_map}
-use Rattle.std.specs.Prelude.{string_bytes}
-use Rattle.pq_core.specs.Changes.{ChangeView}
-use Rattle.pq_core.specs.Points.{point_now}
-use Rattle.pq_core.specs.Moves.{changed}
-use Rattle.pq_core.specs.Cores.{CoreView, held}
-use Rattle.pq_core.specs.aux.Accepting.{MayNotEdit}
-use Rattle.pq_core.specs.aux.Rising.{found}
-use Rattle.pq_core.specs.aux.Lanes.{LaneView}
-use Rattle.pq_core.proofs.RunsKept.{edited_runs}
-use Rattle.pq_core.proofs.CoreOpening.{unmoved}
-use Rattle.pq_core.proofs.CoreAccepting.{edit_refusal_so, edit_moved, edit_refused, run_past, table_is}
-use Rattle.pq_rules.proofs.Weight.{Exact}
-use Rattle.pq_memo.specs.Table.{memo_at}
-use Rattle.pq_core.proofs.CoreCounting.{edited_counted}
+use Rattle.std.proofs.Common.{refl, sym, ◌∙◌}
+use Rattle.pq_core.proofs.CorePassing.{call_moved, call_whole}
+use Rattle.pq_core.specs.Moves.{Edits}
+use Rattle.pq_core.proofs.CoreServing.{edit_so}
 use Rattle.pq_core.proofs.cores.Core.edit.Goals as goal
 
-pub returns-in-Some-clause-moved : goal.returns-in-Some-clause-moved
-returns-in-Some-clause-moved g c =
-    let refused : MayNotEdit (held (record { rules = c.self.inside.memos.rules; places = c.self.inside.memos.places; inputs = c.self.inside.inputs; lanes = c.self.inside.lanes; opened = c.self.inside.opened; clients = c.self.inside.clients; waiting = c.self.inside.waiting.items; runs = c.self.inside.runs; started = c.self.inside.started; claims = c.self.inside.claims })) c.args.client c.in-Some.fault =
-    subst (λ (v : CoreView g.row.R.Denot g.row.R-Key.Denot g.row.R-Part.Denot g.row.R-Value.Denot g.row.M.Denot g.row.O.Denot). MayNotEdit (held v) c.args.client c.in-Some.fault) (sym c.self.view_is)
-    (rw c.number.ensures at (c.in-Some.ensures {u = tt}).refused) in
-    rw (← c.self.view_is)
-    (λ l s. (
-      l,
-      (refl, edit_refusal_so g.R.Key.Ord.cmp (g.R.Rules.machine c.self.inside.memos.rules) g.M.Stamp.point g.O.Outbox.puts _ l c.args.client c.args.change c.in-Some.fault s refused, refl),
-      s,
-    ))
+pub returns-clause-moved : goal.returns-clause-moved
+returns-clause-moved g c =
+    rw (← c.self.view_is) (call_moved g.R.Key.Ord.cmp g.R.Rules.machine g.M.Stamp.point g.O.Outbox.puts (Edits c.args.client c.args.change c.edit.result) c.self.inside.store c.edit.new.self c.self.inside.lanes c.self.inside.lanes
+    (λ l s. edit_so g.R.Key.Ord.cmp (g.R.Rules.machine c.self.inside.store.rules) g.M.Stamp.point g.O.Outbox.puts c.args.client c.args.change c.edit.result c.self.inside.store c.edit.new.self c.self.inside.lanes l c.self.invariant.none_handed s c.edit.ensures.moved))
 
 pub invariant_of-self : goal.invariant_of-self
 invariant_of-self g c =
-    let w = c.self.invariant in
-    let may : (lane : LaneView g.row.R-Key.Denot g.row.R-Value.Denot g.row.M.Denot g.row.O.Denot) × (found c.self.inside.lanes.items c.args.client ≡ Some lane) =
-    subst (λ (v : CoreView g.row.R.Denot g.row.R-Key.Denot g.row.R-Part.Denot g.row.R-Value.Denot g.row.M.Denot g.row.O.Denot). (lane : LaneView g.row.R-Key.Denot g.row.R-Value.Denot g.row.M.Denot g.row.O.Denot) × (found v.lanes.items c.args.client ≡ Some lane)) (sym c.self.view_is) (rw c.number.ensures at (c.in_default.ensures {u = tt}).may) in
-    let told = c.in-Ok.ensures {u = tt} in
-    let table = table_is c.set.new.self c.self.inside.inputs (record { file = c.change.inside.file; text = option_map string_bytes c.change.inside.text; durability = c.change.inside.durability }) (rw c.as_str.ensures.same at told.files) (told.revision.1 ∙ told.revision.0) told.history in
-    let moved = edit_moved g.R.Key.Ord.cmp (g.R.Rules.machine c.self.inside.memos.rules) g.M.Stamp.point g.O.Outbox.puts
-    (held (record { rules = c.self.inside.memos.rules; places = c.self.inside.memos.places; inputs = c.self.inside.inputs; lanes = c.self.inside.lanes; opened = c.self.inside.opened; clients = c.self.inside.clients; waiting = c.self.inside.waiting.items; runs = c.self.inside.runs; started = c.self.inside.started; claims = c.self.inside.claims }))
-    (record { inputs = c.set.new.self; lanes = c.self.inside.lanes.items; opened = c.self.inside.opened; clients = c.self.inside.clients; runs = c.self.inside.runs.items; started = c.self.inside.started })
-    c.args.client c.in-Ok.revision (record { file = c.change.inside.file; text = option_map string_bytes c.change.inside.text; durability = c.change.inside.durability }) w.ledger.0 may (rw c.as_str.ensures.same at told.accepted) told.revision.0 table (λ k. refl) refl refl (λ k. refl) refl w.ledger.1 in
-    record {
-      stamped =
-          subst (λ (d : ChangeView). g.M.Stamp.point c.args.stamp ≡ point_now (changed c.self.inside.inputs d)) (sym c.change.view_is)
-          (subst (λ (v : CoreView g.row.R.Denot g.row.R-Key.Denot g.row.R-Part.Denot g.row.R-Value.Denot g.row.M.Denot g.row.O.Denot). g.M.Stamp.point c.args.stamp ≡ point_now (changed v.inputs c.args.change)) (sym c.self.view_is) c.requires)
-          ∙ ap point_now (sym table);
-      kept = c.kept_is_sound.ensures.next c.self.inside.inputs c.set.new.self
-          (record { counted = c.now-latest.ensures.counted; latest = c.now-latest.ensures.last; revision = told.revision.1 ∙ told.revision.0; history = told.history }) w.kept;
-      lanes_above = w.lanes_above;
-      runs_above = w.runs_above;
-      queue = w.queue;
-      room = w.room;
-      runs = edited_runs _ _ _ _ _ c.set.new.self _ (told.revision.1 ∙ told.revision.0) (λ s y h. run_past g.R.Key.Ord.cmp (g.R.Rules.machine c.self.inside.memos.rules) g.M.Stamp.point g.O.Outbox.puts (held (record { rules = c.self.inside.memos.rules; places = c.self.inside.memos.places; inputs = c.self.inside.inputs; lanes = c.self.inside.lanes; opened = c.self.inside.opened; clients = c.self.inside.clients; waiting = c.self.inside.waiting.items; runs = c.self.inside.runs; started = c.self.inside.started; claims = c.self.inside.claims })) w.ledger.0 s y w.ledger.1 h) w.kept w.runs;
-      ledger = (moved.0, moved.2);
-    }
+    call_whole g.R.Key.Ord.cmp g.R.Rules.machine g.M.Stamp.point g.O.Outbox.puts (Edits c.args.client c.args.change c.edit.result) c.self.inside.store c.edit.new.self c.self.inside.lanes c.self.inside.lanes c.self.invariant (c.edit.ensures.rules)
+    (λ l s. edit_so g.R.Key.Ord.cmp (g.R.Rules.machine c.self.inside.store.rules) g.M.Stamp.point g.O.Outbox.puts c.args.client c.args.change c.edit.result c.self.inside.store c.edit.new.self c.self.inside.lanes l c.self.invariant.none_handed s c.edit.ensures.moved)
 
-pub returns-in-Ok-clause-moved : goal.returns-in-Ok-clause-moved
-returns-in-Ok-clause-moved g c =
-    let may : (lane : LaneView g.row.R-Key.Denot g.row.R-Value.Denot g.row.M.Denot g.row.O.Denot) × (found c.self.inside.lanes.items c.args.client ≡ Some lane) =
-    subst (λ (v : CoreView g.row.R.Denot g.row.R-Key.Denot g.row.R-Part.Denot g.row.R-Value.Denot g.row.M.Denot g.row.O.Denot). (lane : LaneView g.row.R-Key.Denot g.row.R-Value.Denot g.row.M.Denot g.row.O.Denot) × (found v.lanes.items c.args.client ≡ Some lane)) (sym c.self.view_is) (rw c.number.ensures at (c.in_default.ensures {u = tt}).may) in
-    let told = c.in-Ok.ensures {u = tt} in
-    let table = table_is c.set.new.self c.self.inside.inputs (record { file = c.change.inside.file; text = option_map string_bytes c.change.inside.text; durability = c.change.inside.durability }) (rw c.as_str.ensures.same at told.files) (told.revision.1 ∙ told.revision.0) told.history in
-    rw (← c.self.view_is)
-    (rw (← c.change.view_is)
-    (λ l s. edit_moved g.R.Key.Ord.cmp (g.R.Rules.machine c.self.inside.memos.rules) g.M.Stamp.point g.O.Outbox.puts
-    (held (record { rules = c.self.inside.memos.rules; places = c.self.inside.memos.places; inputs = c.self.inside.inputs; lanes = c.self.inside.lanes; opened = c.self.inside.opened; clients = c.self.inside.clients; waiting = c.self.inside.waiting.items; runs = c.self.inside.runs; started = c.self.inside.started; claims = c.self.inside.claims }))
-    (record { inputs = c.set.new.self; lanes = c.self.inside.lanes.items; opened = c.self.inside.opened; clients = c.self.inside.clients; runs = c.self.inside.runs.items; started = c.self.inside.started })
-    c.args.client c.in-Ok.revision (record { file = c.change.inside.file; text = option_map string_bytes c.change.inside.text; durability = c.change.inside.durability }) l may (rw c.as_str.ensures.same at told.accepted) told.revision.0 table (λ k. refl) refl refl (λ k. refl) refl s))
-
-pub returns-in-Err-clause-moved : goal.returns-in-Err-clause-moved
-returns-in-Err-clause-moved g c =
-    let may : (lane : LaneView g.row.R-Key.Denot g.row.R-Value.Denot g.row.M.Denot g.row.O.Denot) × (found c.self.inside.lanes.items c.args.client ≡ Some lane) =
-    subst (λ (v : CoreView g.row.R.Denot g.row.R-Key.Denot g.row.R-Part.Denot g.row.R-Value.Denot g.row.M.Denot g.row.O.Denot). (lane : LaneView g.row.R-Key.Denot g.row.R-Value.Denot g.row.M.Denot g.row.O.Denot) × (found v.lanes.items c.args.client ≡ Some lane)) (sym c.self.view_is) (rw c.number.ensures at (c.in_default.ensures {u = tt}).may) in
-    let told = c.in-Err.ensures {u = tt} in
-    rw (← c.self.view_is)
-    (rw (← c.change.view_is)
-    (λ l s. (
-      l,
-      (
-        ap (λ x. record { file = c.change.inside.file; text = option_map string_bytes x; durability = c.change.inside.durability }) told.back,
-        edit_refused g.R.Key.Ord.cmp (g.R.Rules.machine c.self.inside.memos.rules) g.M.Stamp.point g.O.Outbox.puts (held (record { rules = c.self.inside.memos.rules; places = c.self.inside.memos.places; inputs = c.self.inside.inputs; lanes = c.self.inside.lanes; opened = c.self.inside.opened; clients = c.self.inside.clients; waiting = c.self.inside.waiting.items; runs = c.self.inside.runs; started = c.self.inside.started; claims = c.self.inside.claims })) c.args.client (record { file = c.change.inside.file; text = option_map string_bytes c.change.inside.text; durability = c.change.inside.durability }) c.in-Err.refused.fault l may
-            (rw c.as_str.ensures.same at told.fault) s,
-        refl,
-      ),
-      unmoved g.R.Key.Ord.cmp (g.R.Rules.machine c.self.inside.memos.rules) g.M.Stamp.point g.O.Outbox.puts _ _ l
-          (record {
-            inputs = told.refused;
-            lanes = λ k. refl;
-            opened = refl;
-            clients = refl;
-            runs = λ k. refl;
-            started = refl;
-          })
-          s,
-    )))
-
-pub returns-in-Some-clause-counted : goal.returns-in-Some-clause-counted
-returns-in-Some-clause-counted g c =
-    rw (← c.self.view_is) (λ log x. x)
-
-pub returns-in-Ok-clause-counted : goal.returns-in-Ok-clause-counted
-returns-in-Ok-clause-counted g c =
-    let exact : Exact g.R.Key.Ord.cmp = record { total = g.met.R.Key.Ord.total; exact = (g.met.R.Rules.lawful c.self.inside.memos.rules []).exact } in
-    let told = c.in-Ok.ensures {u = tt} in
-    rw (← c.self.view_is) (λ log x. edited_counted g.R.Key.Ord.cmp exact (g.R.Rules.machine c.self.inside.memos.rules) c.self.inside.inputs log c.set.new.self (memo_at g.R.Key.Ord.cmp c.self.inside.memos.places) c.self.inside.runs.items c.self.inside.runs.items (told.revision.1 ∙ told.revision.0) x)
-
-pub returns-in-Err-clause-counted : goal.returns-in-Err-clause-counted
-returns-in-Err-clause-counted g c =
-    let told = c.in-Err.ensures {u = tt} in
-    rw (← c.self.view_is) (rw told.refused (λ log x. x))
+pub returns-clause-counted : goal.returns-clause-counted
+returns-clause-counted g c =
+    rw (← c.self.view_is) c.edit.ensures.counted

@@ -1,75 +1,19 @@
-use Rattle.std.proofs.Common.{◌≡◌, ◌≤◌, ◌+◌, ℕ, List, ◌∷◌, length, refl, ap, inl, arith, []}
-use Rattle.pq_core.specs.Cores.{held}
-use Rattle.pq_core.proofs.Slots.{found_above}
-use Rattle.pq_core.proofs.RunsKept.{started_runs}
-use Rattle.pq_core.proofs.Changing.{above_next}
-use Rattle.pq_core.proofs.Queued.{queue_started}
-use Rattle.pq_core.proofs.CoreResting.{no_length}
-use Rattle.pq_core.proofs.CoreAccepting.{run_past}
-use Rattle.pq_core.proofs.CoreStarting.{seen_of, start_none, start_moved}
-use Rattle.pq_rules.proofs.Weight.{Exact}
-use Rattle.pq_memo.specs.Table.{memo_at}
-use Rattle.pq_core.proofs.CoreCounting.{begun_counted}
+use Rattle.std.proofs.Common.{refl, sym, ◌∙◌}
+use Rattle.pq_core.proofs.CorePassing.{call_moved, call_whole}
+use Rattle.pq_core.specs.Moves.{Starts}
+use Rattle.pq_core.proofs.CoreServing.{start_so}
 use Rattle.pq_core.proofs.cores.Core.start.Goals as goal
 
-pub start_in-request-requires : goal.start_in-request-requires
-start_in-request-requires g c =
-    let q = rw (c.in-Some.ensures {u = tt}).items at c.self.invariant.queue in
-    q.waits c.in-Some.client c.in-Some.number (inl refl)
+pub returns-clause-moved : goal.returns-clause-moved
+returns-clause-moved g c =
+    rw (← c.self.view_is) (call_moved g.R.Key.Ord.cmp g.R.Rules.machine g.M.Stamp.point g.O.Outbox.puts (Starts c.start.result) c.self.inside.store c.start.new.self c.self.inside.lanes c.self.inside.lanes
+    (λ l s. start_so g.R.Key.Ord.cmp (g.R.Rules.machine c.self.inside.store.rules) g.M.Stamp.point g.O.Outbox.puts c.start.result c.self.inside.store c.start.new.self c.self.inside.lanes l c.self.invariant.none_handed s c.start.ensures.moved))
 
 pub invariant_of-self : goal.invariant_of-self
 invariant_of-self g c =
-    let w = c.self.invariant in
-    let q = rw (c.in-Some.ensures {u = tt}).items at w.queue in
-    let x = c.start_in-request.ensures.waited in
-    let set = c.start_in-request.ensures.runs x.lane x.here in
-    let moved = start_moved g.R.Key.Ord.cmp (g.R.Rules.machine c.self.inside.memos.rules) g.M.Stamp.point g.O.Outbox.puts _ _ c.in-Some.client c.in-Some.number x.lane c.start_in-request.result c.new-made.result w.ledger.0
-    x.here x.waits set.found c.push_reserved.ensures.found
-    (rw c.new-made.ensures (ap (λ (t : ℕ). seen_of c.in-Some.client c.in-Some.number c.start_in-request.result t) c.now-revision.ensures.now))
-    refl refl refl refl w.ledger.1 in
-    record {
-      stamped = c.self.invariant.stamped;
-      kept = w.kept;
-      lanes_above = set.above c.self.inside.clients w.lanes_above;
-      runs_above = c.push_reserved.ensures.above (c.self.inside.started + 1) (omega arith) (above_next _ _ w.runs_above);
-      queue = queue_started _ _ c.pop_front.new.self.items c.in-Some.client c.in-Some.number x.lane c.start_in-request.result x.here x.waits set.found q;
-      room =
-          let a : length c.self.inside.waiting.items ≤ c.self.inside.runs.room = w.room in
-          let b : c.self.inside.runs.room ≤ c.push_reserved.new.self.room + 1 = c.push_reserved.ensures.room in
-          let d : length c.self.inside.waiting.items ≡ length ((c.in-Some.client, c.in-Some.number) ∷ c.pop_front.new.self.items) =
-          ap (λ (xs : List (ℕ × ℕ)). length xs) (c.in-Some.ensures {u = tt}).items in
-          omega arith;
-      runs = started_runs _ _ c.self.inside.inputs _ _ _ _ c.self.inside.started c.new-made.result c.push_reserved.ensures.found
-          (found_above c.self.inside.started _ w.runs_above) (rw c.new-made.ensures refl) (rw c.new-made.ensures refl) (rw c.new-made.ensures (λ k. tt))
-          (rw c.new-made.ensures c.now-revision.ensures.now)
-          (λ s y h. run_past g.R.Key.Ord.cmp (g.R.Rules.machine c.self.inside.memos.rules) g.M.Stamp.point g.O.Outbox.puts (held (record { rules = c.self.inside.memos.rules; places = c.self.inside.memos.places; inputs = c.self.inside.inputs; lanes = c.self.inside.lanes; opened = c.self.inside.opened; clients = c.self.inside.clients; waiting = c.self.inside.waiting.items; runs = c.self.inside.runs; started = c.self.inside.started; claims = c.self.inside.claims })) w.ledger.0 s y w.ledger.1 h) w.runs;
-      ledger = (moved.0, moved.2);
-    }
+    call_whole g.R.Key.Ord.cmp g.R.Rules.machine g.M.Stamp.point g.O.Outbox.puts (Starts c.start.result) c.self.inside.store c.start.new.self c.self.inside.lanes c.self.inside.lanes c.self.invariant (c.start.ensures.rules)
+    (λ l s. start_so g.R.Key.Ord.cmp (g.R.Rules.machine c.self.inside.store.rules) g.M.Stamp.point g.O.Outbox.puts c.start.result c.self.inside.store c.start.new.self c.self.inside.lanes l c.self.invariant.none_handed s c.start.ensures.moved)
 
-pub returns-in-Some-clause-moved : goal.returns-in-Some-clause-moved
-returns-in-Some-clause-moved g c =
-    let x = c.start_in-request.ensures.waited in
-    let set = c.start_in-request.ensures.runs x.lane x.here in
-    rw (← c.self.view_is)
-    (rw c.new.ensures
-    (λ l s. start_moved g.R.Key.Ord.cmp (g.R.Rules.machine c.self.inside.memos.rules) g.M.Stamp.point g.O.Outbox.puts _ _ c.in-Some.client c.in-Some.number x.lane c.start_in-request.result c.new-made.result l
-    x.here x.waits set.found c.push_reserved.ensures.found
-    (rw c.new-made.ensures (ap (λ (t : ℕ). seen_of c.in-Some.client c.in-Some.number c.start_in-request.result t) c.now-revision.ensures.now))
-    refl refl refl refl s))
-
-pub returns-in-None-clause-moved : goal.returns-in-None-clause-moved
-returns-in-None-clause-moved g c =
-    let ok = c.self.inside.waiting.ok in
-    let cases = (c.in-None.ensures {u = tt}).cases in
-    let none = rw (no_length c.self.inside.waiting.items (omega arith)) at c.self.invariant.queue in
-    rw (← c.self.view_is)
-    (λ l s. start_none g.R.Key.Ord.cmp (g.R.Rules.machine c.self.inside.memos.rules) g.M.Stamp.point g.O.Outbox.puts _ l none s)
-
-pub returns-in-Some-clause-counted : goal.returns-in-Some-clause-counted
-returns-in-Some-clause-counted g c =
-    let exact : Exact g.R.Key.Ord.cmp = record { total = g.met.R.Key.Ord.total; exact = (g.met.R.Rules.lawful c.self.inside.memos.rules []).exact } in
-    rw (← c.self.view_is) (λ log x. begun_counted g.R.Key.Ord.cmp exact (g.R.Rules.machine c.self.inside.memos.rules) c.self.inside.inputs log (memo_at g.R.Key.Ord.cmp c.self.inside.memos.places) c.self.inside.runs.items c.push_reserved.new.self.items c.self.inside.started c.new-made.result c.push_reserved.ensures.found (found_above c.self.inside.started _ c.self.invariant.runs_above) x)
-
-pub returns-in-None-clause-counted : goal.returns-in-None-clause-counted
-returns-in-None-clause-counted g c =
-    rw (← c.self.view_is) (λ log x. x)
+pub returns-clause-counted : goal.returns-clause-counted
+returns-clause-counted g c =
+    rw (← c.self.view_is) c.start.ensures.counted

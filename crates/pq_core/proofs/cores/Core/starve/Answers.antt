@@ -1,119 +1,34 @@
-use Rattle.std.proofs.Common.{◌≤◌, true, length, refl, sym, arith, []}
-use Rattle.pq_core.specs.RightReply.{answer_by}
-use Rattle.pq_core.specs.Cores.{held}
-use Rattle.pq_core.specs.Moves.{Starves, ended}
-use Rattle.pq_core.specs.declared.outcome.Outcome.TheVariants.{Starved}
-use Rattle.pq_core.proofs.RunsKept.{same_runs, stopped_runs}
-use Rattle.pq_core.proofs.Changing.{none_taken}
-use Rattle.pq_core.proofs.Keeping.{kept_starves}
-use Rattle.pq_core.proofs.CoreOpening.{unmoved}
-use Rattle.pq_core.proofs.CoreRunning.{end_queue, run_here, no_run, run_within, end_moved}
-use Rattle.pq_rules.proofs.Weight.{Exact}
-use Rattle.pq_memo.specs.Table.{memo_at}
-use Rattle.pq_core.proofs.CoreCounting.{lost_counted, same_counted}
-use Rattle.pq_core.proofs.Renewed.{renewed_same}
+use Rattle.std.proofs.Common.{refl, sym, ◌∙◌}
+use Rattle.pq_core.proofs.CorePassing.{call_moved, call_whole}
+use Rattle.std.specs.Prelude.{true, false}
+use Rattle.pq_core.specs.Moves.{Starves}
+use Rattle.pq_core.proofs.CoreServing.{starve_so, starve_none_so}
 use Rattle.pq_core.proofs.cores.Core.starve.Goals as goal
 
-pub end_run-requires-clause-within : goal.end_run-requires-clause-within
-end_run-requires-clause-within g c =
-    let here = sym (rw c.number.ensures at (c.in-Some.ensures {u = tt}).value) in
-    λ lane h. run_within g.R.Key.Ord.cmp (g.R.Rules.machine c.self.inside.memos.rules) g.M.Stamp.point g.O.Outbox.puts (held (record { rules = c.self.inside.memos.rules; places = c.self.inside.memos.places; inputs = c.self.inside.inputs; lanes = c.self.inside.lanes; opened = c.self.inside.opened; clients = c.self.inside.clients; waiting = c.self.inside.waiting.items; runs = c.self.inside.runs; started = c.self.inside.started; claims = c.self.inside.claims })) c.self.invariant.ledger.0 c.args.run c.in-Some.taken lane c.self.invariant.ledger.1 here h
+pub returns-then-starve-clause-moved : goal.returns-then-starve-clause-moved
+returns-then-starve-clause-moved g c =
+    rw (← c.self.view_is) (call_moved g.R.Key.Ord.cmp g.R.Rules.machine g.M.Stamp.point g.O.Outbox.puts (Starves c.args.run true) c.self.inside.store c.pass_on_asked.new.store c.self.inside.lanes c.pass_on_asked.new.lanes
+    (λ l s. starve_so g.R.Key.Ord.cmp (g.R.Rules.machine c.self.inside.store.rules) g.M.Stamp.point g.O.Outbox.puts c.args.run c.request_of-asked.result c.self.inside.store c.starve.new.self c.pass_on_asked.new.store c.self.inside.lanes c.pass_on_asked.new.lanes l c.self.invariant.none_handed s c.request_of-asked.ensures (rw c.if-starve.true at c.starve.ensures.moved) (rw c.starve.ensures.rules at c.pass_on_asked.ensures.stands) c.pass_on_asked.ensures.passes))
 
 pub invariant_of-self : goal.invariant_of-self
 invariant_of-self g c =
-    let w = c.self.invariant in
-    let here = sym (rw c.number.ensures at (c.in-Some.ensures {u = tt}).value) in
-    let runs = rw c.number.ensures at c.take.ensures.found in
-    let x = run_here g.R.Key.Ord.cmp (g.R.Rules.machine c.self.inside.memos.rules) g.M.Stamp.point g.O.Outbox.puts (held (record { rules = c.self.inside.memos.rules; places = c.self.inside.memos.places; inputs = c.self.inside.inputs; lanes = c.self.inside.lanes; opened = c.self.inside.opened; clients = c.self.inside.clients; waiting = c.self.inside.waiting.items; runs = c.self.inside.runs; started = c.self.inside.started; claims = c.self.inside.claims })) w.ledger.0 c.args.run c.in-Some.taken w.ledger.1 here in
-    let move : Starves c.args.run true w.ledger.0 (ended w.ledger.0 x.at true Starved) = (x.at, x.runs, refl) in
-    let stands = end_moved g.R.Key.Ord.cmp (g.R.Rules.machine c.self.inside.memos.rules) g.M.Stamp.point g.O.Outbox.puts (held (record { rules = c.self.inside.memos.rules; places = c.self.inside.memos.places; inputs = c.self.inside.inputs; lanes = c.self.inside.lanes; opened = c.self.inside.opened; clients = c.self.inside.clients; waiting = c.self.inside.waiting.items; runs = c.self.inside.runs; started = c.self.inside.started; claims = c.self.inside.claims })) (record { inputs = c.self.inside.inputs; lanes = c.end_run.new.lanes.items; opened = c.self.inside.opened; clients = c.self.inside.clients; runs = c.take.new.self.items; started = c.self.inside.started }) w.ledger.0 c.args.run c.in-Some.taken true Starved x w.ledger.1 here runs
-    (λ lane h k. rw c.now-now.ensures.now at ((c.end_run.ensures.«open» lane h).found k)) (λ h k. (c.end_run.ensures.closed h).found k) (record { inputs = refl; opened = refl; clients = refl; started = refl })
-    (kept_starves (answer_by g.R.Key.Ord.cmp (g.R.Rules.machine c.self.inside.memos.rules) g.M.Stamp.point) g.O.Outbox.puts c.args.run true w.ledger.0 _ w.ledger.1.kept move) in
-    record {
-      stamped = c.self.invariant.stamped;
-      kept = w.kept;
-      lanes_above = c.end_run.ensures.above c.self.inside.clients w.lanes_above;
-      runs_above = c.take.ensures.above c.self.inside.started w.runs_above;
-      queue = end_queue g.R.Key.Ord.cmp (g.R.Rules.machine c.self.inside.memos.rules) g.M.Stamp.point g.O.Outbox.puts _ _ _ w.ledger.0 c.args.run c.in-Some.taken c.in-Some.taken _ w.ledger.1 here (record { client = refl; number = refl; request = refl; started = refl })
-          (λ lane h k. (c.end_run.ensures.«open» lane h).found k) (λ h k. (c.end_run.ensures.closed h).found k) w.queue;
-      room =
-          let a : length c.self.inside.waiting.items ≤ c.self.inside.runs.room = w.room in
-          let b : c.self.inside.runs.room ≤ c.take.new.self.room = c.take.ensures.room in
-          omega arith;
-      runs = stopped_runs _ _ _ _ _ _ _ c.args.run c.release_all.new.self runs c.release_all.ensures.released w.runs;
-      ledger = (ended w.ledger.0 x.at true Starved, stands);
-    }
+    call_whole g.R.Key.Ord.cmp g.R.Rules.machine g.M.Stamp.point g.O.Outbox.puts (Starves c.args.run true) c.self.inside.store c.pass_on_asked.new.store c.self.inside.lanes c.pass_on_asked.new.lanes c.self.invariant (c.pass_on_asked.ensures.rules ∙ c.starve.ensures.rules)
+    (λ l s. starve_so g.R.Key.Ord.cmp (g.R.Rules.machine c.self.inside.store.rules) g.M.Stamp.point g.O.Outbox.puts c.args.run c.request_of-asked.result c.self.inside.store c.starve.new.self c.pass_on_asked.new.store c.self.inside.lanes c.pass_on_asked.new.lanes l c.self.invariant.none_handed s c.request_of-asked.ensures (rw c.if-starve.true at c.starve.ensures.moved) (rw c.starve.ensures.rules at c.pass_on_asked.ensures.stands) c.pass_on_asked.ensures.passes)
 
-pub returns-in-Some-clause-moved : goal.returns-in-Some-clause-moved
-returns-in-Some-clause-moved g c =
-    let here = sym (rw c.number.ensures at (c.in-Some.ensures {u = tt}).value) in
-    let runs = rw c.number.ensures at c.take.ensures.found in
-    rw (← c.self.view_is)
-    (λ l s.
-    let x = run_here g.R.Key.Ord.cmp (g.R.Rules.machine c.self.inside.memos.rules) g.M.Stamp.point g.O.Outbox.puts (held (record { rules = c.self.inside.memos.rules; places = c.self.inside.memos.places; inputs = c.self.inside.inputs; lanes = c.self.inside.lanes; opened = c.self.inside.opened; clients = c.self.inside.clients; waiting = c.self.inside.waiting.items; runs = c.self.inside.runs; started = c.self.inside.started; claims = c.self.inside.claims })) l c.args.run c.in-Some.taken s here in
-    let move : Starves c.args.run true l (ended l x.at true Starved) = (x.at, x.runs, refl) in
-    let stands = end_moved g.R.Key.Ord.cmp (g.R.Rules.machine c.self.inside.memos.rules) g.M.Stamp.point g.O.Outbox.puts (held (record { rules = c.self.inside.memos.rules; places = c.self.inside.memos.places; inputs = c.self.inside.inputs; lanes = c.self.inside.lanes; opened = c.self.inside.opened; clients = c.self.inside.clients; waiting = c.self.inside.waiting.items; runs = c.self.inside.runs; started = c.self.inside.started; claims = c.self.inside.claims })) (record { inputs = c.self.inside.inputs; lanes = c.end_run.new.lanes.items; opened = c.self.inside.opened; clients = c.self.inside.clients; runs = c.take.new.self.items; started = c.self.inside.started }) l c.args.run c.in-Some.taken true Starved x s here runs
-    (λ lane h k. rw c.now-now.ensures.now at ((c.end_run.ensures.«open» lane h).found k)) (λ h k. (c.end_run.ensures.closed h).found k) (record { inputs = refl; opened = refl; clients = refl; started = refl })
-    (kept_starves (answer_by g.R.Key.Ord.cmp (g.R.Rules.machine c.self.inside.memos.rules) g.M.Stamp.point) g.O.Outbox.puts c.args.run true l _ s.kept move) in
-    (ended l x.at true Starved, move, stands))
+pub returns-clause-moved : goal.returns-clause-moved
+returns-clause-moved g c =
+    rw (← c.self.view_is) (call_moved g.R.Key.Ord.cmp g.R.Rules.machine g.M.Stamp.point g.O.Outbox.puts (Starves c.args.run false) c.self.inside.store c.starve.new.self c.self.inside.lanes c.self.inside.lanes
+    (λ l s. starve_none_so g.R.Key.Ord.cmp (g.R.Rules.machine c.self.inside.store.rules) g.M.Stamp.point g.O.Outbox.puts c.args.run c.self.inside.store c.starve.new.self c.self.inside.lanes l c.self.invariant.none_handed s (rw c.if-starve.false at c.starve.ensures.moved)))
 
-pub invariant_of-self-in-None : goal.invariant_of-self-in-None
-invariant_of-self-in-None g c =
-    let w = c.self.invariant in
-    let nothing = sym (rw c.number.ensures at (c.in-None.ensures {u = tt}).value) in
-    let same = none_taken c.self.inside.runs c.take.new.self c.args.run nothing (rw c.number.ensures at c.take.ensures.found) c.take.ensures.above c.take.ensures.room in
-    record {
-      stamped = c.self.invariant.stamped;
-      kept = w.kept;
-      lanes_above = w.lanes_above;
-      runs_above = same.above c.self.inside.started w.runs_above;
-      queue = w.queue;
-      room =
-          let a : length c.self.inside.waiting.items ≤ c.self.inside.runs.room = w.room in
-          let b : c.self.inside.runs.room ≤ c.take.new.self.room = same.room in
-          omega arith;
-      runs = same_runs _ _ _ _ _ _ _ same.found w.runs;
-      ledger = (
-        w.ledger.0,
-        unmoved g.R.Key.Ord.cmp (g.R.Rules.machine c.self.inside.memos.rules) g.M.Stamp.point g.O.Outbox.puts _ _ w.ledger.0 (record {
-          inputs = refl;
-          lanes = λ k. refl;
-          opened = refl;
-          clients = refl;
-          runs = same.found;
-          started = refl;
-        }) w.ledger.1,
-      );
-    }
+pub invariant_of-self-else-starve : goal.invariant_of-self-else-starve
+invariant_of-self-else-starve g c =
+    call_whole g.R.Key.Ord.cmp g.R.Rules.machine g.M.Stamp.point g.O.Outbox.puts (Starves c.args.run false) c.self.inside.store c.starve.new.self c.self.inside.lanes c.self.inside.lanes c.self.invariant (c.starve.ensures.rules)
+    (λ l s. starve_none_so g.R.Key.Ord.cmp (g.R.Rules.machine c.self.inside.store.rules) g.M.Stamp.point g.O.Outbox.puts c.args.run c.self.inside.store c.starve.new.self c.self.inside.lanes l c.self.invariant.none_handed s (rw c.if-starve.false at c.starve.ensures.moved))
 
-pub returns-in-None-clause-moved : goal.returns-in-None-clause-moved
-returns-in-None-clause-moved g c =
-    let nothing = sym (rw c.number.ensures at (c.in-None.ensures {u = tt}).value) in
-    let same = none_taken c.self.inside.runs c.take.new.self c.args.run nothing (rw c.number.ensures at c.take.ensures.found) c.take.ensures.above c.take.ensures.room in
-    rw (← c.self.view_is)
-    (λ l s. (
-      l,
-      (no_run g.R.Key.Ord.cmp (g.R.Rules.machine c.self.inside.memos.rules) g.M.Stamp.point g.O.Outbox.puts (held (record { rules = c.self.inside.memos.rules; places = c.self.inside.memos.places; inputs = c.self.inside.inputs; lanes = c.self.inside.lanes; opened = c.self.inside.opened; clients = c.self.inside.clients; waiting = c.self.inside.waiting.items; runs = c.self.inside.runs; started = c.self.inside.started; claims = c.self.inside.claims })) l c.args.run s nothing, refl),
-      unmoved g.R.Key.Ord.cmp (g.R.Rules.machine c.self.inside.memos.rules) g.M.Stamp.point g.O.Outbox.puts _ _ l (record {
-        inputs = refl;
-        lanes = λ k. refl;
-        opened = refl;
-        clients = refl;
-        runs = same.found;
-        started = refl;
-      }) s,
-    ))
+pub returns-then-starve-clause-counted : goal.returns-then-starve-clause-counted
+returns-then-starve-clause-counted g c =
+    rw (← c.self.view_is) (λ log x. (rw c.starve.ensures.rules at c.pass_on_asked.ensures.counted) _ (rw c.if-starve.true at (c.starve.ensures.counted log x)))
 
-pub returns-in-Some-clause-counted : goal.returns-in-Some-clause-counted
-returns-in-Some-clause-counted g c =
-    let exact : Exact g.R.Key.Ord.cmp = record { total = g.met.R.Key.Ord.total; exact = (g.met.R.Rules.lawful c.self.inside.memos.rules []).exact } in
-    let here = sym (rw c.number.ensures at (c.in-Some.ensures {u = tt}).value) in
-    let runs = rw c.number.ensures at c.take.ensures.found in
-    rw (← c.self.view_is) (λ log x. lost_counted g.R.Key.Ord.cmp exact (g.R.Rules.machine c.self.inside.memos.rules) c.self.inside.inputs log (memo_at g.R.Key.Ord.cmp c.self.inside.memos.places) (memo_at g.R.Key.Ord.cmp c.self.inside.memos.places) c.self.inside.runs.items c.take.new.self.items c.args.run c.in-Some.taken here c.self.inside.claims c.self.invariant.runs.claimed (renewed_same (g.R.Rules.machine c.self.inside.memos.rules) c.self.inside.inputs.revision (memo_at g.R.Key.Ord.cmp c.self.inside.memos.places) (memo_at g.R.Key.Ord.cmp c.self.inside.memos.places) (λ q. refl)) runs x)
-
-pub returns-in-None-clause-counted : goal.returns-in-None-clause-counted
-returns-in-None-clause-counted g c =
-    let exact : Exact g.R.Key.Ord.cmp = record { total = g.met.R.Key.Ord.total; exact = (g.met.R.Rules.lawful c.self.inside.memos.rules []).exact } in
-    let nothing = sym (rw c.number.ensures at (c.in-None.ensures {u = tt}).value) in
-    let same = none_taken c.self.inside.runs c.take.new.self c.args.run nothing (rw c.number.ensures at c.take.ensures.found) c.take.ensures.above c.take.ensures.room in
-    rw (← c.self.view_is) (λ log x. same_counted g.R.Key.Ord.cmp exact (g.R.Rules.machine c.self.inside.memos.rules) c.self.inside.inputs log (memo_at g.R.Key.Ord.cmp c.self.inside.memos.places) c.self.inside.runs.items c.take.new.self.items same.found x)
+pub returns-clause-counted : goal.returns-clause-counted
+returns-clause-counted g c =
+    rw (← c.self.view_is) (λ log x. rw c.if-starve.false at (c.starve.ensures.counted log x))

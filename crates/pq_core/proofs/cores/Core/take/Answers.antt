@@ -1,40 +1,28 @@
-use Rattle.std.proofs.Common.{refl}
-use Rattle.pq_core.proofs.CoreReleasing.{still_above, take_moved}
-use Rattle.pq_core.proofs.Queued.{queue_called, taken_waits}
+use Rattle.std.proofs.Common.{refl, sym, ◌∙◌}
+use Rattle.pq_core.proofs.CorePassing.{call_moved, call_whole}
+use Rattle.std.specs.Prelude.{Ok, false}
+use Rattle.std.specs.declared.alloc.AllocError.{AllocError}
+use Rattle.pq_core.specs.Moves.{TakesOut}
+use Rattle.pq_core.proofs.Changing.{none_taken, set_back}
+use Rattle.pq_core.proofs.CoreLeaving.{take_none_so, take_so}
 use Rattle.pq_core.proofs.cores.Core.take.Goals as goal
+
+pub returns-in-None-clause-moved : goal.returns-in-None-clause-moved
+returns-in-None-clause-moved g c =
+    rw (← c.self.view_is) (call_moved g.R.Key.Ord.cmp g.R.Rules.machine g.M.Stamp.point g.O.Outbox.puts (TakesOut {A = AllocError} g.O.Outbox.puts g.O.Outbox.takes c.args.client (Ok false)) c.self.inside.store c.self.inside.store c.self.inside.lanes c.take.new.self
+    (λ l s. take_none_so g.R.Key.Ord.cmp (g.R.Rules.machine c.self.inside.store.rules) g.M.Stamp.point g.O.Outbox.puts AllocError g.O.Outbox.takes c.args.client c.self.inside.store c.self.inside.lanes c.take.new.self l c.self.invariant.none_handed s (sym (rw c.number-seat.ensures at c.in-None.ensures.value)) (none_taken c.self.inside.lanes c.take.new.self c.number-seat.result (sym c.in-None.ensures.value) c.take.ensures.found c.take.ensures.above c.take.ensures.room).found (none_taken c.self.inside.lanes c.take.new.self c.number-seat.result (sym c.in-None.ensures.value) c.take.ensures.found c.take.ensures.above c.take.ensures.room).above))
 
 pub invariant_of-self : goal.invariant_of-self
 invariant_of-self g c =
-    let w = c.self.invariant in
-    let moved = take_moved g.R.Key.Ord.cmp (g.R.Rules.machine c.self.inside.memos.rules) g.M.Stamp.point g.O.Outbox.puts g.O.Outbox.takes _ _ c.number-seat.result
-    c.take_in.result w.ledger.0
-    (λ lane h. let x = c.take_in.ensures.«open» lane h in (x.0, x.1, x.2.found))
-    (λ h. let x = c.take_in.ensures.closed h in (x.0, x.1.found))
-    (record { inputs = refl; clients = refl; runs = refl; started = refl }) refl w.ledger.1 in
-    record {
-      stamped = c.self.invariant.stamped;
-      kept = w.kept;
-      lanes_above =
-          still_above c.self.inside.lanes c.take_in.new.lanes c.number-seat.result c.self.inside.clients c.take_in.ensures.«open» c.take_in.ensures.closed w.lanes_above;
-      runs_above = w.runs_above;
-      queue = queue_called _ _ _ c.number-seat.result
-          (λ lane h. let x = c.take_in.ensures.«open» lane h in (x.0, taken_waits g.O.Outbox.puts g.O.Outbox.takes c.take_in.result lane x.0 x.1, x.2.found))
-          (λ h. let x = c.take_in.ensures.closed h in (x.0, x.1.found)) w.queue;
-      room = w.room;
-      runs = w.runs;
-      ledger = (moved.0, moved.2);
-    }
+    call_whole g.R.Key.Ord.cmp g.R.Rules.machine g.M.Stamp.point g.O.Outbox.puts (TakesOut {A = AllocError} g.O.Outbox.puts g.O.Outbox.takes c.args.client (Ok false)) c.self.inside.store c.self.inside.store c.self.inside.lanes c.take.new.self c.self.invariant (refl)
+    (λ l s. take_none_so g.R.Key.Ord.cmp (g.R.Rules.machine c.self.inside.store.rules) g.M.Stamp.point g.O.Outbox.puts AllocError g.O.Outbox.takes c.args.client c.self.inside.store c.self.inside.lanes c.take.new.self l c.self.invariant.none_handed s (sym (rw c.number-seat.ensures at c.in-None.ensures.value)) (none_taken c.self.inside.lanes c.take.new.self c.number-seat.result (sym c.in-None.ensures.value) c.take.ensures.found c.take.ensures.above c.take.ensures.room).found (none_taken c.self.inside.lanes c.take.new.self c.number-seat.result (sym c.in-None.ensures.value) c.take.ensures.found c.take.ensures.above c.take.ensures.room).above)
 
-pub returns-clause-moved : goal.returns-clause-moved
-returns-clause-moved g c =
-    rw (← c.self.view_is)
-    (rw (← c.number-seat.ensures)
-    (λ l s. take_moved g.R.Key.Ord.cmp (g.R.Rules.machine c.self.inside.memos.rules) g.M.Stamp.point g.O.Outbox.puts g.O.Outbox.takes _ _ c.number-seat.result
-    c.take_in.result l
-    (λ lane h. let x = c.take_in.ensures.«open» lane h in (x.0, x.1, x.2.found))
-    (λ h. let x = c.take_in.ensures.closed h in (x.0, x.1.found))
-    (record { inputs = refl; clients = refl; runs = refl; started = refl }) refl s))
+pub returns-in-Some-clause-moved : goal.returns-in-Some-clause-moved
+returns-in-Some-clause-moved g c =
+    rw (← c.self.view_is) (call_moved g.R.Key.Ord.cmp g.R.Rules.machine g.M.Stamp.point g.O.Outbox.puts (TakesOut g.O.Outbox.puts g.O.Outbox.takes c.args.client c.take-taken.result) c.self.inside.store c.self.inside.store c.self.inside.lanes c.put_back.new.self
+    (λ l s. take_so g.R.Key.Ord.cmp (g.R.Rules.machine c.self.inside.store.rules) g.M.Stamp.point g.O.Outbox.puts g.O.Outbox.takes c.args.client c.take-taken.result c.self.inside.store c.self.inside.lanes c.put_back.new.self c.in-Some.lane c.take-taken.new.self l c.self.invariant.none_handed s (sym (rw c.number-seat.ensures at c.in-Some.ensures.value)) c.take-taken.ensures (rw c.number-seat.ensures at (set_back c.self.inside.lanes c.take.new.self c.put_back.new.self c.number-seat.result c.take-taken.new.self c.take.ensures.found c.take.ensures.above (rw c.in-Some.is at c.take.ensures.more_room) c.put_back.ensures.found c.put_back.ensures.room c.put_back.ensures.above).found) (set_back c.self.inside.lanes c.take.new.self c.put_back.new.self c.number-seat.result c.take-taken.new.self c.take.ensures.found c.take.ensures.above (rw c.in-Some.is at c.take.ensures.more_room) c.put_back.ensures.found c.put_back.ensures.room c.put_back.ensures.above).above))
 
-pub returns-clause-counted : goal.returns-clause-counted
-returns-clause-counted g c =
-    rw (← c.self.view_is) (λ log x. x)
+pub invariant_of-self-in-Some : goal.invariant_of-self-in-Some
+invariant_of-self-in-Some g c =
+    call_whole g.R.Key.Ord.cmp g.R.Rules.machine g.M.Stamp.point g.O.Outbox.puts (TakesOut g.O.Outbox.puts g.O.Outbox.takes c.args.client c.take-taken.result) c.self.inside.store c.self.inside.store c.self.inside.lanes c.put_back.new.self c.self.invariant (refl)
+    (λ l s. take_so g.R.Key.Ord.cmp (g.R.Rules.machine c.self.inside.store.rules) g.M.Stamp.point g.O.Outbox.puts g.O.Outbox.takes c.args.client c.take-taken.result c.self.inside.store c.self.inside.lanes c.put_back.new.self c.in-Some.lane c.take-taken.new.self l c.self.invariant.none_handed s (sym (rw c.number-seat.ensures at c.in-Some.ensures.value)) c.take-taken.ensures (rw c.number-seat.ensures at (set_back c.self.inside.lanes c.take.new.self c.put_back.new.self c.number-seat.result c.take-taken.new.self c.take.ensures.found c.take.ensures.above (rw c.in-Some.is at c.take.ensures.more_room) c.put_back.ensures.found c.put_back.ensures.room c.put_back.ensures.above).found) (set_back c.self.inside.lanes c.take.new.self c.put_back.new.self c.number-seat.result c.take-taken.new.self c.take.ensures.found c.take.ensures.above (rw c.in-Some.is at c.take.ensures.more_room) c.put_back.ensures.found c.put_back.ensures.room c.put_back.ensures.above).above)
