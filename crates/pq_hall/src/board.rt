@@ -37,6 +37,10 @@ impl NewBoard {
 
     /// The vector under the name `J`, with one entry, and the mark of that entry: it is of the last
     /// revision of `inputs`.
+    ///
+    /// # Errors
+    ///
+    /// `Memory`. Then the vector is dropped.
     pub fn named<J: BoardName>(
         self,
         rt: &impl Wait,
