@@ -1,7 +1,6 @@
 -- The packages that a search meets, by the entries of the index that begin with their names.
-use Rattle.std.proofs.Common.{◌≡◌, ℕ, zero, suc, ◌+◌, ◌-◌, ◌<◌, ◌≤◌, ◌==◌, Bool, true, false, true≢false, ◌&&◌, nat_eq, nat_lt, length, get_or, drop, take, List, [], ◌∷◌, ◌++◌, refl, sym, ap, subst, ◌∙◌, inl, inr, arith, append_assoc}
-use Rattle.std.specs.Prelude.{codes}
-use Rattle.std.specs.List.{list_any, starts_with}
+use Rattle.std.proofs.Common.{◌≡◌, ℕ, zero, suc, ◌+◌, ◌-◌, ◌<◌, ◌≤◌, ◌==◌, true, false, nat_eq, length, get_or, drop, take, List, [], ◌∷◌, ◌++◌, refl, sym, ap, subst, ◌∙◌, inl, inr, arith}
+use Rattle.std.specs.List.{starts_with}
 use Rattle.std.specs.List.Sorted.{IsSorted}
 use Rattle.std.proofs.lemmas.Bool.{cases_lt}
 use Rattle.std.proofs.lemmas.Bool.Decides.{Decides-eqb, nat_tests}
@@ -10,13 +9,11 @@ use Rattle.std.proofs.lemmas.List.{get_or_default, get_or-append_right, get_or-t
 use Rattle.std.proofs.lemmas.List.Folds.{Any-from_list_any, list_any_at}
 use Rattle.std.proofs.lemmas.Slice.Eq.{starts_is}
 use Rattle.pq_schema.specs.Definitions.{qualified}
-use Rattle.pq_schema.specs.Resolution.{is_package}
 use Rattle.pq_schema.specs.declared.scope.FileDefs.{FileDefs}
 use Rattle.pq_schema.specs.aux.Along.{AllMeet, HasMet, IsAlong, IsPlain, IsStart, Meets, scope_before}
 use Rattle.pq_schema.specs.aux.Grouping.{IsIndex, root_order}
 use Rattle.pq_schema.specs.aux.InPackage.{dotted}
 use Rattle.pq_schema.specs.aux.NameParts.{leading}
-use Rattle.pq_schema.proofs.Cases.{either}
 use Rattle.pq_schema.proofs.Grouping.{known_package}
 use Rattle.pq_schema.proofs.PartsAlong.{dot_within}
 

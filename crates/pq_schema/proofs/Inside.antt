@@ -13,15 +13,12 @@ use Rattle.pq_syntax.specs.declared.tree.Node.{Node}
 use Rattle.pq_syntax.specs.declared.tree.Statement.{Statement}
 use Rattle.pq_syntax.specs.declared.tree.Statement.TheVariants as statements
 use Rattle.pq_syntax.specs.Places.{Item, Place, kept, places}
-use Rattle.pq_schema.specs.declared.definitions.Definition.{Definition}
 use Rattle.pq_schema.specs.declared.references.Reference.{Reference}
-use Rattle.pq_schema.specs.declared.resolved.ResolvedReference.{ResolvedReference}
 use Rattle.pq_schema.specs.declared.scope.FileDefs.{FileDefs}
 use Rattle.pq_schema.specs.Compile.{resolved_in}
 use Rattle.pq_schema.specs.Definitions.{package_of, qualified, scope_in, scope_of}
 use Rattle.pq_schema.specs.References.{is_one_of, references_at, references_by, references_of, scalars, type_reference}
 use Rattle.pq_schema.specs.Resolution.{Found, decides, dotted, found, is_package, prefixes, scopes, single, unless_type}
-use Rattle.pq_schema.specs.Resolution.Found.{FoundType}
 use Rattle.pq_schema.specs.ScopeContents.{Scope}
 use Rattle.pq_schema.specs.aux.Grouping.{AreNear, around}
 use Rattle.pq_schema.specs.aux.Inside.{AreInner, AreShort, dotted_from, inside, moved, resolved_moved, short_for, single_from}
@@ -32,7 +29,7 @@ use Rattle.pq_schema.proofs.Among.{among_append}
 use Rattle.pq_schema.proofs.Marks.{each_more, each_weaker, near_scope}
 use Rattle.pq_schema.proofs.Cases.{either}
 use Rattle.pq_schema.proofs.ScopesWithin.{or_left, or_right, starts_split}
-use Rattle.pq_schema.proofs.Walks.{grouped, nothing_further, stays_type}
+use Rattle.pq_schema.proofs.Walks.{grouped}
 
 -- ---- the scopes inside a package
 

@@ -20,7 +20,7 @@ use Rattle.pq_schema.proofs.Cases.{either}
 use Rattle.pq_schema.proofs.Near.{chain_first}
 use Rattle.pq_schema.proofs.Prefixes.{no_dot, before_last}
 use Rattle.pq_schema.proofs.Among.{among_append}
-use Rattle.pq_schema.proofs.ScopesWithin.{or_left, or_right, scope_front, scope_within, scopes_empty, scopes_through}
+use Rattle.pq_schema.proofs.ScopesWithin.{or_left, or_right, scope_front, scope_within, scopes_through}
 
 -- ---- one more definition
 

@@ -1,5 +1,5 @@
 -- Names in files of the very package of the searching file: all begin with it.
-use Rattle.std.proofs.Common.{◌≡◌, ◌⊎◌, ℕ, zero, suc, ◌+◌, ◌<◌, ◌≤◌, get_or, length, take, List, [], ◌∷◌, ◌++◌, map, Option, Some, None, refl, sym, ap, subst, ◌∙◌, inl, inr, arith, append_assoc, append-nil}
+use Rattle.std.proofs.Common.{◌≡◌, ◌⊎◌, ℕ, zero, suc, ◌+◌, ◌<◌, ◌≤◌, get_or, length, take, List, [], ◌∷◌, ◌++◌, map, Option, Some, None, refl, sym, ap, subst, ◌∙◌, inl, inr, arith, append_assoc}
 use Rattle.std.specs.Prelude.{codes, slice_get, find, Bool, cond, nat_lt, true, false}
 use Rattle.std.proofs.Common.{true≢false}
 use Rattle.std.proofs.Math.Seq.{take-append_seam}
@@ -10,7 +10,7 @@ use Rattle.pq_rules.proofs.Settled.{each_map}
 use Rattle.pq_schema.specs.declared.definitions.Definition.{Definition}
 use Rattle.pq_schema.specs.declared.scope.FileDefs.{FileDefs}
 use Rattle.pq_schema.specs.Definitions.{qualified}
-use Rattle.pq_schema.specs.Resolution.{prefixes, scopes}
+use Rattle.pq_schema.specs.Resolution.{scopes}
 use Rattle.pq_schema.specs.aux.Fronts.{AreRoots, BeginAlike, Begins, CountsAt, IsSpotOf}
 use Rattle.pq_schema.specs.aux.Grouping.{IsBelow}
 use Rattle.pq_schema.specs.aux.InPackage.{AllBelow, Below}
@@ -19,7 +19,6 @@ use Rattle.pq_schema.specs.aux.Outward.{beyond}
 use Rattle.pq_schema.specs.aux.Scopes.{is_among}
 use Rattle.pq_schema.specs.aux.Spots.{AreSpots}
 use Rattle.pq_schema.proofs.Alike.{none_alike}
-use Rattle.pq_schema.proofs.Cases.{either}
 use Rattle.pq_schema.proofs.Marks.{each_kept}
 use Rattle.pq_schema.proofs.ScopesWithin.{among_split, in_scopes}
 

@@ -1,5 +1,5 @@
 -- The scopes of a scope: they are scopes of what it is a scope of.
-use Rattle.std.proofs.Common.{◌≡◌, ◌⊎◌, ℕ, ◌+◌, ◌<◌, ◌≤◌, Bool, true, false, true≢false, nat_eq, ◌&&◌, ◌||◌, List, [], ◌∷◌, ◌++◌, length, get_or, lit<, inl, inr, refl, sym, ap, subst, ◌∙◌, arith, append_assoc, append-nil}
+use Rattle.std.proofs.Common.{◌≡◌, ◌⊎◌, ℕ, ◌<◌, ◌≤◌, Bool, true, false, true≢false, nat_eq, ◌&&◌, ◌||◌, List, [], ◌∷◌, ◌++◌, length, get_or, lit<, inl, inr, refl, sym, ap, subst, ◌∙◌, arith, append_assoc, append-nil}
 use Rattle.std.specs.Prelude.{bytes_eq, codes}
 use Rattle.std.specs.List.{starts_with}
 use Rattle.std.specs.Str.{IsCharBoundary, IsUtf8}

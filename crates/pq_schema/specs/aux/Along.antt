@@ -1,13 +1,12 @@
 -- Auxiliary: the packages that a search from a scope outwards meets, by the parts of their names
 -- (used by proofs and contracts of private functions only).
-use Rattle.std.specs.Prelude.{◌≡◌, ◌≢◌, ◌⊎◌, ℕ, ◌+◌, ◌-◌, ◌<◌, ◌≤◌, Bool, true, ◌&&◌, nat_eq, nat_lt, get_or, length, take, List, [], ◌++◌, codes, false, Option, Some, None}
-use Rattle.std.specs.List.{Contains, starts_with}
+use Rattle.std.specs.Prelude.{◌≡◌, ◌≢◌, ◌⊎◌, ℕ, ◌+◌, ◌-◌, ◌<◌, ◌≤◌, true, get_or, length, take, List, [], Option, Some, None}
+use Rattle.std.specs.List.{Contains}
 use Rattle.std.specs.List.Sorted.{IsSorted}
 use Rattle.pq_schema.specs.declared.scope.FileDefs.{FileDefs}
 use Rattle.pq_schema.specs.Definitions.{qualified}
 use Rattle.pq_schema.specs.Resolution.{is_package}
 use Rattle.pq_schema.specs.aux.Grouping.{root_order}
-use Rattle.pq_schema.specs.aux.InPackage.{dotted}
 
 -- Files, and the package `root` from which a search goes outwards
 pub record Contents : Type 0 where

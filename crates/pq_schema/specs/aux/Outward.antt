@@ -1,6 +1,6 @@
 -- Auxiliary: a search from a package outwards, by the scopes that have definitions and by the
 -- packages (used by proofs and contracts of private functions only).
-use Rattle.std.specs.Prelude.{◌≡◌, ℕ, Bool, true, false, cond, map, find, length, nat_lt, List, [], ◌∷◌, ◌++◌, Option, Some, None}
+use Rattle.std.specs.Prelude.{◌≡◌, ℕ, Bool, true, false, cond, length, nat_lt, List, [], ◌∷◌, ◌++◌, Option, Some, None}
 use Rattle.std.specs.Str.{IsUtf8}
 use Rattle.pq_schema.specs.declared.scope.FileDefs.{FileDefs}
 use Rattle.pq_schema.specs.declared.references.Reference.{Reference}

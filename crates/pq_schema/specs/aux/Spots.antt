@@ -1,6 +1,6 @@
 -- Auxiliary: the scopes from a package outwards in which a definition can be (used by proofs and
 -- contracts of private functions only).
-use Rattle.std.specs.Prelude.{◌≡◌, ◌≢◌, ℕ, ◌<◌, Bool, true, false, get_or, length, filter, map, List, [], ◌∷◌}
+use Rattle.std.specs.Prelude.{◌≡◌, ◌≢◌, ℕ, ◌<◌, Bool, true, false, get_or, length, filter, map, List}
 use Rattle.pq_rules.specs.Relations.{Each}
 use Rattle.pq_schema.specs.declared.scope.FileDefs.{FileDefs}
 use Rattle.pq_schema.specs.declared.definitions.Definition.{Definition}

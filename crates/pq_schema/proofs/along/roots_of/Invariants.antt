@@ -1,4 +1,4 @@
-use Rattle.std.proofs.Common.{◌≡◌, take, length}
+use Rattle.std.proofs.Common.{◌≡◌, length}
 use Rattle.pq_schema.specs.aux.Fronts.{AreRoots}
 use Rattle.pq_schema.proofs.along.roots_of.Given as goal
 

@@ -1,8 +1,7 @@
-use Rattle.std.proofs.Common.{◌≡◌, ℕ, List, [], ◌∷◌, ◌++◌, Some, get_or, true, true≢false, refl, sym, ap, subst, ◌∙◌}
+use Rattle.std.proofs.Common.{◌≡◌, ℕ, List, [], ◌∷◌, ◌++◌, get_or, true≢false, refl, sym, ap, subst, ◌∙◌}
 use Rattle.std.proofs.lemmas.List.{get_or_default}
 use Rattle.pq_rules.specs.Relations.{In}
 use Rattle.pq_rules.specs.aux.Lists.{in_append_left}
-use Rattle.pq_schema.specs.aux.Scopes.{chain, is_among}
 use Rattle.pq_schema.proofs.Around.{placed_all, placed_more, placed_past}
 use Rattle.pq_schema.proofs.by_package.add_around.Goals as goal
 

@@ -1,4 +1,4 @@
-use Rattle.std.proofs.Common.{◌≡◌, ◌≤◌, ℕ, List, length, take, sym, ap, subst, ◌∙◌, arith}
+use Rattle.std.proofs.Common.{◌≡◌, length, sym, ap, ◌∙◌, arith}
 use Rattle.pq_schema.specs.Contents.{Defs}
 use Rattle.pq_schema.specs.declared.scope.FileDefs.{FileDefs}
 use Rattle.pq_schema.proofs.Inside.{short_all, short_more}

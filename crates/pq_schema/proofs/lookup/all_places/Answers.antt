@@ -1,4 +1,3 @@
-use Rattle.std.proofs.Common.{ℕ}
 use Rattle.pq_schema.proofs.AllPlaces.{all_near, one_more}
 use Rattle.pq_schema.proofs.lookup.all_places.Goals as goal
 

@@ -1,9 +1,8 @@
-use Rattle.std.proofs.Common.{Some, sym, ap, ◌∙◌, List, ℕ}
+use Rattle.std.proofs.Common.{Some, sym, ap, ◌∙◌}
 use Rattle.std.specs.Prelude.{find, bytes_eq}
 use Rattle.std.proofs.lemmas.Option.{slice_get-get_or}
 use Rattle.pq_schema.specs.Contents.{Defs}
 use Rattle.pq_schema.specs.declared.definitions.Definition.{Definition}
-use Rattle.pq_schema.specs.aux.Grouping.{find_in}
 use Rattle.pq_schema.proofs.FirstNear.{definition_there}
 use Rattle.pq_schema.proofs.named.definition_at.Goals as goal
 

@@ -1,4 +1,4 @@
-use Rattle.std.proofs.Common.{◌≡◌, ◌++◌, ◌+◌, ℕ, false, List, drop, sym, ap, ◌∙◌}
+use Rattle.std.proofs.Common.{◌+◌, false, drop, sym, ap, ◌∙◌}
 use Rattle.pq_schema.specs.Resolution.{Meaning, found_by}
 use Rattle.pq_schema.specs.aux.Hits.{found_at}
 use Rattle.pq_schema.specs.aux.Outward.{in_spots}

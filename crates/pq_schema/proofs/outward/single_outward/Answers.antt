@@ -1,4 +1,4 @@
-use Rattle.std.proofs.Common.{◌≡◌, ℕ, List, sym, ap, subst}
+use Rattle.std.proofs.Common.{ℕ, List, sym, ap, subst}
 use Rattle.pq_rules.specs.Relations.{Each}
 use Rattle.pq_schema.specs.aux.Fronts.{IsSpotOf}
 use Rattle.pq_schema.specs.aux.Hits.{found_at}

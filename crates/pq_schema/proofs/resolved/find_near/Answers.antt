@@ -1,4 +1,4 @@
-use Rattle.std.proofs.Common.{◌≡◌, sym}
+use Rattle.std.proofs.Common.{sym}
 use Rattle.pq_schema.proofs.ResolvedRuns.{run_more}
 use Rattle.pq_schema.proofs.resolved.find_near.Goals as goal
 

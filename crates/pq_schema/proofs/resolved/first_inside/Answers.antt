@@ -1,6 +1,4 @@
-use Rattle.std.proofs.Common.{◌≡◌, ◌==◌, ◌<◌, ℕ, List, ◌∷◌, Option, Bor, Some, None, length, sym, ap, subst, ◌∙◌, true, false}
 use Rattle.std.specs.Option.{option_copied}
-use Rattle.std.specs.Prelude.{IfSome}
 use Rattle.pq_schema.proofs.Inside.{copied_none, copied_some, inside_empty, inside_first, some_bytes, no_bytes}
 use Rattle.pq_schema.proofs.resolved.first_inside.Goals as goal
 

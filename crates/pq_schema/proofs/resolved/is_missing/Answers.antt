@@ -1,5 +1,4 @@
-use Rattle.std.proofs.Common.{◌≡◌, ℕ, ◌+◌, List, drop, sym}
-use Rattle.pq_schema.specs.aux.Outward.{AreThere}
+use Rattle.std.proofs.Common.{sym}
 use Rattle.pq_schema.proofs.ResolvedRuns.{there_more, there_so_far}
 use Rattle.pq_schema.proofs.resolved.is_missing.Goals as goal
 

@@ -1,4 +1,4 @@
-use Rattle.std.proofs.Common.{◌≡◌, drop}
+use Rattle.std.proofs.Common.{drop}
 use Rattle.pq_schema.specs.aux.Outward.{AreThere}
 use Rattle.pq_schema.proofs.resolved.is_missing.Given as goal
 

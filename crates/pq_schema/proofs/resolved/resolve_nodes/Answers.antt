@@ -1,10 +1,10 @@
-use Rattle.std.proofs.Common.{◌≡◌, ℕ, List, map, sym, ap, ◌∙◌}
+use Rattle.std.proofs.Common.{ℕ, List, map, ap, ◌∙◌}
 use Rattle.std.specs.Prelude.{flat_map}
 use Rattle.std.proofs.lemmas.Result.{IfOk-weaker}
 use Rattle.pq_syntax.specs.Places.{places}
 use Rattle.pq_schema.specs.declared.references.Reference.{Reference}
 use Rattle.pq_schema.specs.References.{references_at}
-use Rattle.pq_schema.specs.aux.Inside.{resolved_moved, short_for}
+use Rattle.pq_schema.specs.aux.Inside.{resolved_moved}
 use Rattle.pq_schema.proofs.Inside.{resolved_all}
 use Rattle.pq_schema.proofs.resolved.resolve_nodes.Goals as goal
 

@@ -1,4 +1,4 @@
-use Rattle.std.proofs.Common.{◌≡◌, ◌≢◌, ℕ, List, ◌∷◌, None, Some, sym, ap, subst, ◌∙◌, lit<}
+use Rattle.std.proofs.Common.{◌∷◌, None, Some, sym, ◌∙◌, lit<}
 use Rattle.std.proofs.lemmas.Option.{MatchOption-at_none}
 use Rattle.std.proofs.lemmas.Str.Pattern.{strip_prefix_char}
 use Rattle.pq_schema.proofs.Inside.{after_first}

@@ -1,10 +1,8 @@
-use Rattle.std.proofs.Common.{◌≡◌, ◌++◌, List, ℕ, Bool, true, false, cond, sym, ap, subst, ◌∙◌}
-use Rattle.std.specs.Prelude.{drop}
+use Rattle.std.proofs.Common.{◌++◌, List, ℕ, true, false, sym, ap, subst, ◌∙◌}
 use Rattle.std.proofs.lemmas.Result.{IfOk-weaker}
 use Rattle.pq_schema.specs.Resolution.{decides, dotted, found, scopes}
 use Rattle.pq_schema.specs.aux.Fronts.{Begins}
 use Rattle.pq_schema.specs.aux.Grouping.{AreNear, around}
-use Rattle.pq_schema.specs.aux.Hits.{found_at}
 use Rattle.pq_schema.specs.aux.NameParts.{leading}
 use Rattle.pq_schema.proofs.Inside.{dotted_end, dotted_step, each_at}
 use Rattle.pq_schema.proofs.SamePackage.{full_begins}

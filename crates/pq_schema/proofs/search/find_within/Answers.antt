@@ -1,4 +1,4 @@
-use Rattle.std.proofs.Common.{◌≡◌, ◌∷◌, [], List, get_or, map, ap, ◌∙◌}
+use Rattle.std.proofs.Common.{List, get_or, map, ap, ◌∙◌}
 use Rattle.pq_schema.specs.declared.references.Reference.{Reference}
 use Rattle.pq_schema.specs.declared.search.Hit.{Hit}
 use Rattle.pq_schema.specs.declared.search.Hit.TheVariants.{Nothing}

@@ -1,4 +1,3 @@
-use Rattle.std.proofs.Common.{refl}
 use Rattle.pq_schema.proofs.Alike.{order_same}
 use Rattle.pq_schema.proofs.spelled.compare_alike.Goals as goal
 

@@ -1,6 +1,4 @@
-use Rattle.std.proofs.Common.{◌≡◌, ℕ, List, length, ap, arith}
-use Rattle.std.proofs.lemmas.List.{take_all}
-use Rattle.std.specs.List.{concat}
+use Rattle.std.proofs.Common.{length, ap, arith}
 use Rattle.pq_schema.proofs.LastDots.{parts_more, part_within}
 use Rattle.pq_schema.proofs.spelled.left_after.Goals as goal
 

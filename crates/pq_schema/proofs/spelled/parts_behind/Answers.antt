@@ -1,4 +1,4 @@
-use Rattle.std.proofs.Common.{◌∙◌, ◌++◌, sym, ap, length, arith}
+use Rattle.std.proofs.Common.{◌∙◌, ◌++◌, sym, ap, arith}
 use Rattle.std.specs.List.{concat}
 use Rattle.pq_schema.proofs.Alike.{front_more}
 use Rattle.pq_schema.proofs.spelled.parts_behind.Goals as goal

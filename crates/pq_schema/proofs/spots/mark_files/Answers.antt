@@ -1,4 +1,4 @@
-use Rattle.std.proofs.Common.{◌≡◌, ℕ, List, Bool, true, false, length, get_or, take, sym, ap, subst, ◌∙◌}
+use Rattle.std.proofs.Common.{List, take, ap, subst, ◌∙◌}
 use Rattle.pq_schema.specs.aux.Spots.{AreMarked}
 use Rattle.pq_schema.specs.declared.definitions.Definition.{Definition}
 use Rattle.pq_schema.specs.declared.scope.FileDefs.{FileDefs}

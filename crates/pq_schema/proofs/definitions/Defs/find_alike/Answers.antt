@@ -1,4 +1,4 @@
-use Rattle.std.proofs.Common.{◌≡◌, ℕ, List, sym, subst}
+use Rattle.std.proofs.Common.{sym, subst}
 use Rattle.pq_schema.specs.Contents.{Defs}
 use Rattle.pq_schema.specs.aux.Fronts.{AreAlike, BeginAlike}
 use Rattle.pq_schema.proofs.Alike.{index_alike}

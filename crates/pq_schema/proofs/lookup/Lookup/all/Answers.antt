@@ -1,4 +1,4 @@
-use Rattle.std.proofs.Common.{ℕ, List, Bool, true, sym, subst}
+use Rattle.std.proofs.Common.{ℕ, List, Bool, sym, subst}
 use Rattle.pq_schema.specs.declared.scope.FileDefs.{FileDefs}
 use Rattle.pq_schema.specs.aux.Grouping.{AreNear}
 use Rattle.pq_schema.specs.aux.Inside.{AsksAll}

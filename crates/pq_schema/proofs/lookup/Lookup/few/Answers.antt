@@ -1,4 +1,4 @@
-use Rattle.std.proofs.Common.{ℕ, List, length, sym, ap}
+use Rattle.std.proofs.Common.{length, sym, ap}
 use Rattle.pq_schema.proofs.lookup.Lookup.few.Goals as goal
 
 pub invariant_of-result : goal.invariant_of-result
