@@ -117,8 +117,7 @@ module _ {R K P V M : Type 0} (order : K → K → Ordering) (mach : Machine K P
       let w = open_of (AccountStands told_puts) (answer_by order mach point) told_puts (fields_of (held store)) n c made.account s made.here in
       let a = w.2.each (k - made.account.seen) (Made ready) made.made.here in
       let past : made.account.seen ≤ k = made.made.past in
-      let at : made.account.seen + (k - made.account.seen) ≡ k = omega arith in
-      (
+      let at : made.account.seen + (k - made.account.seen) ≡ k = omega arith in (
         a.entry,
         record {
           client = w.0;

@@ -173,8 +173,7 @@ module _ {R K P V M O : Type 0} (order : K → K → Ordering) (mach : Machine K
   start_passed (Some run) before made lanes l m none s h makes (c, client, n, entry, waits, run_is, e) =
       let next = moved_to entry (Running run l.inputs.revision None) in
       let set = ap (λ (x : Ledger K V M O). x.clients) e in
-      let turn = turn_entry puts l m c n client entry next waits.is_entry.client_here waits.is_entry.here (λ reply x. not_ready_waiting entry.place reply waits.waits x) set in
-      (
+      let turn = turn_entry puts l m c n client entry next waits.is_entry.client_here waits.is_entry.here (λ reply x. not_ready_waiting entry.place reply waits.waits x) set in (
         stilled order mach point puts before made lanes l m c n none s h makes turn
             (unready_entry puts l m c n client entry next waits.is_entry.client_here waits.is_entry.here set (λ reply x. not_ready_running next.place run l.inputs.revision None reply refl x)),
         long_turn puts l m c n turn,
@@ -209,8 +208,7 @@ module _ {R K P V M O : Type 0} (order : K → K → Ordering) (mach : Machine K
       → IfSome asked (λ named. Passes named.0 made after lanes left) → Passed puts m after lanes left × (length l.clients ≤ length m.clients)
   end_passed run (Some named) before made after lanes left l m none was s h makes ends asked p =
       let turn = turn_run puts l m run ends.at (ended_entry l ends.at ends.starved ends.outcome) ends.runs ends.is in
-      let same = run_once l before run named ends.at was asked ends.runs in
-      (
+      let same = run_once l before run named ends.at was asked ends.runs in (
         passed order mach point puts before made after lanes left l m ends.at.c ends.at.n none s h makes turn (subst (λ (x : ℕ). Passes x made after lanes left) same p),
         long_turn puts l m ends.at.c ends.at.n turn,
       )
@@ -230,8 +228,7 @@ module _ {R K P V M O : Type 0} (order : K → K → Ordering) (mach : Machine K
       → LanesStand puts lanes.items l → Makes before made (told_ledger puts l) (told_ledger puts m) → LooksFor means rules run answer l m → Passed puts m made lanes lanes × (length l.clients ≤ length m.clients)
   look_still means rules run (Ok (Carry work)) before made lanes l m ne none s h makes (at, goes, is_work, e) =
       let next = moved_to at.entry (Running run at.started (Some (out_of work.done))) in
-      let turn = turn_run puts l m run at next goes.runs e in
-      (
+      let turn = turn_run puts l m run at next goes.runs e in (
         stilled order mach point puts before made lanes l m at.c at.n none s h makes turn
             (still_run puts l m run at next goes.runs e (λ reply x. not_ready_running next.place run at.started (Some (out_of work.done)) reply refl x)),
         long_turn puts l m at.c at.n turn,
@@ -294,8 +291,7 @@ module _ {R K P V M O : Type 0} (order : K → K → Ordering) (mach : Machine K
   give_still run done (Ok (Blocked other)) before made lanes l m ne none s h makes w = absurd w
   give_still run done (Ok Stepped) before made lanes l m ne none s h makes (at, runs, its, current, e) =
       let next = moved_to at.entry (Running run at.started None) in
-      let turn = turn_run puts l m run at next runs e in
-      (
+      let turn = turn_run puts l m run at next runs e in (
         stilled order mach point puts before made lanes l m at.c at.n none s h makes turn
             (still_run puts l m run at next runs e (λ reply x. not_ready_running next.place run at.started None reply refl x)),
         long_turn puts l m at.c at.n turn,

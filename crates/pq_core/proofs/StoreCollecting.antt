@@ -443,8 +443,7 @@ module _ {R K P V M : Type 0} (order : K → K → Ordering) (m : Machine K P V)
       by_account : (account : Option (AccountView K V M)) → found b.accounts.items c ≡ account → StoreCollects c answer b a
       by_account None none =
           let x = closes none in
-          subst (λ (y : Option (ReadyView K V M)). StoreCollects c y b a) (sym x.0)
-          (
+          subst (λ (y : Option (ReadyView K V M)). StoreCollects c y b a) (sym x.0) (
             λ i ready w. none_some w.account (sym none ∙ w.here),
             λ k i other w. record { account = w.account; here = sym (x.1 k) ∙ w.here; made = w.made },
             λ k i other w. record { account = w.account; here = x.1 k ∙ w.here; made = w.made },
