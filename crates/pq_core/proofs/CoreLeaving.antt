@@ -1,5 +1,5 @@
 -- Replies that leave a core, clients that close, and rest.
-use Rattle.std.proofs.Common.{◌≡◌, ◌≢◌, ℕ, zero, suc, ◌+◌, ◌-◌, ◌<◌, ◌≤◌, ◌⊎◌, ◌==◌, if◌then◌else◌, Bool, true, false, List, [], ◌∷◌, ◌++◌, map, length, slice_get, slice_set, Option, Some, None, refl, sym, ◌∙◌, ap, subst, inl, inr, arith, not}
+use Rattle.std.proofs.Common.{◌≡◌, ◌≢◌, ℕ, zero, suc, ◌+◌, ◌-◌, ◌≤◌, ◌==◌, if◌then◌else◌, Bool, true, false, List, [], ◌∷◌, ◌++◌, length, slice_get, slice_set, Option, Some, None, refl, sym, ◌∙◌, ap, subst, inl, inr, arith, not}
 use Rattle.std.specs.Prelude.{Ok, Err, Result}
 use Rattle.std.specs.declared.cmp.Ordering.{Ordering}
 use Rattle.pq_inputs.specs.Sources.{Table}
@@ -7,19 +7,17 @@ use Rattle.pq_rules.specs.Turns.{Machine}
 use Rattle.pq_core.proofs.Lists.{some_one, none_some, get_map, get_within, get_there, set_same, set_long, same_or_other}
 use Rattle.pq_core.proofs.Writes.{one_entry, set_back}
 use Rattle.pq_core.proofs.Changing.{if_at, if_other}
-use Rattle.pq_core.proofs.Slots.{above_more}
-use Rattle.pq_core.proofs.Told.{told_long, told_here, told_set, told_with, told_open, open_told, told_ready, ready_told, none_told, told_put, shuts_told, none_waits_told, told_none_waits, none_runs_told, told_none_runs}
-use Rattle.pq_core.proofs.PlaceMoves.{ready_else, after_else, ready_move, lanes_write, lanes_same, lanes_closed, stands_outbox, stands_put, next_first, first_next}
-use Rattle.pq_core.proofs.CorePassing.{Lands, Passed, none_made, landed}
+use Rattle.pq_core.proofs.Told.{told_here, told_set, told_open, told_ready, ready_told, none_told, told_put, shuts_told, none_waits_told, told_none_waits, none_runs_told, told_none_runs}
+use Rattle.pq_core.proofs.PlaceMoves.{ready_else, after_else, ready_move, lanes_write, lanes_closed, stands_outbox, stands_put, next_first, first_next}
+use Rattle.pq_core.proofs.CorePassing.{Lands, none_made, landed}
 use Rattle.pq_core.proofs.CoreServing.{unmoved_so}
 use Rattle.pq_core.specs.Points.{Point}
 use Rattle.pq_core.specs.Replies.{ReplyView}
 use Rattle.pq_core.specs.Outboxes.{TakesNext}
 use Rattle.pq_core.specs.Ledger.{Place, Waiting, Running, Ready, Put, Dropped, Entry, Client, Ledger, IsOpen, with_client, with_entry, with_outbox, moved_to, closed, entry_closed, place_closed, unused}
-use Rattle.pq_core.specs.Moves.{NextReady, IsReady, NoneReady, IsSame, Releases, Closes, TakesOut, NoneWaits, NoneRuns, IsAtRest}
-use Rattle.pq_core.specs.RightReply.{answer_by}
+use Rattle.pq_core.specs.Moves.{NextReady, IsReady, NoneReady, Releases, Closes, TakesOut, NoneWaits, NoneRuns, IsAtRest}
 use Rattle.pq_core.specs.Lanes.{ReadyView, Tray, IsNextIn, HasNext, LetsOutOf, TakesOutOf, ClosesLane, tray_with, tray_after}
-use Rattle.pq_core.specs.Told.{Told, told_puts, told_client, told_ledger, NoneReadyAt, IsReadyAt, TellsOne, Tells, Shuts}
+use Rattle.pq_core.specs.Told.{Told, told_client, told_ledger, NoneReadyAt, IsReadyAt, TellsOne, Tells, Shuts}
 use Rattle.pq_core.specs.Stores.{StoreView, IsMadeIn, NoneMade, Makes, Goes, MayTell, Hears}
 use Rattle.pq_core.specs.Stores.{StandsFor as StoreStandsFor}
 use Rattle.pq_core.specs.Cores.{core_of, StandsFor}

@@ -1,30 +1,29 @@
 -- The calls of a core that end with its store.
-use Rattle.std.proofs.Common.{◌≡◌, ◌≢◌, ℕ, ◌+◌, ◌-◌, ◌<◌, ◌≤◌, ◌⊎◌, ◌==◌, if◌then◌else◌, Bool, true, false, List, [], ◌∷◌, ◌++◌, length, slice_get, slice_set, Option, Some, None, refl, sym, ◌∙◌, ap, subst, inl, inr, arith}
-use Rattle.std.specs.Prelude.{Ok, Err, Result, IfSome, IfNone}
+use Rattle.std.proofs.Common.{◌≡◌, ℕ, ◌+◌, ◌<◌, ◌≤◌, ◌⊎◌, ◌==◌, if◌then◌else◌, Bool, true, false, List, [], ◌∷◌, ◌++◌, length, slice_get, slice_set, Option, Some, None, refl, sym, ◌∙◌, ap, subst, inl, inr, arith}
+use Rattle.std.specs.Prelude.{Ok, Err, Result, IfSome}
 use Rattle.std.specs.declared.cmp.Ordering.{Ordering}
 use Rattle.pq_rules.specs.declared.turn.Answer.{Answer}
 use Rattle.pq_rules.specs.Turns.{Machine}
-use Rattle.pq_core.proofs.Lists.{some_one, none_some, get_append, get_within, set_long, append_long}
+use Rattle.pq_core.proofs.Lists.{some_one, none_some, get_append, set_long, append_long}
 use Rattle.pq_core.proofs.Changing.{if_at, if_other}
 use Rattle.pq_core.proofs.Slots.{above_more}
 use Rattle.pq_core.proofs.Calling.{run_seen}
 use Rattle.pq_core.proofs.Told.{told_long, told_at, told_runs, ready_told, none_told, opens_told, refusal_told, accepts_told, edits_told, starts_told, looks_told, gives_told, starves_told, request_told}
-use Rattle.pq_core.proofs.PlaceMoves.{get_append_other, none_past, lanes_opened, lanes_same, ready_else}
+use Rattle.pq_core.proofs.PlaceMoves.{get_append_other, none_past, lanes_opened, lanes_same}
 use Rattle.pq_core.proofs.CorePassing.{Lands, Turns, Passed, turn_entry, unready_entry, none_made, stilled, unturned, passed, landed}
 use Rattle.pq_core.specs.Points.{Point}
 use Rattle.pq_core.specs.Replies.{ReplyView}
 use Rattle.pq_core.specs.Changes.{ChangeView}
 use Rattle.pq_core.specs.Works.{DoneView, WorkView}
 use Rattle.pq_core.specs.Ledger.{Out, Place, Waiting, Running, Ready, Entry, Client, Ledger, with_client, with_entry, moved_to, opened}
-use Rattle.pq_core.specs.Moves.{OpenRefusal, Opens, Accepts, Edits, Starts, RunAt, Runs, IsRequestOf, ended, ended_entry, LooksFor, Looks, Gives, Starves, new_entry, with_new, owed, window, out_of}
+use Rattle.pq_core.specs.Moves.{OpenRefusal, Opens, Accepts, Edits, Starts, RunAt, Runs, IsRequestOf, ended, ended_entry, LooksFor, Looks, Gives, Starves, new_entry, with_new, out_of}
 use Rattle.pq_core.specs.RightReply.{answer_by}
 use Rattle.pq_core.specs.Lanes.{Tray, empty_tray}
 use Rattle.pq_core.specs.Told.{Told, told_puts, told_ledger, NoneReadyAt, IsReadyAt, OpensNext, IsNextClient}
-use Rattle.pq_core.specs.Stores.{StoreView, held, fields_of, IsMadeIn, NoneMade, Makes, Goes}
+use Rattle.pq_core.specs.Stores.{StoreView, held, fields_of, NoneMade, Makes, Goes}
 use Rattle.pq_core.specs.Stores.{StandsFor as StoreStandsFor}
 use Rattle.pq_core.specs.Cores.{core_of, StandsFor}
 use Rattle.pq_core.specs.aux.Rising.{Slots, found, IsAbove, SameFound}
-use Rattle.pq_core.specs.aux.Changes.{IsSetAt}
 use Rattle.pq_core.specs.aux.Accounts.{AccountStands}
 use Rattle.pq_core.specs.aux.Stands.{RunSeen}
 use Rattle.pq_core.specs.aux.Places.{LanesStand}

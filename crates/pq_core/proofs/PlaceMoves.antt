@@ -1,12 +1,11 @@
 -- Each reply that is ready is in the lane of its client, after each move.
-use Rattle.std.proofs.Common.{◌≡◌, ◌≢◌, ℕ, zero, suc, ◌+◌, ◌-◌, ◌<◌, ◌≤◌, ◌⊎◌, Bool, true, false, List, [], ◌∷◌, ◌++◌, map, length, drop, replicate, slice_get, slice_set, Option, Some, None, refl, sym, ◌∙◌, ap, subst, inl, inr, arith}
-use Rattle.pq_rules.proofs.ListLemmas.{get_last}
-use Rattle.pq_core.proofs.Lists.{some_one, none_some, get_set, get_append, get_longer, get_within, get_there, get_map, set_same, set_other, set_long, append_long, map_long, same_or_other}
+use Rattle.std.proofs.Common.{◌≡◌, ◌≢◌, ℕ, zero, suc, ◌+◌, ◌-◌, ◌<◌, ◌≤◌, ◌⊎◌, Bool, true, false, List, [], ◌∷◌, ◌++◌, length, drop, replicate, slice_get, slice_set, Option, Some, None, refl, sym, ◌∙◌, ap, subst, inl, inr, arith}
+use Rattle.pq_core.proofs.Lists.{some_one, get_set, get_append, get_within, get_there, set_same, set_other, set_long, append_long, same_or_other}
 use Rattle.pq_core.proofs.Writes.{nothing_there, drop_get, one_entry}
 use Rattle.pq_core.specs.Replies.{ReplyView}
-use Rattle.pq_core.specs.Ledger.{Place, Waiting, Running, Ready, Put, Dropped, Entry, Client, Ledger, IsOpen, IsEntry, opened, closed, entry_closed, with_entry, with_outbox, moved_to, place_closed}
+use Rattle.pq_core.specs.Ledger.{Place, Ready, Put, Entry, Client, Ledger, opened, closed, with_entry, with_outbox, moved_to}
 use Rattle.pq_core.specs.Moves.{window}
-use Rattle.pq_core.specs.Lanes.{ReadyView, Tray, HasPlace, placed_in, empty_tray, IsNextIn, HasNext, after_next, tray_with, tray_after}
+use Rattle.pq_core.specs.Lanes.{ReadyView, Tray, HasPlace, placed_in, empty_tray, IsNextIn, after_next, tray_with, tray_after}
 use Rattle.pq_core.specs.Told.{IsReadyAt, NoneReadyAt}
 use Rattle.pq_core.specs.declared.rising.Place.{Place as Seat}
 use Rattle.pq_core.specs.aux.Rising.{found}
