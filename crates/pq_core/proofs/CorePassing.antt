@@ -218,7 +218,7 @@ module _ {R K P V M O : Type 0} (order : K → K → Ordering) (mach : Machine K
   landed Move lanes left l m after move s p more = record {
     ledger = m;
     moves = move;
-    stands = record { store = s; lanes = p.stand };
+    stands = record { inputs = s.inputs; store = s; lanes = p.stand };
     none = p.none;
     more = more;
     above = λ b a lt le. above_more b (length m.clients) left.items le (p.above b a);

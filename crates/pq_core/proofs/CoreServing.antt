@@ -374,7 +374,7 @@ module _ {R K P V M O : Type 0} (order : K → K → Ordering) (mach : Machine K
       let stands = subst (λ (t : Ledger K V M (Told K V M)). StoreStandsFor order mach point made t) g.1.1 g.2 in
       let makes = subst (λ (t : Ledger K V M (Told K V M)). Makes before made (told_ledger puts l) t) g.1.1 g.3 in
       let w = unturned order mach point puts before made lanes l l none stands s.lanes makes refl in
-      unmoved_so (Opens outbox (Err refused)) made lanes left l w.none (record { store = stands; lanes = s.lanes })
+      unmoved_so (Opens outbox (Err refused)) made lanes left l w.none (record { inputs = stands.inputs; store = stands; lanes = s.lanes })
       (back, subst (λ (f : OpenFault). OpenRefusal l f) (sym fault) (refusal_told puts l OpenMemory next.1), refl) same.same same.above
 
   -- the next number is above those of the lanes
@@ -399,6 +399,8 @@ module _ {R K P V M O : Type 0} (order : K → K → Ordering) (mach : Machine K
         ledger = m.0;
         moves = (c_is, m.1.1, m.1.2);
         stands = record {
+          inputs = stands.inputs;
+          inputs = stands.inputs;
           store = stands;
           lanes = lanes_opened puts lanes.items left.items l m.0 c outbox empty s.lanes c_is set
               (λ k ne. pushed k ∙ (if_other k c (Some (empty_tray c outbox)) (found room.items k) ne ∙ same.same k))
