@@ -1,5 +1,5 @@
 -- Replies that leave a core, clients that close, and rest.
-use Rattle.std.proofs.Common.{◌≡◌, ◌≢◌, ℕ, zero, suc, ◌+◌, ◌-◌, ◌<◌, ◌≤◌, ◌⊎◌, ◌==◌, if◌then◌else◌, Bool, true, false, List, [], ◌∷◌, ◌++◌, map, length, slice_get, slice_set, Option, Some, None, refl, sym, ◌∙◌, ap, subst, inl, inr, arith, not}
+use Rattle.std.proofs.Common.{◌≡◌, ◌≢◌, ℕ, zero, suc, ◌+◌, ◌-◌, ◌≤◌, ◌==◌, if◌then◌else◌, Bool, true, false, List, [], ◌∷◌, ◌++◌, length, slice_get, slice_set, Option, Some, None, refl, sym, ◌∙◌, ap, subst, inl, inr, arith, not}
 use Rattle.std.specs.Prelude.{Ok, Err, Result}
 use Rattle.std.specs.declared.cmp.Ordering.{Ordering}
 use Rattle.pq_inputs.specs.Sources.{Table}
@@ -7,19 +7,17 @@ use Rattle.pq_rules.specs.Turns.{Machine}
 use Rattle.pq_core.proofs.Lists.{some_one, none_some, get_map, get_within, get_there, set_same, set_long, same_or_other}
 use Rattle.pq_core.proofs.Writes.{one_entry, set_back}
 use Rattle.pq_core.proofs.Changing.{if_at, if_other}
-use Rattle.pq_core.proofs.Slots.{above_more}
-use Rattle.pq_core.proofs.Told.{told_long, told_here, told_set, told_with, told_open, open_told, told_ready, ready_told, none_told, told_put, shuts_told, none_waits_told, told_none_waits, none_runs_told, told_none_runs}
-use Rattle.pq_core.proofs.PlaceMoves.{ready_else, after_else, ready_move, lanes_write, lanes_same, lanes_closed, stands_outbox, stands_put, next_first, first_next}
-use Rattle.pq_core.proofs.CorePassing.{Lands, Passed, none_made, landed}
+use Rattle.pq_core.proofs.Told.{told_here, told_set, told_open, told_ready, ready_told, none_told, told_put, shuts_told, none_waits_told, told_none_waits, none_runs_told, told_none_runs}
+use Rattle.pq_core.proofs.PlaceMoves.{ready_else, after_else, ready_move, lanes_write, lanes_closed, stands_outbox, stands_put, next_first, first_next}
+use Rattle.pq_core.proofs.CorePassing.{Lands, none_made, landed}
 use Rattle.pq_core.proofs.CoreServing.{unmoved_so}
 use Rattle.pq_core.specs.Points.{Point}
 use Rattle.pq_core.specs.Replies.{ReplyView}
 use Rattle.pq_core.specs.Outboxes.{TakesNext}
 use Rattle.pq_core.specs.Ledger.{Place, Waiting, Running, Ready, Put, Dropped, Entry, Client, Ledger, IsOpen, with_client, with_entry, with_outbox, moved_to, closed, entry_closed, place_closed, unused}
-use Rattle.pq_core.specs.Moves.{NextReady, IsReady, NoneReady, IsSame, Releases, Closes, TakesOut, NoneWaits, NoneRuns, IsAtRest}
-use Rattle.pq_core.specs.RightReply.{answer_by}
+use Rattle.pq_core.specs.Moves.{NextReady, IsReady, NoneReady, Releases, Closes, TakesOut, NoneWaits, NoneRuns, IsAtRest}
 use Rattle.pq_core.specs.Lanes.{ReadyView, Tray, IsNextIn, HasNext, LetsOutOf, TakesOutOf, ClosesLane, tray_with, tray_after}
-use Rattle.pq_core.specs.Told.{Told, told_puts, told_client, told_ledger, NoneReadyAt, IsReadyAt, TellsOne, Tells, Shuts}
+use Rattle.pq_core.specs.Told.{Told, told_client, told_ledger, NoneReadyAt, IsReadyAt, TellsOne, Tells, Shuts}
 use Rattle.pq_core.specs.Stores.{StoreView, IsMadeIn, NoneMade, Makes, Goes, MayTell, Hears}
 use Rattle.pq_core.specs.Stores.{StandsFor as StoreStandsFor}
 use Rattle.pq_core.specs.Cores.{core_of, StandsFor}
@@ -75,7 +73,6 @@ module _ {K V M : Type 0} where
       same_reply x y e = cc
 
       put_of : Client K V M (Told K V M) → Entry K V M → ReplyView K V M → Ledger K V M (Told K V M)
-
       put_of client entry reply = with_client t c (with_outbox (with_entry client (length client.outbox) (moved_to entry Put)) (client.outbox ++ reply ∷ []) false)
 
       after : p.client ≡ q.client → p.entry ≡ q.entry → p.reply ≡ q.reply → put_of p.client p.entry p.reply ≡ put_of q.client q.entry q.reply
@@ -120,8 +117,7 @@ module _ {K V M O : Type 0} (puts : O → List (ReplyView K V M)) where
       → (entry : Entry K V M) × IsReady puts l c (record { client = client; entry = entry; reply = ready.reply }) × IsReadyAt l c (length (puts client.outbox)) entry ready.reply × (outbox ≡ client.outbox)
   next_ready l c client tray outbox ready o h next =
       let w = next_first puts l c client tray outbox ready h next in
-      let same : w.1.client ≡ client = one_entry l.clients c w.1.client client w.1.is_entry.client_here o.here in
-      (
+      let same : w.1.client ≡ client = one_entry l.clients c w.1.client client w.1.is_entry.client_here o.here in (
         w.0,
         record {
           here = o.here;
@@ -248,7 +244,6 @@ module _ {R K P V M O : Type 0} (order : K → K → Ordering) (mach : Machine K
       w = lane_client puts lanes l c tray s.lanes here
 
       client : Client K V M O
-
       client = w.0
 
       is_open : IsOpen l c client
@@ -261,19 +256,15 @@ module _ {R K P V M O : Type 0} (order : K → K → Ordering) (mach : Machine K
       r = next_ready puts l c client tray outbox ready is_open stands next
 
       entry : Entry K V M
-
       entry = r.0
 
       count : ℕ
-
       count = length (puts client.outbox)
 
       other : Client K V M O
-
       other = with_outbox (with_entry client count (moved_to entry Put)) o false
 
       m : Ledger K V M O
-
       m = with_client l c other
 
       more_so : puts o ≡ puts client.outbox ++ ready.reply ∷ []
@@ -301,15 +292,14 @@ module _ {R K P V M O : Type 0} (order : K → K → Ordering) (mach : Machine K
         client = told_client puts client;
         open_yet = told_open puts l c client is_open;
         later = (let e = new_put in omega arith);
-        collected = λ i past lt.
-            (
-              (
-                entry,
-                ready.reply,
-                told_ready puts l c i entry ready.reply (ready_move l c c count i entry ready.reply refl (let e = new_put in omega arith) r.2),
-              ),
-              λ x made. none c i x made,
-            );
+        collected = λ i past lt. (
+          (
+            entry,
+            ready.reply,
+            told_ready puts l c i entry ready.reply (ready_move l c c count i entry ready.reply refl (let e = new_put in omega arith) r.2),
+          ),
+          λ x made. none c i x made,
+        );
       }
 
       told_is : told_ledger puts m ≡ u.0
@@ -338,8 +328,7 @@ module _ {R K P V M O : Type 0} (order : K → K → Ordering) (mach : Machine K
       (w.0, w.1, (o, puts_so, subst (λ (x : O). TakesNext (puts x) (takes x) (takes o)) out next, refl))
   take_so {A} takes c (Ok false) store lanes left tray new l none s here (all, is) set above =
       let w = lane_client puts lanes l c tray s.lanes here in
-      unmoved_so order mach point puts (TakesOut {A = A} puts takes c (Ok false)) store lanes left l none s
-      (
+      unmoved_so order mach point puts (TakesOut {A = A} puts takes c (Ok false)) store lanes left l none s (
         λ client o. subst (λ (x : Client K V M O). length (puts x.outbox) ≡ length (takes x.outbox)) (one_entry l.clients c w.0 client w.1.here o.here) (all w.0.outbox w.2.outbox),
         refl,
       )

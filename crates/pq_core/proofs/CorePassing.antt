@@ -1,34 +1,33 @@
 -- A reply that a call of the store makes is passed on to its lane.
-use Rattle.std.proofs.Common.{◌≡◌, ◌≢◌, ℕ, ◌+◌, ◌-◌, ◌<◌, ◌≤◌, ◌⊎◌, Bool, true, false, List, [], ◌∷◌, ◌++◌, length, slice_get, slice_set, Option, Some, None, refl, sym, ◌∙◌, ap, subst, inl, inr, arith}
+use Rattle.std.proofs.Common.{◌≡◌, ℕ, ◌+◌, ◌-◌, ◌<◌, ◌≤◌, Bool, true, false, List, length, slice_get, slice_set, Option, Some, None, refl, sym, ◌∙◌, ap, subst, inl, inr, arith}
 use Rattle.std.specs.Prelude.{Ok, Err, Result}
 use Rattle.std.specs.declared.cmp.Ordering.{Ordering}
 use Rattle.pq_rules.specs.declared.turn.Answer.{Answer}
 use Rattle.pq_rules.specs.Turns.{Machine}
-use Rattle.pq_core.proofs.Lists.{some_one, get_within, set_long, set_same, set_other, append_long, same_or_other}
+use Rattle.pq_core.proofs.Lists.{get_within, set_long, set_same, set_other}
 use Rattle.pq_core.proofs.Writes.{one_entry}
 use Rattle.pq_core.proofs.Changing.{set_here, set_others}
 use Rattle.pq_core.proofs.Slots.{above_more}
 use Rattle.pq_core.proofs.Calling.{open_of}
 use Rattle.pq_core.proofs.Told.{told_long, told_ready, ready_told, told_none, none_told, open_told, kept_told}
-use Rattle.pq_core.proofs.PlaceMoves.{at_or_not, Changes, after_here, ready_else, ready_move, only_there, none_at, has_place, stands_placed, lanes_write, lanes_same, lanes_still}
+use Rattle.pq_core.proofs.PlaceMoves.{Changes, after_here, ready_else, ready_move, only_there, none_at, has_place, stands_placed, lanes_write, lanes_same, lanes_still}
 use Rattle.pq_core.specs.Points.{Point}
 use Rattle.pq_core.specs.Replies.{ReplyView}
 use Rattle.pq_core.specs.Ledger.{Place, Ready, Entry, Client, Ledger, IsOpen, with_entry}
 use Rattle.pq_core.specs.Moves.{window, Reaches}
 use Rattle.pq_core.specs.Kept.{PlaceKept, Kept}
-use Rattle.pq_core.specs.RightReply.{IsRightFor, answer_by}
+use Rattle.pq_core.specs.RightReply.{answer_by}
 use Rattle.pq_core.specs.Lanes.{ReadyView, Tray, HasPlace, placed_in, Fills}
-use Rattle.pq_core.specs.Told.{Told, told_puts, told_client, told_ledger, IsReadyAt, NoneReadyAt}
-use Rattle.pq_core.specs.Accounts.{AccountView, IsStage}
-use Rattle.pq_core.specs.Stores.{StoreView, held, fields_of, IsMadeIn, NoneMade, Makes, Goes, Collects}
+use Rattle.pq_core.specs.Told.{Told, told_puts, told_ledger, IsReadyAt, NoneReadyAt}
+use Rattle.pq_core.specs.Stores.{StoreView, held, fields_of, IsMadeIn, NoneMade, Makes, Collects}
 use Rattle.pq_core.specs.Stores.{StandsFor as StoreStandsFor}
 use Rattle.pq_core.specs.Cores.{CoreView, core_of, StandsFor, IsWhole}
 use Rattle.pq_core.specs.Starts.{Log, IsCountedFor}
 use Rattle.pq_core.specs.declared.account.Stage.TheVariants.{Made}
 use Rattle.pq_core.specs.declared.rising.Place.{Place as Seat}
-use Rattle.pq_core.specs.aux.Rising.{Slots, found, IsAbove}
+use Rattle.pq_core.specs.aux.Rising.{Slots, IsAbove}
 use Rattle.pq_core.specs.aux.Changes.{IsSetAt}
-use Rattle.pq_core.specs.aux.Accounts.{AccountStands, StageAt}
+use Rattle.pq_core.specs.aux.Accounts.{AccountStands}
 use Rattle.pq_core.specs.aux.Places.{LaneStands, LanesStand}
 use Rattle.pq_core.specs.aux.Passing.{FillsIn, Passes}
 
@@ -117,8 +116,7 @@ module _ {R K P V M : Type 0} (order : K → K → Ordering) (mach : Machine K P
       let w = open_of (AccountStands told_puts) (answer_by order mach point) told_puts (fields_of (held store)) n c made.account s made.here in
       let a = w.2.each (k - made.account.seen) (Made ready) made.made.here in
       let past : made.account.seen ≤ k = made.made.past in
-      let at : made.account.seen + (k - made.account.seen) ≡ k = omega arith in
-      (
+      let at : made.account.seen + (k - made.account.seen) ≡ k = omega arith in (
         a.entry,
         record {
           client = w.0;
@@ -220,7 +218,7 @@ module _ {R K P V M O : Type 0} (order : K → K → Ordering) (mach : Machine K
   landed Move lanes left l m after move s p more = record {
     ledger = m;
     moves = move;
-    stands = record { store = s; lanes = p.stand };
+    stands = record { inputs = s.inputs; store = s; lanes = p.stand };
     none = p.none;
     more = more;
     above = λ b a lt le. above_more b (length m.clients) left.items le (p.above b a);

@@ -1,12 +1,12 @@
 -- The lanes whose next reply is there, one after the other.
-use Rattle.std.proofs.Common.{◌≡◌, ◌≢◌, ℕ, ◌+◌, ◌<◌, Bool, true, false, List, length, slice_get, Option, Some, refl, sym, ◌∙◌, ap, subst, inl, inr, arith, slice_index_or}
+use Rattle.std.proofs.Common.{◌≡◌, ℕ, ◌+◌, ◌<◌, Bool, true, false, List, length, slice_get, Some, refl, sym, ◌∙◌, ap, subst, inl, inr, arith, slice_index_or}
 use Rattle.std.proofs.lemmas.Option.{slice_get-get_or}
 use Rattle.pq_core.proofs.Lists.{some_one, get_within, same_or_other}
 use Rattle.pq_core.proofs.Slots.{found_at, found_somewhere}
 use Rattle.pq_core.proofs.CoreLeaving.{not_both}
 use Rattle.pq_core.specs.Lanes.{Tray, HasNext}
 use Rattle.pq_core.specs.declared.rising.Place.{Place as Slot}
-use Rattle.pq_core.specs.aux.Rising.{Slots, found, Rises}
+use Rattle.pq_core.specs.aux.Rising.{Slots, Rises}
 use Rattle.pq_core.specs.aux.Resting.{HasReadyLane, IsDone}
 
 pub index_there : {A : Type 0} (xs : List A) (i : ℕ) (x : A) → i < length xs → x ≡ slice_index_or xs i x → slice_get xs i ≡ Some x

@@ -1,30 +1,29 @@
 -- The calls of a core that end with its store.
-use Rattle.std.proofs.Common.{◌≡◌, ◌≢◌, ℕ, ◌+◌, ◌-◌, ◌<◌, ◌≤◌, ◌⊎◌, ◌==◌, if◌then◌else◌, Bool, true, false, List, [], ◌∷◌, ◌++◌, length, slice_get, slice_set, Option, Some, None, refl, sym, ◌∙◌, ap, subst, inl, inr, arith}
-use Rattle.std.specs.Prelude.{Ok, Err, Result, IfSome, IfNone}
+use Rattle.std.proofs.Common.{◌≡◌, ℕ, ◌+◌, ◌<◌, ◌≤◌, ◌⊎◌, ◌==◌, if◌then◌else◌, Bool, true, false, List, [], ◌∷◌, ◌++◌, length, slice_get, slice_set, Option, Some, None, refl, sym, ◌∙◌, ap, subst, inl, inr, arith}
+use Rattle.std.specs.Prelude.{Ok, Err, Result, IfSome}
 use Rattle.std.specs.declared.cmp.Ordering.{Ordering}
 use Rattle.pq_rules.specs.declared.turn.Answer.{Answer}
 use Rattle.pq_rules.specs.Turns.{Machine}
-use Rattle.pq_core.proofs.Lists.{some_one, none_some, get_append, get_within, set_long, append_long}
+use Rattle.pq_core.proofs.Lists.{some_one, none_some, get_append, set_long, append_long}
 use Rattle.pq_core.proofs.Changing.{if_at, if_other}
 use Rattle.pq_core.proofs.Slots.{above_more}
 use Rattle.pq_core.proofs.Calling.{run_seen}
 use Rattle.pq_core.proofs.Told.{told_long, told_at, told_runs, ready_told, none_told, opens_told, refusal_told, accepts_told, edits_told, starts_told, looks_told, gives_told, starves_told, request_told}
-use Rattle.pq_core.proofs.PlaceMoves.{get_append_other, none_past, lanes_opened, lanes_same, ready_else}
+use Rattle.pq_core.proofs.PlaceMoves.{get_append_other, none_past, lanes_opened, lanes_same}
 use Rattle.pq_core.proofs.CorePassing.{Lands, Turns, Passed, turn_entry, unready_entry, none_made, stilled, unturned, passed, landed}
 use Rattle.pq_core.specs.Points.{Point}
 use Rattle.pq_core.specs.Replies.{ReplyView}
 use Rattle.pq_core.specs.Changes.{ChangeView}
 use Rattle.pq_core.specs.Works.{DoneView, WorkView}
 use Rattle.pq_core.specs.Ledger.{Out, Place, Waiting, Running, Ready, Entry, Client, Ledger, with_client, with_entry, moved_to, opened}
-use Rattle.pq_core.specs.Moves.{OpenRefusal, Opens, Accepts, Edits, Starts, RunAt, Runs, IsRequestOf, ended, ended_entry, LooksFor, Looks, Gives, Starves, new_entry, with_new, owed, window, out_of}
+use Rattle.pq_core.specs.Moves.{OpenRefusal, Opens, Accepts, Edits, Starts, RunAt, Runs, IsRequestOf, ended, ended_entry, LooksFor, Looks, Gives, Starves, new_entry, with_new, out_of}
 use Rattle.pq_core.specs.RightReply.{answer_by}
 use Rattle.pq_core.specs.Lanes.{Tray, empty_tray}
 use Rattle.pq_core.specs.Told.{Told, told_puts, told_ledger, NoneReadyAt, IsReadyAt, OpensNext, IsNextClient}
-use Rattle.pq_core.specs.Stores.{StoreView, held, fields_of, IsMadeIn, NoneMade, Makes, Goes}
+use Rattle.pq_core.specs.Stores.{StoreView, held, fields_of, NoneMade, Makes, Goes}
 use Rattle.pq_core.specs.Stores.{StandsFor as StoreStandsFor}
 use Rattle.pq_core.specs.Cores.{core_of, StandsFor}
 use Rattle.pq_core.specs.aux.Rising.{Slots, found, IsAbove, SameFound}
-use Rattle.pq_core.specs.aux.Changes.{IsSetAt}
 use Rattle.pq_core.specs.aux.Accounts.{AccountStands}
 use Rattle.pq_core.specs.aux.Stands.{RunSeen}
 use Rattle.pq_core.specs.aux.Places.{LanesStand}
@@ -173,8 +172,7 @@ module _ {R K P V M O : Type 0} (order : K → K → Ordering) (mach : Machine K
   start_passed (Some run) before made lanes l m none s h makes (c, client, n, entry, waits, run_is, e) =
       let next = moved_to entry (Running run l.inputs.revision None) in
       let set = ap (λ (x : Ledger K V M O). x.clients) e in
-      let turn = turn_entry puts l m c n client entry next waits.is_entry.client_here waits.is_entry.here (λ reply x. not_ready_waiting entry.place reply waits.waits x) set in
-      (
+      let turn = turn_entry puts l m c n client entry next waits.is_entry.client_here waits.is_entry.here (λ reply x. not_ready_waiting entry.place reply waits.waits x) set in (
         stilled order mach point puts before made lanes l m c n none s h makes turn
             (unready_entry puts l m c n client entry next waits.is_entry.client_here waits.is_entry.here set (λ reply x. not_ready_running next.place run l.inputs.revision None reply refl x)),
         long_turn puts l m c n turn,
@@ -209,8 +207,7 @@ module _ {R K P V M O : Type 0} (order : K → K → Ordering) (mach : Machine K
       → IfSome asked (λ named. Passes named.0 made after lanes left) → Passed puts m after lanes left × (length l.clients ≤ length m.clients)
   end_passed run (Some named) before made after lanes left l m none was s h makes ends asked p =
       let turn = turn_run puts l m run ends.at (ended_entry l ends.at ends.starved ends.outcome) ends.runs ends.is in
-      let same = run_once l before run named ends.at was asked ends.runs in
-      (
+      let same = run_once l before run named ends.at was asked ends.runs in (
         passed order mach point puts before made after lanes left l m ends.at.c ends.at.n none s h makes turn (subst (λ (x : ℕ). Passes x made after lanes left) same p),
         long_turn puts l m ends.at.c ends.at.n turn,
       )
@@ -230,8 +227,7 @@ module _ {R K P V M O : Type 0} (order : K → K → Ordering) (mach : Machine K
       → LanesStand puts lanes.items l → Makes before made (told_ledger puts l) (told_ledger puts m) → LooksFor means rules run answer l m → Passed puts m made lanes lanes × (length l.clients ≤ length m.clients)
   look_still means rules run (Ok (Carry work)) before made lanes l m ne none s h makes (at, goes, is_work, e) =
       let next = moved_to at.entry (Running run at.started (Some (out_of work.done))) in
-      let turn = turn_run puts l m run at next goes.runs e in
-      (
+      let turn = turn_run puts l m run at next goes.runs e in (
         stilled order mach point puts before made lanes l m at.c at.n none s h makes turn
             (still_run puts l m run at next goes.runs e (λ reply x. not_ready_running next.place run at.started (Some (out_of work.done)) reply refl x)),
         long_turn puts l m at.c at.n turn,
@@ -294,8 +290,7 @@ module _ {R K P V M O : Type 0} (order : K → K → Ordering) (mach : Machine K
   give_still run done (Ok (Blocked other)) before made lanes l m ne none s h makes w = absurd w
   give_still run done (Ok Stepped) before made lanes l m ne none s h makes (at, runs, its, current, e) =
       let next = moved_to at.entry (Running run at.started None) in
-      let turn = turn_run puts l m run at next runs e in
-      (
+      let turn = turn_run puts l m run at next runs e in (
         stilled order mach point puts before made lanes l m at.c at.n none s h makes turn
             (still_run puts l m run at next runs e (λ reply x. not_ready_running next.place run at.started None reply refl x)),
         long_turn puts l m at.c at.n turn,
@@ -379,7 +374,7 @@ module _ {R K P V M O : Type 0} (order : K → K → Ordering) (mach : Machine K
       let stands = subst (λ (t : Ledger K V M (Told K V M)). StoreStandsFor order mach point made t) g.1.1 g.2 in
       let makes = subst (λ (t : Ledger K V M (Told K V M)). Makes before made (told_ledger puts l) t) g.1.1 g.3 in
       let w = unturned order mach point puts before made lanes l l none stands s.lanes makes refl in
-      unmoved_so (Opens outbox (Err refused)) made lanes left l w.none (record { store = stands; lanes = s.lanes })
+      unmoved_so (Opens outbox (Err refused)) made lanes left l w.none (record { inputs = stands.inputs; store = stands; lanes = s.lanes })
       (back, subst (λ (f : OpenFault). OpenRefusal l f) (sym fault) (refusal_told puts l OpenMemory next.1), refl) same.same same.above
 
   -- the next number is above those of the lanes
@@ -404,6 +399,8 @@ module _ {R K P V M O : Type 0} (order : K → K → Ordering) (mach : Machine K
         ledger = m.0;
         moves = (c_is, m.1.1, m.1.2);
         stands = record {
+          inputs = stands.inputs;
+          inputs = stands.inputs;
           store = stands;
           lanes = lanes_opened puts lanes.items left.items l m.0 c outbox empty s.lanes c_is set
               (λ k ne. pushed k ∙ (if_other k c (Some (empty_tray c outbox)) (found room.items k) ne ∙ same.same k))

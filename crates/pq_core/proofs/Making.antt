@@ -2,18 +2,18 @@
 --
 -- It follows from what the store stands for before and after, and from how the stages of requests
 -- go on (`Advances`).
-use Rattle.std.proofs.Common.{◌≡◌, ◌≢◌, ℕ, ◌+◌, ◌-◌, ◌≤◌, ◌==◌, if◌then◌else◌, ◌⊎◌, Bool, true, false, List, Option, Some, None, refl, sym, ◌∙◌, ap, subst, inl, inr, arith}
+use Rattle.std.proofs.Common.{◌≡◌, ℕ, ◌==◌, if◌then◌else◌, ◌⊎◌, Bool, true, false, List, Option, Some, None, refl, sym, ◌∙◌, ap, subst, inl, inr, arith}
 use Rattle.std.specs.declared.cmp.Ordering.{Ordering}
 use Rattle.pq_rules.specs.Turns.{Machine}
 use Rattle.pq_core.proofs.Lists.{some_one, none_some, same_or_other}
 use Rattle.pq_core.proofs.Changing.{if_at, if_other}
-use Rattle.pq_core.proofs.Calling.{open_of, none_open}
+use Rattle.pq_core.proofs.Calling.{open_of}
 use Rattle.pq_core.proofs.AccountMoves.{one_stage, stage_within, was_at, was_before, other_at, longer_at}
 use Rattle.pq_core.proofs.AccountStanding.{stage_at, ready_there}
 use Rattle.pq_core.specs.Points.{Point}
 use Rattle.pq_core.specs.Replies.{ReplyView}
-use Rattle.pq_core.specs.Ledger.{Entry, Client, Ledger}
-use Rattle.pq_core.specs.Ledger.{Waiting as PlaceWaiting, Running as PlaceRunning, Ready as PlaceReady, Place}
+use Rattle.pq_core.specs.Ledger.{Entry, Ledger}
+use Rattle.pq_core.specs.Ledger.{Ready as PlaceReady, Place}
 use Rattle.pq_core.specs.RightReply.{answer_by}
 use Rattle.pq_core.specs.Lanes.{ReadyView}
 use Rattle.pq_core.specs.Accounts.{AccountView, no_requests, IsStage, with_stage, with_request, first_stage}

@@ -1,12 +1,11 @@
 -- Each reply that is ready is in the lane of its client, after each move.
-use Rattle.std.proofs.Common.{◌≡◌, ◌≢◌, ℕ, zero, suc, ◌+◌, ◌-◌, ◌<◌, ◌≤◌, ◌⊎◌, Bool, true, false, List, [], ◌∷◌, ◌++◌, map, length, drop, replicate, slice_get, slice_set, Option, Some, None, refl, sym, ◌∙◌, ap, subst, inl, inr, arith}
-use Rattle.pq_rules.proofs.ListLemmas.{get_last}
-use Rattle.pq_core.proofs.Lists.{some_one, none_some, get_set, get_append, get_longer, get_within, get_there, get_map, set_same, set_other, set_long, append_long, map_long, same_or_other}
+use Rattle.std.proofs.Common.{◌≡◌, ◌≢◌, ℕ, zero, suc, ◌+◌, ◌-◌, ◌<◌, ◌≤◌, ◌⊎◌, Bool, true, false, List, [], ◌∷◌, ◌++◌, length, drop, replicate, slice_get, slice_set, Option, Some, None, refl, sym, ◌∙◌, ap, subst, inl, inr, arith}
+use Rattle.pq_core.proofs.Lists.{some_one, get_set, get_append, get_within, get_there, set_same, set_other, set_long, append_long, same_or_other}
 use Rattle.pq_core.proofs.Writes.{nothing_there, drop_get, one_entry}
 use Rattle.pq_core.specs.Replies.{ReplyView}
-use Rattle.pq_core.specs.Ledger.{Place, Waiting, Running, Ready, Put, Dropped, Entry, Client, Ledger, IsOpen, IsEntry, opened, closed, entry_closed, with_entry, with_outbox, moved_to, place_closed}
+use Rattle.pq_core.specs.Ledger.{Place, Ready, Put, Entry, Client, Ledger, opened, closed, with_entry, with_outbox, moved_to}
 use Rattle.pq_core.specs.Moves.{window}
-use Rattle.pq_core.specs.Lanes.{ReadyView, Tray, HasPlace, placed_in, empty_tray, IsNextIn, HasNext, after_next, tray_with, tray_after}
+use Rattle.pq_core.specs.Lanes.{ReadyView, Tray, HasPlace, placed_in, empty_tray, IsNextIn, after_next, tray_with, tray_after}
 use Rattle.pq_core.specs.Told.{IsReadyAt, NoneReadyAt}
 use Rattle.pq_core.specs.declared.rising.Place.{Place as Seat}
 use Rattle.pq_core.specs.aux.Rising.{found}
@@ -166,8 +165,7 @@ module _ {K V M O : Type 0} (puts : O → List (ReplyView K V M)) where
       | inl w ↦
           let same : other ≡ ready = some_one other ready w.1 in
           let past = place.past in
-          let at : n ≡ tray.put + i = (let e : i ≡ ready.reply.number - tray.put = w.0 in omega arith) in
-          (
+          let at : n ≡ tray.put + i = (let e : i ≡ ready.reply.number - tray.put = w.0 in omega arith) in (
             entry,
             subst (λ (x : ReadyView K V M). IsReadyAt m c (tray.put + i) entry x.reply) (sym same) (ready_move m c c n (tray.put + i) entry ready.reply refl at now),
             ap (λ (x : ReadyView K V M). x.accepted) same ∙ accepted,
@@ -245,8 +243,7 @@ module _ {K V M O : Type 0} (puts : O → List (ReplyView K V M)) where
     ];
     open_yet = λ k x get is_open. elim (get_set l.clients c other k x (ap (λ (xs : List (Client K V M O)). slice_get xs k) (sym set) ∙ get)) [
       | inl w ↦
-          let v = open_so (ap (λ (y : Client K V M O). y.is_open) (sym w.1) ∙ is_open) in
-          (
+          let v = open_so (ap (λ (y : Client K V M O). y.is_open) (sym w.1) ∙ is_open) in (
             v.0,
             ap (λ (y : ℕ). found left y) w.0 ∙ v.1,
             subst (λ (y : ℕ). LaneStands puts m y x v.0) (sym w.0) (subst (λ (y : Client K V M O). LaneStands puts m c y v.0) (sym w.1) v.2),
@@ -309,8 +306,7 @@ module _ {K V M O : Type 0} (puts : O → List (ReplyView K V M)) where
         ];
     open_yet = λ k x get is_open. elim (get_append l.clients (opened outbox) k x (ap (λ (xs : List (Client K V M O)). slice_get xs k) (sym set) ∙ get)) [
       | inl w ↦
-          let e : k ≡ c = w.0 ∙ sym next in
-          (
+          let e : k ≡ c = w.0 ∙ sym next in (
             empty_tray c outbox,
             ap (λ (y : ℕ). found left y) e ∙ here,
             subst (λ (y : ℕ). LaneStands puts m y x (empty_tray c outbox)) (sym e) (subst (λ (y : Client K V M O). LaneStands puts m c y (empty_tray c outbox)) (sym w.1) (stands_opened m c outbox none (ap (slice_get m.clients) (sym e) ∙ (get ∙ ap Some w.1)))),
@@ -434,11 +430,10 @@ module _ {K V M O : Type 0} (puts : O → List (ReplyView K V M)) where
         room = omega arith;
         few = omega arith;
         filled = λ i ready get.
-            let w = h.filled (suc i) ready (shift_some tray.places i ready get) in
-            (
+            let w = h.filled (suc i) ready (shift_some tray.places i ready get) in (
               w.0,
               ready_on l m c n c (tray.put + 1 + i) w.0 ready.reply s (λ v. (let e : tray.put + 1 + i ≡ n = v.1 in absurd (omega arith)))
-              (ready_move l c c (tray.put + suc i) (tray.put + 1 + i) w.0 ready.reply refl (omega arith) w.1),
+                  (ready_move l c c (tray.put + suc i) (tray.put + 1 + i) w.0 ready.reply refl (omega arith) w.1),
               w.2,
             );
         vacant = λ i get e r now. elim (shift_none tray.places i get) [

@@ -1,15 +1,15 @@
 -- The queue of the requests that wait, after each change of accounts. Only proofs need these lemmas.
-use Rattle.std.proofs.Common.{◌≡◌, ◌≢◌, ℕ, suc, ◌+◌, ◌-◌, ◌≤◌, ◌==◌, if◌then◌else◌, ◌⊎◌, Bool, true, false, cond, not, List, [], ◌∷◌, ◌++◌, drop, length, slice_get, Option, Some, None, refl, sym, ◌∙◌, ap, subst, inl, inr, arith}
-use Rattle.std.specs.Prelude.{filter, Result, Ok, Err}
+use Rattle.std.proofs.Common.{◌≡◌, ◌≢◌, ℕ, ◌≤◌, ◌==◌, if◌then◌else◌, ◌⊎◌, Bool, true, false, cond, not, List, [], ◌∷◌, ◌++◌, length, Option, Some, None, refl, sym, ◌∙◌, ap, subst, inl, inr, arith}
+use Rattle.std.specs.Prelude.{filter}
 use Rattle.std.specs.List.{items_where_true}
 use Rattle.std.specs.List.Retain.{IsFiltered, ReturnsInTurn}
 use Rattle.std.proofs.lemmas.Bool.{ne_eqb, eq-eqb}
 use Rattle.pq_rules.specs.Relations.{In}
 use Rattle.pq_core.proofs.Lists.{some_one, none_some, same_or_other}
-use Rattle.pq_core.proofs.AccountMoves.{one_stage, stage_within, set_at, was_at, added_at, was_before, other_at, longer_at}
+use Rattle.pq_core.proofs.AccountMoves.{one_stage, stage_within, was_at, added_at, was_before, other_at, longer_at}
 use Rattle.pq_core.proofs.Changing.{if_at, if_other}
 use Rattle.pq_core.specs.Lanes.{ReadyView}
-use Rattle.pq_core.specs.Accounts.{AccountView, no_requests, next_of, IsStage, with_stage, with_request, first_stage, seen_below}
+use Rattle.pq_core.specs.Accounts.{AccountView, no_requests, next_of, IsStage, with_stage, with_request, first_stage}
 use Rattle.pq_core.specs.declared.rising.Place.{Place}
 use Rattle.pq_core.specs.declared.request.Request.{Request}
 use Rattle.pq_core.specs.declared.request.Want.{Want}

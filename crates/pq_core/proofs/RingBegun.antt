@@ -18,11 +18,10 @@ use Rattle.pq_memo.specs.Steps.{IsWalking}
 use Rattle.pq_claims.specs.Claims.{AreSound, ComesNext, Differ, Hold, Holds, IsLast, Precedes, awaited, hold_of}
 use Rattle.pq_core.specs.declared.rising.Place.{Place}
 use Rattle.pq_core.specs.declared.frames.Pending.{Pending}
-use Rattle.pq_core.specs.declared.frames.Top.{Top}
 use Rattle.pq_core.specs.declared.frames.Top.TheVariants.{At, Away}
 use Rattle.pq_core.specs.aux.Rising.{found}
-use Rattle.pq_core.specs.aux.Runs.{AreClaimed, IsLowered, RunView, claimed_keys, run_keys}
-use Rattle.pq_core.specs.aux.Rings.{IsCut, IsFrameOf, KeyLeaves}
+use Rattle.pq_core.specs.aux.Runs.{AreClaimed, RunView, claimed_keys, run_keys}
+use Rattle.pq_core.specs.aux.Rings.{IsCut, KeyLeaves}
 use Rattle.pq_core.specs.aux.Begun.{IsBegun, IsBegunIn}
 use Rattle.pq_core.proofs.Lists.{some_one}
 use Rattle.pq_core.proofs.Claiming.{lowered_keys}

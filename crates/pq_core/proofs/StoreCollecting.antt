@@ -1,6 +1,5 @@
 -- Replies that are collected, and what was put, at what a store keeps.
 use Rattle.std.proofs.Common.{◌≡◌, ◌≢◌, ℕ, false, zero, suc, ◌+◌, ◌-◌, ◌<◌, ◌≤◌, ◌==◌, if◌then◌else◌, ◌⊎◌, List, [], ◌∷◌, ◌++◌, drop, length, slice_get, Option, Some, None, refl, sym, ◌∙◌, ap, subst, inl, inr, arith, length-drop}
-use Rattle.std.specs.Option.{option_map}
 use Rattle.std.specs.declared.cmp.Ordering.{Ordering}
 use Rattle.pq_rules.specs.declared.turn.Answer.{Answer}
 use Rattle.pq_rules.specs.Turns.{Machine}
@@ -10,10 +9,10 @@ use Rattle.pq_core.proofs.Calling.{SeatSet, SameCounts, open_of, none_open}
 use Rattle.pq_core.proofs.Moving.{SameRuns}
 use Rattle.pq_core.proofs.Ending.{put_stands, reseated}
 use Rattle.pq_core.proofs.Keeping.{kept_releases}
-use Rattle.pq_core.proofs.AccountMoves.{get_drop, before_or_not, one_stage, set_at, was_at, other_at, gone_of, was_seen, seen_here, may_or_not}
+use Rattle.pq_core.proofs.AccountMoves.{get_drop, before_or_not, one_stage, was_at, other_at, gone_of, was_seen, seen_here, may_or_not}
 use Rattle.pq_core.proofs.AccountStanding.{stage_at, collected_stands}
-use Rattle.pq_core.proofs.Making.{ReadyHere, ready_here, collected_ready, made_or_collected}
-use Rattle.pq_core.proofs.Queued.{IsWaiting, queue_same, queue_account, queue_collected}
+use Rattle.pq_core.proofs.Making.{ready_here, collected_ready, made_or_collected}
+use Rattle.pq_core.proofs.Queued.{queue_same, queue_account, queue_collected}
 use Rattle.pq_core.proofs.StoreOpening.{unmoved}
 use Rattle.pq_core.proofs.StoreClosing.{SameButAccounts, same_runs, same_maps, account_set}
 use Rattle.pq_core.specs.Points.{Point}
@@ -24,7 +23,7 @@ use Rattle.pq_core.specs.RightReply.{answer_by, IsRightFor}
 use Rattle.pq_core.specs.Kept.{PlaceKept}
 use Rattle.pq_core.specs.Moves.{Reaches, Releases, NextReady, IsReady}
 use Rattle.pq_core.specs.Lanes.{ReadyView}
-use Rattle.pq_core.specs.Accounts.{AccountView, IsStage, with_stage, seen_below, MaySee, Collects, Sees}
+use Rattle.pq_core.specs.Accounts.{AccountView, IsStage, with_stage, MaySee, Collects, Sees}
 use Rattle.pq_core.specs.Told.{Told, told_puts, TellsOne, Tells}
 use Rattle.pq_core.specs.Stores.{StoreView, Held, held, fields_of, StandsOf, StandsFor, IsMadeIn, MayTell, Hears}
 use Rattle.pq_core.specs.Stores.{Collects as StoreCollects}
@@ -443,8 +442,7 @@ module _ {R K P V M : Type 0} (order : K → K → Ordering) (m : Machine K P V)
       by_account : (account : Option (AccountView K V M)) → found b.accounts.items c ≡ account → StoreCollects c answer b a
       by_account None none =
           let x = closes none in
-          subst (λ (y : Option (ReadyView K V M)). StoreCollects c y b a) (sym x.0)
-          (
+          subst (λ (y : Option (ReadyView K V M)). StoreCollects c y b a) (sym x.0) (
             λ i ready w. none_some w.account (sym none ∙ w.here),
             λ k i other w. record { account = w.account; here = sym (x.1 k) ∙ w.here; made = w.made },
             λ k i other w. record { account = w.account; here = x.1 k ∙ w.here; made = w.made },

@@ -1,5 +1,5 @@
 -- Opening clients, at what a store keeps.
-use Rattle.std.proofs.Common.{◌≡◌, ℕ, ◌+◌, ◌<◌, ◌≤◌, ◌^◌, ◌⊎◌, ◌==◌, if◌then◌else◌, false, List, [], ◌∷◌, ◌++◌, length, slice_get, Some, None, refl, sym, ◌∙◌, ap, subst, inl, inr}
+use Rattle.std.proofs.Common.{◌≡◌, ℕ, ◌+◌, ◌<◌, ◌≤◌, ◌^◌, ◌⊎◌, ◌==◌, if◌then◌else◌, List, [], ◌∷◌, ◌++◌, length, slice_get, Some, None, refl, sym, ◌∙◌, ap, subst, inl, inr}
 use Rattle.std.specs.Prelude.{Ok, Err}
 use Rattle.std.specs.Option.{option_map}
 use Rattle.std.specs.declared.cmp.Ordering.{Ordering}
@@ -18,7 +18,7 @@ use Rattle.pq_core.specs.Moves.{Reaches, Opens, OpenRefusal, open_count, max_cli
 use Rattle.pq_core.specs.Stores.{Held, fields_of, run_seen, StandsOf}
 use Rattle.pq_core.specs.declared.rising.Place.{Place}
 use Rattle.pq_core.specs.aux.Rising.{found}
-use Rattle.pq_core.specs.Accounts.{AccountView, no_requests}
+use Rattle.pq_core.specs.Accounts.{no_requests}
 use Rattle.pq_core.specs.Told.{Told, told_puts, OpensNext, IsNextClient}
 use Rattle.pq_core.specs.aux.Accounts.{AccountStands}
 use Rattle.pq_core.specs.declared.fault.OpenFault.TheVariants.{TooManyClients, Memory as OpenMemory}

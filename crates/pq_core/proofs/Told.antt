@@ -1,7 +1,6 @@
 -- Each move of the ledger of a store is the move of the ledger of its core.
-use Rattle.std.proofs.Common.{◌≡◌, ◌≢◌, ℕ, ◌+◌, ◌-◌, ◌<◌, ◌≤◌, ◌^◌, ◌⊎◌, Bool, true, false, zero, suc, List, [], ◌∷◌, ◌++◌, map, length, slice_get, slice_set, Option, Some, None, refl, sym, ◌∙◌, ap, subst, inl, inr, arith}
+use Rattle.std.proofs.Common.{◌≡◌, ℕ, ◌+◌, ◌<◌, ◌≤◌, ◌^◌, ◌⊎◌, Bool, true, false, zero, suc, List, [], ◌∷◌, ◌++◌, map, length, slice_get, slice_set, Option, Some, None, refl, sym, ◌∙◌, ap, subst, inl, inr, arith}
 use Rattle.std.specs.Prelude.{Ok, Err, Result}
-use Rattle.pq_inputs.specs.Refusal.{refusal}
 use Rattle.pq_rules.specs.declared.turn.Answer.{Answer}
 use Rattle.pq_core.proofs.Lists.{get_map, map_long}
 use Rattle.pq_core.specs.Points.{Point}
@@ -9,7 +8,7 @@ use Rattle.pq_core.specs.Replies.{ReplyView}
 use Rattle.pq_core.specs.Changes.{ChangeView}
 use Rattle.pq_core.specs.Works.{DoneView, WorkView, IsWorkOf}
 use Rattle.pq_core.specs.Ledger.{Out, Running, Put, Entry, Client, Ledger, IsOpen, IsClosed, IsEntry, with_client, with_entry, moved_to, with_outbox, opened, closed}
-use Rattle.pq_core.specs.Moves.{one_if, open_count, window, owed, OpenRefusal, Opens, AcceptRefusal, Accepts, new_entry, with_new, EditRefusal, Edits, changed, Waits, NoneWaits, Starts, started_at, RunAt, Runs, NoneRuns, IsRequestOf, ended, with_out, out_of, IsOvertaken, IsCurrent, Stops, GoesOn, AnswersWith, IsBlocked, LooksFor, IsOf, Gives, Starves, HasReady, NextReady, IsReady, Releases, Closes}
+use Rattle.pq_core.specs.Moves.{one_if, open_count, window, owed, OpenRefusal, Opens, AcceptRefusal, Accepts, new_entry, with_new, EditRefusal, Edits, changed, Waits, NoneWaits, Starts, started_at, RunAt, Runs, NoneRuns, IsRequestOf, ended, with_out, out_of, IsOvertaken, IsCurrent, GoesOn, IsBlocked, LooksFor, IsOf, Gives, Starves, NextReady, IsReady, Releases}
 use Rattle.pq_core.specs.Kept.{ClientKept, Kept}
 use Rattle.pq_core.specs.Told.{Told, told_puts, told_client, told_ledger, IsReadyAt, NoneReadyAt, OpensNext, Shuts, TellsOne, Tells}
 use Rattle.pq_core.specs.declared.request.Request.{Request}
@@ -178,8 +177,7 @@ module _ {K V M O : Type 0} (puts : O → List (ReplyView K V M)) where
 
   pub request_told : (l : Ledger K V M O) (run : ℕ) (answer : Option (ℕ × ℕ)) → IsRequestOf (told_ledger puts l) run answer → IsRequestOf l run answer
   request_told l run (Some named) w =
-      let a = run_of l run w.0 w.1 in
-      (
+      let a = run_of l run w.0 w.1 in (
         a.at,
         a.runs,
         w.2 ∙ ap (λ (x : RunAt K V M (Told K V M)). x.c) a.is,
@@ -208,13 +206,12 @@ module _ {K V M O : Type 0} (puts : O → List (ReplyView K V M)) where
   refusal_told l OpenMemory h = let a = told_count l.clients in omega arith
 
   pub opens_told : (outbox : O) (c : ℕ) (l : Ledger K V M O) (n : Ledger K V M (Told K V M)) → puts outbox ≡ [] → OpensNext (Ok c) (told_ledger puts l) n → Lifts (Opens outbox (Ok c)) l n
-  opens_told outbox c l n none (c_is, few, e) =
-      (
-        record { inputs = l.inputs; clients = l.clients ++ opened outbox ∷ []; runs = l.runs },
-        (c_is ∙ told_long l, (let a = told_count l.clients in omega arith), refl),
-        ap (λ (xs : List (Client K V M (Told K V M))). record { inputs = l.inputs; clients = xs; runs = l.runs }) (map_more (told_client puts) l.clients (opened outbox))
+  opens_told outbox c l n none (c_is, few, e) = (
+    record { inputs = l.inputs; clients = l.clients ++ opened outbox ∷ []; runs = l.runs },
+    (c_is ∙ told_long l, (let a = told_count l.clients in omega arith), refl),
+    ap (λ (xs : List (Client K V M (Told K V M))). record { inputs = l.inputs; clients = xs; runs = l.runs }) (map_more (told_client puts) l.clients (opened outbox))
         ∙ (ap (λ (o : Told K V M). record { inputs = l.inputs; clients = map (told_client puts) l.clients ++ opened o ∷ []; runs = l.runs }) none ∙ sym e),
-      )
+  )
 
   pub open_refused_told : (refused : OpenRefused O) (outbox : O) (fault : OpenFault) (l : Ledger K V M O) (n : Ledger K V M (Told K V M)) → refused.outbox ≡ outbox → refused.fault ≡ fault
       → OpensNext (Err fault) (told_ledger puts l) n → Lifts (Opens outbox (Err refused)) l n
@@ -234,8 +231,7 @@ module _ {K V M O : Type 0} (puts : O → List (ReplyView K V M)) where
   pub accepts_told : (c : ℕ) (request : Request K) (answer : Result ℕ (AcceptRefused K)) (l : Ledger K V M O) (n : Ledger K V M (Told K V M))
       → Accepts told_puts c request answer (told_ledger puts l) n → Lifts (Accepts puts c request answer) l n
   accepts_told c request (Ok k) l n (x, is_open, k_is, few, e) =
-      let w = open_told l c x is_open in
-      (
+      let w = open_told l c x is_open in (
         with_client l c (with_new w.0 (new_entry c k request l.inputs.revision)),
         (
           w.0,
@@ -245,7 +241,7 @@ module _ {K V M O : Type 0} (puts : O → List (ReplyView K V M)) where
           refl,
         ),
         told_with l c (with_new w.0 (new_entry c k request l.inputs.revision)) (with_new x (new_entry c k request l.inputs.revision)) n e
-        (ap (λ (y : Client K V M (Told K V M)). with_new y (new_entry c k request l.inputs.revision)) w.2),
+            (ap (λ (y : Client K V M (Told K V M)). with_new y (new_entry c k request l.inputs.revision)) w.2),
       )
   accepts_told c request (Err refused) l n (same, why, e) = (l, (same, accept_refusal_told l c refused.fault why, refl), sym e)
 
@@ -264,12 +260,11 @@ module _ {K V M O : Type 0} (puts : O → List (ReplyView K V M)) where
   pub starts_told : (answer : Option ℕ) (l : Ledger K V M O) (n : Ledger K V M (Told K V M)) → Starts answer (told_ledger puts l) n → Lifts (Starts answer) l n
   starts_told (Some run) l n (c, x, i, entry, waits, run_is, e) =
       let w = entry_told l c x i entry waits.is_entry in
-      let after = with_entry w.0 i (moved_to entry (Running run l.inputs.revision None)) in
-      (
+      let after = with_entry w.0 i (moved_to entry (Running run l.inputs.revision None)) in (
         started_at l run c w.0 i entry,
         (c, w.0, i, entry, record { is_entry = w.1; waits = waits.waits }, run_is, refl),
         ap (λ (xs : List (Client K V M (Told K V M))). record { inputs = l.inputs; clients = xs; runs = l.runs + 1 }) (map_set (told_client puts) l.clients c after)
-        ∙ (ap (λ (y : Client K V M (Told K V M)). started_at (told_ledger puts l) run c y i entry) (sym w.2) ∙ sym e),
+            ∙ (ap (λ (y : Client K V M (Told K V M)). started_at (told_ledger puts l) run c y i entry) (sym w.2) ∙ sym e),
       )
   starts_told None l n (why, e) = (l, (elim why [ inl w ↦ inl (none_waits_told l w) | inr w ↦ inr w ], refl), sym e)
 
@@ -315,8 +310,7 @@ module _ {K V M O : Type 0} (puts : O → List (ReplyView K V M)) where
   pub looks_told : {R P : Type 0} (means : M → Point → K → Answer K V → Type 0) (rules : R) (run : ℕ) (answer : Result (Move (WorkView R K P V)) LookFault) (l : Ledger K V M O) (n : Ledger K V M (Told K V M))
       → LooksFor means rules run answer (told_ledger puts l) n → Lifts (LooksFor means rules run answer) l n
   looks_told means rules run (Ok (Carry work)) l n (x, goes, is_work, e) =
-      let w = run_of l run x goes.runs in
-      (
+      let w = run_of l run x goes.runs in (
         with_out l run w.at (Some (out_of work.done)),
         (
           w.at,
@@ -333,8 +327,7 @@ module _ {K V M O : Type 0} (puts : O → List (ReplyView K V M)) where
       let w = run_of l run x goes.runs in
       (l, (w.at, goes_told l run x w goes, refl), sym e)
   looks_told means rules run (Ok MoveAnswered) l n (x, goes, (answer, stamp, so, e)) =
-      let w = run_of l run x goes.runs in
-      (
+      let w = run_of l run x goes.runs in (
         ended l w.at w.at.entry.starved (Answered answer stamp),
         (
           w.at,
@@ -351,11 +344,10 @@ module _ {K V M O : Type 0} (puts : O → List (ReplyView K V M)) where
           ),
         ),
         told_ended l w.at w.at.entry.starved (Answered answer stamp)
-        ∙ (ap (λ (y : RunAt K V M (Told K V M)). ended (told_ledger puts l) y y.entry.starved (Answered answer stamp)) (sym w.is) ∙ sym e),
+            ∙ (ap (λ (y : RunAt K V M (Told K V M)). ended (told_ledger puts l) y y.entry.starved (Answered answer stamp)) (sym w.is) ∙ sym e),
       )
   looks_told means rules run (Ok Stopped) l n (x, runs, over, e) =
-      let w = run_of l run x runs in
-      (
+      let w = run_of l run x runs in (
         ended l w.at w.at.entry.starved (Cancelled w.at.started l.inputs.revision),
         (w.at, w.runs, overtaken_told l x w.at w.is over, refl),
         stops_told run l n x w e,
@@ -389,8 +381,7 @@ module _ {K V M O : Type 0} (puts : O → List (ReplyView K V M)) where
       (with_out l run w.at None, (w.at, w.runs, of_told run done l x w its, current_told l x w.at w.is current, refl), out_told run None l n x w e)
   gives_told run done (Ok MoveAnswered) l n h = absurd h
   gives_told run done (Ok Stopped) l n (x, runs, its, over, e) =
-      let w = run_of l run x runs in
-      (
+      let w = run_of l run x runs in (
         ended l w.at w.at.entry.starved (Cancelled w.at.started l.inputs.revision),
         (w.at, w.runs, of_told run done l x w its, overtaken_told l x w.at w.is over, refl),
         stops_told run l n x w e,
@@ -399,8 +390,7 @@ module _ {K V M O : Type 0} (puts : O → List (ReplyView K V M)) where
 
   pub starves_told : (run : ℕ) (answer : Bool) (l : Ledger K V M O) (n : Ledger K V M (Told K V M)) → Starves run answer (told_ledger puts l) n → Lifts (Starves run answer) l n
   starves_told run true l n (x, runs, e) =
-      let w = run_of l run x runs in
-      (
+      let w = run_of l run x runs in (
         ended l w.at true Starved,
         (w.at, w.runs, refl),
         told_ended l w.at true Starved ∙ (ap (λ (y : RunAt K V M (Told K V M)). ended (told_ledger puts l) y true Starved) (sym w.is) ∙ sym e),
@@ -411,8 +401,7 @@ module _ {K V M O : Type 0} (puts : O → List (ReplyView K V M)) where
 
   pub shuts_told : (c : ℕ) (answer : Bool) (l : Ledger K V M O) (n : Ledger K V M (Told K V M)) → Shuts c answer (told_ledger puts l) n → Lifts (Shuts c answer) l n
   shuts_told c true l n (x, is_open, e) =
-      let w = open_told l c x is_open in
-      (
+      let w = open_told l c x is_open in (
         with_client l c (closed w.0),
         (w.0, w.1, refl),
         told_with l c (closed w.0) (closed x) n e (ap (λ (y : Client K V M (Told K V M)). closed y) w.2),
@@ -431,15 +420,14 @@ module _ {K V M O : Type 0} (puts : O → List (ReplyView K V M)) where
   -- a store that is told of what was put
   pub told_put : (takes : O → List (ReplyView K V M)) (was_full was_gone : O → Type 0) (c k : ℕ) (l m : Ledger K V M O)
       → Releases puts takes was_full was_gone c (ReleasedPut k) l m → TellsOne c (told_ledger puts l) (told_ledger puts m)
-  told_put takes was_full was_gone c k l m (next, r, k_is, (o, more, same, e)) =
-      (
-        record { client = told_client puts next.client; entry = next.entry; reply = next.reply },
-        told_next l c next r,
-        ap (told_ledger puts) e
+  told_put takes was_full was_gone c k l m (next, r, k_is, (o, more, same, e)) = (
+    record { client = told_client puts next.client; entry = next.entry; reply = next.reply },
+    told_next l c next r,
+    ap (told_ledger puts) e
         ∙ (told_set l c (with_outbox (with_entry next.client k (moved_to next.entry Put)) o false)
         ∙ (ap (λ (q : Told K V M). with_client (told_ledger puts l) c (with_outbox (with_entry (told_client puts next.client) k (moved_to next.entry Put)) q false)) more
         ∙ ap (λ (i : ℕ). with_client (told_ledger puts l) c (with_outbox (with_entry (told_client puts next.client) i (moved_to next.entry Put)) (puts next.client.outbox ++ next.reply ∷ []) false)) k_is)),
-      )
+  )
 
   pub told_puts_one : (takes : O → List (ReplyView K V M)) (was_full was_gone : O → Type 0) (c k : ℕ) (l m : Ledger K V M O)
       → Releases puts takes was_full was_gone c (ReleasedPut k) l m → Tells c 1 (told_ledger puts l) (told_ledger puts m)

@@ -7,7 +7,7 @@
 -- nothing. The empty log is counted for a new core, and each call keeps that (`IsCountedFor`). So the
 -- bound of `IsCounted` holds of the log of every list of calls. The same holds of a store
 -- (`log_moved_in`, `log_starved_in`, `IsCountedIn`), and a core's is that of its store.
-use Rattle.std.specs.Prelude.{ℕ, ◌≡◌, ◌+◌, ◌≤◌, ◌⊎◌, ◌&&◌, Bool, true, false, eqb, List, [], ◌∷◌, ◌++◌, map, Option, Some, None, Result, Ok, Err}
+use Rattle.std.specs.Prelude.{ℕ, ◌+◌, ◌≤◌, ◌⊎◌, ◌&&◌, Bool, true, false, eqb, List, [], ◌∷◌, ◌++◌, map, Option, Some, None, Result, Ok, Err}
 use Rattle.std.specs.Ordering.{is_eq}
 use Rattle.std.specs.declared.cmp.Ordering.{Ordering}
 use Rattle.pq_rules.specs.Relations.{Each}

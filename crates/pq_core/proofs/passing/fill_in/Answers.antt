@@ -1,5 +1,4 @@
-use Rattle.std.proofs.Common.{sym, subst, ◌∙◌, Some}
-use Rattle.pq_core.specs.Lanes.{Tray}
+use Rattle.std.proofs.Common.{◌∙◌}
 use Rattle.pq_core.proofs.Changing.{set_back}
 use Rattle.pq_core.proofs.Lists.{some_one, none_some}
 use Rattle.pq_core.proofs.CorePassing.{fill_so, set_as}

@@ -1,4 +1,3 @@
-use Rattle.std.proofs.Common.{sym, ◌∙◌}
 use Rattle.pq_core.proofs.running.end_run.Goals as goal
 
 pub finish_in-requires-clause-running : goal.finish_in-requires-clause-running

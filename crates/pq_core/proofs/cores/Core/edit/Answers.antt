@@ -1,4 +1,3 @@
-use Rattle.std.proofs.Common.{refl, sym, ◌∙◌}
 use Rattle.pq_core.proofs.CorePassing.{call_moved, call_whole}
 use Rattle.pq_core.specs.Moves.{Edits}
 use Rattle.pq_core.proofs.CoreServing.{edit_so}

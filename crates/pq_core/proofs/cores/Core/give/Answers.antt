@@ -1,10 +1,9 @@
 use Rattle.pq_core.specs.Works.{DoneView}
 use Rattle.pq_core.specs.Cores.{core_of}
 use Rattle.pq_core.specs.Starts.{log_moved_in}
-use Rattle.pq_core.specs.declared.fault.LookFault.{LookFault}
 use Rattle.pq_core.specs.declared.fault.GiveRefused.{GiveRefused}
-use Rattle.std.proofs.Common.{refl, sym, ◌∙◌}
-use Rattle.pq_core.proofs.CorePassing.{call_moved, call_whole, seen_moved, seen_counted}
+use Rattle.std.proofs.Common.{◌∙◌}
+use Rattle.pq_core.proofs.CorePassing.{call_moved, call_whole, seen_counted}
 use Rattle.std.specs.Prelude.{Ok, Err}
 use Rattle.pq_core.specs.Moves.{Gives}
 use Rattle.pq_core.proofs.CoreServing.{give_end_so, give_still_so, not_end, err_ok}

@@ -7,9 +7,9 @@ invariant_of-result g c =
     record {
       above = c.new-2.ensures.above _;
       none_handed = c.new.ensures.none;
-      ledger = (unused c.args.inputs, rw c.new.ensures.rules (record { store = c.new.ensures.stands; lanes = new_lanes g.O.Outbox.puts c.new-2.result c.args.inputs c.new-2.ensures.none }));
+      ledger = (unused c.args.inputs, rw c.new.ensures.rules (record { inputs = c.new.ensures.stands.inputs; store = c.new.ensures.stands; lanes = new_lanes g.O.Outbox.puts c.new-2.result c.args.inputs c.new-2.ensures.none }));
     }
 
 pub returns-clause-stands : goal.returns-clause-stands
 returns-clause-stands g c =
-    record { store = c.new.ensures.stands; lanes = new_lanes g.O.Outbox.puts c.new-2.result c.args.inputs c.new-2.ensures.none }
+    record { inputs = c.new.ensures.stands.inputs; store = c.new.ensures.stands; lanes = new_lanes g.O.Outbox.puts c.new-2.result c.args.inputs c.new-2.ensures.none }

@@ -1,6 +1,6 @@
 use Rattle.pq_core.proofs.Changing.{room_made}
 use Rattle.pq_core.proofs.CoreServing.{next_above}
-use Rattle.std.proofs.Common.{refl, sym, ◌∙◌}
+use Rattle.std.proofs.Common.{refl}
 use Rattle.pq_core.proofs.CorePassing.{call_moved, call_whole}
 use Rattle.std.specs.Prelude.{Ok, Err}
 use Rattle.pq_core.specs.Moves.{Opens}

@@ -1,4 +1,4 @@
-use Rattle.std.proofs.Common.{refl, sym, ◌∙◌}
+use Rattle.std.proofs.Common.{refl, sym}
 use Rattle.pq_core.proofs.CorePassing.{call_moved, call_whole}
 use Rattle.pq_core.specs.Moves.{Releases}
 use Rattle.pq_core.specs.declared.moves.Released.TheVariants.{Put as ReleasedPut, Full as ReleasedFull, Gone as ReleasedGone, Nothing as ReleasedNothing}

@@ -1,4 +1,3 @@
-use Rattle.std.proofs.Common.{refl, sym, ◌∙◌}
 use Rattle.pq_core.proofs.CorePassing.{call_moved, call_whole}
 use Rattle.pq_core.specs.Moves.{Starts}
 use Rattle.pq_core.proofs.CoreServing.{start_so}

@@ -1,4 +1,4 @@
-use Rattle.std.proofs.Common.{refl, sym, ◌∙◌}
+use Rattle.std.proofs.Common.{refl, sym}
 use Rattle.pq_core.proofs.CorePassing.{call_moved, call_whole}
 use Rattle.std.specs.Prelude.{Ok, false}
 use Rattle.std.specs.declared.alloc.AllocError.{AllocError}

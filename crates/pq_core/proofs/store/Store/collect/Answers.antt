@@ -1,5 +1,4 @@
 use Rattle.std.proofs.Common.{refl}
-use Rattle.pq_core.specs.Stores.{held}
 use Rattle.pq_core.proofs.StoreCollecting.{collect_moved, collect_queue, collect_said, still_above}
 use Rattle.pq_core.proofs.store.Store.collect.Goals as goal
 

@@ -1,7 +1,7 @@
-use Rattle.std.proofs.Common.{ℕ, List, length, refl, sym, ◌∙◌, ap, eq-eqb}
+use Rattle.std.proofs.Common.{ℕ, List, length, sym, ◌∙◌, ap, eq-eqb}
 use Rattle.std.proofs.lemmas.Bool.{eqb-true}
 use Rattle.pq_core.specs.Told.{told_puts}
-use Rattle.pq_core.proofs.StoreResting.{no_length, not_both, not_true, true_not, all_true, waits_not_idle, runs_not_idle, all_idle}
+use Rattle.pq_core.proofs.StoreResting.{no_length, not_both, all_true, waits_not_idle, runs_not_idle, all_idle}
 use Rattle.pq_core.proofs.store.Store.is_idle.Goals as goal
 
 pub returns-then-not-is_empty : goal.returns-then-not-is_empty
