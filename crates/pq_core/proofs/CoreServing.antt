@@ -400,7 +400,6 @@ module _ {R K P V M O : Type 0} (order : K → K → Ordering) (mach : Machine K
         moves = (c_is, m.1.1, m.1.2);
         stands = record {
           inputs = stands.inputs;
-          inputs = stands.inputs;
           store = stands;
           lanes = lanes_opened puts lanes.items left.items l m.0 c outbox empty s.lanes c_is set
               (λ k ne. pushed k ∙ (if_other k c (Some (empty_tray c outbox)) (found room.items k) ne ∙ same.same k))
