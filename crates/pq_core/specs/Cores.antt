@@ -5,8 +5,10 @@ use Rattle.std.specs.declared.cmp.Ordering.{Ordering}
 use Rattle.pq_inputs.specs.Sources.{Table}
 use Rattle.pq_rules.specs.Turns.{Machine}
 use Rattle.pq_memo.specs.Sound.{Memo}
+use Rattle.pq_memo.specs.Table.{memo_at, HasIn}
+use Rattle.pq_memo.specs.Cause.{IsCause}
 use Rattle.pq_claims.specs.Claims.{Hold}
-use Rattle.pq_core.specs.Works.{WorkView}
+use Rattle.pq_core.specs.Works.{WorkView, IsWorkOf, HasWhy}
 use Rattle.pq_core.specs.declared.moves.Move.{Move}
 use Rattle.pq_core.specs.Points.{Point}
 use Rattle.pq_core.specs.Replies.{ReplyView}
@@ -14,7 +16,7 @@ use Rattle.pq_core.specs.Ledger.{Ledger}
 use Rattle.pq_core.specs.Lanes.{Tray}
 use Rattle.pq_core.specs.Told.{told_ledger}
 use Rattle.pq_core.specs.Stores.{StoreView, NoneMade}
-use Rattle.pq_core.specs.Stores.{StandsFor as StoreStandsFor, HandsOut as StoreHandsOut, HasCause as StoreHasCause}
+use Rattle.pq_core.specs.Stores.{StandsFor as StoreStandsFor, OnCarry}
 use Rattle.pq_core.specs.aux.Rising.{Slots, IsAbove}
 use Rattle.pq_core.specs.aux.Places.{LanesStand}
 
@@ -50,8 +52,14 @@ pub record IsWhole {R K P V M O : Type 0} (order : K → K → Ordering) (m : Ma
 -- `HandsOut core run move` is that the work that `move` hands out, if it does, is for `run`, of the
 -- rules of `core` and over its sources
 abbrev pub HandsOut : {R K P V M O : Type 0} → CoreView R K P V M O → ℕ → Move (WorkView R K P V) → Type 0
-HandsOut core run move = StoreHandsOut core.store run move
+HandsOut core run move = OnCarry (IsWorkOf core.rules run core.inputs.revision core.inputs.files) move
+
+-- `NamesCause order m core work` is that `work`, if its rule is to be started, and only then, names
+-- a cause, which the table of `core` gives
+abbrev pub NamesCause : {R K P V M O : Type 0} → (K → K → Ordering) → Machine K P V → CoreView R K P V M O → WorkView R K P V → Type 0
+NamesCause order m core work =
+    HasWhy (IsCause order m core.inputs.history core.inputs.revision (HasIn (memo_at order core.places)) work.done.key) work.done.front work.why
 
 -- `HasCause order m core move` is that the work that `move` hands out, if it does, names its cause
 abbrev pub HasCause : {R K P V M O : Type 0} → (K → K → Ordering) → Machine K P V → CoreView R K P V M O → Move (WorkView R K P V) → Type 0
-HasCause order m core move = StoreHasCause order m core.store move
+HasCause order m core move = OnCarry (NamesCause order m core) move
