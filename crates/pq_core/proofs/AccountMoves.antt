@@ -361,7 +361,7 @@ module _ {K V M : Type 0} where
   collect_none a made room k empty =
       (λ n ready h. let w = k.all n ready h in let within = get_within made w.0 n w.1 in absurd (omega arith), refl)
 
-  -- the account is told that the first replies were put
+  -- the first replies are acknowledged
   pub may_within : (a : AccountView K V M) (n : ℕ) → MaySee a n → n ≤ next_of a
   may_within a n h = by (before_or_not a.seen n)
     where
@@ -371,7 +371,7 @@ module _ {K V M : Type 0} where
           omega arith
       by (inr same) = omega arith
 
-  -- the first stages of an account that may be told
+  -- the first stages of an account to which they may be acknowledged
   pub gone_of : (a : AccountView K V M) (n : ℕ) → MaySee a n → (i : ℕ) → i < n - a.seen → slice_get a.stages i ≡ Some Collected
   gone_of a n h i less =
       let later = h.later in
@@ -429,7 +429,7 @@ module _ {K V M : Type 0} where
         numbered = λ m ready g. k.numbered m ready (was_seen a n m (Made ready) later g);
       }
 
--- whether an account may be told
+-- whether numbers may be acknowledged
 module _ {K V M : Type 0} where
   -- whether the first `k` stages are of replies that were collected
   all_or_not : (stages : List (Stage K (ReadyView K V M))) (k : ℕ) → ((i : ℕ) → i < k → slice_get stages i ≡ Some Collected) ⊎ (((i : ℕ) → i < k → slice_get stages i ≡ Some Collected) → ⊥)

@@ -58,7 +58,7 @@ true_false : {P : Type 0} → true ≡ false → P
 true_false e = cc
 
 module _ {K V M : Type 0} where
-  -- what is told is determined
+  -- what is acknowledged is determined
   pub tells_same : (c : ℕ) (t a b : Ledger K V M (Told K V M)) → TellsOne c t a → TellsOne c t b → a ≡ b
   tells_same c t a b (p, p_ready, a_is) (q, q_ready, b_is) =
       let client : p.client ≡ q.client = one_entry t.clients c p.client q.client p_ready.here q_ready.here in
@@ -221,7 +221,7 @@ module _ {R K P V M O : Type 0} (order : K → K → Ordering) (mach : Machine K
       unmoved_so order mach point puts (Releases puts takes was_full was_gone c ReleasedNothing) store lanes left l none s
       (none_ready puts l c w.0 tray w.1 w.2 nothing, refl) (same_lanes puts lanes left c tray here (subst (λ (x : Tray K V M O). WritesLane puts lanes left c (Some x)) is set)) above
 
-  -- a reply was put, and the store was told
+  -- a reply was put and acknowledged
   pub release_put_so : (takes : O → List (ReplyView K V M)) (was_full was_gone : O → Type 0) (c n : ℕ) (before after : StoreView R K P V M) (lanes left : Slots (Tray K V M O)) (tray new : Tray K V M O) (l : Ledger K V M O) → NoneMade before
       → StandsFor order mach point puts (core_of before lanes) l → found lanes.items c ≡ Some tray → LetsOutOf puts takes was_full was_gone (ReleasedPut n) tray new
       → ((t : Ledger K V M (Told K V M)) → StoreStandsFor order mach point before t → (u : Ledger K V M (Told K V M)) × Hears before c new.put t u × StoreStandsFor order mach point after u)

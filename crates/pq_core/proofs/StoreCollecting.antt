@@ -54,7 +54,7 @@ waits_as request accepted = Waiting request accepted
 waits_not : {K T : Type 0} (request : Request K) (accepted : ℕ) → collected_as {K = K} {T = T} ≡ waits_as request accepted → ⊥
 waits_not request accepted f = cc
 
--- `account_after account k` is `account` after it was told of `k` more replies that were put
+-- `account_after account k` is `account` after `k` more replies were acknowledged
 abbrev pub account_after : {K V M : Type 0} → AccountView K V M → ℕ → AccountView K V M
 account_after account k = record { seen = account.seen + k; stages = drop k account.stages }
 
@@ -154,7 +154,7 @@ module _ {K V M : Type 0} (means : M → Point → K → Answer K V → Type 0) 
       (rest.0, (one.0, one.1, rest.1), rest.2)
 
 module _ {R K P V M : Type 0} (order : K → K → Ordering) (m : Machine K P V) (point : M → Point) where
-  -- the store is told what was put
+  -- what was put is acknowledged
   pub see_moved : (b : StoreView R K P V M) (a : Held K P V M) (l : Ledger K V M (Told K V M)) (c n : ℕ)
       → ((account : AccountView K V M) → found b.accounts.items c ≡ Some account
       → (after : AccountView K V M) × Sees n account after × ((k : ℕ) → found a.accounts k ≡ (if k == c then Some after else found b.accounts.items k)))
@@ -248,7 +248,7 @@ module _ {R K P V M : Type 0} (order : K → K → Ordering) (m : Machine K P V)
 
 -- the reply that an account hands out
 module _ {K V M : Type 0} where
-  -- what waits, and what is made, after the account was told
+  -- what waits, and what is made, after an acknowledgement
   pub see_made : (n : ℕ) (a after : AccountView K V M) (k : ℕ) (ready : ReadyView K V M) → Sees n a after → IsStage a k (Made ready) → IsStage after k (Made ready)
   see_made n a after k ready sees h = elim (may_or_not a n) [
     | inl may ↦
@@ -293,7 +293,7 @@ module _ {R K P V M : Type 0} (b a : StoreView R K P V M) (c : ℕ) where
   others_of : (value : Option (AccountView K V M)) → ((k : ℕ) → found a.accounts.items k ≡ (if k == c then value else found b.accounts.items k)) → (k : ℕ) → k ≢ c → found a.accounts.items k ≡ found b.accounts.items k
   others_of value set k ne = set k ∙ if_other k c value (found b.accounts.items k) ne
 
-  -- what is made, after the store was told what was put
+  -- what is made, after an acknowledgement
   pub seen_made : (n : ℕ)
       → ((account : AccountView K V M) → found b.accounts.items c ≡ Some account
       → (after : AccountView K V M) × Sees n account after × ((k : ℕ) → found a.accounts.items k ≡ (if k == c then Some after else found b.accounts.items k)))
@@ -449,7 +449,7 @@ module _ {R K P V M : Type 0} (order : K → K → Ordering) (m : Machine K P V)
           )
       by_account (Some account) here = let x = opens account here in one_collected answer l account x.0 s here x.1 x.2
 
--- the queue after the store was told what was put
+-- the queue after an acknowledgement
 module _ {K V M : Type 0} where
   pub see_queue : (b a : List (Slot (AccountView K V M))) (queue : List (ℕ × ℕ)) (c n : ℕ)
       → ((account : AccountView K V M) → found b c ≡ Some account

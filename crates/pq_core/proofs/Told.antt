@@ -417,7 +417,7 @@ module _ {K V M O : Type 0} (puts : O → List (ReplyView K V M)) where
     ready = record { open_yet = r.ready.open_yet; here = r.ready.here; ready = r.ready.ready };
   }
 
-  -- a store that is told of what was put
+  -- a store to which what was put is acknowledged
   pub told_put : (takes : O → List (ReplyView K V M)) (was_full was_gone : O → Type 0) (c k : ℕ) (l m : Ledger K V M O)
       → Releases puts takes was_full was_gone c (ReleasedPut k) l m → TellsOne c (told_ledger puts l) (told_ledger puts m)
   told_put takes was_full was_gone c k l m (next, r, k_is, (o, more, same, e)) = (

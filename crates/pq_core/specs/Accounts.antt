@@ -1,7 +1,7 @@
 -- An account: what the store knows of an open client.
 --
--- The store keeps of each request that was accepted how far it is, until it is told that the reply
--- was put. A reply that is made is collected once, by the thread that fills it into the lane.
+-- The store keeps of each request that was accepted how far it is, until the reply is acknowledged
+-- as put. A reply that is made is collected once, by the thread that fills it into the lane.
 use Rattle.std.specs.Prelude.{ℕ, ◌≡◌, ◌+◌, ◌-◌, ◌<◌, ◌≤◌, List, [], ◌∷◌, ◌++◌, length, drop, slice_get, slice_set, Option, Some, None}
 use Rattle.pq_core.specs.Lanes.{ReadyView}
 use Rattle.pq_core.specs.declared.request.Request.{Request}
@@ -11,7 +11,7 @@ use Rattle.pq_core.specs.declared.outcome.Outcome.TheVariants.{Plain}
 use Rattle.pq_core.specs.declared.account.Stage.{Stage}
 use Rattle.pq_core.specs.declared.account.Stage.TheVariants.{Waiting, Made, Collected}
 
--- `AccountView K V M` is an open client: the number below which it was told that all were put, and
+-- `AccountView K V M` is an open client: the number below which all replies are acknowledged, and
 -- the stages of its requests from that number on
 pub record AccountView (K V M : Type 0) : Type 0 where
   pub seen : ℕ
@@ -51,18 +51,18 @@ abbrev pub Collects : {K V M : Type 0} → Option (ReadyView K V M) → AccountV
 Collects (Some ready) l m = IsStage l ready.reply.number (Made ready) × (m ≡ with_stage l ready.reply.number Collected)
 Collects {K} {V} {M} None l m = ((n : ℕ) (ready : ReadyView K V M) → IsStage l n (Made ready) → ⊥) × (m ≡ l)
 
--- `MaySee account n` is that `account` may be told that all numbers below `n` were put: it was told
--- of no higher number, and each reply below `n` of which it was not told is collected
+-- `MaySee account n` is that all numbers below `n` may be acknowledged to `account`: a higher number
+-- was not, and each reply below `n` that was not acknowledged is collected
 pub record MaySee {K V M : Type 0} (account : AccountView K V M) (n : ℕ) : Type 0 where
   pub later : account.seen ≤ n
   pub collected : (i : ℕ) → account.seen ≤ i → i < n → IsStage account i Collected
 
--- `seen_below account n` is `account` after it was told that all numbers below `n` were put
+-- `seen_below account n` is `account` after all numbers below `n` were acknowledged
 abbrev pub seen_below : {K V M : Type 0} → AccountView K V M → ℕ → AccountView K V M
 seen_below account n = record { seen = n; stages = drop (n - account.seen) account.stages }
 
--- `Sees n l m` is that `l`, which is `m` afterwards, is told that all numbers below `n` were put, if
--- it may be; else nothing changes
+-- `Sees n l m` is that all numbers below `n` are acknowledged to `l`, which is `m` afterwards, if they
+-- may be; else nothing changes
 pub record Sees {K V M : Type 0} (n : ℕ) (l m : AccountView K V M) : Type 0 where
   pub told : MaySee l n → m ≡ seen_below l n
   pub ignored : (MaySee l n → ⊥) → m ≡ l

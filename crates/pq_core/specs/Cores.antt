@@ -34,8 +34,8 @@ pub record CoreView (R K P V M O : Type 0) : Type 0 where
 abbrev pub core_of : {R K P V M O : Type 0} → StoreView R K P V M → Slots (Tray K V M O) → CoreView R K P V M O
 core_of store lanes = record { rules = store.rules; places = store.places; inputs = store.inputs; claims = store.claims; store = store; lanes = lanes }
 
--- `StandsFor order m point puts core l` is that `core` stands for the ledger `l`: it has its inputs, its
--- store was told of all that was put, and each reply that is ready is in the lane of its client
+-- `StandsFor order m point puts core l` is that `core` stands for the ledger `l`: it has its inputs, all
+-- that was put is acknowledged to its store, and each reply that is ready is in the lane of its client
 pub record StandsFor {R K P V M O : Type 0} (order : K → K → Ordering) (m : Machine K P V) (point : M → Point) (puts : O → List (ReplyView K V M)) (core : CoreView R K P V M O) (l : Ledger K V M O) : Type 0 where
   pub inputs : l.inputs ≡ core.inputs
   pub store : StoreStandsFor order m point core.store (told_ledger puts l)

@@ -141,8 +141,8 @@ Collects {R} {K} {P} {V} {M} c None before after =
     × ((k n : ℕ) (other : ReadyView K V M) → IsMadeIn after k n other → IsMadeIn before k n other)
     × ((k n : ℕ) (other : ReadyView K V M) → IsMadeIn before k n other → IsMadeIn after k n other)
 
--- `MayTell store l c n` is that the open client `c` may be told to have all replies below `n` put: it
--- was told of no higher number, and each of them that is ready was collected
+-- `MayTell store l c n` is that all replies to the open client `c` below `n` may be acknowledged: a
+-- higher number was not, and each of them that was not acknowledged was collected
 pub record MayTell {R K P V M : Type 0} (store : StoreView R K P V M) (l : Ledger K V M (Told K V M)) (c n : ℕ) : Type 0 where
   pub client : Client K V M (Told K V M)
   pub open_yet : IsOpen l c client
@@ -150,8 +150,8 @@ pub record MayTell {R K P V M : Type 0} (store : StoreView R K P V M) (l : Ledge
   pub collected : (i : ℕ) → length client.outbox ≤ i → i < n
       → ((entry : Entry K V M) × (reply : ReplyView K V M) × IsReadyAt l c i entry reply) × ((ready : ReadyView K V M) → IsMadeIn store c i ready → ⊥)
 
--- `Hears store c n l m` is that `store` is told that all replies to the client `c` below `n` were
--- put, if it may be; else nothing changes
+-- `Hears store c n l m` is that all replies to the client `c` below `n` are acknowledged to `store`, if
+-- they may be; else nothing changes
 pub record Hears {R K P V M : Type 0} (store : StoreView R K P V M) (c n : ℕ) (l m : Ledger K V M (Told K V M)) : Type 0 where
   pub told : (may : MayTell store l c n) → Tells c (n - length may.client.outbox) l m
   pub ignored : (MayTell store l c n → ⊥) → m ≡ l

@@ -1,8 +1,8 @@
 -- The ledger of a store: what a store knows of the world.
 --
--- A store does not see what its lanes put. In its ledger the outbox of a client is the list of the
--- replies that it was told were put. So there a reply is ready from its making until the store is
--- told that it was put.
+-- A store does not see what its lanes put: `put_seen` acknowledges it. In its ledger the outbox of a
+-- client is the list of the replies that were acknowledged as put. So there a reply is ready from its
+-- making until it is acknowledged.
 use Rattle.std.specs.Prelude.{ℕ, ◌≡◌, ◌+◌, ◌<◌, ◌^◌, Bool, true, false, zero, suc, List, [], ◌∷◌, ◌++◌, length, map, Option, Some, None, Result, Ok, Err}
 use Rattle.pq_core.specs.Replies.{ReplyView}
 use Rattle.pq_core.specs.Ledger.{Entry, Client, Ledger, Ready, Put, IsOpen, IsEntry, with_client, with_entry, moved_to, with_outbox, opened, closed}
@@ -10,8 +10,8 @@ use Rattle.pq_core.specs.Moves.{NextReady, IsReady, OpenRefusal, open_count, max
 use Rattle.pq_core.specs.declared.fault.OpenFault.{OpenFault}
 use Rattle.pq_core.specs.declared.fault.OpenFault.TheVariants.{TooManyClients}
 
--- `Told K V M` is the outbox of a client in the ledger of a store: the replies that it was told were
--- put
+-- `Told K V M` is the outbox of a client in the ledger of a store: the replies that were acknowledged
+-- as put
 abbrev pub Told : (K V M : Type 0) → Type 0
 Told K V M = List (ReplyView K V M)
 
@@ -19,12 +19,12 @@ Told K V M = List (ReplyView K V M)
 abbrev pub told_puts : {K V M : Type 0} → Told K V M → List (ReplyView K V M)
 told_puts outbox = outbox
 
--- `told_client puts client` is `client` as a store knows it that was told of all that was put. A store
+-- `told_client puts client` is `client` as a store knows it if all that was put is acknowledged. A store
 -- does not know whether a release was refused.
 abbrev pub told_client : {K V M O : Type 0} → (O → List (ReplyView K V M)) → Client K V M O → Client K V M (Told K V M)
 told_client puts client = record { entries = client.entries; outbox = puts client.outbox; is_open = client.is_open; refused = false }
 
--- `told_ledger puts l` is `l` as a store knows it that was told of all that was put
+-- `told_ledger puts l` is `l` as a store knows it if all that was put is acknowledged
 abbrev pub told_ledger : {K V M O : Type 0} → (O → List (ReplyView K V M)) → Ledger K V M O → Ledger K V M (Told K V M)
 told_ledger puts l = record { inputs = l.inputs; clients = map (told_client puts) l.clients; runs = l.runs }
 

@@ -1,8 +1,8 @@
 //! An account: what the store knows of an open client.
 //!
-//! The requests of a client are numbered from 0. An account keeps the stages of those from the first
-//! number on of which it was not told that its reply was put, and an index of the replies that are
-//! made. Each call takes constant time, but for `see`, which is linear in the requests that it frees.
+//! The requests of a client are numbered from 0. An account keeps the stages of those whose reply was
+//! not yet acknowledged as put, and an index of the replies that are made. Each call takes constant
+//! time, but for `see`, which is linear in the requests that it frees.
 //! Only `accept` allocates.
 ghost use Rattle.std.specs.Prelude.{◌≡◌, ◌+◌, ◌-◌, ◌<◌, ◌≤◌, ◌⊎◌, ◌^◌, ◌↔◌, ℕ, drop, length, slice_get, Some, IsTrue, IfOk, IfErr, OnErr, OnOk};
 ghost use Rattle.std.specs.VecDeque.{deque_len, deque_capacity};
@@ -129,7 +129,7 @@ impl<R: Rules, M: Stamp> Account<R, M> {
         }
     }
 
-    /// Whether `WINDOW` requests were accepted and not told to be put, or the numbers are used up.
+    /// Whether `WINDOW` requests were accepted and not acknowledged, or the numbers are used up.
     pub(crate) fn is_full(&self) -> bool
         ensures { IsTrue result ↔ ((window ≤ length self.now.stages) ⊎ (2 ^ 64 ≤ next_of self.now + 1)) }
     {
@@ -201,8 +201,8 @@ impl<R: Rules, M: Stamp> Account<R, M> {
         }
     }
 
-    /// Tells that all numbers below `number` were put. It changes nothing where a reply below
-    /// `number` was not collected, and where it was told of a higher number before. It takes no
+    /// Acknowledges that all numbers below `number` were put. It changes nothing where a reply below
+    /// `number` was not collected, and where a higher number was acknowledged before. It takes no
     /// memory.
     pub(crate) fn see(&mut self, number: Number)
         ensures { Sees number self.old self.new }

@@ -43,9 +43,9 @@ impl<R: Rules, M: Stamp> Store<R, M> {
         collect_in(&mut self.accounts, seat)
     }
 
-    /// Tells that all replies to `client` below `number` were put. It changes nothing where the client
-    /// is not open, where a reply below `number` was not collected, and where it was told of a higher
-    /// number before. It takes no memory.
+    /// Acknowledges that all replies to `client` below `number` were put. It changes nothing where
+    /// the client is not open, where a reply below `number` was not collected, and where a higher
+    /// number was acknowledged before. It takes no memory.
     pub fn put_seen(&mut self, client: ClientId, number: Number)
         ensures rules { self.new.rules ≡ self.old.rules }
         ensures inputs { self.new.inputs ≡ self.old.inputs }

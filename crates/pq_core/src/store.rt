@@ -6,8 +6,8 @@
 //! run need, so that starting, starving, collecting and closing take no memory.
 //!
 //! A reply that is made stays in the account of its client until it is collected (`collect`), by the
-//! thread that fills it into the lane of the client. The account keeps the request until the store is
-//! told that its reply was put (`put_seen`).
+//! thread that fills it into the lane of the client. The account keeps the request until
+//! `put_seen` acknowledges that its reply was put.
 //!
 //! A run claims the keys of its frames. A run that needs a key of another run waits until that run
 //! releases it. A run that was overtaken keeps its claims until it is looked at, given to or starved.
