@@ -2,10 +2,12 @@
 //!
 //! A script has a line `CALL => ANSWER` for each call of a core over sums, which count their starts
 //! (`answers` says what the lines are). The answer ends with `; rest` where the core is at rest then.
+//! `parts` has the scripts of a store and a lane apart.
 mod answers;
 mod calls;
 mod limits;
 pub(crate) mod lines;
+mod parts;
 mod post;
 mod shown;
 mod sums;

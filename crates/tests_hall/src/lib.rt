@@ -1,12 +1,18 @@
-//! Tests of the hall: so far of its marks, rows worked out by hand.
+//! Tests of what threads share: mailboxes and marks, rows worked out by hand.
 //!
-//! They cover what no contract says: which revisions have a mark, and which of several entries of one
-//! revision it is. The crate that they test has no tests: a crate with tests is proved twice.
+//! They cover what no contract says: printed text, which revisions have a mark, and which of several
+//! entries of one revision it is. The crates that they test have no tests: a crate with tests is
+//! proved twice.
 //!
-//! Modules: `checks` (what tests assert), `marks`.
+//! Modules: `checks` (what tests assert), `lines` (requests, changes and replies as text), `mails`
+//! (inboxes and outboxes), `marks`.
 #![tactic(auto)]
 
 #[cfg(test)]
 mod checks;
+#[cfg(test)]
+mod lines;
+#[cfg(test)]
+mod mails;
 #[cfg(test)]
 mod marks;

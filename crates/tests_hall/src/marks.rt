@@ -7,10 +7,10 @@
 ghost use Rattle.std.specs.Prelude.{◌≡◌};
 
 use crate::checks::{check_page, check_row_count, check_that, split_row};
+use crate::lines::{change_of, number_of};
 use pq_core::{Change, ClientId, Core, EditRefused, ListOutbox};
 use pq_hall::{Board, BoardName, Mark, NewBoard};
-use pq_inputs::{Durability, Inputs, Revision};
-use pq_names::Text;
+use pq_inputs::{Inputs, Revision};
 use pq_rules::{Sums, SumsKey, SumsValue};
 use std::marker::Brand;
 use std::process::Abort;
@@ -19,23 +19,6 @@ use test_support::{Page, is_sendable, is_set, joined};
 
 /// A core whose stamps are marks of `J`.
 type Marked<J> = Core<Sums, Mark<J>, ListOutbox<SumsKey, SumsValue, Mark<J>>>;
-
-/// The number that `word` writes.
-fn number_of(rt: &impl Abort, word: &str) -> u64 {
-    word.parse::<u64>().ok().expect(rt, word)
-}
-
-/// The change that `text` writes as `NAME=TEXT`.
-fn change_of(rt: &(impl Abort + AllocGlobal), text: &str) -> Change {
-    let (name, text) = split_row(rt, text, "=");
-    let file = Text::new(rt.alloc(), name).expect(rt, "memory");
-    let text = String::from_str(rt.alloc(), text).expect(rt, "memory");
-    Change {
-        file,
-        text: Some(text),
-        durability: Durability::Low,
-    }
-}
 
 /// Writes an edit that was made, as its revision, or why not.
 fn add_edited(page: &mut Page, answer: Result<Revision, EditRefused>) {

@@ -63,7 +63,7 @@ pub(super) trait Calls {
 }
 
 /// Carries work out. A rule that is started is added to `log` as `KEY WHY;`.
-fn carried<R: Rules<Key = SumsKey, Value = SumsValue>>(
+pub(super) fn carried<R: Rules<Key = SumsKey, Value = SumsValue>>(
     alloc: Global,
     log: &mut Page,
     work: Work<R, PlainStamp>,

@@ -12,7 +12,7 @@ use std::fmt::Display;
 use test_support::Page;
 
 /// Writes why a call was refused.
-fn add_fault(page: &mut Page, fault: impl Display + Drop) {
+pub(super) fn add_fault(page: &mut Page, fault: impl Display + Drop) {
     match format!(in page.alloc; "{fault}") {
         Ok(text) => page.add(text.as_str()),
         Err(_) => page.cut(),

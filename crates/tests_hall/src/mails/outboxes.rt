@@ -2,7 +2,7 @@
 ghost use Rattle.std.specs.Prelude.{◌≡◌, ◌∷◌, [], length};
 
 use crate::checks::{check_page, check_row_count, split_row};
-use crate::cores::lines::{add_reply, number_of, request_of};
+use crate::lines::{add_reply, number_of, request_of};
 use pq_core::{ClientId, Number, Outbox, PlainStamp, PutFault, Reply, Request};
 use pq_inputs::{Inputs, Revision};
 use pq_mail::{LaneEnd, MailEnd, Receipt, TakeEnd, outbox};

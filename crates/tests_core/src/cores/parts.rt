@@ -1,147 +1,40 @@
 //! A store and a lane apart, call by call: replies that are collected in one order and filled in
 //! another.
 //!
-//! A script has a line `CALL => ANSWER`. `open`, `next`, `accept CLIENT REQUEST`, `edit CLIENT CHANGE`,
-//! `start`, `look RUN`, `collect CLIENT`, `seen CLIENT NUMBER`, `close CLIENT` and `idle` are calls of
-//! the store. A reply that is collected is kept. `fill CLIENT NUMBER` fills that kept reply into the
-//! lane, and keeps it where it comes back. `release`, `take` and `shut` are calls of the lane, which
-//! is of client 0 and has room for two replies that were not taken.
+//! A script has a line `CALL => ANSWER`.
+//!
+//! - `open`, `next`, `accept CLIENT REQUEST`, `edit CLIENT CHANGE`, `start`, `look RUN`, `give RUN`,
+//!   `starve RUN`, `collect CLIENT`, `seen CLIENT NUMBER`, `close CLIENT` and `idle` are calls of the
+//!   store. The work that a look hands out is lost. `give` takes a step, carries its work out and
+//!   gives the result. A reply that is collected is kept.
+//! - `fill CLIENT NUMBER` fills that kept reply into the lane, and keeps it where it comes back.
+//!   `release`, `take` and `shut` are calls of the lane, which is of client 0 and has room for two
+//!   replies that were not taken.
+//! - The line `new store` goes on with another store.
+ghost use Rattle.std.specs.Prelude.{IfSome, ◌<◌, length};
+
+mod calls;
+
 use super::lines::{change_of, client_of, number_of, request_of};
-use super::shown::{add_accepted, add_edited, add_released, add_run, yes_or_no};
-use crate::checks::{check_page, check_row_count, split_row};
-use pq_core::{
-    Change, ClientId, Lane, ListOutbox, Number, OpenFault, Outcome, PlainStamp, Ready, Released,
-    Request, RunId, Store,
-};
+use super::shown::{add_fault, add_released, add_run, yes_or_no};
+use crate::checks::{check_page, check_row_count, split_row, text_of};
+use calls::{Laying, List, Storing};
+use pq_core::{ClientId, Lane, Number, OpenFault, Outcome, PlainStamp, Ready, RunId, Store};
 use pq_inputs::Inputs;
-use pq_rules::{Memory, Sums, SumsKey, SumsValue};
-use std::alloc::Global;
+use pq_rules::{Sums, SumsKey};
 use std::process::Abort;
 use test_support::Page;
 
 /// The room of the lane's outbox.
 const ROOM: usize = 2;
 
-/// A list of replies to requests for sums.
-type List = ListOutbox<SumsKey, SumsValue, PlainStamp>;
-
-/// The calls of a store. Only the short methods of this trait hold one.
-trait Storing {
-    /// Opens a client.
-    fn opened(&mut self) -> Result<ClientId, OpenFault>;
-
-    /// The client that is opened next.
-    fn next(&self) -> Option<ClientId>;
-
-    /// Accepts a request.
-    fn accepted(&mut self, page: &mut Page, client: ClientId, request: Request<SumsKey>);
-
-    /// Makes an edit.
-    fn edited(&mut self, page: &mut Page, client: ClientId, change: Change);
-
-    /// Starts a run.
-    fn started(&mut self) -> Option<RunId>;
-
-    /// Takes a step of a run, whose work is lost. Returns whether the run is over.
-    fn is_ended(&mut self, alloc: Global, run: RunId) -> bool;
-
-    /// Collects a reply.
-    fn collected(&mut self, client: ClientId) -> Option<Ready<Sums, PlainStamp>>;
-
-    /// Tells what was put.
-    fn told(&mut self, client: ClientId, number: Number);
-
-    /// Closes a client.
-    fn closed(&mut self, client: ClientId) -> bool;
-
-    /// Whether nothing waits and no run exists.
-    fn idles(&self) -> bool;
-}
-
-impl Storing for Store<Sums, PlainStamp> {
-    fn opened(&mut self) -> Result<ClientId, OpenFault> {
-        self.open_client()
-    }
-
-    fn next(&self) -> Option<ClientId> {
-        self.next_client()
-    }
-
-    fn accepted(&mut self, page: &mut Page, client: ClientId, request: Request<SumsKey>) {
-        add_accepted(page, self.accept(client, request));
-    }
-
-    fn edited(&mut self, page: &mut Page, client: ClientId, change: Change) {
-        match PlainStamp::after(page.alloc, self.inputs(), &change) {
-            Ok(stamp) => add_edited(page, self.edit(client, change, stamp)),
-            Err(_) => page.cut(),
-        }
-    }
-
-    fn started(&mut self) -> Option<RunId> {
-        self.start()
-    }
-
-    fn is_ended(&mut self, alloc: Global, run: RunId) -> bool {
-        let _moved = self.look(alloc, run);
-        self.request_of(run).is_none()
-    }
-
-    fn collected(&mut self, client: ClientId) -> Option<Ready<Sums, PlainStamp>> {
-        self.collect(client)
-    }
-
-    fn told(&mut self, client: ClientId, number: Number) {
-        self.put_seen(client, number);
-    }
-
-    fn closed(&mut self, client: ClientId) -> bool {
-        self.close_client(client)
-    }
-
-    fn idles(&self) -> bool {
-        self.is_idle()
-    }
-}
-
-/// The calls of a lane.
-trait Laying {
-    /// Fills a reply, and returns it where it comes back.
-    fn filled(&mut self, ready: Ready<Sums, PlainStamp>) -> Option<Ready<Sums, PlainStamp>>;
-
-    /// Releases the next reply.
-    fn released(&mut self) -> Released;
-
-    /// Takes the next reply.
-    fn taken(&mut self) -> Result<bool, Memory>;
-
-    /// Closes the lane, and returns whether its outbox came back.
-    fn is_shut(&mut self) -> bool;
-}
-
-impl Laying for Lane<Sums, PlainStamp, List> {
-    fn filled(&mut self, ready: Ready<Sums, PlainStamp>) -> Option<Ready<Sums, PlainStamp>> {
-        self.fill(ready).err()
-    }
-
-    fn released(&mut self) -> Released {
-        self.release()
-    }
-
-    fn taken(&mut self) -> Result<bool, Memory> {
-        self.take()
-    }
-
-    fn is_shut(&mut self) -> bool {
-        self.close().is_some()
-    }
-}
-
 /// The replies that were collected and are in no lane.
 type Kept = Vec<Ready<Sums, PlainStamp>>;
 
 /// The place of the reply `number` to `client` among `kept`.
-fn place_of(kept: &Kept, client: ClientId, number: u64) -> Option<usize> {
+fn place_of(kept: &Kept, client: ClientId, number: u64) -> Option<usize>
+    ensures { IfSome result (λ at. at < length kept.now.items) }
+{
     for at in 0..kept.len() {
         if kept[at].client() == client && kept[at].number().number() == number {
             return Some(at);
@@ -198,17 +91,30 @@ fn add_client(page: &mut Page, client: Option<ClientId>) {
     }
 }
 
-/// Makes a call of the store that names no client.
-fn plain_answer<S: Storing>(rt: &impl Abort, page: &mut Page, store: &mut S, call: &str, rest: &str) {
+/// Writes a client that was opened, as its number, or why not.
+fn add_opened(page: &mut Page, answer: Result<ClientId, OpenFault>) {
+    match answer {
+        Ok(client) => page.wide(client.number()),
+        Err(fault) => add_fault(page, fault),
+    }
+}
+
+/// Makes a call of the store that names no client and no run.
+fn plain_answer<S: Storing>(page: &mut Page, store: &mut S, call: &str) {
     match call {
-        "open" => add_client(page, store.opened().ok()),
+        "open" => add_opened(page, store.opened()),
         "next" => add_client(page, store.next()),
         "start" => add_run(page, store.started()),
-        "look" => {
-            let run = RunId::new(number_of(rt, rest));
-            page.add(yes_or_no(store.is_ended(page.alloc, run)));
-        }
         _ => page.add(yes_or_no(store.idles())),
+    }
+}
+
+/// Makes a call of the store for the run `run`.
+fn run_answer<S: Storing>(page: &mut Page, store: &mut S, call: &str, run: RunId) {
+    match call {
+        "look" => store.looked(page, run),
+        "give" => store.given(page, run),
+        _ => page.add(yes_or_no(store.starved(run))),
     }
 }
 
@@ -226,7 +132,7 @@ fn client_answer<S: Storing>(
         "accept" => store.accepted(page, client, request_of::<SumsKey>(rt, rest)),
         "edit" => store.edited(page, client, change_of(rt, rest)),
         "collect" => collect(page, store, kept, client),
-        "seen" => store.told(client, Number::new(number_of(rt, rest))),
+        "seen" => store.acknowledged(client, Number::new(number_of(rt, rest))),
         _ => page.add(yes_or_no(store.closed(client))),
     }
 }
@@ -262,8 +168,9 @@ fn check_line<S: Storing, L: Laying>(
     let (first, more) = rest.split_once(" ").unwrap_or((rest, ""));
     let mut page = Page::new(rt.alloc());
     match call {
-        "open" | "next" | "start" | "look" | "idle" => {
-            plain_answer(rt, &mut page, store, call, rest);
+        "open" | "next" | "start" | "idle" => plain_answer(&mut page, store, call),
+        "look" | "give" | "starve" => {
+            run_answer(&mut page, store, call, RunId::new(number_of(rt, first)));
         }
         "fill" | "release" | "take" | "shut" => {
             lane_answer(rt, &mut page, lane, kept, call, first, more);
@@ -276,29 +183,46 @@ fn check_line<S: Storing, L: Laying>(
     check_page(rt, &page, want, line);
 }
 
-/// Runs a script on a store and a lane.
+/// Runs a script on a store and a lane, over the replies that were collected before.
 fn check_lines<S: Storing, L: Laying>(
     rt: &(impl Abort + AllocGlobal),
     store: &mut S,
     lane: &mut L,
+    kept: &mut Kept,
     script: &str,
 ) {
-    let mut kept: Kept = Vec::new(rt.alloc());
     for line in script.lines() {
-        check_line(rt, store, lane, &mut kept, line);
+        check_line(rt, store, lane, kept, line);
     }
 }
 
-/// Runs the script `rows` of `count` lines on a new store and a new lane of client 0.
-fn check_parts(rt: &(impl Abort + AllocGlobal), count: usize, rows: &str) {
-    check_row_count(rt, count, rows);
+/// Runs a script on a new store and the lane `lane`.
+fn check_store<L: Laying>(
+    rt: &(impl Abort + AllocGlobal),
+    lane: &mut L,
+    kept: &mut Kept,
+    script: &str,
+) {
     let inputs = Inputs::new(rt.alloc()).expect(rt, "memory");
     let stamp = PlainStamp::of(rt.alloc(), &inputs).expect(rt, "memory");
     let mut store: Store<Sums, PlainStamp> = Store::new(rt.alloc(), Sums, inputs, stamp);
+    check_lines(rt, &mut store, lane, kept, script);
+}
+
+/// Runs the script `rows` of `count` lines on a new lane of client 0, and on a new store for each
+/// part of it.
+fn check_parts(rt: &(impl Abort + AllocGlobal), count: usize, rows: &str) {
+    check_row_count(rt, count, rows);
     let outbox = List::new(rt.alloc(), ROOM).expect(rt, "memory");
-    let mut lane: Lane<Sums, PlainStamp, List> =
-        Lane::new(rt.alloc(), ClientId::new(0), outbox).expect(rt, "memory");
-    check_lines(rt, &mut store, &mut lane, rows);
+    let mut lane: Lane<Sums, PlainStamp, List> = Lane::new(
+        rt.alloc(),
+        ClientId::new(0),
+        outbox,
+    ).expect(rt, "memory");
+    let mut kept: Kept = Vec::new(rt.alloc());
+    for script in rows.split("new store\n") {
+        check_store(rt, &mut lane, &mut kept, script);
+    }
 }
 
 // A lane sorts replies. It takes none that was put, and none after its close.
@@ -380,7 +304,7 @@ fn collected_out_of_order(rt: HostRuntime) {
         idle => no\n\
         start => 0\n\
         edit 0 low a=b => 1\n\
-        look 0 => yes\n\
+        look 0 => stopped\n\
         fill 0 1 => yes\n\
         release => nothing\n\
         collect 0 => 0 cancelled\n\
@@ -393,16 +317,24 @@ fn collected_out_of_order(rt: HostRuntime) {
     );
 }
 
-// The window of a client is freed by what the store is told, and by nothing that it may not be told.
-#[test]
-fn told_windows(rt: HostRuntime) {
-    let mut rows = Page::new(rt.alloc());
-    rows.add("open => 0\n");
-    for n in 0..32usize {
-        rows.add("accept 0 7 say a => ");
+/// Adds the lines `CALL => N` for each N up to `count`, each with `end` after it.
+fn add_numbered(rows: &mut Page, call: &str, count: usize, end: &str) {
+    for n in 0..count {
+        rows.add(call);
+        rows.add(" => ");
         rows.number(n);
+        rows.add(end);
         rows.add("\n");
     }
+}
+
+// The window of a client is freed by what is acknowledged. Nothing changes where a reply below was
+// not collected, or a higher number was acknowledged before.
+#[test]
+fn acknowledged_windows(rt: HostRuntime) {
+    let mut rows = Page::new(rt.alloc());
+    rows.add("open => 0\n");
+    add_numbered(&mut rows, "accept 0 7 say a", 32, "");
     rows.add(
         "\
         accept 0 7 say a => too many requests of the client are owed a reply\n\
@@ -418,5 +350,120 @@ fn told_windows(rt: HostRuntime) {
         accept 0 7 say a => too many requests of the client are owed a reply\n\
         ",
     );
-    check_parts(&rt, 44, crate::checks::text_of(&rt, &rows));
+    check_parts(&rt, 44, text_of(&rt, &rows));
+}
+
+// A reply comes back where its number was put or its place is filled.
+#[test]
+fn filled_before(rt: HostRuntime) {
+    check_parts(
+        &rt,
+        24,
+        "\
+        open => 0\n\
+        accept 0 7 say a => 0\n\
+        accept 0 8 say b => 1\n\
+        collect 0 => 0 plain\n\
+        collect 0 => 1 plain\n\
+        fill 0 0 => yes\n\
+        fill 0 0 => no reply\n\
+        fill 0 1 => yes\n\
+        release => put 0\n\
+        new store\n\
+        open => 0\n\
+        accept 0 7 say c => 0\n\
+        accept 0 8 say d => 1\n\
+        accept 0 9 say e => 2\n\
+        collect 0 => 0 plain\n\
+        collect 0 => 1 plain\n\
+        collect 0 => 2 plain\n\
+        fill 0 0 => no\n\
+        fill 0 1 => no\n\
+        fill 0 2 => yes\n\
+        release => put 1\n\
+        fill 0 1 => no\n\
+        take => yes\n\
+        release => put 2\n\
+        ",
+    );
+}
+
+// A lane has a place for each of the 32 numbers from its next one on.
+#[test]
+fn places_of_a_lane(rt: HostRuntime) {
+    let mut rows = Page::new(rt.alloc());
+    rows.add("open => 0\n");
+    add_numbered(&mut rows, "accept 0 7 say a", 32, "");
+    add_numbered(&mut rows, "collect 0", 32, " plain");
+    rows.add(
+        "\
+        seen 0 1 => \n\
+        accept 0 7 say a => 32\n\
+        collect 0 => 32 plain\n\
+        fill 0 32 => no\n\
+        fill 0 31 => yes\n\
+        fill 0 0 => yes\n\
+        release => put 0\n\
+        fill 0 32 => yes\n\
+        release => nothing\n\
+        ",
+    );
+    check_parts(&rt, 74, text_of(&rt, &rows));
+}
+
+// Calls for a client that never was change nothing. 64 clients are open at most, and the number of a
+// closed client is not given again.
+#[test]
+fn clients_of_a_store(rt: HostRuntime) {
+    let mut rows = Page::new(rt.alloc());
+    rows.add("collect 9 => none\nclose 9 => no\nseen 9 1 => \nnext => 0\n");
+    add_numbered(&mut rows, "open", 64, "");
+    rows.add(
+        "\
+        next => none\n\
+        open => too many clients are open\n\
+        close 0 => yes\n\
+        collect 0 => none\n\
+        next => 64\n\
+        open => 64\n\
+        open => too many clients are open\n\
+        ",
+    );
+    check_parts(&rt, 75, text_of(&rt, &rows));
+}
+
+// Runs of a store end with a reply that is collected: one that is given the results of its work, and
+// one that starves. Whose client was closed makes none.
+#[test]
+fn runs_of_a_store(rt: HostRuntime) {
+    check_parts(
+        &rt,
+        24,
+        "\
+        open => 0\n\
+        edit 0 low a= => 1\n\
+        accept 0 7 Sum a => 0\n\
+        accept 0 8 Sum a => 1\n\
+        accept 0 9 Sum a => 2\n\
+        start => 0\n\
+        start => 1\n\
+        start => 2\n\
+        starve 0 => yes\n\
+        starve 0 => no\n\
+        collect 0 => 0 starved\n\
+        collect 0 => none\n\
+        give 1 => stepped\n\
+        give 1 => stepped\n\
+        collect 0 => none\n\
+        look 1 => answered\n\
+        look 1 => no such run\n\
+        collect 0 => 1 answered\n\
+        idle => no\n\
+        close 0 => yes\n\
+        give 2 => stopped\n\
+        starve 2 => no\n\
+        collect 0 => none\n\
+        idle => yes\n\
+        ",
+    );
 }

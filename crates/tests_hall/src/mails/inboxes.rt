@@ -1,6 +1,6 @@
 //! Inboxes: posts, receipts, and what is carried.
 use crate::checks::{check_number, check_page, check_row_count, split_row};
-use crate::cores::lines::{add_request, change_of, request_of};
+use crate::lines::{add_request, change_of, request_of};
 use pq_mail::{PorterEnd, Post, PostEnd, PostFault, PostRefused, Receipt, inbox};
 use pq_rules::{Sums, SumsKey};
 use std::process::Abort;
@@ -123,7 +123,7 @@ fn receipts(rt: HostRuntime) {
         &rt,
         14,
         "ask 1 say a => receipt 0 1 say a
-edit low f=1 => receipt 1
+edit f=1 => receipt 1
 ask 2 Sum f => receipt 1 2 Sum f
 ask none say a => receipt 2 none say a
 end => receipt 3
@@ -148,7 +148,7 @@ fn nobody_carries(rt: HostRuntime) {
         "ask 1 say a => receipt 0 1 say a
 drop porter => 
 ask 2 say b => gone ask 2 say b
-edit low f=1 => gone edit f
+edit f=1 => gone edit f
 end => gone end
 next => no end",
     );
