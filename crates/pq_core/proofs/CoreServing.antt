@@ -4,19 +4,21 @@ use Rattle.std.specs.Prelude.{Ok, Err, Result, IfSome}
 use Rattle.std.specs.declared.cmp.Ordering.{Ordering}
 use Rattle.pq_rules.specs.declared.turn.Answer.{Answer}
 use Rattle.pq_rules.specs.Turns.{Machine}
-use Rattle.pq_core.proofs.Lists.{some_one, none_some, get_append, set_long, append_long}
+use Rattle.pq_rules.proofs.ListLemmas.{get_last}
+use Rattle.pq_core.proofs.Lists.{some_one, none_some, get_append, set_same, get_within, set_long, append_long}
 use Rattle.pq_core.proofs.Changing.{if_at, if_other}
 use Rattle.pq_core.proofs.Slots.{above_more}
 use Rattle.pq_core.proofs.Calling.{run_seen}
 use Rattle.pq_core.proofs.Told.{told_long, told_at, told_runs, ready_told, none_told, opens_told, refusal_told, accepts_told, edits_told, starts_told, looks_told, gives_told, starves_told, request_told}
-use Rattle.pq_core.proofs.PlaceMoves.{get_append_other, none_past, lanes_opened, lanes_same}
+use Rattle.pq_core.proofs.PlaceMoves.{get_append_other, none_at, none_past, lanes_opened, lanes_same}
 use Rattle.pq_core.proofs.CorePassing.{Lands, Turns, Passed, turn_entry, unready_entry, none_made, stilled, unturned, passed, landed}
 use Rattle.pq_core.specs.Points.{Point}
 use Rattle.pq_core.specs.Replies.{ReplyView}
 use Rattle.pq_core.specs.Changes.{ChangeView}
 use Rattle.pq_core.specs.Works.{DoneView, WorkView}
 use Rattle.pq_core.specs.Ledger.{Out, Place, Waiting, Running, Ready, Entry, Client, Ledger, with_client, with_entry, moved_to, opened}
-use Rattle.pq_core.specs.Moves.{OpenRefusal, Opens, Accepts, Edits, Starts, RunAt, Runs, IsRequestOf, ended, ended_entry, LooksFor, Looks, Gives, Starves, new_entry, with_new, out_of}
+use Rattle.pq_core.specs.Moves.{OpenRefusal, Opens, Accepts, Edits, Starts, RunAt, Runs, IsRequestOf, ended, ended_entry, LooksFor, Looks, Gives, Starves, new_entry, with_new, out_of, first_place}
+use Rattle.pq_core.specs.Kept.{IsDemand}
 use Rattle.pq_core.specs.RightReply.{answer_by}
 use Rattle.pq_core.specs.Lanes.{Tray, empty_tray}
 use Rattle.pq_core.specs.Told.{Told, told_puts, told_ledger, NoneReadyAt, IsReadyAt, OpensNext, IsNextClient}
@@ -29,6 +31,8 @@ use Rattle.pq_core.specs.aux.Stands.{RunSeen}
 use Rattle.pq_core.specs.aux.Places.{LanesStand}
 use Rattle.pq_core.specs.aux.Passing.{Passes}
 use Rattle.pq_core.specs.declared.request.Request.{Request}
+use Rattle.pq_core.specs.declared.request.Want.{Want}
+use Rattle.pq_core.specs.declared.request.Want.TheVariants.{Demand, Fixed}
 use Rattle.pq_core.specs.declared.outcome.Outcome.{Outcome}
 use Rattle.pq_core.specs.declared.outcome.Outcome.TheVariants.{Answered, Cancelled, Starved}
 use Rattle.pq_core.specs.declared.moves.Move.{Move}
@@ -47,6 +51,11 @@ not_ready_waiting place reply e f = cc
 
 not_ready_running : {K V M : Type 0} (place : Place K V M) (run started : ℕ) (out : Option (Out K)) (reply : ReplyView K V M) → place ≡ Running run started out → place ≡ Ready reply → ⊥
 not_ready_running place run started out reply e f = cc
+
+-- a demand waits
+demand_waits : {K V M : Type 0} (c n : ℕ) (request : Request K) (revision : ℕ) (want : Want K) → IsDemand want → (reply : ReplyView K V M) → first_place c n request revision want ≡ Ready reply → ⊥
+demand_waits c n request revision (Demand key) demand reply e = not_ready_waiting Waiting reply refl e
+demand_waits c n request revision (Fixed text) demand reply e = absurd demand
 
 -- `IsEnd moved` is that the run is over
 abbrev pub IsEnd : {W : Type 0} → Move W → Type 0
@@ -100,6 +109,15 @@ module _ {K V M O : Type 0} (puts : O → List (ReplyView K V M)) where
         within = omega arith;
       }
 
+  -- a request that waits is not ready
+  still_accept : (c n : ℕ) (request : Request K) (l m : Ledger K V M O) → IsDemand request.want → Accepts puts c request (Ok n) l m → NoneReadyAt m c n
+  still_accept c n request l m demand (client, is_open, n_is, few, e) =
+      let entry = new_entry c n request l.inputs.revision in
+      none_at m c n (with_new client entry) entry
+      (ap (λ (x : Ledger K V M O). slice_get x.clients c) e ∙ set_same l.clients c (with_new client entry) (get_within l.clients c client is_open.here))
+      (ap (λ (i : ℕ). slice_get (client.entries ++ entry ∷ []) i) n_is ∙ get_last client.entries entry)
+      (demand_waits c n request l.inputs.revision request.want demand)
+
   -- a run's request changes
   turn_run : (l m : Ledger K V M O) (run : ℕ) (at : RunAt K V M O) (next : Entry K V M) → Runs l run at → m ≡ with_client l at.c (with_entry at.client at.n next) → Turns puts l m at.c at.n
   turn_run l m run at next r e =
@@ -139,6 +157,19 @@ module _ {R K P V M O : Type 0} (order : K → K → Ordering) (mach : Machine K
       let turn = turn_accept puts c n request l m.0 m.1 in
       landed order mach point puts (Accepts puts c request (Ok n)) lanes left l m.0 after m.1 (keeps (told_ledger puts m.0) stands)
       (passed order mach point puts before made after lanes left l m.0 c n none stands s.lanes makes turn p) (long_turn puts l m.0 c n turn)
+
+  -- a demand makes no reply
+  pub accept_waits_so : (c n : ℕ) (request : Request K) (before made : StoreView R K P V M) (lanes : Slots (Tray K V M O)) (l : Ledger K V M O) → IsDemand request.want → NoneMade before → StandsFor order mach point puts (core_of before lanes) l
+      → Goes order mach point before made (Accepts told_puts c request (Ok n))
+      → Lands order mach point puts (Accepts puts c request (Ok n)) lanes l made lanes
+  accept_waits_so c n request before made lanes l demand none s goes =
+      let g = goes (told_ledger puts l) s.store in
+      let m = accepts_told puts c request (Ok n) l g.0 g.1 in
+      let stands = subst (λ (t : Ledger K V M (Told K V M)). StoreStandsFor order mach point made t) (sym m.2) g.2 in
+      let makes = subst (λ (t : Ledger K V M (Told K V M)). Makes before made (told_ledger puts l) t) (sym m.2) g.3 in
+      let turn = turn_accept puts c n request l m.0 m.1 in
+      landed order mach point puts (Accepts puts c request (Ok n)) lanes lanes l m.0 made m.1 stands
+      (stilled order mach point puts before made lanes l m.0 c n none stands s.lanes makes turn (still_accept puts c n request l m.0 demand m.1)) (long_turn puts l m.0 c n turn)
 
   pub accept_refused_so : (c : ℕ) (request : Request K) (refused : AcceptRefused K) (before made : StoreView R K P V M) (lanes : Slots (Tray K V M O)) (l : Ledger K V M O) → NoneMade before → StandsFor order mach point puts (core_of before lanes) l
       → Goes order mach point before made (Accepts told_puts c request (Err refused))

@@ -5,6 +5,7 @@ pub mod Calling
 pub mod Moving
 pub mod Ending
 pub mod Changing
+pub mod InPlace
 pub mod Claiming
 pub mod RunsKept
 pub mod Beginning

@@ -33,13 +33,30 @@ pub(crate) fn accept_in<R: Rules, M: Stamp>(
     ensures refused { OnErr result (IsSameMap accounts.old accounts.new) }
     ensures back { IfErr result (λ back. back ≡ request) }
 {
-    match accounts.take(client.number()) {
-        Some(account) => {
-            let mut account = account;
-            let accepted = account.accept(client, request, revision);
-            accounts.put_back(client.number(), account);
-            accepted
-        }
+    match accounts.index_of(client.number()) {
+        Some(at) => accept_at(&mut accounts.places[at].value, client, request, revision),
+        None => Err(request),
+    }
+}
+
+/// Accepts `request` in an account, if there is one.
+fn accept_at<R: Rules, M: Stamp>(
+    slot: &mut Option<Account<R, M>>,
+    client: ClientId,
+    request: Request<R::Key>,
+    revision: Revision,
+) -> Result<Number, Request<R::Key>>
+    requires ruled { R }
+    requires numbers { (account : AccountView R.Key R.Value M) → slot.old ≡ Some account → next_of account + 1 < 2 ^ 64 }
+    ensures accepted { IfOk result (λ n. (account : AccountView R.Key R.Value M) × (slot.old ≡ Some account) × (n ≡ next_of account)
+        × (slot.new ≡ Some (with_request account (first_stage client n request revision request.want)))) }
+    ensures refused { OnErr result (slot.new ≡ slot.old) }
+    ensures back { IfErr result (λ back. back ≡ request) }
+    ensures open { (account : AccountView R.Key R.Value M) → slot.old ≡ Some account → (after : AccountView R.Key R.Value M) × (slot.new ≡ Some after) }
+    ensures closed { slot.old ≡ None → slot.new ≡ None }
+{
+    match slot {
+        Some(account) => account.accept(client, request, revision),
         None => Err(request),
     }
 }
@@ -53,13 +70,19 @@ pub(crate) fn start_in<R: Rules, M: Stamp>(
     requires { (request : Request R.Key) × WaitsIn accounts.old.items client number request }
     ensures { (w : WaitsIn accounts.old.items client number result) × IsSetAt accounts.old accounts.new client (Some (with_stage w.account number (Running w.accepted))) }
 {
-    match accounts.take(client) {
-        Some(account) => {
-            let mut account = account;
-            let request = account.start(number);
-            accounts.put_back(client, account);
-            request
-        }
+    match accounts.index_of(client) {
+        Some(at) => start_at(&mut accounts.places[at].value, number),
+        None => unreachable!(),
+    }
+}
+
+/// Hands out the request `number` of an account, which waits.
+fn start_at<R: Rules, M: Stamp>(slot: &mut Option<Account<R, M>>, number: u64) -> Request<R::Key>
+    requires { (account : AccountView R.Key R.Value M) × (slot.old ≡ Some account) × (request : Request R.Key) × (accepted : ℕ) × IsStage account number (Waiting request accepted) }
+    ensures { (account : AccountView R.Key R.Value M) × (slot.old ≡ Some account) × (accepted : ℕ) × IsStage account number (Waiting result accepted) × (slot.new ≡ Some (with_stage account number (Running accepted))) }
+{
+    match slot {
+        Some(account) => account.start(number),
         None => unreachable!(),
     }
 }
@@ -80,11 +103,31 @@ pub(crate) fn finish_in<R: Rules, M: Stamp>(
     ensures closed { found accounts.old.items client ≡ None → IsSameMap accounts.old accounts.new }
     ensures above { (m : ℕ) → IsAbove m accounts.old.items → IsAbove m accounts.new.items }
 {
-    match accounts.take(client) {
+    match accounts.index_of(client) {
+        Some(at) => {
+            finish_at(&mut accounts.places[at].value, number, reply);
+            return;
+        }
+        None => return,
+    }
+}
+
+/// Makes `reply` the reply to the request `number` of an account, if there is one.
+fn finish_at<R: Rules, M: Stamp>(
+    slot: &mut Option<Account<R, M>>,
+    number: u64,
+    reply: Reply<R::Key, R::Value, M>,
+)
+    requires running { (account : AccountView R.Key R.Value M) → slot.old ≡ Some account → (accepted : ℕ) × IsStage account number (Running accepted) }
+    requires number { reply.number ≡ number }
+    requires right { IsTrueReply R.Key.cmp R.machine M.point reply }
+    ensures open { (account : AccountView R.Key R.Value M) → slot.old ≡ Some account
+        → (accepted : ℕ) × IsStage account number (Running accepted) × (slot.new ≡ Some (with_stage account number (Made (record { reply = reply; accepted = accepted })))) }
+    ensures closed { slot.old ≡ None → slot.new ≡ None }
+{
+    match slot {
         Some(account) => {
-            let mut account = account;
             account.finish(number, reply);
-            accounts.put_back(client, account);
             return;
         }
         None => return,
@@ -100,18 +143,25 @@ pub(crate) fn collect_in<R: Rules, M: Stamp>(
         → (after : AccountView R.Key R.Value M) × Collects result account after × IsSetAt accounts.old accounts.new client (Some after) }
     ensures closed { found accounts.old.items client ≡ None → (result ≡ None) × IsSameMap accounts.old accounts.new }
 {
-    match accounts.take(client) {
-        Some(account) => {
-            let mut account = account;
-            let collected = account.collect();
-            accounts.put_back(client, account);
-            return collected;
-        }
+    match accounts.index_of(client) {
+        Some(at) => return collect_at(&mut accounts.places[at].value),
         None => return None,
     }
 }
 
-/// Tells the account of `client`, if the client is open, that all numbers below `number` were put.
+/// Takes out one reply of an account that is made, if there is an account.
+fn collect_at<R: Rules, M: Stamp>(slot: &mut Option<Account<R, M>>) -> Option<Ready<R, M>>
+    ensures open { (account : AccountView R.Key R.Value M) → slot.old ≡ Some account → (after : AccountView R.Key R.Value M) × Collects result account after × (slot.new ≡ Some after) }
+    ensures closed { slot.old ≡ None → (result ≡ None) × (slot.new ≡ None) }
+{
+    match slot {
+        Some(account) => return account.collect(),
+        None => return None,
+    }
+}
+
+/// Acknowledges to the account of `client`, if the client is open, that all numbers below `number`
+/// were put.
 pub(crate) fn see_in<R: Rules, M: Stamp>(
     accounts: &mut Rising<Account<R, M>>,
     client: u64,
@@ -121,11 +171,23 @@ pub(crate) fn see_in<R: Rules, M: Stamp>(
         → (after : AccountView R.Key R.Value M) × Sees number account after × IsSetAt accounts.old accounts.new client (Some after) }
     ensures closed { found accounts.old.items client ≡ None → IsSameMap accounts.old accounts.new }
 {
-    match accounts.take(client) {
+    match accounts.index_of(client) {
+        Some(at) => {
+            see_at(&mut accounts.places[at].value, number);
+            return;
+        }
+        None => return,
+    }
+}
+
+/// Acknowledges to an account, if there is one, that all numbers below `number` were put.
+fn see_at<R: Rules, M: Stamp>(slot: &mut Option<Account<R, M>>, number: Number)
+    ensures open { (account : AccountView R.Key R.Value M) → slot.old ≡ Some account → (after : AccountView R.Key R.Value M) × Sees number account after × (slot.new ≡ Some after) }
+    ensures closed { slot.old ≡ None → slot.new ≡ None }
+{
+    match slot {
         Some(account) => {
-            let mut account = account;
             account.see(number);
-            accounts.put_back(client, account);
             return;
         }
         None => return,

@@ -1,5 +1,8 @@
 //! Replies that leave a core, clients that close, and rest.
-ghost use Rattle.std.specs.Prelude.{◌≡◌, ◌↔◌, IsTrue};
+ghost use Rattle.std.specs.Prelude.{◌≡◌, ◌↔◌, IsTrue, IfSome, IfNone, Some, None};
+ghost use Rattle.pq_core.specs.Lanes.{Tray, LetsOutOf, TakesOutOf};
+ghost use Rattle.pq_core.specs.aux.Rising.{found};
+ghost use Rattle.pq_core.specs.aux.Changes.{IsSetAt, IsSameMap};
 ghost use Rattle.pq_core.specs.Ledger.{Ledger};
 ghost use Rattle.pq_core.specs.Moves.{Reaches, Releases, Closes, TakesOut, IsAtRest};
 ghost use Rattle.pq_core.specs.Cores.{StandsFor};
@@ -8,7 +11,7 @@ ghost use Rattle.pq_core.specs.aux.Resting.{HasReadyLane};
 
 use crate::cores::Core;
 use crate::fault::Memory;
-use crate::ids::ClientId;
+use crate::ids::{ClientId, Number};
 use crate::lane::Lane;
 use crate::moves::Released;
 use crate::outbox::{Outbox, Taking};
@@ -31,6 +34,68 @@ fn has_ready<R: Rules, M: Stamp, O: Outbox<R, M> + Drop>(lanes: &Rising<Lane<R, 
     false
 }
 
+/// Releases a lane, if there is one. Returns what came of it, and the number of its next reply.
+fn release_at<R: Rules, M: Stamp, O: Outbox<R, M> + Drop>(
+    slot: &mut Option<Lane<R, M, O>>,
+) -> Option<(Released, Number)>
+    ensures some { IfSome result (λ r. (tray : Tray R.Key R.Value M O) × (slot.old ≡ Some tray) × (after : Tray R.Key R.Value M O) × LetsOutOf O.puts O.takes O.was_full O.was_gone r.0 tray after × (r.1 ≡ after.put) × (slot.new ≡ Some after)) }
+    ensures none { IfNone result ((slot.old ≡ None) × (slot.new ≡ None)) }
+    ensures open { (tray : Tray R.Key R.Value M O) → slot.old ≡ Some tray → (after : Tray R.Key R.Value M O) × (slot.new ≡ Some after) }
+    ensures closed { slot.old ≡ None → slot.new ≡ None }
+{
+    match slot {
+        None => return None,
+        Some(lane) => {
+            let released = lane.release();
+            return Some((released, lane.put()));
+        }
+    }
+}
+
+/// Releases the lane of `client`, if there is one. Returns what came of it, and the number of its
+/// next reply.
+fn release_in<R: Rules, M: Stamp, O: Outbox<R, M> + Drop>(
+    lanes: &mut Rising<Lane<R, M, O>>,
+    client: ClientId,
+) -> Option<(Released, Number)>
+    ensures some { IfSome result (λ r. (tray : Tray R.Key R.Value M O) × (found lanes.old.items client ≡ Some tray) × (after : Tray R.Key R.Value M O) × LetsOutOf O.puts O.takes O.was_full O.was_gone r.0 tray after × (r.1 ≡ after.put) × IsSetAt lanes.old lanes.new client (Some after)) }
+    ensures none { IfNone result ((found lanes.old.items client ≡ None) × IsSameMap lanes.old lanes.new) }
+{
+    match lanes.index_of(client.number()) {
+        None => return None,
+        Some(at) => return release_at(&mut lanes.places[at].value),
+    }
+}
+
+/// Takes from a lane, if there is one.
+fn take_at<R: Rules, M: Stamp, O: Taking<R, M> + Drop>(
+    slot: &mut Option<Lane<R, M, O>>,
+) -> Option<Result<bool, Memory>>
+    ensures some { IfSome result (λ taken. (tray : Tray R.Key R.Value M O) × (slot.old ≡ Some tray) × (after : Tray R.Key R.Value M O) × TakesOutOf O.puts O.takes taken tray after × (slot.new ≡ Some after)) }
+    ensures none { IfNone result ((slot.old ≡ None) × (slot.new ≡ None)) }
+    ensures open { (tray : Tray R.Key R.Value M O) → slot.old ≡ Some tray → (after : Tray R.Key R.Value M O) × (slot.new ≡ Some after) }
+    ensures closed { slot.old ≡ None → slot.new ≡ None }
+{
+    match slot {
+        None => return None,
+        Some(lane) => return Some(lane.take()),
+    }
+}
+
+/// Takes from the lane of `client`, if there is one.
+fn take_in<R: Rules, M: Stamp, O: Taking<R, M> + Drop>(
+    lanes: &mut Rising<Lane<R, M, O>>,
+    client: ClientId,
+) -> Option<Result<bool, Memory>>
+    ensures some { IfSome result (λ taken. (tray : Tray R.Key R.Value M O) × (found lanes.old.items client ≡ Some tray) × (after : Tray R.Key R.Value M O) × TakesOutOf O.puts O.takes taken tray after × IsSetAt lanes.old lanes.new client (Some after)) }
+    ensures none { IfNone result ((found lanes.old.items client ≡ None) × IsSameMap lanes.old lanes.new) }
+{
+    match lanes.index_of(client.number()) {
+        None => return None,
+        Some(at) => return take_at(&mut lanes.places[at].value),
+    }
+}
+
 impl<R: Rules, M: Stamp, O: Outbox<R, M> + Drop> Core<R, M, O> {
     /// Puts the next reply to `client` into its outbox, if it is ready. It takes no memory.
     pub fn release(&mut self, client: ClientId) -> Released
@@ -41,31 +106,17 @@ impl<R: Rules, M: Stamp, O: Outbox<R, M> + Drop> Core<R, M, O> {
             → Reaches (Releases O.puts O.takes O.was_full O.was_gone client result) l (StandsFor R.Key.cmp (R.machine self.old.rules) M.point O.puts self.new) }
         ensures counted { (log : Log R.Key) → IsCountedFor R.Key.cmp (R.machine self.old.rules) self.old log → IsCountedFor R.Key.cmp (R.machine self.old.rules) self.new log }
     {
-        let seat = client.number();
-        match self.lanes.take(seat) {
+        match release_in(&mut self.lanes, client) {
             None => return Released::Nothing,
-            Some(taken) => {
-                let mut lane = taken;
-                match lane.release() {
-                    Released::Put(number) => {
-                        self.store.put_seen(client, lane.put());
-                        self.lanes.put_back(seat, lane);
-                        return Released::Put(number);
-                    }
-                    Released::Full => {
-                        self.lanes.put_back(seat, lane);
-                        return Released::Full;
-                    }
-                    Released::Gone => {
-                        self.lanes.put_back(seat, lane);
-                        return Released::Gone;
-                    }
-                    Released::Nothing => {
-                        self.lanes.put_back(seat, lane);
-                        return Released::Nothing;
-                    }
+            Some((released, next)) => match released {
+                Released::Put(number) => {
+                    self.store.put_seen(client, next);
+                    return Released::Put(number);
                 }
-            }
+                Released::Full => return Released::Full,
+                Released::Gone => return Released::Gone,
+                Released::Nothing => return Released::Nothing,
+            },
         }
     }
 
@@ -114,15 +165,9 @@ impl<R: Rules, M: Stamp, O: Taking<R, M> + Drop> Core<R, M, O> {
             → Reaches (TakesOut O.puts O.takes client result) l (StandsFor R.Key.cmp (R.machine self.old.rules) M.point O.puts self.new) }
         ensures counted { (log : Log R.Key) → IsCountedFor R.Key.cmp (R.machine self.old.rules) self.old log → IsCountedFor R.Key.cmp (R.machine self.old.rules) self.new log }
     {
-        let seat = client.number();
-        match self.lanes.take(seat) {
+        match take_in(&mut self.lanes, client) {
             None => return Ok(false),
-            Some(lane) => {
-                let mut lane = lane;
-                let taken = lane.take();
-                self.lanes.put_back(seat, lane);
-                return taken;
-            }
+            Some(taken) => return taken,
         }
     }
 }

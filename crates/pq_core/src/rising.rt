@@ -22,7 +22,7 @@ pub(crate) struct Place<T> {
 /// A map from rising numbers to values.
 #[derive(Drop)]
 pub(crate) struct Rising<T> {
-    places: Vec<Place<T>>,
+    pub(crate) places: Vec<Place<T>>,
     live: usize,
 }
 
@@ -122,6 +122,14 @@ impl<T: Drop> Rising<T> {
             None => return None,
             Some(at) => return self.places[at].value.as_ref(),
         }
+    }
+
+    /// The index of the place of `number`, which may be vacant.
+    pub(crate) fn index_of(&self, number: u64) -> Option<usize>
+        ensures here { IfSome result (λ i. (i < length self.now.items) × ((p : Place T) → slice_get self.now.items i ≡ Some p → p.number ≡ number)) }
+        ensures none { IfNone result (found self.now.items number ≡ None) }
+    {
+        place_of(&self.places, number)
     }
 
     /// Whether it has no value.

@@ -12,6 +12,7 @@ ghost use Rattle.pq_core.specs.Stores.{NamesHolder};
 ghost use Rattle.pq_core.specs.Starts.{IsCountedFor, Log, log_moved, log_starved};
 ghost use Rattle.pq_core.specs.declared.moves.Move.TheVariants.{Answered, Stopped};
 
+use crate::accepting::is_demand;
 use crate::cores::Core;
 use crate::fault::{AcceptRefused, EditRefused, GiveRefused, LookFault, OpenFault, OpenRefused};
 use crate::ids::{ClientId, Number};
@@ -105,8 +106,12 @@ impl<R: Rules, M: Stamp, O: Outbox<R, M> + Drop> Core<R, M, O> {
             → Reaches (Accepts O.puts client request result) l (StandsFor R.Key.cmp (R.machine self.old.rules) M.point O.puts self.new) }
         ensures counted { (log : Log R.Key) → IsCountedFor R.Key.cmp (R.machine self.old.rules) self.old log → IsCountedFor R.Key.cmp (R.machine self.old.rules) self.new log }
     {
+        let waits = is_demand(&request.want);
         match self.store.accept(client, request) {
             Ok(number) => {
+                if waits {
+                    return Ok(number);
+                }
                 pass_on(&mut self.store, &mut self.lanes, client);
                 return Ok(number);
             }

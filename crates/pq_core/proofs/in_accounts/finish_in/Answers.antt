@@ -1,5 +1,31 @@
-use Rattle.std.proofs.Common.{sym}
+use Rattle.std.proofs.Common.{sym, ◌∙◌}
+use Rattle.pq_core.proofs.InPlace.{was_there, kept_there, above_there, set_there, none_there}
 use Rattle.pq_core.proofs.in_accounts.finish_in.Goals as goal
 
-pub finish-requires-clause-running : goal.finish-requires-clause-running
-finish-requires-clause-running g c = c.requires.running c.in-Some.account (sym c.in-Some.ensures.value)
+pub finish_at-requires-clause-running : goal.finish_at-requires-clause-running
+finish_at-requires-clause-running g c =
+    let here = rw (← c.accounts.view_is) at c.in-Some.ensures.here in
+    let was = was_there c.accounts.inside.places.items c.in-Some.at c.args.client c.index_mut.result.now c.index_mut.result.now.value c.accounts.inside.live c.accounts.invariant here.0 c.index_mut.ensures.value here.1 in
+    λ account e. (rw (← c.accounts.view_is) at c.requires.running) account (was ∙ e)
+
+pub invariant_of-accounts : goal.invariant_of-accounts
+invariant_of-accounts g c =
+    let here = rw (← c.accounts.view_is) at c.in-Some.ensures.here in
+    kept_there c.accounts.inside.places.items c.in-Some.at c.args.client c.index_mut.result.now c.finish_at.new.slot c.accounts.inside.live c.accounts.invariant here.0 c.index_mut.ensures.value here.1 (λ x e. (let r = c.finish_at.ensures.open x e in (_, r.2))) c.finish_at.ensures.closed
+
+pub returns-in-Some-clause-open : goal.returns-in-Some-clause-open
+returns-in-Some-clause-open g c =
+    let here = rw (← c.accounts.view_is) at c.in-Some.ensures.here in
+    let was = was_there c.accounts.inside.places.items c.in-Some.at c.args.client c.index_mut.result.now c.finish_at.new.slot c.accounts.inside.live c.accounts.invariant here.0 c.index_mut.ensures.value here.1 in
+    rw (← c.accounts.view_is) (λ account h. (let r = c.finish_at.ensures.open account (sym was ∙ h) in (r.0, r.1, set_there c.accounts.inside.places.items c.in-Some.at c.args.client c.index_mut.result.now c.finish_at.new.slot c.accounts.inside.live c.accounts.invariant here.0 c.index_mut.ensures.value here.1 _ _ r.2)))
+
+pub returns-in-Some-clause-closed : goal.returns-in-Some-clause-closed
+returns-in-Some-clause-closed g c =
+    let here = rw (← c.accounts.view_is) at c.in-Some.ensures.here in
+    let was = was_there c.accounts.inside.places.items c.in-Some.at c.args.client c.index_mut.result.now c.finish_at.new.slot c.accounts.inside.live c.accounts.invariant here.0 c.index_mut.ensures.value here.1 in
+    rw (← c.accounts.view_is) (λ h. (let e = sym was ∙ h in none_there c.accounts.inside.places.items c.in-Some.at c.args.client c.index_mut.result.now c.finish_at.new.slot c.accounts.inside.live c.accounts.invariant here.0 c.index_mut.ensures.value here.1 _ (c.finish_at.ensures.closed e) e))
+
+pub returns-in-Some-clause-above : goal.returns-in-Some-clause-above
+returns-in-Some-clause-above g c =
+    let here = rw (← c.accounts.view_is) at c.in-Some.ensures.here in
+    rw (← c.accounts.view_is) (above_there c.accounts.inside.places.items c.in-Some.at c.args.client c.index_mut.result.now c.finish_at.new.slot c.accounts.inside.live c.accounts.invariant here.0 c.index_mut.ensures.value here.1)
