@@ -1,5 +1,5 @@
 -- The scopes inside the package of a file, and the searches from them.
-use Rattle.std.proofs.Common.{◌≡◌, ℕ, zero, suc, ◌+◌, ◌<◌, ◌≤◌, Bool, true, false, cond, ◌||◌, nat_eq, nat_lt, unwrap_or, List, [], ◌∷◌, ◌++◌, length, get_or, map, drop, take, Option, Some, None, refl, sym, ap, subst, ◌∙◌, arith, append_assoc, append-nil}
+use Rattle.std.proofs.Common.{◌≡◌, ℕ, zero, suc, ◌+◌, ◌<◌, ◌≤◌, Bool, true, false, cond, ◌||◌, nat_eq, nat_lt, unwrap_or, List, [], ◌∷◌, ◌++◌, length, get_or, map, drop, take, Option, refl, sym, ap, subst, ◌∙◌, arith, append_assoc, append-nil}
 use Rattle.std.specs.Prelude.{bytes_eq, codes, flat_map}
 use Rattle.std.specs.List.{starts_with}
 use Rattle.std.proofs.lemmas.List.{at_drop_all, at_drop_more, get_or_default, length-append, map-append, map-id, take_all}

@@ -1,8 +1,7 @@
 -- The references of a file, each with what it resolves to, one after the other.
-use Rattle.std.proofs.Common.{◌≡◌, ◌⊎◌, ℕ, suc, ◌+◌, ◌<◌, ◌≤◌, Bool, false, List, [], ◌∷◌, ◌++◌, length, get_or, map, drop, inl, inr, refl, sym, ap, subst, ◌∙◌, arith, add-one, append-nil, append_assoc}
+use Rattle.std.proofs.Common.{◌≡◌, ◌⊎◌, ℕ, suc, ◌+◌, ◌<◌, ◌≤◌, Bool, false, List, [], ◌∷◌, ◌++◌, length, get_or, map, drop, inl, inr, refl, sym, ap, subst, ◌∙◌, add-one, append-nil, append_assoc}
 use Rattle.std.proofs.lemmas.List.{at_drop_all, at_drop_more, drop_more, map-append}
 use Rattle.std.specs.Prelude.{flat_map, slice_get}
-use Rattle.pq_rules.specs.Relations.{Each}
 use Rattle.pq_links.specs.declared.places.TypePart.{TypePart}
 use Rattle.pq_schema.specs.declared.references.Reference.{Reference}
 use Rattle.pq_schema.specs.declared.resolved.ResolvedReference.{ResolvedReference}

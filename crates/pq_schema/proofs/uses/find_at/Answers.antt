@@ -1,7 +1,7 @@
 use Rattle.std.proofs.Common.{◌++◌, ℕ, List, sym, ap, subst, ◌∙◌}
 use Rattle.std.proofs.lemmas.Result.{IfOk-weaker}
 use Rattle.pq_rules.specs.Relations.{Each}
-use Rattle.pq_schema.specs.Resolution.{scopes, search}
+use Rattle.pq_schema.specs.Resolution.{search}
 use Rattle.pq_schema.specs.aux.Fronts.{Begins}
 use Rattle.pq_schema.specs.aux.Grouping.{AreNear, around}
 use Rattle.pq_schema.specs.aux.NameParts.{leading}
