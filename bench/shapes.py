@@ -87,6 +87,16 @@ def nested_in_half(n):
     return one_file(start + "".join(more for _, more in fields) + "}" * 60)
 
 
+def long_message(inner, field):
+    """Texts of n bytes: half is the name of a message, which has `inner`, and fields or messages like `field`."""
+    def text(n):
+        start = HEAD + "message X{}message " + "M" * (n // 2) + "{" + inner
+        ends = "}" * (1 + inner.count("message M{"))
+        fields = itertools.takewhile(lambda at: at[0] < n - len(ends), accumulated(field, len(start)))
+        return one_file(start + "".join(more for _, more in fields) + ends)
+    return text
+
+
 def accumulated(field, length):
     """The texts of fields, each with the length of what ends in it."""
     for i in itertools.count(1):
@@ -345,6 +355,11 @@ TEXTS = [of_compile(*case) for case in compile.CASES] + [
     Shape("n bytes: half a package, references found", half_package(lambda n: "a", "M"), 25_000),
     Shape("n bytes: half a package, dotted names whose first part is found", half_package(lambda n: "a", "M.N"), 25_000),
     Shape("n bytes: half a package, references in messages nested 60 deep", nested_in_half, 25_000),
+    Shape("n bytes: half a message's name, references to nothing in it", long_message("", "N x%(n)d=%(field)d;"), 25_000),
+    Shape("n bytes: half a message's name, messages of one reference in it", long_message("", "message N%(n)d{X x=1;}"), 25_000),
+    Shape("n bytes: half a message's name, such messages nested 60 deep in it",
+          long_message("message M{" * 60, "message N%(n)d{X x=1;}"), 25_000),
+    Shape("n bytes: half a message's name, references to a field of it", long_message("int32 X=536870911;", "X x%(n)d=%(field)d;"), 25_000),
     Shape("n equal messages in a package of 10 n bytes", equal_messages, 250, REPLIED),
     Shape("n references in a package of 10 n bytes: descriptors", long_names, 250, REPLIED),
     Shape("messages", lambda n: repeated("message M%(n)d{}", n), 1_000),

@@ -1,16 +1,18 @@
 -- Names that begin with the same bytes: they are equal where what comes after these is.
-use Rattle.std.proofs.Common.{◌≡◌, ℕ, zero, suc, ◌+◌, ◌-◌, ◌<◌, ◌≤◌, Bool, true, false, true≢false, get_or, length, take, List, [], ◌∷◌, ◌++◌, refl, sym, ap, subst, ◌∙◌, arith, append_assoc}
+use Rattle.std.proofs.Common.{◌≡◌, ℕ, zero, suc, ◌+◌, ◌-◌, ◌<◌, ◌≤◌, Bool, true, false, cond, true≢false, get_or, length, take, List, [], ◌∷◌, ◌++◌, refl, sym, ap, subst, ◌∙◌, arith, append_assoc}
 use Rattle.std.specs.Prelude.{Contains}
 use Rattle.std.specs.List.Sorted.{IsSorted}
-use Rattle.std.specs.Ordering.{is_lt}
+use Rattle.std.specs.Cmp.Lexicographic.{bytes_decides}
+use Rattle.std.specs.Ordering.{is_eq, is_lt}
+use Rattle.std.specs.declared.cmp.Ordering.{Ordering}
 use Rattle.std.specs.declared.cmp.Ordering.TheVariants.{Equal}
 use Rattle.std.proofs.Math.Seq.{take-append_seam}
 use Rattle.std.proofs.lemmas.Cmp.{tied_itself}
 use Rattle.std.proofs.lemmas.List.{length-append, get_or_default}
 use Rattle.std.proofs.lemmas.List.Sorted.{Contains-permutation, IsPermutation-sym}
 use Rattle.pq_schema.specs.declared.definitions.Definition.{Definition}
-use Rattle.pq_schema.specs.aux.CodeOrder.{codes_total}
-use Rattle.pq_schema.specs.aux.Fronts.{AreAlike, BeginAlike, IsBehind, IsParted}
+use Rattle.pq_schema.specs.aux.CodeOrder.{codes_tie, codes_total}
+use Rattle.pq_schema.specs.aux.Fronts.{AreAlike, BeginAlike, IsBehind, IsParted, IsSeen}
 use Rattle.pq_schema.specs.aux.Index.{IsIndexOf, entries, entry_order}
 use Rattle.pq_schema.specs.aux.NameCodes.{code_order}
 use Rattle.pq_schema.specs.aux.NameOrder.{names_total}
@@ -80,6 +82,42 @@ upper_half index name low middle high e sorted within parts up less =
       less = parts.less;
       others = λ k from to. not_less index name middle k (is_lt (code_order (get_or index k no_entry).0 name)) sorted from to here refl;
     }
+
+pub parted_all : (index : List (List ℕ × ℕ)) (name : List ℕ) → IsParted index name 0 (length index)
+parted_all index name = record {
+  up = omega arith;
+  within = omega arith;
+  less = λ k below. absurd (omega (arith, below));
+  others = λ k from to. absurd (omega (arith, from, to));
+}
+
+-- an entry that is found to have the name
+pub seen_more : (index : List (List ℕ × ℕ)) (name : List ℕ) (middle seen next : ℕ) (e : List ℕ × ℕ) (order : Ordering)
+    → order ≡ code_order (get_or index middle e).0 name → next ≡ cond (is_eq order) middle seen → IsSeen index name seen → IsSeen index name next
+seen_more index name middle seen next e order is is_next so_far =
+    subst (IsSeen index name) (sym is_next) (by_test (is_eq order) refl)
+  where
+    by_test : (b : Bool) → is_eq order ≡ b → IsSeen index name (cond b middle seen)
+    by_test true t = λ within.
+        ap (λ (f : List ℕ × ℕ). f.0) (get_or_default index middle no_entry e within)
+        ∙ (bytes_decides (get_or index middle e).0 name).0 (codes_tie (get_or index middle e).0 name ∙ sym (ap is_eq is) ∙ t)
+    by_test false t = so_far
+
+pub none_seen : (index : List (List ℕ × ℕ)) (name : List ℕ) (k : ℕ) → k ≡ length index → IsSeen index name k
+none_seen index name k is within = absurd (omega arith)
+
+-- an entry that was seen is the one that is found
+pub seen_here : (index : List (List ℕ × ℕ)) (name : List ℕ) (seen first : ℕ) (e : List ℕ × ℕ) → IsSeen index name seen → seen ≡ first → first < length index
+    → e ≡ get_or index first e → e.0 ≡ name
+seen_here index name seen first e so_far same within is =
+    ap (λ (f : List ℕ × ℕ). f.0) (is ∙ get_or_default index first e no_entry within)
+    ∙ ap (λ (k : ℕ). (get_or index k no_entry).0) (sym same)
+    ∙ so_far (omega (arith, same, within))
+
+pub alike_here : (n : ℕ) (index : List (List ℕ × ℕ)) (name : List ℕ) (first : ℕ) (e : List ℕ × ℕ) → AreAlike n name index → first < length index
+    → e ≡ get_or index first e → take n e.0 ≡ take n name
+alike_here n index name first e all within is =
+    ap (λ (f : List ℕ × ℕ). take n f.0) (is ∙ get_or_default index first e no_entry within) ∙ all first within
 
 -- ---- the entries of definitions
 

@@ -1,33 +1,32 @@
 -- The scopes inside the package of a file, and the searches from them.
-use Rattle.std.proofs.Common.{◌≡◌, ◌≢◌, ◌⊎◌, ◌==◌, ℕ, zero, suc, Bor, ◌+◌, ◌<◌, ◌≤◌, Bool, true, false, cond, true≢false, ◌&&◌, ◌||◌, nat_eq, List, [], ◌∷◌, ◌++◌, length, get_or, map, drop, take, Option, Some, None, inl, inr, refl, sym, ap, subst, ◌∙◌, arith, append_assoc, append-nil}
-use Rattle.std.specs.Prelude.{IfSome, bytes_eq, codes, flat_map}
-use Rattle.std.specs.Option.{option_copied}
+use Rattle.std.proofs.Common.{◌≡◌, ℕ, zero, suc, ◌+◌, ◌<◌, ◌≤◌, Bool, true, false, cond, ◌||◌, nat_eq, nat_lt, unwrap_or, List, [], ◌∷◌, ◌++◌, length, get_or, map, drop, take, Option, refl, sym, ap, subst, ◌∙◌, arith, append_assoc, append-nil}
+use Rattle.std.specs.Prelude.{bytes_eq, codes, flat_map}
 use Rattle.std.specs.List.{starts_with}
-use Rattle.std.proofs.lemmas.Bool.Decides.{Decides-eqb}
-use Rattle.std.proofs.lemmas.List.{at_drop_all, at_drop_more, length-append, map-append, map-id, take_all}
+use Rattle.std.proofs.lemmas.List.{at_drop_all, at_drop_more, get_or_default, length-append, map-append, map-id, take_all}
 use Rattle.std.proofs.lemmas.Simd.{map-map}
 use Rattle.std.proofs.lemmas.Slice.Eq.{bytes_eq-Decides}
-use Rattle.pq_links.specs.declared.places.TypePart.TheVariants as parts
+use Rattle.pq_links.specs.declared.places.TypePart.{TypePart}
 use Rattle.pq_rules.specs.Relations.{Each}
-use Rattle.pq_syntax.specs.declared.tree.Node.{Node}
+use Rattle.pq_rules.proofs.Characterisation.{each_append}
 use Rattle.pq_syntax.specs.declared.tree.Statement.{Statement}
 use Rattle.pq_syntax.specs.declared.tree.Statement.TheVariants as statements
-use Rattle.pq_syntax.specs.Places.{Item, Place, kept, places}
-use Rattle.pq_schema.specs.declared.references.Reference.{Reference}
+use Rattle.pq_syntax.specs.Places.{Item, Place, kept}
+use Rattle.pq_syntax.specs.Stacks.{closed, innermost}
+use Rattle.pq_syntax.proofs.Walk.{given, inner_at}
 use Rattle.pq_schema.specs.declared.scope.FileDefs.{FileDefs}
-use Rattle.pq_schema.specs.Compile.{resolved_in}
-use Rattle.pq_schema.specs.Definitions.{package_of, qualified, scope_in, scope_of}
-use Rattle.pq_schema.specs.References.{is_one_of, references_at, references_by, references_of, scalars, type_reference}
+use Rattle.pq_schema.specs.Definitions.{qualified, scope_in, scope_of}
+use Rattle.pq_schema.specs.References.{references_at, references_by}
 use Rattle.pq_schema.specs.Resolution.{Found, decides, dotted, found, is_package, prefixes, scopes, single, unless_type}
-use Rattle.pq_schema.specs.ScopeContents.{Scope}
 use Rattle.pq_schema.specs.aux.Grouping.{AreNear, around}
-use Rattle.pq_schema.specs.aux.Inside.{AreInner, AreShort, dotted_from, inside, moved, resolved_moved, short_for, single_from}
+use Rattle.pq_schema.specs.aux.Fronts.{Begins}
+use Rattle.pq_schema.specs.aux.Inside.{AreInner, AreShort, dotted_from, next_in, opened, opened_by, single_from, used_as}
 use Rattle.pq_schema.specs.aux.NameParts.{leading}
-use Rattle.pq_schema.specs.aux.Scopes.{before, chain, is_among}
+use Rattle.pq_schema.specs.aux.Scopes.{before, is_among}
 use Rattle.pq_schema.specs.aux.Spots.{IsPlain}
 use Rattle.pq_schema.proofs.Among.{among_append}
 use Rattle.pq_schema.proofs.Marks.{each_more, each_weaker, near_scope}
 use Rattle.pq_schema.proofs.Cases.{either}
+use Rattle.pq_schema.proofs.SamePackage.{lead_begins}
 use Rattle.pq_schema.proofs.ScopesWithin.{or_left, or_right, starts_split}
 use Rattle.pq_schema.proofs.Walks.{grouped}
 
@@ -72,73 +71,150 @@ scopes_in r rs w =
     (append_assoc (map (λ s. (r ∷ rs) ++ 46 ∷ s) (prefixes w)) ((r ∷ rs) ∷ prefixes (r ∷ rs)) ([] ∷ []))
     ∙ ap (λ (ss : List (List ℕ)). ss ++ scopes (r ∷ rs)) (map_joined r rs (w ∷ prefixes w))
 
-inside_some : (r : ℕ) (rs w : List ℕ) → inside (r ∷ rs) (45 ∷ 46 ∷ w) ≡ qualified (r ∷ rs) w
-inside_some r rs w = refl
-
-inside_none : (r : ℕ) (rs within : List ℕ) → ((w : List ℕ) → within ≢ 45 ∷ 46 ∷ w) → inside (r ∷ rs) within ≡ r ∷ rs
-inside_none r rs [] h = refl
-inside_none r rs (c ∷ []) h = refl
-inside_none r rs (c ∷ d ∷ w) h =
-    either (nat_eq c 45) (λ b. cond (b && nat_eq d 46) (qualified (r ∷ rs) w) (r ∷ rs) ≡ r ∷ rs)
-    (λ t. either (nat_eq d 46) (λ b. cond b (qualified (r ∷ rs) w) (r ∷ rs) ≡ r ∷ rs)
-    (λ u. absurd (h w (ap (λ (x : ℕ). x ∷ d ∷ w) ((Decides-eqb c 45).0 t) ∙ ap (λ (x : ℕ). 45 ∷ x ∷ w) ((Decides-eqb d 46).0 u))))
-    (λ u. refl))
-    (λ f. refl)
-
-pub inside_root : (root within : List ℕ) → length root ≡ 0 → within ≡ inside root within
-inside_root [] within none = refl
-inside_root (r ∷ rs) within none = absurd (omega (arith, none))
-
-pub inside_scope : (root within w : List ℕ) → 0 < length root → within ≡ 45 ∷ 46 ∷ w → qualified root w ≡ inside root within
-inside_scope [] within w some is = absurd (omega (arith, some))
-inside_scope (r ∷ rs) within w some is = ap (λ (x : List ℕ). inside (r ∷ rs) x) (sym is)
-
-pub inside_package : (root within : List ℕ) → 0 < length root → ((w : List ℕ) → within ≢ 45 ∷ 46 ∷ w) → root ≡ inside root within
-inside_package [] within some h = absurd (omega (arith, some))
-inside_package (r ∷ rs) within some h = sym (inside_none r rs within h)
-
 map_empty : (ss : List (List ℕ)) → map (qualified []) ss ≡ ss
 map_empty [] = refl
 map_empty (s ∷ ss) = ap (λ (xs : List (List ℕ)). s ∷ xs) (map_empty ss)
 
--- the scopes of a reference, of which `next` is the innermost inside the package
-pub inside_empty : (root within : List ℕ) (next : Option (List ℕ)) → (length root ≡ 0) → scopes within ≡ chain next
-    → scopes (inside root within) ≡ map (qualified root) (before next) ++ scopes root
-inside_empty [] within next none is = is ∙ ap (λ (ss : List (List ℕ)). ss ++ [] ∷ []) (sym (map_empty (before next)))
-inside_empty (r ∷ rs) within next none is = absurd (omega (arith, none))
+-- the scopes of a scope that is opened
+opened_scopes : (s n : List ℕ) → scopes (qualified s n) ≡ map (qualified s) (before (next_in s n)) ++ scopes s
+opened_scopes [] [] = refl
+opened_scopes [] (c ∷ cs) = ap (λ (ss : List (List ℕ)). ss ++ [] ∷ []) (sym (map_empty ((c ∷ cs) ∷ prefixes (c ∷ cs))))
+opened_scopes (r ∷ rs) n = scopes_in r rs n
 
-pub inside_first : (root within : List ℕ) (next : Option (List ℕ)) → (0 < length root)
-    → ((w : List ℕ) → next ≡ Some w → within ≡ 45 ∷ 46 ∷ w)
-    → (next ≡ None → (w : List ℕ) → within ≢ 45 ∷ 46 ∷ w)
-    → scopes (inside root within) ≡ map (qualified root) (before next) ++ scopes root
-inside_first [] within next some there none = absurd (omega (arith, some))
-inside_first (r ∷ rs) within None some there none = ap scopes (inside_none r rs within (none refl))
-inside_first (r ∷ rs) within (Some w) some there none =
-    ap (λ (x : List ℕ). scopes (inside (r ∷ rs) x)) (there w refl) ∙ scopes_in r rs w
+-- a scope that is opened, as the program makes it
+pub opened_is : (name scope : List ℕ) (own more all copied : List (List ℕ)) (inside : List ℕ) (next : Option (List ℕ)) (outer : List ℕ × List (List ℕ)) (own_name text : List ℕ)
+    → own_name ≡ scope → text ≡ name → next ≡ next_in own_name text
+    → more ≡ map leading (map (qualified scope) (before next))
+    → all ≡ more ++ copied → copied ≡ own → inside ≡ qualified scope name → (scope, own) ≡ outer
+    → (inside, all) ≡ opened name outer
+opened_is name scope own more all copied inside next outer own_name text is_scope is_name is_next are added same is_inside is_outer =
+    let first : next ≡ next_in scope name = is_next ∙ ap (λ (s : List ℕ). next_in s text) is_scope ∙ ap (λ (n : List ℕ). next_in scope n) is_name in
+    let leads : all ≡ map leading (map (qualified scope) (before (next_in scope name))) ++ own =
+    added ∙ ap (λ (ls : List (List ℕ)). ls ++ copied) (are ∙ ap (λ (o : Option (List ℕ)). map leading (map (qualified scope) (before o))) first)
+    ∙ ap (λ (ls : List (List ℕ)). map leading (map (qualified scope) (before (next_in scope name))) ++ ls) same in
+    ap (λ (n : List ℕ). (n, all)) is_inside
+    ∙ ap (λ (ls : List (List ℕ)). (qualified scope name, ls)) leads
+    ∙ ap (λ (o : List ℕ × List (List ℕ)). opened name o) is_outer
 
-pub after_first : (c : ℕ) (a b : List ℕ) → c ∷ a ≡ c ∷ b → a ≡ b
-after_first c a b is = ap (λ (xs : List ℕ). drop 1 xs) is
+begins_through : (a b c : List ℕ) → Begins a b → Begins b c → Begins a c
+begins_through a b c f g = (f.0 ++ g.0, g.1 ∙ ap (λ (x : List ℕ). x ++ g.0) f.1 ∙ append_assoc a f.0 g.0)
 
-pub no_bytes : (root : List ℕ) (b : Bool) → b ≡ (length root == 0) → b ≡ true → length root ≡ 0
-no_bytes root b is t = (Decides-eqb (length root) 0).0 (sym is ∙ t)
+begin_inside : (root s : List ℕ) (ss : List (List ℕ)) → Begins (leading root) (leading s) → Each (λ l. Begins (leading root) l) (map leading (map (qualified s) ss))
+begin_inside root s [] front = tt
+begin_inside root s (x ∷ xs) front =
+    (begins_through (leading root) (leading s) (leading (qualified s x)) front (lead_begins s x), begin_inside root s xs front)
 
-pub some_bytes : (root : List ℕ) (b : Bool) → b ≡ (length root == 0) → b ≡ false → 0 < length root
-some_bytes [] b is f = absurd (true≢false (sym is ∙ f))
-some_bytes (r ∷ rs) b is f = omega arith
+pub inner_root : (root : List ℕ) → AreInner [] root root
+inner_root root = record { scopes = []; are = refl; begin = tt; front = ([], sym (append-nil (leading root))); all = refl }
 
-pub copied_none : (o : Option (Bor (List ℕ))) → option_copied o ≡ None → o ≡ None
-copied_none None is = refl
-copied_none (Some x) is = cc
+inner_more : (root name : List ℕ) (outer : List ℕ × List (List ℕ)) → AreInner outer.1 root outer.0 → AreInner (opened name outer).1 root (opened name outer).0
+inner_more root name outer are =
+    let s = outer.0 in
+    let more = map (qualified s) (before (next_in s name)) in
+    record {
+      scopes = more ++ are.scopes;
+      are = ap (λ (ls : List (List ℕ)). map leading more ++ ls) are.are ∙ sym (map-append leading more are.scopes);
+      begin = each_append (λ l. Begins (leading root) l) (map leading more) outer.1 (begin_inside root s (before (next_in s name)) are.front) are.begin;
+      front = begins_through (leading root) (leading s) (leading (qualified s name)) are.front (lead_begins s name);
+      all = opened_scopes s name ∙ ap (λ (ss : List (List ℕ)). more ++ ss) are.all ∙ sym (append_assoc more are.scopes (scopes root));
+    }
 
-pub copied_some : (within : List ℕ) (o : Option (Bor (List ℕ))) → IfSome o (λ w. within ≡ 45 ∷ 46 ∷ w.now)
-    → (w : List ℕ) → option_copied o ≡ Some w → within ≡ 45 ∷ 46 ∷ w
-copied_some within None h w is = cc
-copied_some within (Some x) h w is = let same : x.now ≡ w = cc in h ∙ ap (λ (y : List ℕ). 45 ∷ 46 ∷ y) same
+-- `Fits root s` is that the scope `s` is one in a file of the package `root`
+abbrev pub Fits : List ℕ → List ℕ × List (List ℕ) → Type 0
+Fits root s = AreInner s.1 root s.0
+
+pub inner_by : (root : List ℕ) (statement : Statement) (outer : List ℕ × List (List ℕ)) → Fits root outer → Fits root (opened_by statement outer)
+inner_by root (statements.Import kind name) outer h = h
+inner_by root (statements.Package name) outer h = h
+inner_by root (statements.«Option» o) outer h = h
+inner_by root (statements.Message name) outer h = inner_more root name.text outer h
+inner_by root (statements.Field label kind name field options) outer h = h
+inner_by root (statements.MapField key value name field options) outer h = h
+inner_by root (statements.Oneof name) outer h = h
+inner_by root (statements.ReservedNumbers n) outer h = h
+inner_by root (statements.ReservedNames n) outer h = h
+inner_by root (statements.Enum name) outer h = h
+inner_by root (statements.Value name value options) outer h = h
+inner_by root (statements.Service name) outer h = inner_more root name.text outer h
+inner_by root (statements.Method name input output) outer h = h
+inner_by root (statements.Extend name) outer h = h
+
+name_by : (statement : Statement) (outer : List ℕ × List (List ℕ)) → (opened_by statement outer).0 ≡ scope_of statement outer.0
+name_by (statements.Import kind name) outer = refl
+name_by (statements.Package name) outer = refl
+name_by (statements.«Option» o) outer = refl
+name_by (statements.Message name) outer = refl
+name_by (statements.Field label kind name field options) outer = refl
+name_by (statements.MapField key value name field options) outer = refl
+name_by (statements.Oneof name) outer = refl
+name_by (statements.ReservedNumbers n) outer = refl
+name_by (statements.ReservedNames n) outer = refl
+name_by (statements.Enum name) outer = refl
+name_by (statements.Value name value options) outer = refl
+name_by (statements.Service name) outer = refl
+name_by (statements.Method name input output) outer = refl
+name_by (statements.Extend name) outer = refl
+
+-- ---- the walk over the references of a file
+
+abbrev pub keep : Item → List ℕ × List (List ℕ) → List ℕ × List (List ℕ)
+keep i outer = opened_by i.node.statement outer
+
+abbrev pub emit : List FileDefs → List ℕ × List (List ℕ) → Item → List (ℕ × (TypePart × Found))
+emit files scope i = map (used_as files) (references_by scope.0 i.number i.node.statement)
+
+kept_name : (root : List ℕ) (within : List Item) → (kept keep (root, []) within).0 ≡ scope_in root within
+unfolding kept
+kept_name root [] = refl
+kept_name root (i ∷ is) =
+    name_by i.node.statement (kept keep (root, []) is) ∙ ap (λ (s : List ℕ). scope_of i.node.statement s) (kept_name root is)
+
+-- what the walk gives is what the references are found as
+pub given_found : (files : List FileDefs) (root : List ℕ) (ps : List Place)
+    → given keep (root, []) (emit files) ps ≡ map (used_as files) (flat_map (references_at root) ps)
+given_found files root [] = refl
+given_found files root (p ∷ ps) =
+    ap (λ (s : List ℕ). map (used_as files) (references_by s p.item.number p.item.node.statement) ++ given keep (root, []) (emit files) ps) (kept_name root p.within)
+    ∙ ap (λ (us : List (ℕ × (TypePart × Found))). map (used_as files) (references_at root p) ++ us) (given_found files root ps)
+    ∙ sym (map-append (used_as files) (references_at root p) (flat_map (references_at root) ps))
+
+-- the open scopes are scopes of the file
+abbrev pub AllFit : List ℕ → List (ℕ × (List ℕ × List (List ℕ))) → Type 0
+AllFit root stack = Each (λ (e : ℕ × (List ℕ × List (List ℕ))). Fits root e.1) stack
+
+fit_closed : (root : List ℕ) (depth : ℕ) (stack : List (ℕ × (List ℕ × List (List ℕ)))) → AllFit root stack → AllFit root (closed depth stack)
+unfolding closed
+fit_closed root depth [] all = tt
+fit_closed root depth (e ∷ es) all =
+    either (nat_lt e.0 depth) (λ b. AllFit root (cond b (e ∷ es) (closed depth es))) (λ t. all) (λ f. fit_closed root depth es all.1)
+
+fit_first : (root : List ℕ) (stack : List (ℕ × (List ℕ × List (List ℕ)))) → AllFit root stack → Fits root (unwrap_or (innermost stack) (root, []))
+fit_first root [] all = inner_root root
+fit_first root (e ∷ es) all = all.0
+
+pub fit_inner : (root : List ℕ) (stack : List (ℕ × (List ℕ × List (List ℕ)))) (depth : ℕ) → AllFit root stack → Fits root (inner_at (root, []) stack depth)
+fit_inner root stack depth all = fit_first root (closed depth stack) (fit_closed root depth stack all)
+
+-- the innermost scope, once the stack is closed to a statement's depth
+pub inner_opened : (root : List ℕ) (first : List ℕ × List (List ℕ)) (stack shut : List (ℕ × (List ℕ × List (List ℕ)))) (depth : ℕ) (scope : List ℕ × List (List ℕ))
+    → first ≡ (root, []) → shut ≡ closed depth stack → scope ≡ unwrap_or (innermost shut) first → scope ≡ inner_at (root, []) stack depth
+inner_opened root first stack shut depth scope is closes inner =
+    inner
+    ∙ ap (λ (es : List (ℕ × (List ℕ × List (List ℕ)))). unwrap_or (innermost es) first) closes
+    ∙ ap (λ (s : List ℕ × List (List ℕ)). unwrap_or (innermost (closed depth stack)) s) is
+
+pub fit_more : (root : List ℕ) (stack new : List (ℕ × (List ℕ × List (List ℕ)))) (depth : ℕ) (i : Item) (scope : List ℕ × List (List ℕ))
+    → new ≡ (depth, keep i scope) ∷ closed depth stack → Fits root scope → AllFit root stack → AllFit root new
+fit_more root stack new depth i scope is fits all =
+    subst (λ (es : List (ℕ × (List ℕ × List (List ℕ)))). AllFit root es) (sym is) (inner_by root i.node.statement scope fits, fit_closed root depth stack all)
 
 pub each_at : (P : List ℕ → Type 0) (xs : List (List ℕ)) (i : ℕ) (d : List ℕ) → Each P xs → i < length xs → P (get_or xs i d)
 each_at P [] i d all within = absurd (omega arith)
 each_at P (x ∷ xs) zero d all within = all.0
 each_at P (x ∷ xs) (suc i) d all within = each_at P xs i d all.1 (omega arith)
+
+pub lead_at : (leads : List (List ℕ)) (i : ℕ) (l e : List ℕ) → i < length leads → l ≡ e → e ≡ get_or leads i e → get_or leads i l ≡ l
+lead_at leads i l e within same is = get_or_default leads i l e within ∙ sym is ∙ sym same
 
 -- the leads once one is added
 pub leads_more : (root : List ℕ) (next : Option (List ℕ)) (s lead : List ℕ) (old new whole : List (List ℕ))
@@ -221,114 +297,23 @@ near_some : (near : List ℕ) (files : List FileDefs) (ss all : List (List ℕ))
 near_some near files ss all h are = record { rising = are.rising; all = λ k f at a. are.all k f at (h f.defs.package_name a) }
 
 pub near_outer : (near : List ℕ) (files : List FileDefs) (leads : List (List ℕ)) (root within : List ℕ) → AreInner leads root within
-    → AreNear near files (scopes (inside root within)) → AreNear near files (scopes root)
+    → AreNear near files (scopes within) → AreNear near files (scopes root)
 near_outer near files leads root within are close =
-    near_some near files (scopes root) (scopes (inside root within))
+    near_some near files (scopes root) (scopes within)
     (λ p a. ap (λ (ss : List (List ℕ)). is_among p ss) are.all ∙ among_append p are.scopes (scopes root) ∙ or_right (is_among p are.scopes) (is_among p (scopes root)) a) close
 
 pub near_inner : (near : List ℕ) (files : List FileDefs) (leads : List (List ℕ)) (root within : List ℕ) → AreInner leads root within
-    → AreNear near files (scopes (inside root within)) → (n : List ℕ) → IsPlain n → Each (λ l. AreNear near files (around (l ++ n))) leads
+    → AreNear near files (scopes within) → (n : List ℕ) → IsPlain n → Each (λ l. AreNear near files (around (l ++ n))) leads
 near_inner near files leads root within are close n plain =
     subst (λ (ls : List (List ℕ)). Each (λ l. AreNear near files (around (l ++ n))) ls) (sym are.are)
     (each are.scopes (λ s a. ap (λ (ss : List (List ℕ)). is_among s ss) are.all ∙ among_append s are.scopes (scopes root) ∙ or_left (is_among s are.scopes) (is_among s (scopes root)) a))
   where
-    each : (ss : List (List ℕ)) → ((s : List ℕ) → is_among s ss ≡ true → is_among s (scopes (inside root within)) ≡ true) → Each (λ l. AreNear near files (around (l ++ n))) (map leading ss)
+    each : (ss : List (List ℕ)) → ((s : List ℕ) → is_among s ss ≡ true → is_among s (scopes within) ≡ true) → Each (λ l. AreNear near files (around (l ++ n))) (map leading ss)
     each [] h = tt
     each (s ∷ ss) h = (
-      near_scope near files (inside root within) s n (h s (or_left (bytes_eq s s) (is_among s ss) ((bytes_eq-Decides s s).1 refl))) plain close,
+      near_scope near files within s n (h s (or_left (bytes_eq s s) (is_among s ss) ((bytes_eq-Decides s s).1 refl))) plain close,
       each ss (λ x a. h x (or_right (bytes_eq s x) (is_among x ss) a)),
     )
-
--- ---- references where the package is short
-
--- `IsMoved root full short` is that `full` is a scope of a file of the package `root` which is
--- `short` where the package has one byte
-abbrev pub IsMoved : List ℕ → List ℕ → List ℕ → Type 0
-IsMoved root full short = ((full ≡ root) × (short ≡ 45 ∷ [])) ⊎ ((w : List ℕ) × (full ≡ qualified root w) × (short ≡ 45 ∷ 46 ∷ w))
-
-moved_name : (r : ℕ) (rs full short name : List ℕ) → IsMoved (r ∷ rs) full short → IsMoved (r ∷ rs) (qualified full name) (qualified short name)
-moved_name r rs full short name (inl h) = inr (name, ap (λ (x : List ℕ). qualified x name) h.0, ap (λ (x : List ℕ). qualified x name) h.1)
-moved_name r rs full short name (inr h) =
-    let front = (r ∷ rs) ++ codes "." in
-    inr (
-      (h.0 ++ codes ".") ++ name,
-      ap (λ (x : List ℕ). qualified x name) h.1
-          ∙ ap (λ (x : List ℕ). x ++ name) (append_assoc front h.0 (codes "."))
-          ∙ append_assoc front (h.0 ++ codes ".") name,
-      ap (λ (x : List ℕ). qualified x name) h.2,
-    )
-
-moved_by : (r : ℕ) (rs full short : List ℕ) (statement : Statement) → IsMoved (r ∷ rs) full short → IsMoved (r ∷ rs) (scope_of statement full) (scope_of statement short)
-moved_by r rs full short (statements.Import kind name) h = h
-moved_by r rs full short (statements.Package name) h = h
-moved_by r rs full short (statements.«Option» o) h = h
-moved_by r rs full short (statements.Message name) h = moved_name r rs full short name.text h
-moved_by r rs full short (statements.Field label kind name field options) h = h
-moved_by r rs full short (statements.MapField key value name field options) h = h
-moved_by r rs full short (statements.Oneof name) h = h
-moved_by r rs full short (statements.ReservedNumbers n) h = h
-moved_by r rs full short (statements.ReservedNames n) h = h
-moved_by r rs full short (statements.Enum name) h = h
-moved_by r rs full short (statements.Value name value options) h = h
-moved_by r rs full short (statements.Service name) h = moved_name r rs full short name.text h
-moved_by r rs full short (statements.Method name input output) h = h
-moved_by r rs full short (statements.Extend name) h = h
-
-moved_in : (r : ℕ) (rs : List ℕ) (within : List Item) → IsMoved (r ∷ rs) (scope_in (r ∷ rs) within) (scope_in (45 ∷ []) within)
-unfolding kept
-moved_in r rs [] = inl (refl, refl)
-moved_in r rs (i ∷ is) = moved_by r rs (scope_in (r ∷ rs) is) (scope_in (45 ∷ []) is) i.node.statement (moved_in r rs is)
-
-is_inside : (r : ℕ) (rs full short : List ℕ) → IsMoved (r ∷ rs) full short → full ≡ inside (r ∷ rs) short
-is_inside r rs full short (inl h) = h.0 ∙ ap (λ (x : List ℕ). inside (r ∷ rs) x) (sym h.1)
-is_inside r rs full short (inr h) = h.1 ∙ ap (λ (x : List ℕ). inside (r ∷ rs) x) (sym h.2)
-
-scope_moved : (root : List ℕ) (within : List Item) → scope_in root within ≡ inside root (scope_in (short_for root) within)
-scope_moved [] within = refl
-scope_moved (r ∷ rs) within = is_inside r rs (scope_in (r ∷ rs) within) (scope_in (45 ∷ []) within) (moved_in r rs within)
-
-type_moved : (root : List ℕ) (number : ℕ) (within name : List ℕ) → type_reference number (inside root within) name ≡ map (moved root) (type_reference number within name)
-type_moved root number within name =
-    either (is_one_of scalars name) (λ b. cond b [] (here (inside root within) ∷ []) ≡ map (moved root) (cond b [] (here within ∷ []))) (λ t. refl) (λ f. refl)
-  where
-    here : List ℕ → Reference
-    here w = record { item = number; part = parts.Type; within = w; name = name }
-
-by_moved : (root : List ℕ) (number : ℕ) (within : List ℕ) (statement : Statement) → references_by (inside root within) number statement ≡ map (moved root) (references_by within number statement)
-by_moved root number within (statements.Import kind name) = refl
-by_moved root number within (statements.Package name) = refl
-by_moved root number within (statements.«Option» o) = refl
-by_moved root number within (statements.Message name) = refl
-by_moved root number within (statements.Field label kind name field options) = type_moved root number within kind.text
-by_moved root number within (statements.MapField key value name field options) = type_moved root number within value.text
-by_moved root number within (statements.Oneof name) = refl
-by_moved root number within (statements.ReservedNumbers n) = refl
-by_moved root number within (statements.ReservedNames n) = refl
-by_moved root number within (statements.Enum name) = refl
-by_moved root number within (statements.Value name value options) = refl
-by_moved root number within (statements.Service name) = refl
-by_moved root number within (statements.Method name input output) = refl
-by_moved root number within (statements.Extend name) = refl
-
-at_moved : (root : List ℕ) (p : Place) → references_at root p ≡ map (moved root) (references_at (short_for root) p)
-at_moved root p =
-    ap (λ (w : List ℕ). references_by w p.item.number p.item.node.statement) (scope_moved root p.within)
-    ∙ by_moved root p.item.number (scope_in (short_for root) p.within) p.item.node.statement
-
-all_moved : (root : List ℕ) (ps : List Place) → flat_map (references_at root) ps ≡ map (moved root) (flat_map (references_at (short_for root)) ps)
-all_moved root [] = refl
-all_moved root (p ∷ ps) =
-    ap (λ (rs : List Reference). rs ++ flat_map (references_at root) ps) (at_moved root p)
-    ∙ ap (λ (rs : List Reference). map (moved root) (references_at (short_for root) p) ++ rs) (all_moved root ps)
-    ∙ sym (map-append (moved root) (references_at (short_for root) p) (flat_map (references_at (short_for root)) ps))
-
--- the references of a file, resolved
-pub resolved_all : (scope : Scope) (root : List ℕ) (nodes : List Node) → root ≡ package_of nodes
-    → map (resolved_moved scope root) (flat_map (references_at (short_for root)) (places nodes)) ≡ map (resolved_in scope) (references_of nodes)
-resolved_all scope root nodes is =
-    sym (map-map (resolved_in scope) (moved root) (flat_map (references_at (short_for root)) (places nodes)))
-    ∙ ap (λ (rs : List Reference). map (resolved_in scope) rs) (sym (all_moved root (places nodes)))
-    ∙ ap (λ (r : List ℕ). map (resolved_in scope) (flat_map (references_at r) (places nodes))) is
 
 -- ---- names that are too long for a package
 

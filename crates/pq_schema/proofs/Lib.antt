@@ -25,7 +25,6 @@ pub mod Marks
 pub mod LastDots
 pub mod OutwardSearch
 pub mod Inside
-pub mod OneHit
 pub mod ResolvedRuns
 pub mod Searches
 pub mod Grouping

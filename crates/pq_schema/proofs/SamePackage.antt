@@ -1,5 +1,5 @@
 -- Names in files of the very package of the searching file: all begin with it.
-use Rattle.std.proofs.Common.{◌≡◌, ◌⊎◌, ℕ, zero, suc, ◌+◌, ◌<◌, ◌≤◌, get_or, length, take, List, [], ◌∷◌, ◌++◌, map, Option, Some, None, refl, sym, ap, subst, ◌∙◌, inl, inr, arith, append_assoc}
+use Rattle.std.proofs.Common.{◌≡◌, ◌⊎◌, ℕ, zero, suc, ◌+◌, ◌<◌, ◌≤◌, get_or, length, take, List, [], ◌∷◌, ◌++◌, Option, Some, None, refl, sym, ap, subst, ◌∙◌, inl, inr, arith, append_assoc}
 use Rattle.std.specs.Prelude.{codes, slice_get, find, Bool, cond, nat_lt, true, false}
 use Rattle.std.proofs.Common.{true≢false}
 use Rattle.std.proofs.Math.Seq.{take-append_seam}
@@ -104,14 +104,10 @@ pub spots_of : (files : List FileDefs) (root : List ℕ) (spots : List (List ℕ
 spots_of files root spots are =
     subst (λ (ss : List (List ℕ)). Each (IsSpotOf root) ss) (sym are.kept) (each_kept (IsSpotOf root) are.keep (scopes root) (spot_of root))
 
-lead_begins : (root s : List ℕ) → Begins (leading root) (leading (qualified root s))
+pub lead_begins : (root s : List ℕ) → Begins (leading root) (leading (qualified root s))
 lead_begins [] s = (leading s, refl)
 lead_begins (c ∷ cs) s =
     (s ++ codes ".", append_assoc ((c ∷ cs) ++ codes ".") s (codes "."))
-
-all_begin : (root : List ℕ) (ss : List (List ℕ)) → Each (λ l. Begins (leading root) l) (map leading (map (qualified root) ss))
-all_begin root [] = tt
-all_begin root (s ∷ ss) = (lead_begins root s, all_begin root ss)
 
 pub begins_more : (front lead name : List ℕ) → Begins front lead → Begins front (lead ++ name)
 begins_more front lead name b = (b.0 ++ name, ap (λ (x : List ℕ). x ++ name) b.1 ∙ append_assoc front b.0 name)
@@ -121,11 +117,6 @@ pub full_begins : (root own lead name full : List ℕ) → own ≡ root → full
 full_begins root own lead name full same is begins =
     subst (λ (r : List ℕ). Begins (leading r) full) (sym same)
     (subst (λ (x : List ℕ). Begins (leading root) x) (sym is) (begins_more (leading root) lead name begins))
-
--- ---- the scopes of a file inside its package
-
-pub inner_begin : (root : List ℕ) (leads ss : List (List ℕ)) → leads ≡ map leading (map (qualified root) ss) → Each (λ l. Begins (leading root) l) leads
-inner_begin root leads ss are = subst (λ (ls : List (List ℕ)). Each (λ l. Begins (leading root) l) ls) (sym are) (all_begin root ss)
 
 has_by : (P : List ℕ → Type 0) (s : List ℕ) (rest : Option (List ℕ)) (b : Bool) (l : List ℕ) → P s → (Some l ≡ rest → P l) → Some l ≡ cond b (Some s) rest → P l
 has_by P s rest true l here there e = let same : s ≡ l = cc in subst P same here

@@ -101,4 +101,11 @@ impl Enclosing {
     {
         &self.name
     }
+
+    /// The parts of what is before a name in the scope.
+    pub(crate) fn parts(&self) -> &[Text]
+        ensures parts { concat result.now ≡ leading self.now }
+    {
+        self.parts.get().as_slice()
+    }
 }

@@ -133,7 +133,7 @@ impl FullName {
     }
 
     /// Whether the name has no bytes.
-    fn is_empty(&self) -> bool
+    pub(crate) fn is_empty(&self) -> bool
         ensures is { result ≡ (length self.now == 0) }
     {
         self.spelled().is_empty()
@@ -249,7 +249,7 @@ pub(crate) fn push_parts(text: &mut String, parts: &[Text]) -> Result<(), Memory
 }
 
 /// Copies of `parts`, which share the long ones.
-fn copy_parts(alloc: Global, parts: &[Text]) -> Result<Vec<Text>, Memory>
+pub(crate) fn copy_parts(alloc: Global, parts: &[Text]) -> Result<Vec<Text>, Memory>
     ensures copy { IfOk result (λ ps. ps.items ≡ parts.now) }
 {
     let mut copies = Vec::with_capacity(alloc, parts.len().saturating_add(1))?;

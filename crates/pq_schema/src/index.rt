@@ -6,11 +6,11 @@
 //! first. So most names are told apart by one comparison of numbers, and names of one scope without
 //! a look at the scope. The names come from strangers; neither cost grows faster than N log N
 //! comparisons of names, whatever their codes.
-ghost use Rattle.std.specs.Prelude.{◌≡◌, ℕ, ◌<◌, ◌≤◌, true, false, length, get_or, [], find, bytes_eq, IfOk};
+ghost use Rattle.std.specs.Prelude.{◌≡◌, ℕ, ◌<◌, ◌≤◌, true, false, length, get_or, [], cond, find, bytes_eq, take, IfOk};
 ghost use Rattle.std.specs.Option.{option_copied};
-ghost use Rattle.std.specs.Ordering.{is_lt};
+ghost use Rattle.std.specs.Ordering.{is_eq, is_lt};
 ghost use Rattle.std.specs.List.Sorted.{IsSorted};
-ghost use Rattle.pq_schema.specs.aux.Fronts.{AreAlike};
+ghost use Rattle.pq_schema.specs.aux.Fronts.{AreAlike, IsSeen};
 ghost use Rattle.pq_schema.specs.aux.Index.{IsIndexOf, entry_order, group_start};
 ghost use Rattle.pq_schema.specs.aux.NameCodes.{code_order};
 ghost use Rattle.pq_schema.specs.Repeated.{AreRepeated};
@@ -20,6 +20,7 @@ use crate::coded::Coded;
 use crate::definitions::Definition;
 use crate::spelled::Spelled;
 use std::alloc::Global;
+use std::cmp::Ordering;
 
 /// The index of `definitions`.
 pub(crate) fn index_of(
@@ -49,12 +50,12 @@ pub(crate) fn first_named<'a>(
     requires alike { AreAlike count name.now index.now }
     ensures { option_copied result ≡ find (λ d. bytes_eq d.full_name name.now) definitions.now }
 {
-    let first = lower_bound(index, name, count);
+    let (first, seen) = lower_bound(index, name, count);
     if first == index.len() {
         return None;
     }
     let entry = &index[first];
-    if !entry.0.is_alike(name, count) {
+    if !is_named(&entry.0, name, count, seen == first) {
         return None;
     }
     let place = entry.1;
@@ -63,29 +64,53 @@ pub(crate) fn first_named<'a>(
     Some(&definitions[place])
 }
 
-/// The number of entries whose name comes before `name`. It and all their names begin with the same
-/// `count` bytes.
-fn lower_bound(index: &[(Coded, usize)], name: &Spelled<'_>, count: usize) -> usize
+/// Whether `entry` has the name `name`. They begin with the same `count` bytes. Where `is_seen`, it is
+/// known that it has, and the names are not compared.
+fn is_named(entry: &Coded, name: &Spelled<'_>, count: usize, is_seen: bool) -> bool
+    requires alike { take count entry.now ≡ take count name.now }
+    requires seen { is_seen ≡ true → entry.now ≡ name.now }
+    ensures is { result ≡ bytes_eq entry.now name.now }
+{
+    if is_seen {
+        return true;
+    }
+    entry.is_alike(name, count)
+}
+
+/// `place` if the order is that of equal names, else `seen`.
+fn seen_at(order: Ordering, place: usize, seen: usize) -> usize
+    ensures is { result ≡ cond (is_eq order) place seen }
+{
+    if order.is_eq() { place } else { seen }
+}
+
+/// The number of entries whose name comes before `name`, and the place of an entry that was found to
+/// have the name, if the search met one. The name and all theirs begin with the same `count` bytes.
+fn lower_bound(index: &[(Coded, usize)], name: &Spelled<'_>, count: usize) -> (usize, usize)
     requires sorted { IsSorted entry_order index.now }
     requires alike { AreAlike count name.now index.now }
-    ensures within { result ≤ length index.now }
-    ensures less { (k : ℕ) → k < result →
+    ensures within { result.0 ≤ length index.now }
+    ensures less { (k : ℕ) → k < result.0 →
         is_lt (code_order (get_or index.now k ([], 0)).0 name.now) ≡ true }
-    ensures others { (k : ℕ) → result ≤ k → k < length index.now →
+    ensures others { (k : ℕ) → result.0 ≤ k → k < length index.now →
         is_lt (code_order (get_or index.now k ([], 0)).0 name.now) ≡ false }
+    ensures seen { IsSeen index.now name.now result.1 }
 {
     let code = name.code();
     let mut low = 0;
     let mut high = index.len();
+    let mut seen = index.len();
     'halves: while low < high {
         let middle = low + (high - low) / 2;
-        if index[middle].0.compare_alike(code, name, count).is_lt() {
+        let order = index[middle].0.compare_alike(code, name, count);
+        if order.is_lt() {
             low = middle + 1;
         } else {
             high = middle;
+            seen = seen_at(order, middle, seen);
         }
     }
-    low
+    (low, seen)
 }
 
 /// The first entry with the name of the entry `i`, where `first` is that of the entry before it.

@@ -3,15 +3,17 @@
 //! The scopes of a file begin with its package, which can be as long as the file. So they share its
 //! bytes, and a full name in a scope is spelled in pieces, without a copy of the scope.
 ghost use Rattle.std.specs.Prelude.{◌≡◌, ◌++◌, ℕ, List, IfOk, map};
+ghost use Rattle.std.specs.List.{concat};
 ghost use Rattle.std.specs.Option.{option_copied};
 ghost use Rattle.pq_schema.specs.Definitions.{qualified};
 ghost use Rattle.pq_schema.specs.aux.NameParts.{leading};
 ghost use Rattle.pq_schema.specs.aux.Scopes.{before};
 
-use crate::full_name::with_dot;
+use crate::full_name::{copy_parts, with_dot};
 use crate::nesting::outer;
 use crate::spelled::Spelled;
 use pq_names::{Memory, Text};
+use pq_rules::Shared;
 use std::alloc::Global;
 use std::marker::Model;
 use std::slice;
@@ -41,13 +43,12 @@ impl Lead {
         Ok(Lead { parts })
     }
 
-    /// The bytes of `first`, which is shared, and then those of `second`.
-    fn of_two(alloc: Global, first: &Text, second: Text) -> Result<Lead, Memory>
-        ensures text { IfOk result (λ l. l ≡ first.now ++ second) }
+    /// The bytes of `front`, which are shared, and then those of `text`.
+    fn after(alloc: Global, front: &[Text], text: Text) -> Result<Lead, Memory>
+        ensures text { IfOk result (λ l. l ≡ concat front.now ++ text) }
     {
-        let mut parts = Vec::with_capacity(alloc, 2)?;
-        parts.push(first.copy()?)?;
-        parts.push(second)?;
+        let mut parts = copy_parts(alloc, front)?;
+        parts.push(text)?;
         Ok(Lead { parts })
     }
 
@@ -77,26 +78,25 @@ pub(crate) fn lead_text(alloc: Global, scope: &str) -> Result<Text, Memory>
     }
 }
 
-/// What is before a simple name in the scope `scope` of a file, where `lead` is before one in its
-/// package.
-fn inner_lead(alloc: Global, lead: &Text, scope: &str) -> Result<Lead, Memory>
+/// What is before a simple name in the scope `scope`, where `front` is before that scope.
+fn inner_lead(alloc: Global, front: &[Text], scope: &str) -> Result<Shared<Lead>, Memory>
     ensures lead { IfOk result
-        (λ l. (root : List ℕ) → lead.now ≡ leading root → l ≡ leading (qualified root scope.now)) }
+        (λ l. (root : List ℕ) → concat front.now ≡ leading root → l ≡ leading (qualified root scope.now)) }
 {
-    if lead.as_str().is_empty() {
-        return Lead::of(alloc, lead_text(alloc, scope)?);
+    if Spelled::new(front, "").is_empty() {
+        return Shared::new(alloc, Lead::of(alloc, lead_text(alloc, scope)?)?);
     }
-    Lead::of_two(alloc, lead, with_dot(alloc, scope)?)
+    Shared::new(alloc, Lead::after(alloc, front, with_dot(alloc, scope)?)?)
 }
 
-/// What is before a simple name in `next`, a scope of a file without its package, and in the scopes
-/// around it, the innermost first. `lead` is what is before one in the package of the file.
+/// What is before a simple name in `next` and in the scopes around it, the innermost first, where
+/// `front` is before all these scopes.
 pub(crate) fn inner_leads(
     alloc: Global,
-    lead: &Text,
+    front: &[Text],
     next: Option<&str>,
-) -> Result<Vec<Lead>, Memory>
-    ensures leads { IfOk result (λ v. (root : List ℕ) → lead.now ≡ leading root
+) -> Result<Vec<Shared<Lead>>, Memory>
+    ensures leads { IfOk result (λ v. (root : List ℕ) → concat front.now ≡ leading root
         → v.items ≡ map leading (map (qualified root) (before (option_copied next.entry)))) }
 {
     let mut leads = Vec::new(alloc);
@@ -104,7 +104,7 @@ pub(crate) fn inner_leads(
     'scopes: loop {
         match inner {
             Some(scope) => {
-                leads.push(inner_lead(alloc, lead, scope)?)?;
+                leads.push(inner_lead(alloc, front, scope)?)?;
                 inner = outer(scope);
             }
             None => return Ok(leads),

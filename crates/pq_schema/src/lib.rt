@@ -15,8 +15,8 @@
 //! their scopes), `spelled` (names in pieces), `map_entries`; `scope` (the files that a file sees
 //! and reaches), `files` over `by_package` and `named` (the look-up of a full name, which files it
 //! asks, and the first that has it), `other_files` over `near_names` (many look-ups in the same
-//! files), `nesting` (the scopes around a scope), `search` (the search from scope to scope),
-//! `resolution` (its answers); `keys` (what a sum offers), `defined`, `scopes` over `collected`,
+//! files), `nesting` (the scopes around a scope), `search` (the search from scope to scope), `uses`
+//! over `inner` (the references of a file and its open scopes), `resolution` (their answers); `keys` (what a sum offers), `defined`, `scopes` over `collected`,
 //! and `resolved` (the queries), `rules` (the rule set); `laws`, `scope_laws`.
 #![tactic(auto)]
 
@@ -33,6 +33,7 @@ mod enclosing;
 mod files;
 mod full_name;
 mod index;
+mod inner;
 mod keys;
 mod laws;
 mod lead;
@@ -54,6 +55,7 @@ mod scopes;
 mod search;
 mod spelled;
 mod spots;
+mod uses;
 
 pub use collected::Collected;
 pub use defined::DefsQuery;

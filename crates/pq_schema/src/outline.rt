@@ -47,8 +47,8 @@ pub(crate) fn scope_of(
     }
 }
 
-/// The innermost open scope, or the package if there is none.
-pub(crate) fn innermost<'a>(stack: &'a Stack<Enclosing>, root: &'a Enclosing) -> &'a Enclosing
+/// What is kept of the innermost open scope, or `root` if there is none.
+pub(crate) fn innermost<'a, T: Drop>(stack: &'a Stack<T>, root: &'a T) -> &'a T
     ensures { result.now ≡ unwrap_or (innermost stack.now) root.now }
 {
     match stack.innermost() {

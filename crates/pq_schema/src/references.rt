@@ -29,21 +29,8 @@ pub fn references_in(alloc: Global, nodes: &[Node]) -> Result<Vec<Reference>, Me
     ensures references { IfOk result (λ v. v.items ≡ references_of nodes.now) }
 {
     let package_name = package_of(alloc, nodes)?;
-    references_from(alloc, &package_name, nodes)
-}
-
-/// The type references of a file with the statements `nodes`, in text order, if its package were
-/// `package_name`.
-pub(crate) fn references_from(
-    alloc: Global,
-    package_name: &Text,
-    nodes: &[Node],
-) -> Result<Vec<Reference>, Memory>
-    ensures references { IfOk result
-        (λ v. v.items ≡ flat_map (references_at package_name.now) (places nodes.now)) }
-{
     let root = with_dot(alloc, package_name.as_str())?;
-    let package = Enclosing::package(alloc, package_name, &root)?;
+    let package = Enclosing::package(alloc, &package_name, &root)?;
     let references = references_under(alloc, &package, nodes)?;
     Ok(references)
 }
@@ -139,7 +126,7 @@ fn put(
 }
 
 /// Whether `name` is the name of a scalar type.
-fn is_scalar(name: &str) -> bool
+pub(crate) fn is_scalar(name: &str) -> bool
     ensures { result ≡ is_one_of scalars name.now }
 {
     matches!(

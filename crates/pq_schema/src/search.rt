@@ -3,14 +3,13 @@
 //!
 //! Each scope costs one look-up of a full name, which is spelled in pieces, without a copy of the
 //! scope. The files that can have one of these names are found once.
-ghost use Rattle.std.specs.Prelude.{◌≡◌, ◌++◌, ℕ, List, ◌<◌, IfOk, length, map, string_bytes};
+ghost use Rattle.std.specs.Prelude.{◌≡◌, ◌++◌, ℕ, List, ◌<◌, IfOk, length, map};
 ghost use Rattle.pq_rules.specs.Relations.{Each};
-ghost use Rattle.pq_schema.specs.Definitions.{qualified};
 ghost use Rattle.pq_schema.specs.Resolution.{found, found_as, has_names, decides, meaning, unless_type, single, dotted, scopes, search, lookup, lookup_by};
 ghost use Rattle.pq_schema.specs.aux.Fronts.{Begins};
 ghost use Rattle.pq_schema.specs.aux.Grouping.{AreNear, around};
 ghost use Rattle.pq_schema.specs.aux.Hits.{found_at, lookup_at, meaning_at};
-ghost use Rattle.pq_schema.specs.aux.Inside.{dotted_from, short_for, single_from};
+ghost use Rattle.pq_schema.specs.aux.Inside.{IsFirstAt, dotted_from, single_from};
 ghost use Rattle.pq_schema.specs.aux.NameParts.{leading};
 ghost use Rattle.pq_schema.specs.aux.Outward.{IsOutward};
 ghost use Rattle.pq_schema.specs.aux.Spots.{IsPlain};
@@ -18,22 +17,23 @@ ghost use Rattle.pq_schema.specs.aux.Spots.{IsPlain};
 use crate::along::Along;
 use crate::definitions::DefinitionKind;
 use crate::files::Files;
-use crate::full_name::FullName;
 use crate::lead::Lead;
 use crate::lookup::Lookup;
 use crate::named::Place;
 use crate::nesting::{innermost, outer};
 use crate::outward::{Outward, dotted_outward, single_outward};
-use crate::references::Reference;
-use crate::resolved::{find_each, hit_or_nothing, short_for};
 use crate::scope::Scope;
 use crate::spelled::Spelled;
-use pq_links::TypePart;
+use crate::uses::{find_each, hit_or_nothing};
+use pq_lex::Span;
 use pq_names::{Memory, Text};
 use pq_rules::Shared;
-use pq_syntax::Items;
+use pq_syntax::{MethodType, Name, Node, Statement};
 use std::alloc::Global;
 use std::slice;
+
+/// The span of what is not in a text.
+const NOWHERE: Span = Span { start: 0, end: 0 };
 
 /// What a search ends in: a type, another definition or a package, or nothing.
 #[derive(Clone, Copy)]
@@ -179,7 +179,7 @@ fn find_single<'a>(
     files: &Lookup<'a>,
     near: &[usize],
     outward: Outward<'_>,
-    inner: &[Lead],
+    inner: &[Shared<Lead>],
     name: &str,
 ) -> Result<Hit<'a>, Memory>
     requires near { AreNear near.now files.now (scopes outward.root.now) }
@@ -193,7 +193,7 @@ fn find_single<'a>(
 {
     let mut best = Hit::Nothing;
     'scopes: for i in 0..inner.len() {
-        let lead = &inner[i];
+        let lead = inner[i].get();
         let full = lead.spell(name);
         let place = files.definition_below(outward.along, near, &full);
         best = unless_type(best, find_full(buffer, files, place, &full)?);
@@ -214,7 +214,7 @@ fn find_dotted<'a>(
     files: &Lookup<'a>,
     near: &[usize],
     outward: Outward<'_>,
-    inner: &[Lead],
+    inner: &[Shared<Lead>],
     first: &str,
     name: &str,
 ) -> Result<Hit<'a>, Memory>
@@ -228,7 +228,7 @@ fn find_dotted<'a>(
         (dotted files.now (scopes outward.entry.root.now) first.now name.now) first.now name.now) }
 {
     'scopes: for i in 0..inner.len() {
-        let lead = &inner[i];
+        let lead = inner[i].get();
         let full = lead.spell(first);
         let place = files.definition_below(outward.along, near, &full);
         if decides(buffer, files, place, &full)? {
@@ -248,7 +248,7 @@ pub(crate) fn find<'a>(
     files: &Lookup<'a>,
     near: &[usize],
     outward: Outward<'_>,
-    inner: &[Lead],
+    inner: &[Shared<Lead>],
     name: &str,
 ) -> Result<Hit<'a>, Memory>
     requires near { AreNear near.now files.now (scopes outward.root.now) }
@@ -272,19 +272,6 @@ pub(crate) fn find<'a>(
     }
 }
 
-/// Writes the full name of `name` in the scope `scope` to `buffer`.
-pub(crate) fn qualify(buffer: &mut String, scope: &str, name: &str) -> Result<(), Memory>
-    ensures name { IfOk result (λ _. string_bytes buffer.new ≡ qualified scope.now name.now) }
-{
-    buffer.clear();
-    if !scope.is_empty() {
-        buffer.push_str(scope)?;
-        buffer.push_str(".")?;
-    }
-    buffer.push_str(name)?;
-    Ok(())
-}
-
 /// The places of those of `files` whose package is one of the scopes of `within`.
 pub(crate) fn near_scopes(
     alloc: Global,
@@ -296,17 +283,36 @@ pub(crate) fn near_scopes(
     files.near(alloc, innermost(within))
 }
 
-/// The reference to `name` in `within`, as one of a file of that package, whose package has one byte.
-fn reference_in(alloc: Global, within: &str, name: &str) -> Result<Reference, Memory>
-    ensures within { IfOk result (λ r. r.within ≡ short_for within.now) }
-    ensures name { IfOk result (λ r. r.name ≡ name.now) }
+/// A type of a method, without a place.
+fn type_of(alloc: Global, name: &str) -> Result<MethodType, Memory>
+    ensures name { IfOk result (λ t. t.type_name.text ≡ name.now) }
 {
-    let scope = Shared::new(alloc, Items::new(Vec::new(alloc)))?;
-    Ok(Reference {
-        item: 0,
-        part: TypePart::Type,
-        within: FullName::after(scope, short_for(alloc, within)?),
-        name: Text::new(alloc, name)?,
+    let type_name = Name {
+        text: Text::new(alloc, name)?,
+        span: NOWHERE,
+    };
+    Ok(MethodType {
+        is_stream: false,
+        type_name,
+    })
+}
+
+/// A method whose first reference is to `name`.
+fn method_of(alloc: Global, name: &str) -> Result<Node, Memory>
+    ensures first { IfOk result (λ n. IsFirstAt n.statement name.now) }
+{
+    let method = Name {
+        text: Text::new(alloc, "")?,
+        span: NOWHERE,
+    };
+    Ok(Node {
+        depth: 0,
+        span: NOWHERE,
+        statement: Statement::Method {
+            name: method,
+            input: type_of(alloc, name)?,
+            output: type_of(alloc, name)?,
+        },
     })
 }
 
@@ -319,9 +325,9 @@ fn find_within<'a>(
 ) -> Result<Hit<'a>, Memory>
     ensures is { IfOk result (λ hit. found_at hit ≡ search files.now (scopes within.now) name.now) }
 {
-    let reference = reference_in(alloc, within, name)?;
-    let hits = find_each(alloc, files, within, slice::from_ref(&reference))?;
-    Ok(hit_or_nothing(&hits, 0))
+    let node = method_of(alloc, name)?;
+    let uses = find_each(alloc, files, within, slice::from_ref(&node))?;
+    Ok(hit_or_nothing(&uses, 0))
 }
 
 /// What `name` resolves to in the message, service or package `within` of a file with the scope

@@ -47,6 +47,10 @@ pub record IsParted (entries : List (List ℕ × ℕ)) (name : List ℕ) (low hi
   pub less : (k : ℕ) → k < low → is_lt (code_order (get_or entries k ([], 0)).0 name) ≡ true
   pub others : (k : ℕ) → high ≤ k → k < length entries → is_lt (code_order (get_or entries k ([], 0)).0 name) ≡ false
 
+-- `IsSeen entries name k` is that the entry `k` of `entries`, if there is one, has the name `name`
+abbrev pub IsSeen : List (List ℕ × ℕ) → List ℕ → ℕ → Type 0
+IsSeen entries name k = k < length entries → (get_or entries k ([], 0)).0 ≡ name
+
 -- `IsSpotOf root spot` is that `spot`, if it has as many bytes, is what is before a simple name in
 -- the package `root`
 abbrev pub IsSpotOf : List ℕ → List ℕ → Type 0

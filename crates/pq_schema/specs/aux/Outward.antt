@@ -5,14 +5,10 @@ use Rattle.std.specs.Str.{IsUtf8}
 use Rattle.pq_schema.specs.declared.scope.FileDefs.{FileDefs}
 use Rattle.pq_schema.specs.declared.references.Reference.{Reference}
 use Rattle.pq_schema.specs.Definitions.{qualified}
-use Rattle.pq_schema.specs.Resolution.{Found, Lookup, Meaning, found, found_by, has_names, meaning, resolution_of, scopes, search, unless_type}
+use Rattle.pq_schema.specs.Resolution.{Found, Meaning, found, found_by, has_names, meaning, scopes, search, unless_type}
 use Rattle.pq_schema.specs.Resolution.Found.{FoundOther, FoundNothing}
 use Rattle.pq_schema.specs.Resolution.Meaning.{Defined, Undefined}
 use Rattle.pq_schema.specs.aux.Along.{Contents}
-use Rattle.pq_rules.specs.Relations.{Each}
-use Rattle.pq_schema.specs.declared.resolved.ResolvedReference.{ResolvedReference}
-use Rattle.pq_schema.specs.declared.search.Hit.{Hit}
-use Rattle.pq_schema.specs.aux.Hits.{found_at}
 use Rattle.pq_schema.specs.aux.Spots.{AreSpots}
 
 -- `opens meaning` is that a name of the meaning `meaning` is that of a definition that can have
@@ -63,11 +59,3 @@ found_in files r = search files (scopes r.within) r.name
 abbrev pub is_nothing : Found → Bool
 is_nothing FoundNothing = true
 is_nothing _ = false
-
--- `AreThere hits` is that none of `hits` is nothing
-abbrev pub AreThere : List Hit → Type 0
-AreThere hits = Each (λ (h : Hit). is_nothing (found_at h) ≡ false) hits
-
--- `resolved_as r l` is the reference `r` where the lookup of its name is `l`
-abbrev pub resolved_as : Reference → Lookup → ResolvedReference
-resolved_as r l = record { item = r.item; part = r.part; resolution = resolution_of l }

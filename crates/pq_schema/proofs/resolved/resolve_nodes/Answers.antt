@@ -1,23 +1,32 @@
-use Rattle.std.proofs.Common.{ℕ, List, map, ap, ◌∙◌}
+use Rattle.std.proofs.Common.{◌≡◌, ◌⊎◌, ℕ, List, map, ap, subst, ◌∙◌}
 use Rattle.std.specs.Prelude.{flat_map}
 use Rattle.std.proofs.lemmas.Result.{IfOk-weaker}
 use Rattle.pq_syntax.specs.Places.{places}
-use Rattle.pq_schema.specs.declared.references.Reference.{Reference}
+use Rattle.pq_schema.specs.Compile.{resolved_in}
 use Rattle.pq_schema.specs.References.{references_at}
-use Rattle.pq_schema.specs.aux.Inside.{resolved_moved}
-use Rattle.pq_schema.proofs.Inside.{resolved_all}
+use Rattle.pq_schema.specs.declared.scope.FileDefs.{FileDefs}
+use Rattle.pq_schema.specs.declared.uses.Use.{Use}
+use Rattle.pq_schema.specs.aux.Inside.{AreThere, resolved_uses, used, used_as}
+use Rattle.pq_schema.proofs.ResolvedRuns.{resolved_all}
 use Rattle.pq_schema.proofs.resolved.resolve_nodes.Goals as goal
 
 pub returns : goal.returns
 returns c =
-    let scope = c.args.scope.now in
+    let s = c.args.scope.now in
     let root = c.args.root.now in
     let nodes = c.args.nodes.now in
+    let refs = flat_map (references_at root) (places nodes) in
+    let visible = c.in_ok-visible.visible.items in
+    let reached = c.in_ok-reached.reached.items in
+    let seen : map used visible ≡ map (used_as s.visible) refs =
+    c.in_ok-visible.ensures.found ∙ ap (λ (fs : List FileDefs). map (used_as fs) refs) c.visible_files.ensures.value in
+    let further = subst (λ (us : List Use). (map used reached ≡ map (used_as s.reach) refs) ⊎ AreThere us) c.deref.ensures.value c.in_ok-reached.ensures.found in
     record {
-      resolved = IfOk-weaker c.resolve_each.result _ _
+      resolved = IfOk-weaker c.resolve_uses.result _ _
           (λ rs h. h
-          ∙ ap (λ (xs : List Reference). map (resolved_moved scope root) xs)
-          (c.deref.ensures.value ∙ c.in_ok-references.ensures.references ∙ ap (λ (s : List ℕ). flat_map (references_at s) (places nodes)) c.in_ok-short.ensures.short)
-          ∙ resolved_all scope root nodes c.requires.root)
-          c.resolve_each.ensures.resolved;
+          ∙ ap (λ (us : List Use). resolved_uses us c.deref-3.result.now 0) c.deref-2.ensures.value
+          ∙ ap (λ (us : List Use). resolved_uses visible us 0) c.deref-3.ensures.value
+          ∙ resolved_all s refs visible reached seen further
+          ∙ ap (λ (r : List ℕ). map (resolved_in s) (flat_map (references_at r) (places nodes))) c.requires.root)
+          c.resolve_uses.ensures.resolved;
     }

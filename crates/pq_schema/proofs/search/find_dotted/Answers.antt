@@ -4,7 +4,7 @@ use Rattle.pq_schema.specs.Resolution.{decides, dotted, found, scopes}
 use Rattle.pq_schema.specs.aux.Fronts.{Begins}
 use Rattle.pq_schema.specs.aux.Grouping.{AreNear, around}
 use Rattle.pq_schema.specs.aux.NameParts.{leading}
-use Rattle.pq_schema.proofs.Inside.{dotted_end, dotted_step, each_at}
+use Rattle.pq_schema.proofs.Inside.{dotted_end, dotted_step, each_at, lead_at}
 use Rattle.pq_schema.proofs.SamePackage.{full_begins}
 use Rattle.pq_schema.proofs.search.find_dotted.Goals as goal
 
@@ -14,15 +14,17 @@ definition_below-place-requires c =
     let files = c.args.files.now in
     let first = c.args.first.now in
     let root = c.args.outward.root.now in
-    let l = c.index-inner-i.result in
-    let here = each_at (λ (x : List ℕ). AreNear near files (around (x ++ first))) c.args.inner.now c.scopes.i l c.requires.inner c.scopes-test.true in
-    let front = each_at (λ (x : List ℕ). Begins (leading root) x) c.args.inner.now c.scopes.i l c.requires.below c.scopes-test.true in
+    let e = c.index-inner-i.result in
+    let l = c.get-lead.result.now in
+    let is = c.get-lead.ensures.value ∙ c.index-inner-i.is in
+    let here = each_at (λ (x : List ℕ). AreNear near files (around (x ++ first))) c.args.inner.now c.scopes.i e c.requires.inner c.scopes-test.true in
+    let front = each_at (λ (x : List ℕ). Begins (leading root) x) c.args.inner.now c.scopes.i e c.requires.below c.scopes-test.true in
     record {
       near = subst (λ (n : List ℕ). AreNear near files (around n)) (sym c.spell-full.ensures.name)
-          (subst (λ (x : List ℕ). AreNear near files (around (x ++ first))) (sym c.index-inner-i.is) here);
+          (subst (λ (x : List ℕ). AreNear near files (around (x ++ first))) (sym is) here);
       files = c.requires.outward.of_files;
       front = full_begins root c.args.outward.along.now.root l first c.spell-full.result c.requires.outward.of_root c.spell-full.ensures.name
-          (subst (λ (x : List ℕ). Begins (leading root) x) (sym c.index-inner-i.is) front);
+          (subst (λ (x : List ℕ). Begins (leading root) x) (sym is) front);
     }
 
 pub decides-requires : goal.decides-requires
@@ -31,12 +33,14 @@ decides-requires c = record { place = c.definition_below-place.ensures.first }
 pub find_below-requires : goal.find_below-requires
 find_below-requires c =
     let root = c.args.outward.root.now in
-    let l = c.index-inner-i.result in
-    let front = each_at (λ (x : List ℕ). Begins (leading root) x) c.args.inner.now c.scopes.i l c.requires.below c.scopes-test.true in
+    let e = c.index-inner-i.result in
+    let l = c.get-lead.result.now in
+    let is = c.get-lead.ensures.value ∙ c.index-inner-i.is in
+    let front = each_at (λ (x : List ℕ). Begins (leading root) x) c.args.inner.now c.scopes.i e c.requires.below c.scopes-test.true in
     record {
       files = c.requires.outward.of_files;
       front = full_begins root c.args.outward.along.now.root l c.args.name.now c.spell-whole.result c.requires.outward.of_root c.spell-whole.ensures.name
-          (subst (λ (x : List ℕ). Begins (leading root) x) (sym c.index-inner-i.is) front);
+          (subst (λ (x : List ℕ). Begins (leading root) x) (sym is) front);
     }
 
 pub returns-then-branch : goal.returns-then-branch
@@ -44,9 +48,9 @@ returns-then-branch c =
     let files = c.args.files.now in
     let first = c.args.first.now in
     let name = c.args.name.now in
-    let l = c.index-inner-i.result in
+    let l = c.get-lead.result.now in
     let step = dotted_step files first name c.args.inner.now c.scopes.i l true (dotted files (scopes c.args.outward.root.now) first name) _
-    c.scopes-test.true (sym c.index-inner-i.is)
+    c.scopes-test.true (lead_at c.args.inner.now c.scopes.i c.get-lead.result.now c.index-inner-i.result c.scopes-test.true c.get-lead.ensures.value c.index-inner-i.is)
     (sym c.if-branch.true ∙ c.in_ok-decides.ensures.is ∙ ap (λ (n : List ℕ). decides files n) c.spell-full.ensures.name) c.scopes.invariant in
     record {
       is = IfOk-weaker c.find_below.result _ _
@@ -59,8 +63,8 @@ scopes-preserved c =
     let files = c.args.files.now in
     let first = c.args.first.now in
     let name = c.args.name.now in
-    dotted_step files first name c.args.inner.now c.scopes.i c.index-inner-i.result false (dotted files (scopes c.args.outward.root.now) first name) _
-    c.scopes-test.true (sym c.index-inner-i.is)
+    dotted_step files first name c.args.inner.now c.scopes.i c.get-lead.result.now false (dotted files (scopes c.args.outward.root.now) first name) _
+    c.scopes-test.true (lead_at c.args.inner.now c.scopes.i c.get-lead.result.now c.index-inner-i.result c.scopes-test.true c.get-lead.ensures.value c.index-inner-i.is)
     (sym c.if-branch.false ∙ c.in_ok-decides.ensures.is ∙ ap (λ (n : List ℕ). decides files n) c.spell-full.ensures.name) c.scopes.invariant
 
 pub returns : goal.returns

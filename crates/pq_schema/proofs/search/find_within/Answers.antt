@@ -1,10 +1,11 @@
-use Rattle.std.proofs.Common.{List, get_or, map, ap, ◌∙◌}
-use Rattle.pq_schema.specs.declared.references.Reference.{Reference}
-use Rattle.pq_schema.specs.declared.search.Hit.{Hit}
-use Rattle.pq_schema.specs.declared.search.Hit.TheVariants.{Nothing}
-use Rattle.pq_schema.specs.aux.Hits.{found_at}
-use Rattle.pq_schema.specs.aux.Inside.{found_moved}
-use Rattle.pq_schema.proofs.OneHit.{moved_short, one_hit}
+use Rattle.std.proofs.Common.{List, map, ap, ◌∙◌}
+use Rattle.std.specs.Prelude.{flat_map, slice_get}
+use Rattle.pq_syntax.specs.declared.tree.Node.{Node}
+use Rattle.pq_syntax.specs.Places.{places}
+use Rattle.pq_schema.specs.References.{references_at}
+use Rattle.pq_schema.specs.declared.uses.Use.{Use}
+use Rattle.pq_schema.specs.aux.Inside.{found_use, used_as}
+use Rattle.pq_schema.proofs.ResolvedRuns.{one_alone}
 use Rattle.pq_schema.proofs.search.find_within.Goals as goal
 
 pub returns : goal.returns
@@ -12,8 +13,7 @@ returns c =
     let files = c.args.files.now in
     let within = c.args.within.now in
     record {
-      is = ap (λ (h : Hit). found_at h) (c.hit_or_nothing.ensures.is ∙ ap (λ (hs : List Hit). get_or hs 0 Nothing) c.deref.ensures.value)
-          ∙ one_hit c.in_ok-hits.hits.items _
-          (c.in_ok-hits.ensures.found ∙ ap (λ (rs : List Reference). map (found_moved files within) rs) c.from_ref.ensures.value)
-          ∙ moved_short files within c.args.name.now c.in_ok-reference.reference c.in_ok-reference.ensures.within c.in_ok-reference.ensures.name;
+      is = c.hit_or_nothing.ensures.is ∙ ap (λ (us : List Use). found_use (slice_get us 0)) c.deref.ensures.value
+          ∙ one_alone files within c.args.name.now c.in_ok-uses.uses.items c.in_ok-node.node c.in_ok-node.ensures.first
+          (c.in_ok-uses.ensures.found ∙ ap (λ (ns : List Node). map (used_as files) (flat_map (references_at within) (places ns))) c.from_ref.ensures.value);
     }

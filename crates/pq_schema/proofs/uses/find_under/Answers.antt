@@ -1,0 +1,49 @@
+use Rattle.std.proofs.Common.{◌≡◌, ℕ, List, [], ◌∷◌, ◌++◌, map, sym, ap, subst, ◌∙◌}
+use Rattle.pq_syntax.specs.Places.{places}
+use Rattle.pq_syntax.specs.Stacks.{closed}
+use Rattle.pq_syntax.proofs.Walk.{walked_none, walked_more, walked_all, item_at}
+use Rattle.pq_schema.specs.aux.Inside.{used}
+use Rattle.pq_schema.proofs.Inside.{Fits, emit, fit_inner, fit_more, given_found, inner_opened, keep}
+use Rattle.pq_schema.proofs.uses.find_under.Goals as goal
+
+pub items-init : goal.items-init
+items-init c =
+    rw (c.new-stack.ensures, c.new-uses.ensures.items)
+    (walked_none keep (c.args.outward.root.now, []) (emit c.args.files.now) c.args.nodes.now, tt, c.requires.near)
+
+pub refer-requires : goal.refer-requires
+refer-requires c =
+    let root = c.args.outward.root.now in
+    let node = c.index-nodes-item.result in
+    let inner = inner_opened root c.args.root.now c.items.stack c.close_to.new.self node.depth c.innermost-scope.result.now c.requires.root c.close_to.ensures c.innermost-scope.ensures in
+    record {
+      near = c.items.invariant.2;
+      outward = c.requires.outward;
+      inner = subst (Fits root) (sym (c.get.ensures.value ∙ inner)) (fit_inner root c.items.stack node.depth c.items.invariant.1);
+    }
+
+pub items-preserved : goal.items-preserved
+items-preserved c =
+    let root = c.args.outward.root.now in
+    let node = c.index-nodes-item.result in
+    let scope = c.innermost-scope.result.now in
+    let inner = inner_opened root c.args.root.now c.items.stack c.close_to.new.self node.depth scope c.requires.root c.close_to.ensures c.innermost-scope.ensures in
+    let fits = subst (Fits root) (sym inner) (fit_inner root c.items.stack node.depth c.items.invariant.1) in
+    let opened : c.open.new.self ≡ (node.depth, keep (item_at c.items.item node) scope) ∷ closed node.depth c.items.stack =
+    c.in_ok-open.ensures.opened ∙ ap (λ (s : List ℕ × List (List ℕ)). (node.depth, s) ∷ c.close_to.new.self) c.in_ok-inside.ensures
+    ∙ ap (λ (es : List (ℕ × (List ℕ × List (List ℕ)))). (node.depth, keep (item_at c.items.item node) scope) ∷ es) c.close_to.ensures in (
+      walked_more keep (root, []) (emit c.args.files.now) c.args.nodes.now c.items.stack c.open.new.self c.items.item (map used c.items.uses.items) (map used c.refer.new.uses.items) node scope
+          c.items-test.true c.index-nodes-item.is inner opened
+          (c.in_ok-refer.ensures.found ∙ ap (λ (s : List ℕ × List (List ℕ)). map used c.items.uses.items ++ emit c.args.files.now s (item_at c.items.item node)) c.get.ensures.value)
+          c.items.invariant.0,
+      fit_more root c.items.stack c.open.new.self node.depth (item_at c.items.item node) scope opened fits c.items.invariant.1,
+      c.in_ok-refer.ensures.near,
+    )
+
+pub returns : goal.returns
+returns c =
+    let root = c.args.outward.root.now in
+    record {
+      found = walked_all keep (root, []) (emit c.args.files.now) c.args.nodes.now c.items.stack c.items.item (map used c.items.uses.items) c.items-test.false c.items.invariant.0
+          ∙ given_found c.args.files.now root (places c.args.nodes.now);
+    }
