@@ -281,28 +281,37 @@ def note(crate, edit, clause):
 
 
 def try_all(crate, edits, alone, notes):
-    """Tries the edits, and returns how many were not refused."""
-    failed = 0
+    """Tries the edits, says of each what is known as soon as it is, and returns how many were not refused."""
+    refused = set()
     rooms = os.path.join(HERE, "out")
     os.makedirs(rooms, exist_ok=True)
+
+    def say(edit, well, used, said):
+        """Prints what is known of the edit, and notes it."""
+        print("%-10s %-45s %-8s %6.1f s  %s" % (crate, edit.name, "refused" if well else "NOT SO", used, said), flush=True)
+        if well:
+            refused.add(edit.name)
+            if notes:
+                note(crate, edit, said)
+
     with tempfile.TemporaryDirectory(prefix="edits-", dir=rooms) as room:
         copied(room, crate)
         folder = os.path.join(room, "crates", crate)
-        start, together, left = seconds(), {}, [] if alone else edits
+        left = [] if alone else edits
         while left:
             chosen = of_different_functions(folder, left)
             left = [it for it in left if it not in chosen.values()] if len(chosen) > 1 else []
-            together.update(tried_together(folder, crate, chosen) if len(chosen) > 1 else {})
-        share = (seconds() - start) / max(len(together), 1)
-        for edit in edits:
             start = seconds()
-            well, said = (True, together[edit.name]) if edit.name in together else tried(folder, crate, edit)
-            failed += not well
-            used = share if edit.name in together else seconds() - start
-            print("%-10s %-45s %-8s %6.1f s  %s" % (crate, edit.name, "refused" if well else "NOT SO", used, said), flush=True)
-            if notes and well:
-                note(crate, edit, said)
-    return failed
+            found = tried_together(folder, crate, chosen) if len(chosen) > 1 else {}
+            share = (seconds() - start) / max(len(found), 1)
+            for edit in edits:
+                if edit.name in found:
+                    say(edit, True, share, found[edit.name])
+        for edit in [it for it in edits if it.name not in refused]:
+            start = seconds()
+            well, said = tried(folder, crate, edit)
+            say(edit, well, seconds() - start, said)
+    return len(edits) - len(refused)
 
 
 def main():
