@@ -1,0 +1,132 @@
+//! What a worker does: it takes the steps of runs, and carries their work out.
+use crate::hall::Hall;
+use crate::mark::{BoardName, Mark};
+use crate::running::{Hand, Next, run_step};
+use crate::state::{Client, State, Task};
+use pq_core::{Done, Move, Ready, Stamp, Work};
+use pq_proto::ProtoRules;
+use std::sync::Wait;
+
+/// What each work passes before it is carried out, while no lock is held.
+pub trait Gate {
+    /// Returns once `work` may be carried out.
+    fn pass<M: Stamp>(&self, work: &Work<ProtoRules, M>);
+}
+
+/// The most steps of a run that are taken under one hold of the lock.
+const STEPS: u8 = 16;
+
+/// What a worker brings to its run.
+type Brought<J> = Hand<Work<ProtoRules, Mark<J>>, Done<ProtoRules, Mark<J>>>;
+
+/// What a worker leaves the store's lock with.
+#[derive(Drop)]
+enum Turn<J: BoardName> {
+    /// Work of the run.
+    Carry(Task, Work<ProtoRules, Mark<J>>),
+    /// The run, which goes on.
+    GoesOn(Task),
+    /// A reply to the client of a run that is over.
+    Reply(Client, Option<Ready<ProtoRules, Mark<J>>>),
+    /// Nothing: the run is over without a reply, or is parked.
+    Free,
+    /// The hall is shut.
+    Shut,
+}
+
+impl<J: BoardName, H: Wait + Copy + Drop> Hall<J, H> {
+    /// Runs a worker until the hall is shut. It holds no lock while it carries work out.
+    pub fn work<G: Gate>(&self, rt: &H, gate: &G) {
+        let mut turn = Turn::Free;
+        for _ in rt.forever() {
+            match turn {
+                Turn::Carry(task, work) => {
+                    gate.pass(&work);
+                    let brought = match work.carry_out(self.alloc) {
+                        Ok(done) => Hand::Made(done),
+                        Err(work) => Hand::Unmade(work),
+                    };
+                    turn = self.go_on(rt, task, brought);
+                }
+                Turn::GoesOn(task) => turn = self.go_on(rt, task, Hand::Look),
+                Turn::Reply(client, ready) => {
+                    self.deliver(rt, client, ready);
+                    turn = self.begin(rt);
+                }
+                Turn::Free => turn = self.begin(rt),
+                Turn::Shut => return,
+            }
+        }
+    }
+
+    /// Takes a run, once there is one, and its first steps.
+    fn begin(&self, rt: &H) -> Turn<J> {
+        let mut state = self.state.lock(rt);
+        for _ in rt.forever() {
+            if state.is_shut {
+                return Turn::Shut;
+            }
+            if let Some(task) = state.pick() {
+                return self.advance(&mut state, task, Hand::Look, STEPS);
+            }
+            state = self.work_came.wait(rt, state);
+        }
+        unreachable!()
+    }
+
+    /// Brings `brought` to the run of `task`, and takes its next steps.
+    fn go_on(&self, rt: &H, task: Task, brought: Brought<J>) -> Turn<J> {
+        let mut state = self.state.lock(rt);
+        if state.is_shut {
+            return Turn::Shut;
+        }
+        self.advance(&mut state, task, brought, STEPS)
+    }
+
+    /// Takes at most `left + 1` steps of the run of `task` under the lock.
+    fn advance(
+        &self,
+        state: &mut State<J>,
+        task: Task,
+        brought: Brought<J>,
+        left: u8,
+    ) -> Turn<J> {
+        match run_step(&self.board, &mut state.store, self.alloc, task.run, brought) {
+            Next::Moved(Move::Carry(work)) => Turn::Carry(task, work),
+            Next::Moved(Move::Blocked(_)) => self.park(state, task),
+            Next::Moved(Move::Stepped) => {
+                self.stepped(state);
+                if left == 0 {
+                    return Turn::GoesOn(task);
+                }
+                self.advance(state, task, Hand::Look, left - 1)
+            }
+            Next::Moved(Move::Answered) => self.ended(state, task),
+            Next::Moved(Move::Stopped) => self.ended(state, task),
+            Next::Starved => self.ended(state, task),
+            Next::Over => Turn::Free,
+        }
+    }
+
+    /// Counts a step, after which a parked run may go on.
+    fn stepped(&self, state: &mut State<J>) {
+        state.moved();
+        if state.has_parked() {
+            self.work_came.notify_all();
+        }
+    }
+
+    /// Parks the run of `task`, or keeps it where there is no memory for that.
+    fn park(&self, state: &mut State<J>, task: Task) -> Turn<J> {
+        if state.park(task) {
+            return Turn::Free;
+        }
+        Turn::GoesOn(task)
+    }
+
+    /// Collects the reply of the run of `task`, which is over.
+    fn ended(&self, state: &mut State<J>, task: Task) -> Turn<J> {
+        self.stepped(state);
+        Turn::Reply(task.client, state.store.collect(task.client.id))
+    }
+}
