@@ -44,3 +44,4 @@ pub mod CorePassing
 pub mod CoreServing
 pub mod CoreLeaving
 pub mod CoreResting
+pub mod TwoCalls

@@ -5,6 +5,7 @@ use Rattle.pq_inputs.specs.Sources.{Table}
 use Rattle.pq_inputs.specs.declared.fault.InputFault.{InputFault}
 use Rattle.pq_inputs.specs.declared.fault.InputFault.TheVariants.{TextTooLong, TooManyFiles, RevisionsUsedUp, Memory as NoMemory}
 use Rattle.pq_rules.specs.Turns.{Machine}
+use Rattle.pq_core.specs.Changes.{ChangeView}
 use Rattle.pq_core.specs.Points.{Point, point_now}
 use Rattle.pq_core.specs.Works.{DoneView, WorkView, IsWorkOf}
 use Rattle.pq_core.specs.Ledger.{Ledger}
@@ -89,6 +90,14 @@ inputs_posted inputs (Edit change) (Ok Ended) = inputs
 inputs_posted inputs (Edit change) (Ok (Later post)) = inputs
 inputs_posted inputs (Edit change) (Err fault) = inputs
 inputs_posted inputs End answer = inputs
+
+-- `IsAnswerTo post moved` is that `moved` is an answer to `post`: a request is accepted or comes back, an
+-- edit is made, and the end of the posts ends them
+abbrev pub IsAnswerTo : {K : Type 0} → Post K → Moved K → Type 0
+IsAnswerTo {K} post (Accepted n) = (request : Request K) × (post ≡ Ask request)
+IsAnswerTo post (Edited revision) = (change : ChangeView) × (post ≡ Edit change)
+IsAnswerTo post Ended = post ≡ End
+IsAnswerTo post (Later back) = back ≡ post
 
 -- ---- steps of runs
 

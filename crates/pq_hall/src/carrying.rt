@@ -1,6 +1,8 @@
 //! What a porter does: it carries the posts of a client into the store.
 ghost use Rattle.std.specs.Prelude.{◌≡◌, IfOk, IfErr};
 ghost use Rattle.pq_hall.specs.Carried.{Carries, CarriesSome};
+ghost use Rattle.pq_hall.specs.Steps.{IsStampFor, IsAnswerTo};
+ghost use Rattle.pq_hall.specs.aux.Kinds.{IsKindOf};
 
 use crate::fault::HallFault;
 use crate::hall::Hall;
@@ -8,18 +10,13 @@ use crate::mark::{BoardName, Mark};
 use crate::posting::{Moved, post_step};
 use crate::state::{Client, State};
 use pq_core::{Memory, Ready};
+use pq_inputs::Inputs;
 use pq_mail::{PorterEnd, Post};
 use pq_proto::{ProtoKey, ProtoRules};
 use std::sync::Wait;
 
-/// What became of a post under the lock.
-#[derive(Drop)]
-enum Carried<J: BoardName> {
-    /// The post was carried. A reply that was made goes to its lane.
-    Done(Moved<ProtoKey>, Option<Ready<ProtoRules, Mark<J>>>),
-    /// It was refused.
-    Refused(HallFault),
-}
+/// What a post came to under the lock, and a reply that is to go to its lane.
+type Carried<J> = (Moved<ProtoKey>, Option<Ready<ProtoRules, Mark<J>>>);
 
 impl<J: BoardName, H: Wait + Copy + Drop> Hall<J, H> {
     /// Carries the next post of `client` into the store. It waits for a post, and for room in the
@@ -42,13 +39,13 @@ impl<J: BoardName, H: Wait + Copy + Drop> Hall<J, H> {
         match porter.next(rt) {
             None => return Ok(Moved::Ended),
             Some(post) => match self.carry(rt, client, post) {
-                Carried::Done(moved, ready) => {
+                Ok((moved, ready)) => {
                     if ready.is_some() {
                         self.deliver(rt, client, ready);
                     }
                     return Ok(moved);
                 }
-                Carried::Refused(fault) => {
+                Err(fault) => {
                     self.close(rt, client);
                     return Err(fault);
                 }
@@ -57,39 +54,81 @@ impl<J: BoardName, H: Wait + Copy + Drop> Hall<J, H> {
     }
 
     /// Carries `post`, once there is room for it.
-    fn carry(&self, rt: &H, client: Client, post: Post<ProtoKey>) -> Carried<J> {
+    fn carry(
+        &self,
+        rt: &H,
+        client: Client,
+        post: Post<ProtoKey>,
+    ) -> Result<Carried<J>, HallFault>
+        ensures { IfOk result (λ carried. IsKindOf carried.0 post) }
+    {
         let mut post = post;
         let mut state = self.state.lock(rt);
         for _ in rt.forever() {
-            let Ok(stamp) = self.stamp_for(rt, &state, &post) else {
-                return Carried::Refused(HallFault::Memory);
-            };
-            match post_step(&mut state.store, client.id, post, stamp) {
-                Ok(Moved::Later(back)) => post = back,
-                Ok(moved) => {
-                    state.moved();
-                    self.work_came.notify_all();
-                    return Carried::Done(moved, state.store.collect(client.id));
+            match self.step(rt, &mut state, client, post)? {
+                Moved::Later(back) => post = back,
+                Moved::Accepted(number) => {
+                    let ready = self.carried(&mut state, client);
+                    return Ok((Moved::Accepted(number), ready));
                 }
-                Err(fault) => return Carried::Refused(fault),
+                Moved::Edited(revision) => {
+                    let ready = self.carried(&mut state, client);
+                    return Ok((Moved::Edited(revision), ready));
+                }
+                Moved::Ended => {
+                    let ready = self.carried(&mut state, client);
+                    return Ok((Moved::Ended, ready));
+                }
             }
             if state.is_shut {
-                return Carried::Refused(HallFault::Closed);
+                return Err(HallFault::Closed);
             }
             state = self.room_came.wait(rt, state);
         }
         unreachable!()
     }
 
-    /// The mark of the revision that `post` makes, if it is an edit.
+    /// Makes the call of `post` to the store. An edit gets a mark before.
+    fn step(
+        &self,
+        rt: &H,
+        state: &mut State<J>,
+        client: Client,
+        post: Post<ProtoKey>,
+    ) -> Result<Moved<ProtoKey>, HallFault>
+        ensures { IfOk result (λ moved. IsAnswerTo post moved) }
+    {
+        match self.stamp_for(rt, state.store.inputs(), &post) {
+            Ok(stamp) => return post_step(&mut state.store, client.id, post, stamp),
+            Err(_) => return Err(HallFault::Memory),
+        }
+    }
+
+    /// Tells of a post that was carried. Returns a reply to `client` that is made.
+    fn carried(
+        &self,
+        state: &mut State<J>,
+        client: Client,
+    ) -> Option<Ready<ProtoRules, Mark<J>>> {
+        state.moved();
+        self.work_came.notify_all();
+        state.store.collect(client.id)
+    }
+
+    /// The mark of the revision that `post` makes of `inputs`, if it is an edit.
     fn stamp_for(
         &self,
         rt: &H,
-        state: &State<J>,
+        inputs: &Inputs,
         post: &Post<ProtoKey>,
-    ) -> Result<Option<Mark<J>>, Memory> {
+    ) -> Result<Option<Mark<J>>, Memory>
+        ensures { IfOk result (λ stamp. IsStampFor (λ m. m.point) inputs.now post.now stamp) }
+    {
         match post {
-            Post::Edit(change) => Ok(Some(self.board.push(rt, state.store.inputs(), change)?)),
+            Post::Edit(change) => {
+                let mark = self.board.push(rt, inputs, change)?;
+                Ok(Some(mark))
+            }
             Post::Ask(_) => Ok(None),
             Post::End => Ok(None),
         }

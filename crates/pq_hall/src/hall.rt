@@ -3,7 +3,7 @@ ghost use Rattle.std.specs.Prelude.{◌≡◌, IfSome};
 
 use crate::board::{Board, NewBoard};
 use crate::mark::{BoardName, Mark};
-use crate::seats::{Seat, Sent, free_seats};
+use crate::seats::{Seat, Sent, free_seats, has_seat, send_in};
 use crate::state::{Client, State};
 use pq_core::{ClientId, Memory, Number, Ready, Store};
 use pq_inputs::{Inputs, Revision};
@@ -95,9 +95,8 @@ impl<J: BoardName, H: Wait + Copy + Drop> Hall<J, H> {
     /// Takes the lane of `client` out of its seat.
     fn take_seat(&self, rt: &H, client: Client) -> Option<Seat<J, H>> {
         let mut seat = self.seats.get(client.seat)?.lock(rt);
-        match &*seat {
-            Some(seat) if seat.is_of(client.id) => {}
-            _ => return None,
+        if !has_seat(&seat, client.id) {
+            return None;
         }
         seat.take()
     }
@@ -128,10 +127,7 @@ impl<J: BoardName, H: Wait + Copy + Drop> Hall<J, H> {
             return Sent::Nothing;
         };
         let mut seat = lock.lock(rt);
-        match &mut *seat {
-            Some(seat) if seat.is_of(client.id) => seat.send(ready),
-            _ => Sent::Nothing,
-        }
+        send_in(&mut seat, client.id, ready)
     }
 
     /// Acknowledges that all replies to the client below `number` were put.

@@ -1,13 +1,11 @@
 //! What a post does to the store: one call of it. It takes no lock and waits for nobody.
-ghost use Rattle.std.specs.Prelude.{◌≡◌};
+ghost use Rattle.std.specs.Prelude.{◌≡◌, IfOk};
 ghost use Rattle.pq_core.specs.Stores.{Goes};
 ghost use Rattle.pq_core.specs.Starts.{IsCountedIn, Log};
-ghost use Rattle.pq_hall.specs.Steps.{IsStampFor, Posts, inputs_posted};
+ghost use Rattle.pq_hall.specs.Steps.{IsStampFor, IsAnswerTo, Posts, inputs_posted, not_asked, not_edited, not_input};
 
 use crate::fault::HallFault;
-use pq_core::{
-    AcceptFault, AcceptRefused, ClientId, EditFault, EditRefused, Number, Stamp, Store,
-};
+use pq_core::{AcceptFault, AcceptRefused, ClientId, EditFault, Number, Stamp, Store};
 use pq_inputs::{InputFault, Revision};
 use pq_mail::Post;
 use pq_rules::Rules;
@@ -45,6 +43,7 @@ pub fn post_step<R: Rules, M: Stamp>(
     ensures rules { store.new.rules ≡ store.old.rules }
     ensures inputs { store.new.inputs ≡ inputs_posted store.old.inputs post result }
     ensures places { store.new.places ≡ store.old.places }
+    ensures answer { IfOk result (λ moved. IsAnswerTo post moved) }
     ensures moved { Goes R.Key.cmp (R.machine store.old.rules) M.point store.old store.new (Posts client post result) }
     ensures counted { (log : Log R.Key) → IsCountedIn R.Key.cmp (R.machine store.old.rules) store.old log → IsCountedIn R.Key.cmp (R.machine store.old.rules) store.new log }
 {
@@ -56,7 +55,7 @@ pub fn post_step<R: Rules, M: Stamp>(
         Post::Edit(change) => match stamp {
             Some(stamp) => match store.edit(client, change, stamp) {
                 Ok(revision) => return Ok(Moved::Edited(revision)),
-                Err(refused) => return not_edited(refused),
+                Err(refused) => return not_edited(refused.fault),
             },
             None => unreachable!(),
         },
@@ -65,7 +64,9 @@ pub fn post_step<R: Rules, M: Stamp>(
 }
 
 /// What a post comes to whose request was refused.
-fn not_asked<K: Drop>(refused: AcceptRefused<K>) -> Result<Moved<K>, HallFault> {
+fn not_asked<K: Drop>(refused: AcceptRefused<K>) -> Result<Moved<K>, HallFault>
+    ensures { result ≡ not_asked refused.fault refused.request }
+{
     let AcceptRefused { fault, request } = refused;
     match fault {
         AcceptFault::NoClient => Err(HallFault::Closed),
@@ -75,12 +76,25 @@ fn not_asked<K: Drop>(refused: AcceptRefused<K>) -> Result<Moved<K>, HallFault> 
     }
 }
 
-/// What a post comes to whose edit was refused.
-fn not_edited<K>(refused: EditRefused) -> Result<Moved<K>, HallFault> {
-    match refused.fault {
+/// What a post comes to whose edit was refused for `fault`.
+fn not_edited<K>(fault: EditFault) -> Result<Moved<K>, HallFault>
+    ensures { result ≡ not_edited fault }
+{
+    match fault {
         EditFault::NoClient => Err(HallFault::Closed),
         EditFault::Closed => Err(HallFault::Closed),
-        EditFault::Input(InputFault::Memory) => Err(HallFault::Memory),
-        fault => Err(HallFault::Edit(fault)),
+        EditFault::Input(fault) => not_input(fault),
+    }
+}
+
+/// What a post comes to whose edit the inputs refused for `fault`.
+fn not_input<K>(fault: InputFault) -> Result<Moved<K>, HallFault>
+    ensures { result ≡ not_input fault }
+{
+    match fault {
+        InputFault::TextTooLong => Err(HallFault::Edit(EditFault::Input(fault))),
+        InputFault::TooManyFiles => Err(HallFault::Edit(EditFault::Input(fault))),
+        InputFault::RevisionsUsedUp => Err(HallFault::Edit(EditFault::Input(fault))),
+        InputFault::Memory => Err(HallFault::Memory),
     }
 }

@@ -1,7 +1,8 @@
 //! What a worker does to the store: one step of a run. It takes no lock and waits for nobody.
-ghost use Rattle.std.specs.Prelude.{◌≡◌};
+ghost use Rattle.std.specs.Prelude.{◌≡◌, IsTrue, false};
 ghost use Rattle.pq_core.specs.Stores.{Goes, HandsOut};
 ghost use Rattle.pq_hall.specs.Steps.{IsHandOf, Steps, OnMoved};
+ghost use Rattle.pq_hall.specs.aux.Ends.{Ends, IsEnd};
 
 use crate::board::Board;
 use crate::mark::{BoardName, Mark};
@@ -80,14 +81,25 @@ fn is_of_now<R: Rules, J: BoardName>(
     board: &Board<J>,
     store: &Store<R, Mark<J>>,
     done: &Done<R, Mark<J>>,
-) -> bool {
+) -> bool
+    ensures same { IsTrue result → done.now.started ≡ store.now.inputs.revision → done.now.files ≡ store.now.inputs.files }
+    ensures now { result ≡ false → done.now.started ≡ store.now.inputs.revision }
+{
     let mark = done.stamp();
     let now = store.stamp();
-    mark.revision() != now.revision() || board.is_same(mark, now)
+    if mark.revision() != now.revision() {
+        return true;
+    }
+    board.is_same(mark, now)
 }
 
 /// Starves `run`.
-fn starve<R: Rules, M: Stamp>(store: &mut Store<R, M>, run: RunId) -> Next<Work<R, M>> {
+fn starve<R: Rules, M: Stamp>(store: &mut Store<R, M>, run: RunId) -> Next<Work<R, M>>
+    ensures rules { store.new.rules ≡ store.old.rules }
+    ensures inputs { store.new.inputs ≡ store.old.inputs }
+    ensures over { IsEnd result }
+    ensures moved { Goes R.Key.cmp (R.machine store.old.rules) M.point store.old store.new (Ends run result) }
+{
     if store.starve(run) {
         return Next::Starved;
     }

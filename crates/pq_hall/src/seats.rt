@@ -43,13 +43,8 @@ impl<J: BoardName, H: Wait + Drop> Seat<J, H> {
         Ok(Seat { client, lane })
     }
 
-    /// Whether it is that of `client`.
-    pub(crate) fn is_of(&self, client: ClientId) -> bool {
-        self.client == client
-    }
-
     /// Fills `ready` into the lane, if it is there, and releases what the outbox has room for.
-    pub(crate) fn send(&mut self, ready: Option<Ready<ProtoRules, Mark<J>>>) -> Sent {
+    fn send(&mut self, ready: Option<Ready<ProtoRules, Mark<J>>>) -> Sent {
         if let Some(ready) = ready {
             let _back = self.lane.fill(ready);
         }
@@ -58,7 +53,8 @@ impl<J: BoardName, H: Wait + Drop> Seat<J, H> {
             match self.lane.release() {
                 Released::Put(_) => {}
                 Released::Gone => return Sent::Gone,
-                Released::Full | Released::Nothing => break,
+                Released::Full => break,
+                Released::Nothing => break,
             }
         }
         let after = self.lane.put();
@@ -76,14 +72,41 @@ impl<J: BoardName, H: Wait + Drop> Seat<J, H> {
     }
 }
 
+/// Whether `seat` is that of `client`.
+pub(crate) fn has_seat<J: BoardName, H: Wait + Drop>(
+    seat: &Option<Seat<J, H>>,
+    client: ClientId,
+) -> bool {
+    match seat {
+        Some(seat) => seat.client == client,
+        None => false,
+    }
+}
+
+/// Fills `ready` into the lane of `seat` and releases, if the seat is that of `client`.
+pub(crate) fn send_in<J: BoardName, H: Wait + Drop>(
+    seat: &mut Option<Seat<J, H>>,
+    client: ClientId,
+    ready: Option<Ready<ProtoRules, Mark<J>>>,
+) -> Sent {
+    match seat {
+        Some(seat) => {
+            if seat.client == client {
+                return seat.send(ready);
+            }
+            return Sent::Nothing;
+        }
+        None => return Sent::Nothing,
+    }
+}
+
 /// Free seats for `MAX_CLIENTS` clients.
 pub(crate) fn free_seats<J: BoardName, H: Wait + Drop>(
     alloc: Global,
 ) -> Result<Vec<Mutex<Option<Seat<J, H>>>>, Memory> {
     let mut seats = Vec::new(alloc);
-    seats.reserve(MAX_CLIENTS)?;
     for _ in 0..MAX_CLIENTS {
-        seats.push_reserved(Mutex::new(None));
+        seats.push(Mutex::new(None))?;
     }
     Ok(seats)
 }

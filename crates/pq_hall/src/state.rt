@@ -60,9 +60,8 @@ impl<J: BoardName> State<J> {
         store: Store<ProtoRules, Mark<J>>,
     ) -> Result<State<J>, Memory> {
         let mut seats = Vec::new(alloc);
-        seats.reserve(MAX_CLIENTS)?;
         for _ in 0..MAX_CLIENTS {
-            seats.push_reserved(None);
+            seats.push(None)?;
         }
         Ok(State {
             store,
@@ -91,26 +90,24 @@ impl<J: BoardName> State<J> {
 
     /// Frees the seat of `client`, if it has it.
     pub(crate) fn leave(&mut self, client: Client) {
-        if self.seat_is_of(client) {
-            self.seats[client.seat] = None;
-        }
-    }
-
-    /// Whether `client` has its seat.
-    fn seat_is_of(&self, client: Client) -> bool {
-        match self.seats.get(client.seat) {
-            Some(Some(id)) => *id == client.id,
-            _ => false,
+        if let Some(seat) = self.seats.get_mut(client.seat) {
+            if *seat == Some(client.id) {
+                *seat = None;
+            }
         }
     }
 
     /// The client `id` and its seat. A client that was closed has the number of no seat.
     fn client_of(&self, id: ClientId) -> Client {
-        let mut seat = 0;
-        while seat < self.seats.len() && self.seats[seat] != Some(id) {
-            seat += 1;
+        for seat in 0..self.seats.len() {
+            if self.seats[seat] == Some(id) {
+                return Client { id, seat };
+            }
         }
-        Client { id, seat }
+        Client {
+            id,
+            seat: self.seats.len(),
+        }
     }
 
     /// A run to go on with: one that was parked long ago, one for a request that waits, or else one

@@ -1,4 +1,7 @@
 //! What a worker does: it takes the steps of runs, and carries their work out.
+ghost use Rattle.std.specs.Prelude.{◌≡◌};
+ghost use Rattle.pq_hall.specs.aux.Ends.{IsFor};
+
 use crate::hall::Hall;
 use crate::mark::{BoardName, Mark};
 use crate::running::{Hand, Next, run_step};
@@ -19,11 +22,19 @@ const STEPS: u8 = 16;
 /// What a worker brings to its run.
 type Brought<J> = Hand<Work<ProtoRules, Mark<J>>, Done<ProtoRules, Mark<J>>>;
 
+/// Work, and its run.
+#[derive(Drop)]
+struct Errand<J: BoardName> {
+    task: Task,
+    work: Work<ProtoRules, Mark<J>>,
+    ghost own: { work.done.run ≡ task.run },
+}
+
 /// What a worker leaves the store's lock with.
 #[derive(Drop)]
 enum Turn<J: BoardName> {
-    /// Work of the run.
-    Carry(Task, Work<ProtoRules, Mark<J>>),
+    /// Work of a run.
+    Carry(Errand<J>),
     /// The run, which goes on.
     GoesOn(Task),
     /// A reply to the client of a run that is over.
@@ -40,14 +51,7 @@ impl<J: BoardName, H: Wait + Copy + Drop> Hall<J, H> {
         let mut turn = Turn::Free;
         for _ in rt.forever() {
             match turn {
-                Turn::Carry(task, work) => {
-                    gate.pass(&work);
-                    let brought = match work.carry_out(self.alloc) {
-                        Ok(done) => Hand::Made(done),
-                        Err(work) => Hand::Unmade(work),
-                    };
-                    turn = self.go_on(rt, task, brought);
-                }
+                Turn::Carry(errand) => turn = self.carry_work(rt, gate, errand),
                 Turn::GoesOn(task) => turn = self.go_on(rt, task, Hand::Look),
                 Turn::Reply(client, ready) => {
                     self.deliver(rt, client, ready);
@@ -56,6 +60,16 @@ impl<J: BoardName, H: Wait + Copy + Drop> Hall<J, H> {
                 Turn::Free => turn = self.begin(rt),
                 Turn::Shut => return,
             }
+        }
+    }
+
+    /// Carries the work of `errand` out, and brings its run what that gives.
+    fn carry_work<G: Gate>(&self, rt: &H, gate: &G, errand: Errand<J>) -> Turn<J> {
+        let Errand { task, work } = errand;
+        gate.pass(&work);
+        match work.carry_out(self.alloc) {
+            Ok(done) => return self.go_on(rt, task, Hand::Made(done)),
+            Err(work) => return self.go_on(rt, task, Hand::Unmade(work)),
         }
     }
 
@@ -75,7 +89,9 @@ impl<J: BoardName, H: Wait + Copy + Drop> Hall<J, H> {
     }
 
     /// Brings `brought` to the run of `task`, and takes its next steps.
-    fn go_on(&self, rt: &H, task: Task, brought: Brought<J>) -> Turn<J> {
+    fn go_on(&self, rt: &H, task: Task, brought: Brought<J>) -> Turn<J>
+        requires { IsFor task.run brought }
+    {
         let mut state = self.state.lock(rt);
         if state.is_shut {
             return Turn::Shut;
@@ -90,21 +106,25 @@ impl<J: BoardName, H: Wait + Copy + Drop> Hall<J, H> {
         task: Task,
         brought: Brought<J>,
         left: u8,
-    ) -> Turn<J> {
+    ) -> Turn<J>
+        requires { IsFor task.run brought }
+    {
         match run_step(&self.board, &mut state.store, self.alloc, task.run, brought) {
-            Next::Moved(Move::Carry(work)) => Turn::Carry(task, work),
-            Next::Moved(Move::Blocked(_)) => self.park(state, task),
-            Next::Moved(Move::Stepped) => {
-                self.stepped(state);
-                if left == 0 {
-                    return Turn::GoesOn(task);
+            Next::Moved(moved) => match moved {
+                Move::Carry(work) => return Turn::Carry(Errand { task, work }),
+                Move::Blocked(_) => return self.park(state, task),
+                Move::Stepped => {
+                    self.stepped(state);
+                    if left == 0 {
+                        return Turn::GoesOn(task);
+                    }
+                    return self.advance(state, task, Hand::Look, left - 1);
                 }
-                self.advance(state, task, Hand::Look, left - 1)
-            }
-            Next::Moved(Move::Answered) => self.ended(state, task),
-            Next::Moved(Move::Stopped) => self.ended(state, task),
-            Next::Starved => self.ended(state, task),
-            Next::Over => Turn::Free,
+                Move::Answered => return self.ended(state, task),
+                Move::Stopped => return self.ended(state, task),
+            },
+            Next::Starved => return self.ended(state, task),
+            Next::Over => return Turn::Free,
         }
     }
 
