@@ -1,2 +1,2 @@
-pub mod Posting
-pub mod Running
+pub mod PostMoves
+pub mod HandMoves

@@ -99,7 +99,7 @@ impl<J: BoardName, H: Wait + Copy + Drop> Hall<J, H> {
         ensures { IfOk result (λ moved. IsAnswerTo post moved) }
     {
         match self.stamp_for(rt, state.store.inputs(), &post) {
-            Ok(stamp) => return post_step(&mut state.store, client.id, post, stamp),
+            Ok(stamp) => return post_step(&mut state.store, client.id(), post, stamp),
             Err(_) => return Err(HallFault::Memory),
         }
     }
@@ -112,7 +112,7 @@ impl<J: BoardName, H: Wait + Copy + Drop> Hall<J, H> {
     ) -> Option<Ready<ProtoRules, Mark<J>>> {
         state.moved();
         self.work_came.notify_all();
-        state.store.collect(client.id)
+        state.store.collect(client.id())
     }
 
     /// The mark of the revision that `post` makes of `inputs`, if it is an edit.

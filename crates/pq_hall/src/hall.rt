@@ -82,7 +82,7 @@ impl<J: BoardName, H: Wait + Copy + Drop> Hall<J, H> {
     /// Ends `client` in the store and in its lane. Returns its seat.
     fn end_client(&self, rt: &H, client: Client) -> Option<Seat<J, H>> {
         let mut state = self.state.lock(rt);
-        if !state.store.close_client(client.id) {
+        if !state.store.close_client(client.id()) {
             return None;
         }
         state.leave(client);
@@ -111,7 +111,7 @@ impl<J: BoardName, H: Wait + Copy + Drop> Hall<J, H> {
     ) {
         match self.send(rt, client, ready) {
             Sent::Nothing => {}
-            Sent::Below(number) => self.acknowledge(rt, client.id, number),
+            Sent::Below(number) => self.acknowledge(rt, client.id(), number),
             Sent::Gone => self.close(rt, client),
         }
     }

@@ -59,7 +59,7 @@ impl<J: BoardName, H: Wait + Copy + Drop> Hall<J, H> {
     fn open(&self, rt: &H) -> Result<Client, OpenFault> {
         let mut state = self.state.lock(rt);
         let id = state.store.open_client()?;
-        match state.seat(id) {
+        match state.seat(id.number()) {
             Some(client) => Ok(client),
             None => {
                 state.store.close_client(id);

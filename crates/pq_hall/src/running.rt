@@ -1,12 +1,14 @@
 //! What a worker does to the store: one step of a run. It takes no lock and waits for nobody.
 ghost use Rattle.std.specs.Prelude.{◌≡◌, IsTrue, false};
+ghost use Rattle.pq_core.specs.Moves.{IsMade};
 ghost use Rattle.pq_core.specs.Stores.{Goes, HandsOut};
 ghost use Rattle.pq_hall.specs.Steps.{IsHandOf, Steps, OnMoved};
 ghost use Rattle.pq_hall.specs.aux.Ends.{Ends, IsEnd};
+ghost use Rattle.pq_hall.specs.declared.running.Hand.TheVariants.{Look, Made};
 
 use crate::board::Board;
 use crate::mark::{BoardName, Mark};
-use pq_core::{Done, GiveFault, GiveRefused, LookFault, Move, RunId, Stamp, Store, Work};
+use pq_core::{Done, GiveFault, LookFault, Move, RunId, Stamp, Store, Work, store_is_sound};
 use pq_rules::Rules;
 use std::alloc::Global;
 
@@ -52,27 +54,57 @@ pub fn run_step<R: Rules, J: BoardName>(
     ensures handed { OnMoved (HandsOut store.old run) result }
 {
     match hand {
-        Hand::Look => match store.look(alloc, run) {
-            Ok(moved) => return Next::Moved(moved),
-            Err(LookFault::NoRun) => return Next::Over,
-            Err(LookFault::Memory) => return starve(store, run),
-        },
+        Hand::Look => return look(store, alloc, run),
         Hand::Made(done) => {
             if !is_of_now(board, store, &done) {
                 return starve(store, run);
             }
-            match store.give(alloc, run, done) {
-                Ok(moved) => return Next::Moved(moved),
-                Err(refused) => {
-                    let GiveRefused { fault, .. } = refused;
-                    match fault {
-                        GiveFault::NotThisRun => return Next::Over,
-                        GiveFault::Memory => return starve(store, run),
-                    }
-                }
-            }
+            return give(store, alloc, run, done);
         }
         Hand::Unmade(_) => return starve(store, run),
+    }
+}
+
+/// Takes one step of `run`. It is starved where an allocation failed.
+fn look<R: Rules, M: Stamp>(
+    store: &mut Store<R, M>,
+    alloc: Global,
+    run: RunId,
+) -> Next<Work<R, M>>
+    ensures rules { store.new.rules ≡ store.old.rules }
+    ensures inputs { store.new.inputs ≡ store.old.inputs }
+    ensures moved { Goes R.Key.cmp (R.machine store.old.rules) M.point store.old store.new (Steps R.Key.cmp (R.machine store.old.rules) M.point store.old.rules run Look result) }
+    ensures handed { OnMoved (HandsOut store.old run) result }
+{
+    match store.look(alloc, run) {
+        Ok(looked) => return Next::Moved(looked),
+        Err(fault) => match fault {
+            LookFault::NoRun => return Next::Over,
+            LookFault::Memory => return starve(store, run),
+        },
+    }
+}
+
+/// Gives `done` to `run`. It is starved where an allocation failed.
+fn give<R: Rules, M: Stamp>(
+    store: &mut Store<R, M>,
+    alloc: Global,
+    run: RunId,
+    done: Done<R, M>,
+) -> Next<Work<R, M>>
+    requires { IsMade store.old.rules store.old.inputs done }
+    ensures rules { store.new.rules ≡ store.old.rules }
+    ensures inputs { store.new.inputs ≡ store.old.inputs }
+    ensures moved { Goes R.Key.cmp (R.machine store.old.rules) M.point store.old store.new (Steps R.Key.cmp (R.machine store.old.rules) M.point store.old.rules run (Made done) result) }
+    ensures handed { OnMoved (HandsOut store.old run) result }
+{
+    store_is_sound(store);
+    match store.give(alloc, run, done) {
+        Ok(given) => return Next::Moved(given),
+        Err(refused) => match refused.fault {
+            GiveFault::NotThisRun => return Next::Over,
+            GiveFault::Memory => return starve(store, run),
+        },
     }
 }
 

@@ -11,7 +11,7 @@ use std::sync::{Mutex, Wait};
 /// The outgoing side of an open client.
 #[derive(Drop)]
 pub(crate) struct Seat<J: BoardName, H: Wait + Drop> {
-    client: ClientId,
+    client: u64,
     lane: Lane<ProtoRules, Mark<J>, LaneEnd<ProtoRules, Mark<J>, H>>,
 }
 
@@ -34,12 +34,12 @@ impl<J: BoardName, H: Wait + Drop> Seat<J, H> {
     /// `Memory`. Then the outbox is dropped.
     pub(crate) fn new(
         alloc: Global,
-        client: ClientId,
+        client: u64,
         outbox: LaneEnd<ProtoRules, Mark<J>, H>,
     ) -> Result<Seat<J, H>, Memory>
         requires { outbox.items ≡ [] }
     {
-        let lane = Lane::new(alloc, client, outbox)?;
+        let lane = Lane::new(alloc, ClientId::new(client), outbox)?;
         Ok(Seat { client, lane })
     }
 
@@ -75,7 +75,7 @@ impl<J: BoardName, H: Wait + Drop> Seat<J, H> {
 /// Whether `seat` is that of `client`.
 pub(crate) fn has_seat<J: BoardName, H: Wait + Drop>(
     seat: &Option<Seat<J, H>>,
-    client: ClientId,
+    client: u64,
 ) -> bool {
     match seat {
         Some(seat) => seat.client == client,
@@ -86,7 +86,7 @@ pub(crate) fn has_seat<J: BoardName, H: Wait + Drop>(
 /// Fills `ready` into the lane of `seat` and releases, if the seat is that of `client`.
 pub(crate) fn send_in<J: BoardName, H: Wait + Drop>(
     seat: &mut Option<Seat<J, H>>,
-    client: ClientId,
+    client: u64,
     ready: Option<Ready<ProtoRules, Mark<J>>>,
 ) -> Sent {
     match seat {

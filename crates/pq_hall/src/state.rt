@@ -2,7 +2,7 @@
 ghost use Rattle.std.specs.Prelude.{◌≡◌};
 
 use crate::mark::{BoardName, Mark};
-use pq_core::{ClientId, MAX_CLIENTS, Memory, RunId, Store};
+use pq_core::{ClientId, MAX_CLIENTS, Memory, Store};
 use pq_proto::ProtoRules;
 use std::alloc::Global;
 use std::collections::VecDeque;
@@ -10,7 +10,7 @@ use std::collections::VecDeque;
 /// A client of a hall: its number, and the index of its seat.
 #[derive(Clone, Copy, Debug, PartialEq, Eq)]
 pub struct Client {
-    pub(crate) id: ClientId,
+    pub(crate) id: u64,
     pub(crate) seat: usize,
 }
 
@@ -19,14 +19,14 @@ impl Client {
     pub fn id(&self) -> ClientId
         ensures { result ≡ self.now.id }
     {
-        self.id
+        ClientId::new(self.id)
     }
 }
 
 /// A run of a client.
 #[derive(Clone, Copy)]
 pub(crate) struct Task {
-    pub(crate) run: RunId,
+    pub(crate) run: u64,
     pub(crate) client: Client,
 }
 
@@ -46,7 +46,7 @@ const PATIENCE: u64 = 64;
 pub(crate) struct State<J: BoardName> {
     pub(crate) store: Store<ProtoRules, Mark<J>>,
     /// The client of each seat.
-    seats: Vec<Option<ClientId>>,
+    seats: Vec<Option<u64>>,
     parked: VecDeque<Parked>,
     /// The count of moves so far: it tells a parked run that something has changed.
     pub(crate) moves: u64,
@@ -78,7 +78,7 @@ impl<J: BoardName> State<J> {
     }
 
     /// Gives a free seat to the client `id`, if there is one.
-    pub(crate) fn seat(&mut self, id: ClientId) -> Option<Client> {
+    pub(crate) fn seat(&mut self, id: u64) -> Option<Client> {
         for seat in 0..self.seats.len() {
             if self.seats[seat].is_none() {
                 self.seats[seat] = Some(id);
@@ -98,7 +98,7 @@ impl<J: BoardName> State<J> {
     }
 
     /// The client `id` and its seat. A client that was closed has the number of no seat.
-    fn client_of(&self, id: ClientId) -> Client {
+    fn client_of(&self, id: u64) -> Client {
         for seat in 0..self.seats.len() {
             if self.seats[seat] == Some(id) {
                 return Client { id, seat };
@@ -129,7 +129,8 @@ impl<J: BoardName> State<J> {
     fn start(&mut self) -> Option<Task> {
         let run = self.store.start()?;
         let (id, _) = self.store.request_of(run)?;
-        let client = self.client_of(id);
+        let client = self.client_of(id.number());
+        let run = run.number();
         Some(Task { run, client })
     }
 

@@ -6,7 +6,7 @@ use crate::hall::Hall;
 use crate::mark::{BoardName, Mark};
 use crate::running::{Hand, Next, run_step};
 use crate::state::{Client, State, Task};
-use pq_core::{Done, Move, Ready, Stamp, Work};
+use pq_core::{Done, Move, Ready, RunId, Stamp, Work};
 use pq_proto::ProtoRules;
 use std::sync::Wait;
 
@@ -109,7 +109,8 @@ impl<J: BoardName, H: Wait + Copy + Drop> Hall<J, H> {
     ) -> Turn<J>
         requires { IsFor task.run brought }
     {
-        match run_step(&self.board, &mut state.store, self.alloc, task.run, brought) {
+        let run = RunId::new(task.run);
+        match run_step(&self.board, &mut state.store, self.alloc, run, brought) {
             Next::Moved(moved) => match moved {
                 Move::Carry(work) => return Turn::Carry(Errand { task, work }),
                 Move::Blocked(_) => return self.park(state, task),
@@ -147,6 +148,6 @@ impl<J: BoardName, H: Wait + Copy + Drop> Hall<J, H> {
     /// Collects the reply of the run of `task`, which is over.
     fn ended(&self, state: &mut State<J>, task: Task) -> Turn<J> {
         self.stepped(state);
-        Turn::Reply(task.client, state.store.collect(task.client.id))
+        Turn::Reply(task.client, state.store.collect(task.client.id()))
     }
 }

@@ -1,5 +1,5 @@
 -- What the hand of a worker does to a store, from the one or two calls that it is.
-use Rattle.std.proofs.Common.{◌≡◌, ℕ, Result, Err, refl, sym, ap, ◌∙◌, subst, inl, inr}
+use Rattle.std.proofs.Common.{◌≡◌, ℕ, Result, Ok, Err, refl, sym, ap, ◌∙◌, subst, inl, inr}
 use Rattle.std.specs.declared.cmp.Ordering.{Ordering}
 use Rattle.pq_inputs.specs.Sources.{Table}
 use Rattle.pq_rules.specs.Turns.{Machine}
@@ -9,8 +9,9 @@ use Rattle.pq_core.specs.Works.{DoneView, WorkView}
 use Rattle.pq_core.specs.Ledger.{Ledger}
 use Rattle.pq_core.specs.Moves.{Looks, Gives}
 use Rattle.pq_core.specs.Told.{Told}
-use Rattle.pq_core.specs.Stores.{StoreView, Goes}
+use Rattle.pq_core.specs.Stores.{StoreView, StandsFor, Goes, HandsOut}
 use Rattle.pq_core.specs.declared.moves.Move.{Move}
+use Rattle.pq_core.specs.declared.moves.Move.TheVariants.{Carry, Blocked, Stepped, Answered, Stopped}
 use Rattle.pq_core.specs.declared.fault.LookFault.TheVariants.{Memory as LookMemory}
 use Rattle.pq_core.specs.declared.fault.GiveFault.{GiveFault}
 use Rattle.pq_core.specs.declared.fault.GiveFault.TheVariants.{NotThisRun, Memory as GiveMemory}
@@ -66,7 +67,7 @@ module _ {R K P V M : Type 0} (order : K → K → Ordering) (machine : R → Ma
       (Ends run next)
       (Steps order (machine before.rules) point before.rules run (Made done) next)
       (λ l n w. w.2)
-      (λ l n g w. both next l n (subst (λ (x : GiveRefused (DoneView R K P V)). Gives {R} {K} {P} {V} {M} {Told K V M} run done (Err x) l l) (refused_is refused GiveMemory done e f) g) w)
+      (λ l n g w. both next l n (subst (λ (x : GiveRefused (DoneView R K P V)). Gives {R = R} {K = K} {P = P} {V = V} {M = M} {O = Told K V M} run done (Err x) l l) (refused_is refused GiveMemory done e f) g) w)
       first
       (goes_ruled order machine point via.rules before.rules via after (Ends run next) same second)
     where
@@ -77,13 +78,32 @@ module _ {R K P V M : Type 0} (order : K → K → Ordering) (machine : R → Ma
       both Over l n g w = inr w
 
 module _ {R K P V M : Type 0} (order : K → K → Ordering) (machine : R → Machine K P V) (point : M → Point) (before after : StoreView R K P V M) (run : ℕ) where
+  -- the same hand
+  pub of_hand : (hand other : Hand (WorkView R K P V) (DoneView R K P V)) (next : Next (WorkView R K P V)) → hand ≡ other
+      → Goes order (machine before.rules) point before after (Steps order (machine before.rules) point before.rules run other next)
+      → Goes order (machine before.rules) point before after (Steps order (machine before.rules) point before.rules run hand next)
+  of_hand hand other next e moved =
+      subst (λ (h : Hand (WorkView R K P V) (DoneView R K P V)). Goes order (machine before.rules) point before after (Steps order (machine before.rules) point before.rules run h next)) (sym e) moved
+
+  -- a result that is taken hands no work out
+  pub given_hands : (done : DoneView R K P V) (given : Move (WorkView R K P V)) (l : Ledger K V M (Told K V M)) → StandsFor order (machine before.rules) point before l
+      → Goes order (machine before.rules) point before after (Gives run done (Ok given)) → HandsOut before run given
+  given_hands done given l s moved = let x = moved l s in none given x.0 x.1
+    where
+      none : (given : Move (WorkView R K P V)) (n : Ledger K V M (Told K V M)) → Gives run done (Ok given) l n → HandsOut before run given
+      none (Carry work) n w = absurd w
+      none (Blocked other) n w = tt
+      none Stepped n w = tt
+      none Answered n w = tt
+      none Stopped n w = tt
+
   -- `give` refuses a result that is of no work of the run
   pub give_over : (done : DoneView R K P V) (refused : GiveRefused (DoneView R K P V)) → refused.fault ≡ NotThisRun → refused.done ≡ done
       → Goes order (machine before.rules) point before after (Gives run done (Err refused))
       → Goes order (machine before.rules) point before after (Steps order (machine before.rules) point before.rules run (Made done) Over)
   give_over done refused e f moved =
       goes_as order (machine before.rules) point before after (Gives run done (Err refused)) (Steps order (machine before.rules) point before.rules run (Made done) Over)
-      (λ l n s w. inl (subst (λ (x : GiveRefused (DoneView R K P V)). Gives {R} {K} {P} {V} {M} {Told K V M} run done (Err x) l n) (refused_is refused NotThisRun done e f) w))
+      (λ l n s w. inl (subst (λ (x : GiveRefused (DoneView R K P V)). Gives {R = R} {K = K} {P = P} {V = V} {M = M} {O = Told K V M} run done (Err x) l n) (refused_is refused NotThisRun done e f) w))
       moved
 
   -- a result of the revision now, whose mark is not that of the store, is not given
