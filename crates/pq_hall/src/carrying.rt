@@ -54,12 +54,7 @@ impl<J: BoardName, H: Wait + Copy + Drop> Hall<J, H> {
     }
 
     /// Carries `post`, once there is room for it.
-    fn carry(
-        &self,
-        rt: &H,
-        client: Client,
-        post: Post<ProtoKey>,
-    ) -> Result<Carried<J>, HallFault>
+    fn carry(&self, rt: &H, client: Client, post: Post<ProtoKey>) -> Result<Carried<J>, HallFault>
         ensures { IfOk result (λ carried. IsKindOf carried.0 post) }
     {
         let mut post = post;
@@ -105,11 +100,7 @@ impl<J: BoardName, H: Wait + Copy + Drop> Hall<J, H> {
     }
 
     /// Tells of a post that was carried. Returns a reply to `client` that is made.
-    fn carried(
-        &self,
-        state: &mut State<J>,
-        client: Client,
-    ) -> Option<Ready<ProtoRules, Mark<J>>> {
+    fn carried(&self, state: &mut State<J>, client: Client) -> Option<Ready<ProtoRules, Mark<J>>> {
         state.moved();
         self.work_came.notify_all();
         state.store.collect(client.id())

@@ -30,12 +30,7 @@ impl<J: BoardName, H: Wait + Copy + Drop> Hall<J, H> {
     /// # Errors
     ///
     /// `Memory`. Then the inputs are dropped.
-    pub fn new(
-        rt: &H,
-        alloc: Global,
-        board: NewBoard,
-        inputs: Inputs,
-    ) -> Result<Hall<J, H>, Memory>
+    pub fn new(rt: &H, alloc: Global, board: NewBoard, inputs: Inputs) -> Result<Hall<J, H>, Memory>
         requires { board ≡ J.vector }
     {
         let (board, mark) = board.named::<J>(rt, &inputs)?;
@@ -117,12 +112,7 @@ impl<J: BoardName, H: Wait + Copy + Drop> Hall<J, H> {
     }
 
     /// Fills and releases under the lock of the lane.
-    fn send(
-        &self,
-        rt: &H,
-        client: Client,
-        ready: Option<Ready<ProtoRules, Mark<J>>>,
-    ) -> Sent {
+    fn send(&self, rt: &H, client: Client, ready: Option<Ready<ProtoRules, Mark<J>>>) -> Sent {
         let Some(lock) = self.seats.get(client.seat) else {
             return Sent::Nothing;
         };

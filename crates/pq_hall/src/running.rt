@@ -66,11 +66,7 @@ pub fn run_step<R: Rules, J: BoardName>(
 }
 
 /// Takes one step of `run`. It is starved where an allocation failed.
-fn look<R: Rules, M: Stamp>(
-    store: &mut Store<R, M>,
-    alloc: Global,
-    run: RunId,
-) -> Next<Work<R, M>>
+fn look<R: Rules, M: Stamp>(store: &mut Store<R, M>, alloc: Global, run: RunId) -> Next<Work<R, M>>
     ensures rules { store.new.rules ≡ store.old.rules }
     ensures inputs { store.new.inputs ≡ store.old.inputs }
     ensures moved { Goes R.Key.cmp (R.machine store.old.rules) M.point store.old store.new (Steps R.Key.cmp (R.machine store.old.rules) M.point store.old.rules run Look result) }

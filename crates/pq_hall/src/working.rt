@@ -100,13 +100,7 @@ impl<J: BoardName, H: Wait + Copy + Drop> Hall<J, H> {
     }
 
     /// Takes at most `left + 1` steps of the run of `task` under the lock.
-    fn advance(
-        &self,
-        state: &mut State<J>,
-        task: Task,
-        brought: Brought<J>,
-        left: u8,
-    ) -> Turn<J>
+    fn advance(&self, state: &mut State<J>, task: Task, brought: Brought<J>, left: u8) -> Turn<J>
         requires { IsFor task.run brought }
     {
         let run = RunId::new(task.run);
