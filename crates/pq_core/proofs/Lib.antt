@@ -46,3 +46,4 @@ pub mod CoreServing
 pub mod CoreLeaving
 pub mod CoreResting
 pub mod Crosses
+pub mod TwoCalls

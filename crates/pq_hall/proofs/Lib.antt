@@ -1,0 +1,2 @@
+pub mod PostMoves
+pub mod HandMoves

@@ -1,0 +1,12 @@
+use Rattle.std.proofs.Common.{Err, subst}
+use Rattle.pq_core.specs.Moves.{Looks}
+use Rattle.pq_core.specs.Stores.{Goes}
+use Rattle.pq_core.specs.declared.fault.LookFault.{LookFault}
+use Rattle.pq_hall.proofs.HandMoves.{look_starved}
+use Rattle.pq_hall.proofs.running.look.Goals as goal
+
+pub returns-in-Memory-clause-moved : goal.returns-in-Memory-clause-moved
+returns-in-Memory-clause-moved g c =
+    look_starved g.R.Key.Ord.cmp g.R.Rules.machine g.M.Stamp.point c.args.store.now c.look.new.self c.starve.new.store c.args.run c.starve.result c.in-Err.ensures.rules
+    (subst (λ (f : LookFault). Goes g.R.Key.Ord.cmp (g.R.Rules.machine c.args.store.now.rules) g.M.Stamp.point c.args.store.now c.look.new.self (Looks g.R.Key.Ord.cmp (g.R.Rules.machine c.args.store.now.rules) g.M.Stamp.point c.args.store.now.rules c.args.run (Err f))) c.in-Memory.is c.in-Err.ensures.moved)
+    c.starve.ensures.moved

@@ -1,0 +1,100 @@
+//! What a post does to the store: one call of it. It takes no lock and waits for nobody.
+ghost use Rattle.std.specs.Prelude.{◌≡◌, IfOk};
+ghost use Rattle.pq_core.specs.Stores.{Goes};
+ghost use Rattle.pq_core.specs.Starts.{IsCountedIn, Log};
+ghost use Rattle.pq_hall.specs.Steps.{IsStampFor, IsAnswerTo, Posts, inputs_posted, not_asked, not_edited, not_input};
+
+use crate::fault::HallFault;
+use pq_core::{AcceptFault, AcceptRefused, ClientId, EditFault, Number, Stamp, Store};
+use pq_inputs::{InputFault, Revision};
+use pq_mail::Post;
+use pq_rules::Rules;
+
+/// What became of a post.
+#[derive(Drop)]
+pub enum Moved<K> {
+    /// The request was accepted, and has this number.
+    Accepted(Number),
+    /// The edit was accepted, and made this revision.
+    Edited(Revision),
+    /// The client posts nothing more. The store is as it was.
+    Ended,
+    /// The window of the client is full. The request comes back, to be posted again.
+    Later(Post<K>),
+}
+
+/// Makes the call of `post` to `store`: `accept`, `edit`, or none at the end of the posts. An edit
+/// comes with the stamp of the revision that it makes.
+///
+/// # Errors
+///
+/// In this order. A want of memory is `Memory` alone, never within `Edit`.
+///
+/// - `Closed` where the client is not open.
+/// - `Edit` where the inputs refuse the edit.
+/// - `Memory`.
+pub fn post_step<R: Rules, M: Stamp>(
+    store: &mut Store<R, M>,
+    client: ClientId,
+    post: Post<R::Key>,
+    stamp: Option<M>,
+) -> Result<Moved<R::Key>, HallFault>
+    requires { IsStampFor M.point store.old.inputs post stamp }
+    ensures rules { store.new.rules ≡ store.old.rules }
+    ensures inputs { store.new.inputs ≡ inputs_posted store.old.inputs post result }
+    ensures places { store.new.places ≡ store.old.places }
+    ensures answer { IfOk result (λ moved. IsAnswerTo post moved) }
+    ensures moved { Goes R.Key.cmp (R.machine store.old.rules) M.point store.old store.new (Posts client post result) }
+    ensures counted { (log : Log R.Key) → IsCountedIn R.Key.cmp (R.machine store.old.rules) store.old log → IsCountedIn R.Key.cmp (R.machine store.old.rules) store.new log }
+{
+    match post {
+        Post::Ask(request) => match store.accept(client, request) {
+            Ok(number) => return Ok(Moved::Accepted(number)),
+            Err(refused) => return not_asked(refused),
+        },
+        Post::Edit(change) => match stamp {
+            Some(stamp) => match store.edit(client, change, stamp) {
+                Ok(revision) => return Ok(Moved::Edited(revision)),
+                Err(refused) => return not_edited(refused.fault),
+            },
+            None => unreachable!(),
+        },
+        Post::End => return Ok(Moved::Ended),
+    }
+}
+
+/// What a post comes to whose request was refused.
+fn not_asked<K: Drop>(refused: AcceptRefused<K>) -> Result<Moved<K>, HallFault>
+    ensures { result ≡ not_asked refused.fault refused.request }
+{
+    let AcceptRefused { fault, request } = refused;
+    match fault {
+        AcceptFault::NoClient => Err(HallFault::Closed),
+        AcceptFault::Closed => Err(HallFault::Closed),
+        AcceptFault::WindowFull => Ok(Moved::Later(Post::Ask(request))),
+        AcceptFault::Memory => Err(HallFault::Memory),
+    }
+}
+
+/// What a post comes to whose edit was refused for `fault`.
+fn not_edited<K>(fault: EditFault) -> Result<Moved<K>, HallFault>
+    ensures { result ≡ not_edited fault }
+{
+    match fault {
+        EditFault::NoClient => Err(HallFault::Closed),
+        EditFault::Closed => Err(HallFault::Closed),
+        EditFault::Input(fault) => not_input(fault),
+    }
+}
+
+/// What a post comes to whose edit the inputs refused for `fault`.
+fn not_input<K>(fault: InputFault) -> Result<Moved<K>, HallFault>
+    ensures { result ≡ not_input fault }
+{
+    match fault {
+        InputFault::TextTooLong => Err(HallFault::Edit(EditFault::Input(fault))),
+        InputFault::TooManyFiles => Err(HallFault::Edit(EditFault::Input(fault))),
+        InputFault::RevisionsUsedUp => Err(HallFault::Edit(EditFault::Input(fault))),
+        InputFault::Memory => Err(HallFault::Memory),
+    }
+}

@@ -1,0 +1,135 @@
+//! What a worker does to the store: one step of a run. It takes no lock and waits for nobody.
+ghost use Rattle.std.specs.Prelude.{◌≡◌, IsTrue, false};
+ghost use Rattle.pq_core.specs.Moves.{IsMade};
+ghost use Rattle.pq_core.specs.Stores.{Goes, HandsOut};
+ghost use Rattle.pq_hall.specs.Steps.{IsHandOf, Steps, OnMoved};
+ghost use Rattle.pq_hall.specs.aux.Ends.{Ends, IsEnd};
+ghost use Rattle.pq_hall.specs.declared.running.Hand.TheVariants.{Look, Made};
+
+use crate::board::Board;
+use crate::mark::{BoardName, Mark};
+use pq_core::{Done, GiveFault, LookFault, Move, RunId, Stamp, Store, Work, store_is_sound};
+use pq_rules::Rules;
+use std::alloc::Global;
+
+/// What a worker brings to a run: nothing, the result of its work, or its work, which an allocation
+/// kept from being carried out.
+#[derive(Drop)]
+pub enum Hand<W, D> {
+    /// The run takes its next step.
+    Look,
+    /// The result of its work.
+    Made(D),
+    /// Its work, as it was handed out.
+    Unmade(W),
+}
+
+/// What became of it.
+#[derive(Drop)]
+pub enum Next<W> {
+    /// The run made this move.
+    Moved(Move<W>),
+    /// The run was starved: an allocation failed.
+    Starved,
+    /// The run is over, or the result is not that of its work. The store is as it was.
+    Over,
+}
+
+/// Makes the call of `hand` to `store`: `look` of nothing, `give` of a result, `starve` of work that
+/// comes back.
+///
+/// A run is also starved where `look` or `give` answers `Memory`, and where a result is of the
+/// revision now and its mark has another index than the mark of the store.
+pub fn run_step<R: Rules, J: BoardName>(
+    board: &Board<J>,
+    store: &mut Store<R, Mark<J>>,
+    alloc: Global,
+    run: RunId,
+    hand: Hand<Work<R, Mark<J>>, Done<R, Mark<J>>>,
+) -> Next<Work<R, Mark<J>>>
+    requires { IsHandOf store.old.rules run hand }
+    ensures rules { store.new.rules ≡ store.old.rules }
+    ensures inputs { store.new.inputs ≡ store.old.inputs }
+    ensures moved { Goes R.Key.cmp (R.machine store.old.rules) (λ m. m.point) store.old store.new (Steps R.Key.cmp (R.machine store.old.rules) (λ m. m.point) store.old.rules run hand result) }
+    ensures handed { OnMoved (HandsOut store.old run) result }
+{
+    match hand {
+        Hand::Look => return look(store, alloc, run),
+        Hand::Made(done) => {
+            if !is_of_now(board, store, &done) {
+                return starve(store, run);
+            }
+            return give(store, alloc, run, done);
+        }
+        Hand::Unmade(_) => return starve(store, run),
+    }
+}
+
+/// Takes one step of `run`. It is starved where an allocation failed.
+fn look<R: Rules, M: Stamp>(store: &mut Store<R, M>, alloc: Global, run: RunId) -> Next<Work<R, M>>
+    ensures rules { store.new.rules ≡ store.old.rules }
+    ensures inputs { store.new.inputs ≡ store.old.inputs }
+    ensures moved { Goes R.Key.cmp (R.machine store.old.rules) M.point store.old store.new (Steps R.Key.cmp (R.machine store.old.rules) M.point store.old.rules run Look result) }
+    ensures handed { OnMoved (HandsOut store.old run) result }
+{
+    match store.look(alloc, run) {
+        Ok(looked) => return Next::Moved(looked),
+        Err(fault) => match fault {
+            LookFault::NoRun => return Next::Over,
+            LookFault::Memory => return starve(store, run),
+        },
+    }
+}
+
+/// Gives `done` to `run`. It is starved where an allocation failed.
+fn give<R: Rules, M: Stamp>(
+    store: &mut Store<R, M>,
+    alloc: Global,
+    run: RunId,
+    done: Done<R, M>,
+) -> Next<Work<R, M>>
+    requires { IsMade store.old.rules store.old.inputs done }
+    ensures rules { store.new.rules ≡ store.old.rules }
+    ensures inputs { store.new.inputs ≡ store.old.inputs }
+    ensures moved { Goes R.Key.cmp (R.machine store.old.rules) M.point store.old store.new (Steps R.Key.cmp (R.machine store.old.rules) M.point store.old.rules run (Made done) result) }
+    ensures handed { OnMoved (HandsOut store.old run) result }
+{
+    store_is_sound(store);
+    match store.give(alloc, run, done) {
+        Ok(given) => return Next::Moved(given),
+        Err(refused) => match refused.fault {
+            GiveFault::NotThisRun => return Next::Over,
+            GiveFault::Memory => return starve(store, run),
+        },
+    }
+}
+
+/// Whether `store` may take `done`: it is of an older revision, or its mark is that of the store.
+fn is_of_now<R: Rules, J: BoardName>(
+    board: &Board<J>,
+    store: &Store<R, Mark<J>>,
+    done: &Done<R, Mark<J>>,
+) -> bool
+    ensures same { IsTrue result → done.now.started ≡ store.now.inputs.revision → done.now.files ≡ store.now.inputs.files }
+    ensures now { result ≡ false → done.now.started ≡ store.now.inputs.revision }
+{
+    let mark = done.stamp();
+    let now = store.stamp();
+    if mark.revision() != now.revision() {
+        return true;
+    }
+    board.is_same(mark, now)
+}
+
+/// Starves `run`.
+fn starve<R: Rules, M: Stamp>(store: &mut Store<R, M>, run: RunId) -> Next<Work<R, M>>
+    ensures rules { store.new.rules ≡ store.old.rules }
+    ensures inputs { store.new.inputs ≡ store.old.inputs }
+    ensures over { IsEnd result }
+    ensures moved { Goes R.Key.cmp (R.machine store.old.rules) M.point store.old store.new (Ends run result) }
+{
+    if store.starve(run) {
+        return Next::Starved;
+    }
+    Next::Over
+}
