@@ -1,4 +1,3 @@
-pub mod Carried
 pub mod Marks
 pub mod Steps
 pub mod aux
