@@ -24,8 +24,8 @@ The verdict is one of:
 The edits are tried in a copy of the repository, over the work that the last `rt check` of the crate kept: run `rt check`
 in the crate's folder first. Edits of different functions are tried together, in one `rt check --allow-holes`. A goal is
 stated by the contracts of what a function calls, so no edit hides another. An edit counts as refused there if the checker
-names a goal or an answer of the very function that it changes. Each other edit is tried alone, and is let through if the
-whole crate is proved with it.
+names a goal or an answer of the very function that it changes. Each other edit is tried alone, as is one that brings answers
+of its own; it is let through if the whole crate is proved with it. A refusal by a name that the edit took away does not count.
 
 Printed are, for each edit, whether it was refused, the processor seconds, and what was refused first.
 The status is 1 if an edit was let through or could not be tried.
@@ -35,6 +35,7 @@ usage: bench/edits.py CRATE [NAME..]     tries all edits of the crate, or those 
        bench/edits.py --apply-only ..    proves nothing: says whether each edit still applies
        bench/edits.py --alone ..         tries each edit alone
        bench/edits.py --note ..          writes the verdict and the clause of each refused edit into the list
+       bench/edits.py --jobs N ..        gives each check N processors, else one
 """
 import argparse
 import os
@@ -51,6 +52,7 @@ LISTS = os.path.join(HERE, "edits")
 PARTS = ["src", "specs", "proofs"]
 # what the checker says of a proof file that names what an edit took away
 BY_NAME = r"has no field|is not in scope|has no `|was not admitted"
+NAME_ALONE = "by a name alone: "
 VERDICTS = ["refused", "refused in the gate", "refused in a review", "not tried"]
 
 
@@ -145,9 +147,9 @@ def seconds():
     return used.ru_utime + used.ru_stime
 
 
-def check(folder, *flags):
-    """The lines of a check of the crate in the folder."""
-    words = ["rt", "check", "--jobs", "1", *flags]
+def check(folder, jobs, *flags):
+    """The lines of a check of the crate in the folder, on `jobs` processors."""
+    words = ["rt", "check", "--jobs", str(jobs), *flags]
     ran = subprocess.run(words, cwd=folder, stdin=subprocess.DEVNULL, stdout=subprocess.PIPE, stderr=subprocess.STDOUT, text=True, errors="replace")
     return ran.stdout.split("\n")
 
@@ -163,9 +165,11 @@ def owner_of(begun):
 
 
 def function_of(edit, folder):
-    """The file and the name of the one function that the edit changes, with its type, or None."""
+    """The file and the name of the one function that the edit changes, with its type, or None. What it brings of proofs counts for nothing."""
     found = set()
     for file, old, _ in edit.pairs:
+        if file.startswith("proofs/"):
+            continue
         with open(os.path.join(folder, file), encoding="utf-8") as it:
             text = it.read()
         head = r"^( *)(?:pub(?:\([a-z]+\))? )?fn (\w+)"
@@ -183,15 +187,20 @@ def own_refusal(lines, crate, function):
     file, name = function
     module = re.sub(r"/main\.rt$|/lib\.rt$|\.rt$", "", file[len("src/"):]).replace("/", "::")
     said = [re.match(r"fn %s::(\S+): (.*)" % crate, it) for it in lines]
+    # a closure has the path of its function, with `fn` before the function's name
+    closures = [it for it in said if it and re.search(r"(^|::)fn::%s::\w+$" % name, it[1])]
     said = [it for it in said if it and ("::" + it[1]).endswith("::" + name)]
     # a method can stand in another module than its type
     said = [it for it in said if it[1].startswith(module + "::")] or said
-    if len(said) != 1 or not re.match(r"no proof|not proved", said[0][2]):
+    if len(said) != 1:
         return None
-    goals = re.search(r"`search` did not prove (`[^`]+`)", said[0][2])
-    if goals:
-        return "`%s` (%s)" % (said[0][1], goals[1])
-    return named_error(lines, said[0][1])
+    for it in said + closures:
+        if re.match(r"no proof|not proved", it[2]):
+            goals = re.search(r"`search` did not prove (`[^`]+`)", it[2])
+            refusal = "`%s` (%s)" % (it[1], goals[1]) if goals else named_error(lines, it[1])
+            if refusal:
+                return refusal
+    return None
 
 
 def named_error(lines, function):
@@ -208,12 +217,12 @@ def said_first(lines):
     said = [it for it in said if ": error" in it or it.startswith("note: ")] or said
     goals = [it for it in said if not (re.match(r"(\./)?proofs/", it) and re.search(BY_NAME, it))]
     if said and not goals:
-        return "by a name alone: " + said[0]
+        return NAME_ALONE + said[0]
     goals = [re.sub(r"^note: (src/\S+?):\d.*?\((`[^`]+`)\).*", r"a goal in \1 (\2)", it) for it in goals]
     return (goals or [it for it in lines if it.strip()][-1:] or ["it said nothing"])[0]
 
 
-def tried(folder, crate, edit):
+def tried(folder, crate, edit, jobs):
     """Whether the checker refuses the crate with the edit, and what it said first."""
     texts, why = changed(edit, folder)
     if texts is None:
@@ -221,7 +230,7 @@ def tried(folder, crate, edit):
     function = function_of(edit, folder)
     before = written(folder, texts)
     try:
-        lines = check(folder)
+        lines = check(folder, jobs)
     finally:
         written(folder, before)
     if any(it.startswith("logic=proved") for it in lines):
@@ -229,20 +238,22 @@ def tried(folder, crate, edit):
     said = said_first(lines)[:300]
     if not any(it.startswith("logic=not-proved") for it in lines):
         return False, "it did not reach the checker: " + said
-    return True, function and own_refusal(lines, crate, function) or said
+    own = function and own_refusal(lines, crate, function)
+    return bool(own) or not said.startswith(NAME_ALONE), own or said
 
 
 def of_different_functions(folder, edits):
-    """The first edit of each function, by the function; those that change no single function are left out."""
+    """The first edit of each function, by the function. Those that change no single function, or proofs too, are left out."""
     chosen = {}
     for edit in edits:
         function = function_of(edit, folder)
-        if function and function not in chosen and changed(edit, folder)[0]:
+        alone = any(not file.startswith("src/") for file, _, _ in edit.pairs)
+        if function and function not in chosen and not alone and changed(edit, folder)[0]:
             chosen[function] = edit
     return chosen
 
 
-def tried_together(folder, crate, chosen):
+def tried_together(folder, crate, chosen, jobs):
     """What was refused of each edit of a function of its own, by name, in one check."""
     before = {}
     try:
@@ -250,7 +261,7 @@ def tried_together(folder, crate, chosen):
             texts = changed(edit, folder)[0]
             if texts:
                 before = {**written(folder, texts), **before}
-        lines = check(folder, "--allow-holes")
+        lines = check(folder, jobs, "--allow-holes")
     finally:
         written(folder, before)
     found = {edit.name: own_refusal(lines, crate, function) for function, edit in chosen.items()}
@@ -280,8 +291,8 @@ def note(crate, edit, clause):
         it.write(text.replace(was, "%sverdict: refused\nclause: %s\n" % (head, clause)))
 
 
-def try_all(crate, edits, alone, notes):
-    """Tries the edits, says of each what is known as soon as it is, and returns how many were not refused."""
+def try_all(crate, edits, alone, notes, jobs):
+    """Tries the edits, each check on `jobs` processors, says of each what is known as soon as it is, and returns how many were not refused."""
     refused = set()
     rooms = os.path.join(HERE, "out")
     os.makedirs(rooms, exist_ok=True)
@@ -302,14 +313,14 @@ def try_all(crate, edits, alone, notes):
             chosen = of_different_functions(folder, left)
             left = [it for it in left if it not in chosen.values()] if len(chosen) > 1 else []
             start = seconds()
-            found = tried_together(folder, crate, chosen) if len(chosen) > 1 else {}
+            found = tried_together(folder, crate, chosen, jobs) if len(chosen) > 1 else {}
             share = (seconds() - start) / max(len(found), 1)
             for edit in edits:
                 if edit.name in found:
                     say(edit, True, share, found[edit.name])
         for edit in [it for it in edits if it.name not in refused]:
             start = seconds()
-            well, said = tried(folder, crate, edit)
+            well, said = tried(folder, crate, edit, jobs)
             say(edit, well, seconds() - start, said)
     return len(edits) - len(refused)
 
@@ -321,6 +332,7 @@ def main():
     words.add_argument("--all", action="store_true")
     for it in ["--apply-only", "--alone", "--note"]:
         words.add_argument(it, action="store_true")
+    words.add_argument("--jobs", type=int, default=1)
     words = words.parse_args()
     words.all = words.all or words.apply_only and not words.crate
     if not words.crate and not words.all:
@@ -333,7 +345,7 @@ def main():
         if absent:
             sys.exit("%s has no edit %s" % (crate, ", ".join(absent)))
         edits = [it for it in edits if it.name in words.names] if words.names else edits
-        failed += apply_all(crate, edits) if words.apply_only else try_all(crate, edits, words.alone, words.note)
+        failed += apply_all(crate, edits) if words.apply_only else try_all(crate, edits, words.alone, words.note, words.jobs)
     return 1 if failed else 0
 
 
