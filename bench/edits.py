@@ -24,8 +24,8 @@ The verdict is one of:
 The edits are tried in a copy of the repository, over the work that the last `rt check` of the crate kept: run `rt check`
 in the crate's folder first. Edits of different functions are tried together, in one `rt check --allow-holes`. A goal is
 stated by the contracts of what a function calls, so no edit hides another. An edit counts as refused there if the checker
-names a goal or an answer of the very function that it changes. Each other edit is tried alone, as is one that brings answers
-of its own; it is let through if the whole crate is proved with it. A refusal by a name that the edit took away does not count.
+names a goal or an answer of the very function that it changes. An edit can bring answers of that function. Each other edit is
+tried alone, and is let through if the whole crate is proved with it. A refusal by a name that the edit took away does not count.
 
 Printed are, for each edit, whether it was refused, the processor seconds, and what was refused first.
 The status is 1 if an edit was let through or could not be tried.
@@ -243,14 +243,19 @@ def tried(folder, crate, edit, jobs):
 
 
 def of_different_functions(folder, edits):
-    """The first edit of each function, by the function. Those that change no single function, or proofs too, are left out."""
+    """The first edit of each function, by the function. Those that change no single function, or proofs of others, are left out."""
     chosen = {}
     for edit in edits:
         function = function_of(edit, folder)
-        alone = any(not file.startswith("src/") for file, _, _ in edit.pairs)
-        if function and function not in chosen and not alone and changed(edit, folder)[0]:
+        if function and function not in chosen and brings_own_proofs(edit, function[1]) and changed(edit, folder)[0]:
             chosen[function] = edit
     return chosen
+
+
+def brings_own_proofs(edit, function):
+    """Whether each proof file that the edit changes is one of its function."""
+    own = r"^proofs/(.*/)?%s/\w+\.antt$" % function.replace("::", "/")
+    return all(re.search(own, file) for file, _, _ in edit.pairs if not file.startswith("src/"))
 
 
 def tried_together(folder, crate, chosen, jobs):
