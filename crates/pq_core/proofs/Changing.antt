@@ -35,21 +35,6 @@ module _ {T : Type 0} (a b c : Slots T) (n : ℕ) (value : T) where
       → b.room ≤ c.room + 1 → ((m : ℕ) → IsAbove m b.items → IsAbove m c.items) → IsSetAt a c n (Some value)
   set_back f up more g room down = record { found = both f g; above = λ m h. down m (up m h); room = omega arith }
 
-  -- the value is put back as it was
-  pub same_back : found a.items n ≡ Some value → ((k : ℕ) → found b.items k ≡ (if k == n then None else found a.items k))
-      → ((m : ℕ) → IsAbove m a.items → IsAbove m b.items)
-      → a.room + 1 ≤ b.room → ((k : ℕ) → found c.items k ≡ (if k == n then Some value else found b.items k))
-      → b.room ≤ c.room + 1 → ((m : ℕ) → IsAbove m b.items → IsAbove m c.items) → IsSameMap a c
-  same_back h f up more g room down = record { found = λ k. both f g k ∙ at_place k; above = λ m x. down m (up m x); room = omega arith }
-    where
-      at_place : (k : ℕ) → (if k == n then Some value else found a.items k) ≡ found a.items k
-      at_place k = by_test (k == n) refl
-        where
-          by_test : (t : Bool) → (k == n) ≡ t → (if k == n then Some value else found a.items k) ≡ found a.items k
-          by_test true e =
-              ap (λ (s : Bool). if s then Some value else found a.items k) e ∙ (sym h ∙ ap (λ (j : ℕ). found a.items j) (sym (eqb-true k n e)))
-          by_test false e = ap (λ (s : Bool). if s then Some value else found a.items k) e
-
 module _ {T : Type 0} (a b : Slots T) (n : ℕ) where
   -- nothing was there to take out
   pub none_taken : found a.items n ≡ None → ((k : ℕ) → found b.items k ≡ (if k == n then None else found a.items k))

@@ -65,9 +65,6 @@ module _ {K V M O : Type 0} where
   fill_so ready (Ok done) l m tray (place, is) same has = is ∙ ap (λ (x : Tray K V M O). placed_in x ready) same
   fill_so ready (Err back) l m tray (other, none, is) same has = absurd (none (subst (λ (x : Tray K V M O). HasPlace x ready) (sym same) has))
 
-  pub set_as : (lanes left : Slots (Tray K V M O)) (c : ℕ) (x y : Tray K V M O) → x ≡ y → IsSetAt lanes left c (Some x) → IsSetAt lanes left c (Some y)
-  set_as lanes left c x y e s = subst (λ (z : Tray K V M O). IsSetAt lanes left c (Some z)) e s
-
 module _ {K V M O : Type 0} (puts : O → List (ReplyView K V M)) where
   -- one request is written
   pub turn_entry : (l m : Ledger K V M O) (c n : ℕ) (client : Client K V M O) (entry next : Entry K V M) → slice_get l.clients c ≡ Some client → slice_get client.entries n ≡ Some entry
