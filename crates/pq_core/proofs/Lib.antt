@@ -35,6 +35,7 @@ pub mod StoreClosing
 pub mod StoreCollecting
 pub mod StoreResting
 pub mod StoreStarting
+pub mod StoreStepping
 pub mod Counting
 pub mod RulesBegun
 pub mod StoreCounting

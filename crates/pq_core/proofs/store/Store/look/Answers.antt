@@ -16,6 +16,7 @@ use Rattle.pq_core.proofs.Claiming.{holder_there}
 use Rattle.pq_core.proofs.RunsKept.{back_runs, closes_still, ended_runs, own_claimed, own_stale, past_stepped, same_runs, stepped_runs, stopped_runs}
 use Rattle.pq_core.proofs.Changing.{if_at, none_taken, set_back}
 use Rattle.pq_core.proofs.StoreOpening.{unmoved}
+use Rattle.pq_core.proofs.StoreStepping.{step_whole}
 use Rattle.pq_core.proofs.StoreAccepting.{false_true, run_past}
 use Rattle.pq_core.proofs.StoreRunning.{told_answer, ends_of, end_queue, end_advances, run_here, no_run, run_running, run_demands, current, stop_moved, back_moved, seen_moved, none_of, goes_on, look_blocked, carry_moved, answer_moved, why_cause, why_then, ended_as, look_held}
 use Rattle.pq_core.proofs.Renewed.{renewed_none_lost, renewed_then, same_none_lost}
@@ -30,29 +31,18 @@ invariant_of-self g c =
     let w = c.self.invariant in
     let nothing = sym (rw c.number-id.ensures at (c.in-None.ensures {u = tt}).value) in
     let same = none_taken c.self.inside.runs c.take.new.self c.args.run nothing (rw c.number-id.ensures at c.take.ensures.found) c.take.ensures.above c.take.ensures.room in
-    record {
-      stamped = c.self.invariant.stamped;
-      kept = w.kept;
-      accounts_above = w.accounts_above;
-      runs_above = same.above c.self.inside.started w.runs_above;
-      queue = w.queue;
-      room =
-          let a : length c.self.inside.waiting.items ≤ c.self.inside.runs.room = w.room in
-          let b = same.room in
-          omega (arith, a, b);
-      runs = same_runs _ _ _ _ _ _ _ same.found w.runs;
-      ledger = (
-        w.ledger.0,
-        unmoved g.R.Key.Ord.cmp (g.R.Rules.machine c.self.inside.memos.rules) g.M.Stamp.point told_puts _ _ w.ledger.0 (record {
-          inputs = refl;
-          accounts = λ k. refl;
-          opened = refl;
-          clients = refl;
-          runs = same.found;
-          started = refl;
-        }) w.ledger.1,
-      );
-    }
+    (step_whole _ _ _ _ _ _ _ _ w w.kept (same.above c.self.inside.started) same.room
+    (same_runs _ _ _ _ _ _ _ same.found w.runs) (
+      w.ledger.0,
+      unmoved g.R.Key.Ord.cmp (g.R.Rules.machine c.self.inside.memos.rules) g.M.Stamp.point told_puts _ _ w.ledger.0 (record {
+        inputs = refl;
+        accounts = λ k. refl;
+        opened = refl;
+        clients = refl;
+        runs = same.found;
+        started = refl;
+      }) w.ledger.1,
+    ))
 
 pub returns-in-None-clause-none_lost : goal.returns-in-None-clause-none_lost
 returns-in-None-clause-none_lost g c = rw (← c.self.view_is)
@@ -129,19 +119,9 @@ invariant_of-self-then-is_out g c =
     let here = sym (rw c.number-id.ensures at (c.in-Some.ensures {u = tt}).value) in
     let set = set_back c.self.inside.runs c.take.new.self c.put_back.new.self c.args.run c.in-Some.taken (rw c.number-id.ensures at c.take.ensures.found) c.take.ensures.above
     (rw c.in-Some.is at c.take.ensures.more_room) (rw c.number-id.ensures at c.put_back.ensures.found) c.put_back.ensures.room c.put_back.ensures.above in
-    record {
-      stamped = c.self.invariant.stamped;
-      kept = w.kept;
-      accounts_above = w.accounts_above;
-      runs_above = set.above c.self.inside.started w.runs_above;
-      queue = w.queue;
-      room =
-          let a : length c.self.inside.waiting.items ≤ c.self.inside.runs.room = w.room in
-          let b = set.room in
-          omega (arith, a, b);
-      runs = back_runs _ _ _ _ _ _ _ c.args.run c.in-Some.taken here set.found w.runs;
-      ledger = (w.ledger.0, back_moved g.R.Key.Ord.cmp (g.R.Rules.machine c.self.inside.memos.rules) g.M.Stamp.point told_puts (held (record { rules = c.self.inside.memos.rules; places = c.self.inside.memos.places; inputs = c.self.inside.inputs; accounts = c.self.inside.accounts; opened = c.self.inside.opened; clients = c.self.inside.clients; waiting = c.self.inside.waiting.items; runs = c.self.inside.runs; started = c.self.inside.started; claims = c.self.inside.claims })) (record { inputs = c.self.inside.inputs; accounts = c.self.inside.accounts.items; opened = c.self.inside.opened; clients = c.self.inside.clients; runs = c.put_back.new.self.items; started = c.self.inside.started }) w.ledger.0 c.args.run c.in-Some.taken c.in-Some.taken w.ledger.1 here (record { client = refl; number = refl; request = refl; started = refl }) refl set.found (λ k. refl) (record { inputs = refl; opened = refl; clients = refl; started = refl }));
-    }
+    (step_whole _ _ _ _ _ _ _ _ w w.kept (set.above c.self.inside.started) set.room
+    (back_runs _ _ _ _ _ _ _ c.args.run c.in-Some.taken here set.found w.runs)
+    (w.ledger.0, back_moved g.R.Key.Ord.cmp (g.R.Rules.machine c.self.inside.memos.rules) g.M.Stamp.point told_puts (held (record { rules = c.self.inside.memos.rules; places = c.self.inside.memos.places; inputs = c.self.inside.inputs; accounts = c.self.inside.accounts; opened = c.self.inside.opened; clients = c.self.inside.clients; waiting = c.self.inside.waiting.items; runs = c.self.inside.runs; started = c.self.inside.started; claims = c.self.inside.claims })) (record { inputs = c.self.inside.inputs; accounts = c.self.inside.accounts.items; opened = c.self.inside.opened; clients = c.self.inside.clients; runs = c.put_back.new.self.items; started = c.self.inside.started }) w.ledger.0 c.args.run c.in-Some.taken c.in-Some.taken w.ledger.1 here (record { client = refl; number = refl; request = refl; started = refl }) refl set.found (λ k. refl) (record { inputs = refl; opened = refl; clients = refl; started = refl })))
 
 pub returns-then-is_out-clause-none_lost : goal.returns-then-is_out-clause-none_lost
 returns-then-is_out-clause-none_lost g c = rw (← c.self.view_is)
@@ -164,19 +144,9 @@ invariant_of-self-in-None-ok g c =
     let here = sym (rw c.number-id.ensures at (c.in-Some.ensures {u = tt}).value) in
     let set = set_back c.self.inside.runs c.take.new.self c.put_back-in-None-ok.new.self c.args.run c.in-Some.taken (rw c.number-id.ensures at c.take.ensures.found) c.take.ensures.above
     (rw c.in-Some.is at c.take.ensures.more_room) (rw c.number-id.ensures at c.put_back-in-None-ok.ensures.found) c.put_back-in-None-ok.ensures.room c.put_back-in-None-ok.ensures.above in
-    record {
-      stamped = c.self.invariant.stamped;
-      kept = w.kept;
-      accounts_above = w.accounts_above;
-      runs_above = set.above c.self.inside.started w.runs_above;
-      queue = w.queue;
-      room =
-          let a : length c.self.inside.waiting.items ≤ c.self.inside.runs.room = w.room in
-          let b = set.room in
-          omega (arith, a, b);
-      runs = back_runs _ _ _ _ _ _ _ c.args.run c.in-Some.taken here set.found w.runs;
-      ledger = (w.ledger.0, back_moved g.R.Key.Ord.cmp (g.R.Rules.machine c.self.inside.memos.rules) g.M.Stamp.point told_puts (held (record { rules = c.self.inside.memos.rules; places = c.self.inside.memos.places; inputs = c.self.inside.inputs; accounts = c.self.inside.accounts; opened = c.self.inside.opened; clients = c.self.inside.clients; waiting = c.self.inside.waiting.items; runs = c.self.inside.runs; started = c.self.inside.started; claims = c.self.inside.claims })) (record { inputs = c.self.inside.inputs; accounts = c.self.inside.accounts.items; opened = c.self.inside.opened; clients = c.self.inside.clients; runs = c.put_back-in-None-ok.new.self.items; started = c.self.inside.started }) w.ledger.0 c.args.run c.in-Some.taken c.in-Some.taken w.ledger.1 here (record { client = refl; number = refl; request = refl; started = refl }) refl set.found (λ k. refl) (record { inputs = refl; opened = refl; clients = refl; started = refl }));
-    }
+    (step_whole _ _ _ _ _ _ _ _ w w.kept (set.above c.self.inside.started) set.room
+    (back_runs _ _ _ _ _ _ _ c.args.run c.in-Some.taken here set.found w.runs)
+    (w.ledger.0, back_moved g.R.Key.Ord.cmp (g.R.Rules.machine c.self.inside.memos.rules) g.M.Stamp.point told_puts (held (record { rules = c.self.inside.memos.rules; places = c.self.inside.memos.places; inputs = c.self.inside.inputs; accounts = c.self.inside.accounts; opened = c.self.inside.opened; clients = c.self.inside.clients; waiting = c.self.inside.waiting.items; runs = c.self.inside.runs; started = c.self.inside.started; claims = c.self.inside.claims })) (record { inputs = c.self.inside.inputs; accounts = c.self.inside.accounts.items; opened = c.self.inside.opened; clients = c.self.inside.clients; runs = c.put_back-in-None-ok.new.self.items; started = c.self.inside.started }) w.ledger.0 c.args.run c.in-Some.taken c.in-Some.taken w.ledger.1 here (record { client = refl; number = refl; request = refl; started = refl }) refl set.found (λ k. refl) (record { inputs = refl; opened = refl; clients = refl; started = refl })))
 
 pub returns-in-None-ok-clause-none_lost : goal.returns-in-None-ok-clause-none_lost
 returns-in-None-ok-clause-none_lost g c = rw (← c.self.view_is)
@@ -220,23 +190,13 @@ invariant_of-self-in-Carry g c =
     (rw c.in-Some.is at c.take.ensures.more_room) (rw c.number-id.ensures at c.put_back-in-Carry.ensures.found) c.put_back-in-Carry.ensures.room c.put_back-in-Carry.ensures.above in
     let moved = carry_moved g.R.Key.Ord.cmp (g.R.Rules.machine c.self.inside.memos.rules) g.M.Stamp.point told_puts c.self.inside.memos.rules (held (record { rules = c.self.inside.memos.rules; places = c.self.inside.memos.places; inputs = c.self.inside.inputs; accounts = c.self.inside.accounts; opened = c.self.inside.opened; clients = c.self.inside.clients; waiting = c.self.inside.waiting.items; runs = c.self.inside.runs; started = c.self.inside.started; claims = c.self.inside.claims })) (record { inputs = c.self.inside.inputs; accounts = c.self.inside.accounts.items; opened = c.self.inside.opened; clients = c.self.inside.clients; runs = c.put_back-in-Carry.new.self.items; started = c.self.inside.started }) w.ledger.0 c.args.run c.in-Some.taken c.look-looked.new.self c.in-Carry.work (memo_at g.R.Key.Ord.cmp c.self.inside.memos.places) w.ledger.1 here (λ o. false_true (sym c.if-is_overtaken.false ∙ c.is_overtaken.ensures.1 (rw c.now-now.ensures.now o))) (none_of (out_at c.in-Some.taken.top) (λ e. false_true (sym c.if-is_out.false ∙ c.is_out.ensures.1 e))) c.look-looked.ensures.same (rw c.in-Carry.is at (c.in-Ok.ensures {u = tt}).looked) set.found (λ k. refl) (record { inputs = refl; opened = refl; clients = refl; started = refl }) in
     rw c.look-looked.ensures.rules
-    (record {
-      stamped = c.self.invariant.stamped;
-      kept = c.look-looked.ensures.kept;
-      accounts_above = w.accounts_above;
-      runs_above = set.above c.self.inside.started w.runs_above;
-      queue = w.queue;
-      room =
-          let a : length c.self.inside.waiting.items ≤ c.self.inside.runs.room = w.room in
-          let b = set.room in
-          omega (arith, a, b);
-      runs = stepped_runs _ _ c.self.inside.inputs _ _ _ _ _ _ c.args.run c.in-Some.taken c.look-looked.new.self here set.found c.look-looked.ensures.same
-          ((current g.R.Key.Ord.cmp (g.R.Rules.machine c.self.inside.memos.rules) g.M.Stamp.point told_puts (held (record { rules = c.self.inside.memos.rules; places = c.self.inside.memos.places; inputs = c.self.inside.inputs; accounts = c.self.inside.accounts; opened = c.self.inside.opened; clients = c.self.inside.clients; waiting = c.self.inside.waiting.items; runs = c.self.inside.runs; started = c.self.inside.started; claims = c.self.inside.claims })) w.ledger.0 c.args.run c.in-Some.taken w.ledger.1 (run_here g.R.Key.Ord.cmp (g.R.Rules.machine c.self.inside.memos.rules) g.M.Stamp.point told_puts (held (record { rules = c.self.inside.memos.rules; places = c.self.inside.memos.places; inputs = c.self.inside.inputs; accounts = c.self.inside.accounts; opened = c.self.inside.opened; clients = c.self.inside.clients; waiting = c.self.inside.waiting.items; runs = c.self.inside.runs; started = c.self.inside.started; claims = c.self.inside.claims })) w.ledger.0 c.args.run c.in-Some.taken w.ledger.1 here) (λ o. false_true (sym c.if-is_overtaken.false ∙ c.is_overtaken.ensures.1 (rw c.now-now.ensures.now o)))).1)
-          (λ s y h. run_past g.R.Key.Ord.cmp (g.R.Rules.machine c.self.inside.memos.rules) g.M.Stamp.point told_puts (held (record { rules = c.self.inside.memos.rules; places = c.self.inside.memos.places; inputs = c.self.inside.inputs; accounts = c.self.inside.accounts; opened = c.self.inside.opened; clients = c.self.inside.clients; waiting = c.self.inside.waiting.items; runs = c.self.inside.runs; started = c.self.inside.started; claims = c.self.inside.claims })) w.ledger.0 s y w.ledger.1 h)
-          c.claims_are_sound.ensures.sound c.claims_are_sound-in-Some.ensures.sound c.look-looked.ensures.renewed c.look-looked.ensures.written
-          c.look-looked.ensures.run_kept c.look-looked.ensures.claimed c.look-looked.ensures.others c.look-looked.ensures.stale c.look-looked.ensures.waits w.runs;
-      ledger = (moved.0, moved.2);
-    })
+    (step_whole _ _ _ _ _ _ _ _ w c.look-looked.ensures.kept (set.above c.self.inside.started) set.room
+    (stepped_runs _ _ c.self.inside.inputs _ _ _ _ _ _ c.args.run c.in-Some.taken c.look-looked.new.self here set.found c.look-looked.ensures.same
+    ((current g.R.Key.Ord.cmp (g.R.Rules.machine c.self.inside.memos.rules) g.M.Stamp.point told_puts (held (record { rules = c.self.inside.memos.rules; places = c.self.inside.memos.places; inputs = c.self.inside.inputs; accounts = c.self.inside.accounts; opened = c.self.inside.opened; clients = c.self.inside.clients; waiting = c.self.inside.waiting.items; runs = c.self.inside.runs; started = c.self.inside.started; claims = c.self.inside.claims })) w.ledger.0 c.args.run c.in-Some.taken w.ledger.1 (run_here g.R.Key.Ord.cmp (g.R.Rules.machine c.self.inside.memos.rules) g.M.Stamp.point told_puts (held (record { rules = c.self.inside.memos.rules; places = c.self.inside.memos.places; inputs = c.self.inside.inputs; accounts = c.self.inside.accounts; opened = c.self.inside.opened; clients = c.self.inside.clients; waiting = c.self.inside.waiting.items; runs = c.self.inside.runs; started = c.self.inside.started; claims = c.self.inside.claims })) w.ledger.0 c.args.run c.in-Some.taken w.ledger.1 here) (λ o. false_true (sym c.if-is_overtaken.false ∙ c.is_overtaken.ensures.1 (rw c.now-now.ensures.now o)))).1)
+    (λ s y h. run_past g.R.Key.Ord.cmp (g.R.Rules.machine c.self.inside.memos.rules) g.M.Stamp.point told_puts (held (record { rules = c.self.inside.memos.rules; places = c.self.inside.memos.places; inputs = c.self.inside.inputs; accounts = c.self.inside.accounts; opened = c.self.inside.opened; clients = c.self.inside.clients; waiting = c.self.inside.waiting.items; runs = c.self.inside.runs; started = c.self.inside.started; claims = c.self.inside.claims })) w.ledger.0 s y w.ledger.1 h)
+    c.claims_are_sound.ensures.sound c.claims_are_sound-in-Some.ensures.sound c.look-looked.ensures.renewed c.look-looked.ensures.written
+    c.look-looked.ensures.run_kept c.look-looked.ensures.claimed c.look-looked.ensures.others c.look-looked.ensures.stale c.look-looked.ensures.waits w.runs)
+    (moved.0, moved.2))
 
 pub returns-in-Carry-clause-none_lost : goal.returns-in-Carry-clause-none_lost
 returns-in-Carry-clause-none_lost g c = rw (← c.self.view_is)
@@ -277,23 +237,13 @@ invariant_of-self-in-Stepped g c =
     let set = set_back c.self.inside.runs c.take.new.self c.put_back-in-Stepped.new.self c.args.run c.look-looked.new.self (rw c.number-id.ensures at c.take.ensures.found) c.take.ensures.above
     (rw c.in-Some.is at c.take.ensures.more_room) (rw c.number-id.ensures at c.put_back-in-Stepped.ensures.found) c.put_back-in-Stepped.ensures.room c.put_back-in-Stepped.ensures.above in
     rw c.look-looked.ensures.rules
-    (record {
-      stamped = c.self.invariant.stamped;
-      kept = c.look-looked.ensures.kept;
-      accounts_above = w.accounts_above;
-      runs_above = set.above c.self.inside.started w.runs_above;
-      queue = w.queue;
-      room =
-          let a : length c.self.inside.waiting.items ≤ c.self.inside.runs.room = w.room in
-          let b = set.room in
-          omega (arith, a, b);
-      runs = stepped_runs _ _ c.self.inside.inputs _ _ _ _ _ _ c.args.run c.in-Some.taken c.look-looked.new.self here set.found c.look-looked.ensures.same
-          ((current g.R.Key.Ord.cmp (g.R.Rules.machine c.self.inside.memos.rules) g.M.Stamp.point told_puts (held (record { rules = c.self.inside.memos.rules; places = c.self.inside.memos.places; inputs = c.self.inside.inputs; accounts = c.self.inside.accounts; opened = c.self.inside.opened; clients = c.self.inside.clients; waiting = c.self.inside.waiting.items; runs = c.self.inside.runs; started = c.self.inside.started; claims = c.self.inside.claims })) w.ledger.0 c.args.run c.in-Some.taken w.ledger.1 (run_here g.R.Key.Ord.cmp (g.R.Rules.machine c.self.inside.memos.rules) g.M.Stamp.point told_puts (held (record { rules = c.self.inside.memos.rules; places = c.self.inside.memos.places; inputs = c.self.inside.inputs; accounts = c.self.inside.accounts; opened = c.self.inside.opened; clients = c.self.inside.clients; waiting = c.self.inside.waiting.items; runs = c.self.inside.runs; started = c.self.inside.started; claims = c.self.inside.claims })) w.ledger.0 c.args.run c.in-Some.taken w.ledger.1 here) (λ o. false_true (sym c.if-is_overtaken.false ∙ c.is_overtaken.ensures.1 (rw c.now-now.ensures.now o)))).1)
-          (λ s y h. run_past g.R.Key.Ord.cmp (g.R.Rules.machine c.self.inside.memos.rules) g.M.Stamp.point told_puts (held (record { rules = c.self.inside.memos.rules; places = c.self.inside.memos.places; inputs = c.self.inside.inputs; accounts = c.self.inside.accounts; opened = c.self.inside.opened; clients = c.self.inside.clients; waiting = c.self.inside.waiting.items; runs = c.self.inside.runs; started = c.self.inside.started; claims = c.self.inside.claims })) w.ledger.0 s y w.ledger.1 h)
-          c.claims_are_sound.ensures.sound c.claims_are_sound-in-Some.ensures.sound c.look-looked.ensures.renewed c.look-looked.ensures.written
-          c.look-looked.ensures.run_kept c.look-looked.ensures.claimed c.look-looked.ensures.others c.look-looked.ensures.stale c.look-looked.ensures.waits w.runs;
-      ledger = (w.ledger.0, back_moved g.R.Key.Ord.cmp (g.R.Rules.machine c.self.inside.memos.rules) g.M.Stamp.point told_puts (held (record { rules = c.self.inside.memos.rules; places = c.self.inside.memos.places; inputs = c.self.inside.inputs; accounts = c.self.inside.accounts; opened = c.self.inside.opened; clients = c.self.inside.clients; waiting = c.self.inside.waiting.items; runs = c.self.inside.runs; started = c.self.inside.started; claims = c.self.inside.claims })) (record { inputs = c.self.inside.inputs; accounts = c.self.inside.accounts.items; opened = c.self.inside.opened; clients = c.self.inside.clients; runs = c.put_back-in-Stepped.new.self.items; started = c.self.inside.started }) w.ledger.0 c.args.run c.in-Some.taken c.look-looked.new.self w.ledger.1 here c.look-looked.ensures.same ((rw c.in-Stepped.is at (c.in-Ok.ensures {u = tt}).looked) ∙ sym (none_of (out_at c.in-Some.taken.top) (λ e. false_true (sym c.if-is_out.false ∙ c.is_out.ensures.1 e)))) set.found (λ k. refl) (record { inputs = refl; opened = refl; clients = refl; started = refl }));
-    })
+    (step_whole _ _ _ _ _ _ _ _ w c.look-looked.ensures.kept (set.above c.self.inside.started) set.room
+    (stepped_runs _ _ c.self.inside.inputs _ _ _ _ _ _ c.args.run c.in-Some.taken c.look-looked.new.self here set.found c.look-looked.ensures.same
+    ((current g.R.Key.Ord.cmp (g.R.Rules.machine c.self.inside.memos.rules) g.M.Stamp.point told_puts (held (record { rules = c.self.inside.memos.rules; places = c.self.inside.memos.places; inputs = c.self.inside.inputs; accounts = c.self.inside.accounts; opened = c.self.inside.opened; clients = c.self.inside.clients; waiting = c.self.inside.waiting.items; runs = c.self.inside.runs; started = c.self.inside.started; claims = c.self.inside.claims })) w.ledger.0 c.args.run c.in-Some.taken w.ledger.1 (run_here g.R.Key.Ord.cmp (g.R.Rules.machine c.self.inside.memos.rules) g.M.Stamp.point told_puts (held (record { rules = c.self.inside.memos.rules; places = c.self.inside.memos.places; inputs = c.self.inside.inputs; accounts = c.self.inside.accounts; opened = c.self.inside.opened; clients = c.self.inside.clients; waiting = c.self.inside.waiting.items; runs = c.self.inside.runs; started = c.self.inside.started; claims = c.self.inside.claims })) w.ledger.0 c.args.run c.in-Some.taken w.ledger.1 here) (λ o. false_true (sym c.if-is_overtaken.false ∙ c.is_overtaken.ensures.1 (rw c.now-now.ensures.now o)))).1)
+    (λ s y h. run_past g.R.Key.Ord.cmp (g.R.Rules.machine c.self.inside.memos.rules) g.M.Stamp.point told_puts (held (record { rules = c.self.inside.memos.rules; places = c.self.inside.memos.places; inputs = c.self.inside.inputs; accounts = c.self.inside.accounts; opened = c.self.inside.opened; clients = c.self.inside.clients; waiting = c.self.inside.waiting.items; runs = c.self.inside.runs; started = c.self.inside.started; claims = c.self.inside.claims })) w.ledger.0 s y w.ledger.1 h)
+    c.claims_are_sound.ensures.sound c.claims_are_sound-in-Some.ensures.sound c.look-looked.ensures.renewed c.look-looked.ensures.written
+    c.look-looked.ensures.run_kept c.look-looked.ensures.claimed c.look-looked.ensures.others c.look-looked.ensures.stale c.look-looked.ensures.waits w.runs)
+    (w.ledger.0, back_moved g.R.Key.Ord.cmp (g.R.Rules.machine c.self.inside.memos.rules) g.M.Stamp.point told_puts (held (record { rules = c.self.inside.memos.rules; places = c.self.inside.memos.places; inputs = c.self.inside.inputs; accounts = c.self.inside.accounts; opened = c.self.inside.opened; clients = c.self.inside.clients; waiting = c.self.inside.waiting.items; runs = c.self.inside.runs; started = c.self.inside.started; claims = c.self.inside.claims })) (record { inputs = c.self.inside.inputs; accounts = c.self.inside.accounts.items; opened = c.self.inside.opened; clients = c.self.inside.clients; runs = c.put_back-in-Stepped.new.self.items; started = c.self.inside.started }) w.ledger.0 c.args.run c.in-Some.taken c.look-looked.new.self w.ledger.1 here c.look-looked.ensures.same ((rw c.in-Stepped.is at (c.in-Ok.ensures {u = tt}).looked) ∙ sym (none_of (out_at c.in-Some.taken.top) (λ e. false_true (sym c.if-is_out.false ∙ c.is_out.ensures.1 e)))) set.found (λ k. refl) (record { inputs = refl; opened = refl; clients = refl; started = refl })))
 
 pub returns-in-Stepped-clause-none_lost : goal.returns-in-Stepped-clause-none_lost
 returns-in-Stepped-clause-none_lost g c = rw (← c.self.view_is)
@@ -318,23 +268,13 @@ invariant_of-self-in-Blocked g c =
     let set = set_back c.self.inside.runs c.take.new.self c.put_back-in-Blocked.new.self c.args.run c.look-looked.new.self (rw c.number-id.ensures at c.take.ensures.found) c.take.ensures.above
     (rw c.in-Some.is at c.take.ensures.more_room) (rw c.number-id.ensures at c.put_back-in-Blocked.ensures.found) c.put_back-in-Blocked.ensures.room c.put_back-in-Blocked.ensures.above in
     rw c.look-looked.ensures.rules
-    (record {
-      stamped = c.self.invariant.stamped;
-      kept = c.look-looked.ensures.kept;
-      accounts_above = w.accounts_above;
-      runs_above = set.above c.self.inside.started w.runs_above;
-      queue = w.queue;
-      room =
-          let a : length c.self.inside.waiting.items ≤ c.self.inside.runs.room = w.room in
-          let b = set.room in
-          omega (arith, a, b);
-      runs = stepped_runs _ _ c.self.inside.inputs _ _ _ _ _ _ c.args.run c.in-Some.taken c.look-looked.new.self here set.found c.look-looked.ensures.same
-          ((current g.R.Key.Ord.cmp (g.R.Rules.machine c.self.inside.memos.rules) g.M.Stamp.point told_puts (held (record { rules = c.self.inside.memos.rules; places = c.self.inside.memos.places; inputs = c.self.inside.inputs; accounts = c.self.inside.accounts; opened = c.self.inside.opened; clients = c.self.inside.clients; waiting = c.self.inside.waiting.items; runs = c.self.inside.runs; started = c.self.inside.started; claims = c.self.inside.claims })) w.ledger.0 c.args.run c.in-Some.taken w.ledger.1 (run_here g.R.Key.Ord.cmp (g.R.Rules.machine c.self.inside.memos.rules) g.M.Stamp.point told_puts (held (record { rules = c.self.inside.memos.rules; places = c.self.inside.memos.places; inputs = c.self.inside.inputs; accounts = c.self.inside.accounts; opened = c.self.inside.opened; clients = c.self.inside.clients; waiting = c.self.inside.waiting.items; runs = c.self.inside.runs; started = c.self.inside.started; claims = c.self.inside.claims })) w.ledger.0 c.args.run c.in-Some.taken w.ledger.1 here) (λ o. false_true (sym c.if-is_overtaken.false ∙ c.is_overtaken.ensures.1 (rw c.now-now.ensures.now o)))).1)
-          (λ s y h. run_past g.R.Key.Ord.cmp (g.R.Rules.machine c.self.inside.memos.rules) g.M.Stamp.point told_puts (held (record { rules = c.self.inside.memos.rules; places = c.self.inside.memos.places; inputs = c.self.inside.inputs; accounts = c.self.inside.accounts; opened = c.self.inside.opened; clients = c.self.inside.clients; waiting = c.self.inside.waiting.items; runs = c.self.inside.runs; started = c.self.inside.started; claims = c.self.inside.claims })) w.ledger.0 s y w.ledger.1 h)
-          c.claims_are_sound.ensures.sound c.claims_are_sound-in-Some.ensures.sound c.look-looked.ensures.renewed c.look-looked.ensures.written
-          c.look-looked.ensures.run_kept c.look-looked.ensures.claimed c.look-looked.ensures.others c.look-looked.ensures.stale c.look-looked.ensures.waits w.runs;
-      ledger = (w.ledger.0, back_moved g.R.Key.Ord.cmp (g.R.Rules.machine c.self.inside.memos.rules) g.M.Stamp.point told_puts (held (record { rules = c.self.inside.memos.rules; places = c.self.inside.memos.places; inputs = c.self.inside.inputs; accounts = c.self.inside.accounts; opened = c.self.inside.opened; clients = c.self.inside.clients; waiting = c.self.inside.waiting.items; runs = c.self.inside.runs; started = c.self.inside.started; claims = c.self.inside.claims })) (record { inputs = c.self.inside.inputs; accounts = c.self.inside.accounts.items; opened = c.self.inside.opened; clients = c.self.inside.clients; runs = c.put_back-in-Blocked.new.self.items; started = c.self.inside.started }) w.ledger.0 c.args.run c.in-Some.taken c.look-looked.new.self w.ledger.1 here c.look-looked.ensures.same ((rw c.in-Blocked.is at (c.in-Ok.ensures {u = tt}).looked).0 ∙ sym (none_of (out_at c.in-Some.taken.top) (λ e. false_true (sym c.if-is_out.false ∙ c.is_out.ensures.1 e)))) set.found (λ k. refl) (record { inputs = refl; opened = refl; clients = refl; started = refl }));
-    })
+    (step_whole _ _ _ _ _ _ _ _ w c.look-looked.ensures.kept (set.above c.self.inside.started) set.room
+    (stepped_runs _ _ c.self.inside.inputs _ _ _ _ _ _ c.args.run c.in-Some.taken c.look-looked.new.self here set.found c.look-looked.ensures.same
+    ((current g.R.Key.Ord.cmp (g.R.Rules.machine c.self.inside.memos.rules) g.M.Stamp.point told_puts (held (record { rules = c.self.inside.memos.rules; places = c.self.inside.memos.places; inputs = c.self.inside.inputs; accounts = c.self.inside.accounts; opened = c.self.inside.opened; clients = c.self.inside.clients; waiting = c.self.inside.waiting.items; runs = c.self.inside.runs; started = c.self.inside.started; claims = c.self.inside.claims })) w.ledger.0 c.args.run c.in-Some.taken w.ledger.1 (run_here g.R.Key.Ord.cmp (g.R.Rules.machine c.self.inside.memos.rules) g.M.Stamp.point told_puts (held (record { rules = c.self.inside.memos.rules; places = c.self.inside.memos.places; inputs = c.self.inside.inputs; accounts = c.self.inside.accounts; opened = c.self.inside.opened; clients = c.self.inside.clients; waiting = c.self.inside.waiting.items; runs = c.self.inside.runs; started = c.self.inside.started; claims = c.self.inside.claims })) w.ledger.0 c.args.run c.in-Some.taken w.ledger.1 here) (λ o. false_true (sym c.if-is_overtaken.false ∙ c.is_overtaken.ensures.1 (rw c.now-now.ensures.now o)))).1)
+    (λ s y h. run_past g.R.Key.Ord.cmp (g.R.Rules.machine c.self.inside.memos.rules) g.M.Stamp.point told_puts (held (record { rules = c.self.inside.memos.rules; places = c.self.inside.memos.places; inputs = c.self.inside.inputs; accounts = c.self.inside.accounts; opened = c.self.inside.opened; clients = c.self.inside.clients; waiting = c.self.inside.waiting.items; runs = c.self.inside.runs; started = c.self.inside.started; claims = c.self.inside.claims })) w.ledger.0 s y w.ledger.1 h)
+    c.claims_are_sound.ensures.sound c.claims_are_sound-in-Some.ensures.sound c.look-looked.ensures.renewed c.look-looked.ensures.written
+    c.look-looked.ensures.run_kept c.look-looked.ensures.claimed c.look-looked.ensures.others c.look-looked.ensures.stale c.look-looked.ensures.waits w.runs)
+    (w.ledger.0, back_moved g.R.Key.Ord.cmp (g.R.Rules.machine c.self.inside.memos.rules) g.M.Stamp.point told_puts (held (record { rules = c.self.inside.memos.rules; places = c.self.inside.memos.places; inputs = c.self.inside.inputs; accounts = c.self.inside.accounts; opened = c.self.inside.opened; clients = c.self.inside.clients; waiting = c.self.inside.waiting.items; runs = c.self.inside.runs; started = c.self.inside.started; claims = c.self.inside.claims })) (record { inputs = c.self.inside.inputs; accounts = c.self.inside.accounts.items; opened = c.self.inside.opened; clients = c.self.inside.clients; runs = c.put_back-in-Blocked.new.self.items; started = c.self.inside.started }) w.ledger.0 c.args.run c.in-Some.taken c.look-looked.new.self w.ledger.1 here c.look-looked.ensures.same ((rw c.in-Blocked.is at (c.in-Ok.ensures {u = tt}).looked).0 ∙ sym (none_of (out_at c.in-Some.taken.top) (λ e. false_true (sym c.if-is_out.false ∙ c.is_out.ensures.1 e)))) set.found (λ k. refl) (record { inputs = refl; opened = refl; clients = refl; started = refl })))
 
 pub returns-in-Blocked-clause-none_lost : goal.returns-in-Blocked-clause-none_lost
 returns-in-Blocked-clause-none_lost g c = rw (← c.self.view_is)
@@ -423,23 +363,13 @@ invariant_of-self-in-Err g c =
     let set = set_back c.self.inside.runs c.take.new.self c.put_back-in-Err.new.self c.args.run c.look-looked.new.self (rw c.number-id.ensures at c.take.ensures.found) c.take.ensures.above
     (rw c.in-Some.is at c.take.ensures.more_room) (rw c.number-id.ensures at c.put_back-in-Err.ensures.found) c.put_back-in-Err.ensures.room c.put_back-in-Err.ensures.above in
     rw c.look-looked.ensures.rules
-    (record {
-      stamped = c.self.invariant.stamped;
-      kept = c.look-looked.ensures.kept;
-      accounts_above = w.accounts_above;
-      runs_above = set.above c.self.inside.started w.runs_above;
-      queue = w.queue;
-      room =
-          let a : length c.self.inside.waiting.items ≤ c.self.inside.runs.room = w.room in
-          let b = set.room in
-          omega (arith, a, b);
-      runs = stepped_runs _ _ c.self.inside.inputs _ _ _ _ _ _ c.args.run c.in-Some.taken c.look-looked.new.self here set.found c.look-looked.ensures.same
-          ((current g.R.Key.Ord.cmp (g.R.Rules.machine c.self.inside.memos.rules) g.M.Stamp.point told_puts (held (record { rules = c.self.inside.memos.rules; places = c.self.inside.memos.places; inputs = c.self.inside.inputs; accounts = c.self.inside.accounts; opened = c.self.inside.opened; clients = c.self.inside.clients; waiting = c.self.inside.waiting.items; runs = c.self.inside.runs; started = c.self.inside.started; claims = c.self.inside.claims })) w.ledger.0 c.args.run c.in-Some.taken w.ledger.1 (run_here g.R.Key.Ord.cmp (g.R.Rules.machine c.self.inside.memos.rules) g.M.Stamp.point told_puts (held (record { rules = c.self.inside.memos.rules; places = c.self.inside.memos.places; inputs = c.self.inside.inputs; accounts = c.self.inside.accounts; opened = c.self.inside.opened; clients = c.self.inside.clients; waiting = c.self.inside.waiting.items; runs = c.self.inside.runs; started = c.self.inside.started; claims = c.self.inside.claims })) w.ledger.0 c.args.run c.in-Some.taken w.ledger.1 here) (λ o. false_true (sym c.if-is_overtaken.false ∙ c.is_overtaken.ensures.1 (rw c.now-now.ensures.now o)))).1)
-          (λ s y h. run_past g.R.Key.Ord.cmp (g.R.Rules.machine c.self.inside.memos.rules) g.M.Stamp.point told_puts (held (record { rules = c.self.inside.memos.rules; places = c.self.inside.memos.places; inputs = c.self.inside.inputs; accounts = c.self.inside.accounts; opened = c.self.inside.opened; clients = c.self.inside.clients; waiting = c.self.inside.waiting.items; runs = c.self.inside.runs; started = c.self.inside.started; claims = c.self.inside.claims })) w.ledger.0 s y w.ledger.1 h)
-          c.claims_are_sound.ensures.sound c.claims_are_sound-in-Some.ensures.sound c.look-looked.ensures.renewed c.look-looked.ensures.written
-          c.look-looked.ensures.run_kept c.look-looked.ensures.claimed c.look-looked.ensures.others c.look-looked.ensures.stale c.look-looked.ensures.waits w.runs;
-      ledger = (w.ledger.0, back_moved g.R.Key.Ord.cmp (g.R.Rules.machine c.self.inside.memos.rules) g.M.Stamp.point told_puts (held (record { rules = c.self.inside.memos.rules; places = c.self.inside.memos.places; inputs = c.self.inside.inputs; accounts = c.self.inside.accounts; opened = c.self.inside.opened; clients = c.self.inside.clients; waiting = c.self.inside.waiting.items; runs = c.self.inside.runs; started = c.self.inside.started; claims = c.self.inside.claims })) (record { inputs = c.self.inside.inputs; accounts = c.self.inside.accounts.items; opened = c.self.inside.opened; clients = c.self.inside.clients; runs = c.put_back-in-Err.new.self.items; started = c.self.inside.started }) w.ledger.0 c.args.run c.in-Some.taken c.look-looked.new.self w.ledger.1 here c.look-looked.ensures.same ((c.in-Err.ensures {u = tt}).refused ∙ sym (none_of (out_at c.in-Some.taken.top) (λ e. false_true (sym c.if-is_out.false ∙ c.is_out.ensures.1 e)))) set.found (λ k. refl) (record { inputs = refl; opened = refl; clients = refl; started = refl }));
-    })
+    (step_whole _ _ _ _ _ _ _ _ w c.look-looked.ensures.kept (set.above c.self.inside.started) set.room
+    (stepped_runs _ _ c.self.inside.inputs _ _ _ _ _ _ c.args.run c.in-Some.taken c.look-looked.new.self here set.found c.look-looked.ensures.same
+    ((current g.R.Key.Ord.cmp (g.R.Rules.machine c.self.inside.memos.rules) g.M.Stamp.point told_puts (held (record { rules = c.self.inside.memos.rules; places = c.self.inside.memos.places; inputs = c.self.inside.inputs; accounts = c.self.inside.accounts; opened = c.self.inside.opened; clients = c.self.inside.clients; waiting = c.self.inside.waiting.items; runs = c.self.inside.runs; started = c.self.inside.started; claims = c.self.inside.claims })) w.ledger.0 c.args.run c.in-Some.taken w.ledger.1 (run_here g.R.Key.Ord.cmp (g.R.Rules.machine c.self.inside.memos.rules) g.M.Stamp.point told_puts (held (record { rules = c.self.inside.memos.rules; places = c.self.inside.memos.places; inputs = c.self.inside.inputs; accounts = c.self.inside.accounts; opened = c.self.inside.opened; clients = c.self.inside.clients; waiting = c.self.inside.waiting.items; runs = c.self.inside.runs; started = c.self.inside.started; claims = c.self.inside.claims })) w.ledger.0 c.args.run c.in-Some.taken w.ledger.1 here) (λ o. false_true (sym c.if-is_overtaken.false ∙ c.is_overtaken.ensures.1 (rw c.now-now.ensures.now o)))).1)
+    (λ s y h. run_past g.R.Key.Ord.cmp (g.R.Rules.machine c.self.inside.memos.rules) g.M.Stamp.point told_puts (held (record { rules = c.self.inside.memos.rules; places = c.self.inside.memos.places; inputs = c.self.inside.inputs; accounts = c.self.inside.accounts; opened = c.self.inside.opened; clients = c.self.inside.clients; waiting = c.self.inside.waiting.items; runs = c.self.inside.runs; started = c.self.inside.started; claims = c.self.inside.claims })) w.ledger.0 s y w.ledger.1 h)
+    c.claims_are_sound.ensures.sound c.claims_are_sound-in-Some.ensures.sound c.look-looked.ensures.renewed c.look-looked.ensures.written
+    c.look-looked.ensures.run_kept c.look-looked.ensures.claimed c.look-looked.ensures.others c.look-looked.ensures.stale c.look-looked.ensures.waits w.runs)
+    (w.ledger.0, back_moved g.R.Key.Ord.cmp (g.R.Rules.machine c.self.inside.memos.rules) g.M.Stamp.point told_puts (held (record { rules = c.self.inside.memos.rules; places = c.self.inside.memos.places; inputs = c.self.inside.inputs; accounts = c.self.inside.accounts; opened = c.self.inside.opened; clients = c.self.inside.clients; waiting = c.self.inside.waiting.items; runs = c.self.inside.runs; started = c.self.inside.started; claims = c.self.inside.claims })) (record { inputs = c.self.inside.inputs; accounts = c.self.inside.accounts.items; opened = c.self.inside.opened; clients = c.self.inside.clients; runs = c.put_back-in-Err.new.self.items; started = c.self.inside.started }) w.ledger.0 c.args.run c.in-Some.taken c.look-looked.new.self w.ledger.1 here c.look-looked.ensures.same ((c.in-Err.ensures {u = tt}).refused ∙ sym (none_of (out_at c.in-Some.taken.top) (λ e. false_true (sym c.if-is_out.false ∙ c.is_out.ensures.1 e)))) set.found (λ k. refl) (record { inputs = refl; opened = refl; clients = refl; started = refl })))
 
 pub returns-in-Err-clause-none_lost : goal.returns-in-Err-clause-none_lost
 returns-in-Err-clause-none_lost g c = rw (← c.self.view_is)
@@ -516,24 +446,12 @@ invariant_of-self-in-Ok-close_ring g c =
     (rw c.in-Some.is at c.take.ensures.more_room) (rw c.number-id.ensures at c.put_back-in-Ring.ensures.found) c.put_back-in-Ring.ensures.room c.put_back-in-Ring.ensures.above in
     let told = rw c.in-Ring.is at (c.in-Ok.ensures {u = tt}).looked in
     rw (c.close_ring.ensures.rules ∙ c.look-looked.ensures.rules)
-    (record {
-      stamped = c.self.invariant.stamped;
-      kept = rw c.look-looked.ensures.rules at c.close_ring.ensures.kept;
-      accounts_above = w.accounts_above;
-      runs_above = c.close_ring.ensures.above c.self.inside.started (set.above c.self.inside.started w.runs_above);
-      queue = w.queue;
-      room =
-          let a : length c.self.inside.waiting.items ≤ c.self.inside.runs.room = w.room in
-          let b = set.room in
-          let d = c.close_ring.ensures.room in
-          omega (arith, a, b, d);
-      runs = rw c.look-looked.ensures.rules at c.close_ring.ensures.runs_kept;
-      ledger = (
-        w.ledger.0,
-        seen_moved g.R.Key.Ord.cmp (g.R.Rules.machine c.self.inside.memos.rules) g.M.Stamp.point told_puts (record { inputs = c.self.inside.inputs; accounts = c.self.inside.accounts.items; opened = c.self.inside.opened; clients = c.self.inside.clients; runs = c.put_back-in-Ring.new.self.items; started = c.self.inside.started }) (record { inputs = c.self.inside.inputs; accounts = c.self.inside.accounts.items; opened = c.self.inside.opened; clients = c.self.inside.clients; runs = c.close_ring.new.runs.items; started = c.self.inside.started }) w.ledger.0 c.close_ring.ensures.seen (λ k. refl) (record { inputs = refl; opened = refl; clients = refl; started = refl })
-            (back_moved g.R.Key.Ord.cmp (g.R.Rules.machine c.self.inside.memos.rules) g.M.Stamp.point told_puts (held (record { rules = c.self.inside.memos.rules; places = c.self.inside.memos.places; inputs = c.self.inside.inputs; accounts = c.self.inside.accounts; opened = c.self.inside.opened; clients = c.self.inside.clients; waiting = c.self.inside.waiting.items; runs = c.self.inside.runs; started = c.self.inside.started; claims = c.self.inside.claims })) (record { inputs = c.self.inside.inputs; accounts = c.self.inside.accounts.items; opened = c.self.inside.opened; clients = c.self.inside.clients; runs = c.put_back-in-Ring.new.self.items; started = c.self.inside.started }) w.ledger.0 c.args.run c.in-Some.taken c.look-looked.new.self w.ledger.1 here c.look-looked.ensures.same (told.0 ∙ sym (none_of (out_at c.in-Some.taken.top) (λ e. false_true (sym c.if-is_out.false ∙ c.is_out.ensures.1 e)))) set.found (λ k. refl) (record { inputs = refl; opened = refl; clients = refl; started = refl })),
-      );
-    })
+    (step_whole _ _ _ _ _ _ _ _ w (rw c.look-looked.ensures.rules at c.close_ring.ensures.kept) (λ a. c.close_ring.ensures.above c.self.inside.started (set.above c.self.inside.started a)) (let b = set.room in let d = c.close_ring.ensures.room in omega (arith, b, d))
+    (rw c.look-looked.ensures.rules at c.close_ring.ensures.runs_kept) (
+      w.ledger.0,
+      seen_moved g.R.Key.Ord.cmp (g.R.Rules.machine c.self.inside.memos.rules) g.M.Stamp.point told_puts (record { inputs = c.self.inside.inputs; accounts = c.self.inside.accounts.items; opened = c.self.inside.opened; clients = c.self.inside.clients; runs = c.put_back-in-Ring.new.self.items; started = c.self.inside.started }) (record { inputs = c.self.inside.inputs; accounts = c.self.inside.accounts.items; opened = c.self.inside.opened; clients = c.self.inside.clients; runs = c.close_ring.new.runs.items; started = c.self.inside.started }) w.ledger.0 c.close_ring.ensures.seen (λ k. refl) (record { inputs = refl; opened = refl; clients = refl; started = refl })
+          (back_moved g.R.Key.Ord.cmp (g.R.Rules.machine c.self.inside.memos.rules) g.M.Stamp.point told_puts (held (record { rules = c.self.inside.memos.rules; places = c.self.inside.memos.places; inputs = c.self.inside.inputs; accounts = c.self.inside.accounts; opened = c.self.inside.opened; clients = c.self.inside.clients; waiting = c.self.inside.waiting.items; runs = c.self.inside.runs; started = c.self.inside.started; claims = c.self.inside.claims })) (record { inputs = c.self.inside.inputs; accounts = c.self.inside.accounts.items; opened = c.self.inside.opened; clients = c.self.inside.clients; runs = c.put_back-in-Ring.new.self.items; started = c.self.inside.started }) w.ledger.0 c.args.run c.in-Some.taken c.look-looked.new.self w.ledger.1 here c.look-looked.ensures.same (told.0 ∙ sym (none_of (out_at c.in-Some.taken.top) (λ e. false_true (sym c.if-is_out.false ∙ c.is_out.ensures.1 e)))) set.found (λ k. refl) (record { inputs = refl; opened = refl; clients = refl; started = refl })),
+    ))
 
 pub returns-in-Ok-close_ring-clause-none_lost : goal.returns-in-Ok-close_ring-clause-none_lost
 returns-in-Ok-close_ring-clause-none_lost g c =
@@ -567,24 +485,12 @@ invariant_of-self-in-Err-close_ring g c =
     (rw c.in-Some.is at c.take.ensures.more_room) (rw c.number-id.ensures at c.put_back-in-Ring.ensures.found) c.put_back-in-Ring.ensures.room c.put_back-in-Ring.ensures.above in
     let told = rw c.in-Ring.is at (c.in-Ok.ensures {u = tt}).looked in
     rw (c.close_ring.ensures.rules ∙ c.look-looked.ensures.rules)
-    (record {
-      stamped = c.self.invariant.stamped;
-      kept = rw c.look-looked.ensures.rules at c.close_ring.ensures.kept;
-      accounts_above = w.accounts_above;
-      runs_above = c.close_ring.ensures.above c.self.inside.started (set.above c.self.inside.started w.runs_above);
-      queue = w.queue;
-      room =
-          let a : length c.self.inside.waiting.items ≤ c.self.inside.runs.room = w.room in
-          let b = set.room in
-          let d = c.close_ring.ensures.room in
-          omega (arith, a, b, d);
-      runs = rw c.look-looked.ensures.rules at c.close_ring.ensures.runs_kept;
-      ledger = (
-        w.ledger.0,
-        seen_moved g.R.Key.Ord.cmp (g.R.Rules.machine c.self.inside.memos.rules) g.M.Stamp.point told_puts (record { inputs = c.self.inside.inputs; accounts = c.self.inside.accounts.items; opened = c.self.inside.opened; clients = c.self.inside.clients; runs = c.put_back-in-Ring.new.self.items; started = c.self.inside.started }) (record { inputs = c.self.inside.inputs; accounts = c.self.inside.accounts.items; opened = c.self.inside.opened; clients = c.self.inside.clients; runs = c.close_ring.new.runs.items; started = c.self.inside.started }) w.ledger.0 c.close_ring.ensures.seen (λ k. refl) (record { inputs = refl; opened = refl; clients = refl; started = refl })
-            (back_moved g.R.Key.Ord.cmp (g.R.Rules.machine c.self.inside.memos.rules) g.M.Stamp.point told_puts (held (record { rules = c.self.inside.memos.rules; places = c.self.inside.memos.places; inputs = c.self.inside.inputs; accounts = c.self.inside.accounts; opened = c.self.inside.opened; clients = c.self.inside.clients; waiting = c.self.inside.waiting.items; runs = c.self.inside.runs; started = c.self.inside.started; claims = c.self.inside.claims })) (record { inputs = c.self.inside.inputs; accounts = c.self.inside.accounts.items; opened = c.self.inside.opened; clients = c.self.inside.clients; runs = c.put_back-in-Ring.new.self.items; started = c.self.inside.started }) w.ledger.0 c.args.run c.in-Some.taken c.look-looked.new.self w.ledger.1 here c.look-looked.ensures.same (told.0 ∙ sym (none_of (out_at c.in-Some.taken.top) (λ e. false_true (sym c.if-is_out.false ∙ c.is_out.ensures.1 e)))) set.found (λ k. refl) (record { inputs = refl; opened = refl; clients = refl; started = refl })),
-      );
-    })
+    (step_whole _ _ _ _ _ _ _ _ w (rw c.look-looked.ensures.rules at c.close_ring.ensures.kept) (λ a. c.close_ring.ensures.above c.self.inside.started (set.above c.self.inside.started a)) (let b = set.room in let d = c.close_ring.ensures.room in omega (arith, b, d))
+    (rw c.look-looked.ensures.rules at c.close_ring.ensures.runs_kept) (
+      w.ledger.0,
+      seen_moved g.R.Key.Ord.cmp (g.R.Rules.machine c.self.inside.memos.rules) g.M.Stamp.point told_puts (record { inputs = c.self.inside.inputs; accounts = c.self.inside.accounts.items; opened = c.self.inside.opened; clients = c.self.inside.clients; runs = c.put_back-in-Ring.new.self.items; started = c.self.inside.started }) (record { inputs = c.self.inside.inputs; accounts = c.self.inside.accounts.items; opened = c.self.inside.opened; clients = c.self.inside.clients; runs = c.close_ring.new.runs.items; started = c.self.inside.started }) w.ledger.0 c.close_ring.ensures.seen (λ k. refl) (record { inputs = refl; opened = refl; clients = refl; started = refl })
+          (back_moved g.R.Key.Ord.cmp (g.R.Rules.machine c.self.inside.memos.rules) g.M.Stamp.point told_puts (held (record { rules = c.self.inside.memos.rules; places = c.self.inside.memos.places; inputs = c.self.inside.inputs; accounts = c.self.inside.accounts; opened = c.self.inside.opened; clients = c.self.inside.clients; waiting = c.self.inside.waiting.items; runs = c.self.inside.runs; started = c.self.inside.started; claims = c.self.inside.claims })) (record { inputs = c.self.inside.inputs; accounts = c.self.inside.accounts.items; opened = c.self.inside.opened; clients = c.self.inside.clients; runs = c.put_back-in-Ring.new.self.items; started = c.self.inside.started }) w.ledger.0 c.args.run c.in-Some.taken c.look-looked.new.self w.ledger.1 here c.look-looked.ensures.same (told.0 ∙ sym (none_of (out_at c.in-Some.taken.top) (λ e. false_true (sym c.if-is_out.false ∙ c.is_out.ensures.1 e)))) set.found (λ k. refl) (record { inputs = refl; opened = refl; clients = refl; started = refl })),
+    ))
 
 pub returns-in-Err-close_ring-clause-none_lost : goal.returns-in-Err-close_ring-clause-none_lost
 returns-in-Err-close_ring-clause-none_lost g c =
