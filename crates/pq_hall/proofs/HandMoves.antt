@@ -21,7 +21,7 @@ use Rattle.pq_hall.specs.declared.running.Hand.TheVariants.{Look, Made, Unmade}
 use Rattle.pq_hall.specs.declared.running.Next.{Next}
 use Rattle.pq_hall.specs.declared.running.Next.TheVariants.{Moved, Starved, Over}
 use Rattle.pq_hall.specs.Steps.{Steps, IsHandOf, OnMoved, not_this_run, no_memory}
-use Rattle.pq_hall.specs.aux.Ends.{Ends, IsEnd}
+use Rattle.pq_hall.specs.aux.Ends.{Ends, IsEnd, IsFor}
 
 pub on_end : {W : Type 0} (Says : Move W → Type 0) (next : Next W) → IsEnd next → OnMoved Says next
 on_end Says (Moved moved) e = absurd e
@@ -33,6 +33,12 @@ refused_is : {D : Type 0} (refused : GiveRefused D) (fault : GiveFault) (done : 
 refused_is {D} refused fault done e f =
     ap (λ (x : GiveFault). let r : GiveRefused D = record { fault = x; done = refused.done } in r) e
     ∙ ap (λ (d : D). let r : GiveRefused D = record { fault = fault; done = d } in r) f
+
+-- the hand of a worker is for its run, where a rule set has one value
+pub hand_is_of : {R K P V : Type 0} → ((a b : R) → a ≡ b) → (rules : R) (run task : ℕ) → run ≡ task → (hand : Hand (WorkView R K P V) (DoneView R K P V)) → IsFor task hand → IsHandOf rules run hand
+hand_is_of one rules run task e Look h = tt
+hand_is_of one rules run task e (Made done) h = one done.rules rules
+hand_is_of one rules run task e (Unmade work) h = h ∙ sym e
 
 module _ {R K P V M : Type 0} (order : K → K → Ordering) (machine : R → Machine K P V) (point : M → Point) (before via after : StoreView R K P V M) (run : ℕ) where
   -- `look` answers `Memory`, and then the run is starved

@@ -1,3 +1,4 @@
+pub mod Carried
 pub mod Marks
 pub mod Steps
 pub mod aux

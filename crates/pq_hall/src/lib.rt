@@ -1,8 +1,11 @@
-//! The hall of the server: so far what a post and what a worker do to a store, and marks, which name a
-//! revision across threads.
+//! The hall of the server: many clients and workers over one store, on threads.
 //!
-//! `post_step` and `run_step` are lent a store: each is one call of it, answers as that call, and waits
-//! for nobody. Threads will make these calls under a lock.
+//! A hall has the store behind one lock and the lane of each open client behind its own. Porters
+//! carry posts into the store (`carry_one`), workers take the steps of runs and carry their work out
+//! (`work`), and writers take replies (`take_one`). What a post and what a worker do to the store are
+//! two functions without a handle, `post_step` and `run_step`: each is one call of the store, answers as
+//! that call, and waits for nobody. `docs/ARCHITECTURE.md`, "Threads and locks", says who takes which
+//! lock, and what is never done while it is held.
 //!
 //! A mark is an entry of one vector that only grows, which threads share without a lock. An entry is
 //! a revision and, for contracts alone, the sources at it. The first entry is that of the inputs at
@@ -14,21 +17,36 @@
 //! where it makes the vector, so marks of two vectors have two types.
 //!
 //! Definitions: `specs/Marks` (what contracts see of a mark), `specs/Steps` (what a post and a step of
-//! a run do to the store).
+//! a run do to the store), `specs/Carried` (what was carried of an inbox).
 //! Modules: `entry` (of the vector), `mark` (its name and its marks), `board` (the vector), `posting`
-//! and `running` (what posts and workers do to the store), `fault`.
+//! and `running` (what posts and workers do to the store), `fault`, `one_value` (the rule sets of
+//! halls), `state` (what lies under the store's lock), `seats` (what lies under a lane's lock), `hall`,
+//! `joining`, `carrying`, `working` and `taking` (its calls).
 #![tactic(auto)]
 
 mod board;
+mod carrying;
 mod entry;
 mod fault;
+mod hall;
+mod joining;
 mod mark;
+mod one_value;
 mod posting;
 mod running;
+mod seats;
+mod state;
+mod taking;
+mod working;
 
 pub use board::{Board, NewBoard};
 pub use fault::HallFault;
+pub use hall::Hall;
+pub use joining::ClientEnds;
 pub use mark::{BoardName, Mark};
+pub use one_value::OneValue;
 pub use posting::{Moved, post_step};
 pub use running::{Hand, Next, run_step};
+pub use state::Client;
 pub use std::alloc::AllocError as Memory;
+pub use working::Gate;

@@ -19,3 +19,9 @@ abbrev pub IsEnd : {W : Type 0} → Next W → Type 0
 IsEnd (Moved moved) = ⊥
 IsEnd Starved = Unit {0}
 IsEnd Over = Unit {0}
+
+-- `IsFor run hand` is that work that comes back is that of `run`
+abbrev pub IsFor : {R K P V : Type 0} → ℕ → Hand (WorkView R K P V) (DoneView R K P V) → Type 0
+IsFor run Look = Unit {0}
+IsFor run (Made done) = Unit {0}
+IsFor run (Unmade work) = work.done.run ≡ run

@@ -1,0 +1,135 @@
+//! What a porter does: it carries the posts of a client into the store.
+ghost use Rattle.std.specs.Prelude.{◌≡◌, IfOk, IfErr};
+ghost use Rattle.pq_hall.specs.Carried.{Carries, CarriesSome};
+ghost use Rattle.pq_hall.specs.Steps.{IsStampFor, IsAnswerTo};
+ghost use Rattle.pq_hall.specs.aux.Kinds.{IsKindOf};
+ghost use Rattle.pq_hall.specs.declared.posting.Moved.TheVariants.{Later};
+ghost use Rattle.pq_mail.specs.declared.post.Post.{Post};
+
+use crate::fault::HallFault;
+use crate::hall::Hall;
+use crate::mark::{BoardName, Mark};
+use crate::posting::{Moved, post_step};
+use crate::state::{Client, State};
+use pq_core::{Memory, Ready};
+use pq_inputs::Inputs;
+use pq_mail::{PorterEnd, Post};
+use crate::one_value::OneValue;
+use pq_rules::Rules;
+use std::sync::Wait;
+
+/// What a post came to, or the post where its window was full.
+fn settled<K>(moved: Moved<K>) -> Result<Moved<K>, Post<K>>
+    ensures carried { IfOk result (λ m. (post : Post K) → IsAnswerTo post moved → IsKindOf m post) }
+    ensures back { IfErr result (λ post. moved ≡ Later post) }
+{
+    match moved {
+        Moved::Later(back) => Err(back),
+        Moved::Accepted(number) => Ok(Moved::Accepted(number)),
+        Moved::Edited(revision) => Ok(Moved::Edited(revision)),
+        Moved::Ended => Ok(Moved::Ended),
+    }
+}
+
+/// What a post came to under the lock, and a reply that is to go to its lane.
+type Carried<R, J> = (Moved<<R as Rules>::Key>, Option<Ready<R, Mark<J>>>);
+
+impl<R: Rules + OneValue, J: BoardName, H: Wait + Copy + Drop> Hall<R, J, H> {
+    /// Carries the next post of `client` into the store. It waits for a post, and for room in the
+    /// window of the client. `Ended` where the client posts nothing more, or its posting end is gone.
+    ///
+    /// # Errors
+    ///
+    /// Those of `post_step`, and `Memory` before them where an edit gets no mark. The client is closed
+    /// then. `Closed` also where the hall is shut while the window is full.
+    pub fn carry_one(
+        &self,
+        rt: &H,
+        client: Client,
+        porter: &mut PorterEnd<R::Key>,
+    ) -> Result<Moved<R::Key>, HallFault>
+        ensures carried { IfOk result (λ moved. Carries moved porter.old.items porter.new.items) }
+        ensures refused { IfErr result (λ fault. CarriesSome porter.old.items porter.new.items) }
+        ensures same { (porter.new.table ≡ porter.old.table) × (porter.new.key ≡ porter.old.key) }
+    {
+        match porter.next(rt) {
+            None => return Ok(Moved::Ended),
+            Some(post) => match self.carry(rt, client, post) {
+                Ok((moved, ready)) => {
+                    if ready.is_some() {
+                        self.deliver(rt, client, ready);
+                    }
+                    return Ok(moved);
+                }
+                Err(fault) => {
+                    self.close(rt, client);
+                    return Err(fault);
+                }
+            },
+        }
+    }
+
+    /// Carries `post`, once there is room for it.
+    fn carry(&self, rt: &H, client: Client, post: Post<R::Key>) -> Result<Carried<R, J>, HallFault>
+        ensures { IfOk result (λ carried. IsKindOf carried.0 post) }
+    {
+        let mut post = post;
+        let mut state = self.state.lock(rt);
+        for _ in rt.forever() {
+            match settled(self.step(rt, &mut state, client, post)?) {
+                Ok(moved) => {
+                    let ready = self.carried(&mut state, client);
+                    return Ok((moved, ready));
+                }
+                Err(back) => post = back,
+            }
+            if state.is_shut {
+                return Err(HallFault::Closed);
+            }
+            state = self.room_came.wait(rt, state);
+        }
+        unreachable!()
+    }
+
+    /// Makes the call of `post` to the store. An edit gets a mark before.
+    fn step(
+        &self,
+        rt: &H,
+        state: &mut State<R, J>,
+        client: Client,
+        post: Post<R::Key>,
+    ) -> Result<Moved<R::Key>, HallFault>
+        ensures { IfOk result (λ moved. IsAnswerTo post moved) }
+    {
+        match self.stamp_for(rt, state.store.inputs(), &post) {
+            Ok(stamp) => return post_step(&mut state.store, client.id(), post, stamp),
+            Err(_) => return Err(HallFault::Memory),
+        }
+    }
+
+    /// Tells of a post that was carried. Returns a reply to `client` that is made.
+    fn carried(&self, state: &mut State<R, J>, client: Client) -> Option<Ready<R, Mark<J>>> {
+        state.moved();
+        self.work_came.notify_all();
+        state.store.collect(client.id())
+    }
+
+    /// The mark of the revision that `post` makes of `inputs`, if it is an edit.
+    fn stamp_for(
+        &self,
+        rt: &H,
+        inputs: &Inputs,
+        post: &Post<R::Key>,
+    ) -> Result<Option<Mark<J>>, Memory>
+        ensures { IfOk result (λ stamp. IsStampFor (λ m. m.point) inputs.now post.now stamp) }
+    {
+        match post {
+            Post::Edit(change) => {
+                let mark = self.board.push(rt, inputs, change)?;
+                Ok(Some(mark))
+            }
+            Post::Ask(_) => Ok(None),
+            Post::End => Ok(None),
+        }
+    }
+}

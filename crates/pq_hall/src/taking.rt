@@ -1,0 +1,35 @@
+//! What a writer does: it takes the replies of a client.
+ghost use Rattle.std.specs.Prelude.{◌≡◌, ◌++◌, ◌∷◌, [], length, IfOk, IfErr};
+ghost use Rattle.pq_mail.specs.Posts.{IsReceiptOf, Misses};
+
+use crate::hall::Hall;
+use crate::mark::{BoardName, Mark};
+use crate::state::Client;
+use pq_mail::{MailEnd, Receipt, RightReply, TakeEnd};
+use crate::one_value::OneValue;
+use pq_rules::Rules;
+use std::sync::Wait;
+
+impl<R: Rules + OneValue, J: BoardName, H: Wait + Copy + Drop> Hall<R, J, H> {
+    /// Takes the reply of `receipt`, and then puts those replies to `client` that have room. It waits
+    /// for the reply.
+    ///
+    /// # Errors
+    ///
+    /// Those of `TakeEnd::next`, in the same order.
+    pub fn take_one(
+        &self,
+        rt: &H,
+        client: Client,
+        take: &mut TakeEnd<R, Mark<J>>,
+        receipt: &Receipt<R::Key>,
+    ) -> Result<RightReply<R, Mark<J>>, MailEnd>
+        ensures taken { IfOk result (λ reply. (take.new.items ≡ take.old.items ++ reply ∷ []) × (reply.number ≡ length take.old.items) × IsReceiptOf receipt.now reply) }
+        ensures missed { IfErr result (λ fault. Misses fault receipt.now take.old.items take.new.items) }
+        ensures same { (take.new.table ≡ take.old.table) × (take.new.key ≡ take.old.key) }
+    {
+        let taken = take.next(rt, receipt);
+        self.deliver(rt, client, None);
+        taken
+    }
+}

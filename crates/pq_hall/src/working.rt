@@ -1,0 +1,175 @@
+//! What a worker does: it takes the steps of runs, and carries their work out.
+ghost use Rattle.std.specs.Prelude.{◌≡◌};
+ghost use Rattle.pq_hall.specs.aux.Ends.{IsFor};
+
+use crate::hall::Hall;
+use crate::mark::{BoardName, Mark};
+use crate::running::{Hand, Next, run_step};
+use crate::state::{Client, State, Task};
+use pq_core::{Done, Move, Ready, RunId, Stamp, Work};
+use crate::one_value::OneValue;
+use pq_rules::Rules;
+use std::sync::Wait;
+
+/// What each work passes before it is carried out, while no lock is held.
+pub trait Gate<R: Rules> {
+    /// Returns once `work` may be carried out.
+    fn pass<M: Stamp>(&self, work: &Work<R, M>);
+}
+
+/// The most steps of a run that are taken under one hold of the lock.
+const STEPS: u8 = 16;
+
+/// What a worker brings to its run.
+type Brought<R, J> = Hand<Work<R, Mark<J>>, Done<R, Mark<J>>>;
+
+/// Work, and its run.
+#[derive(Drop)]
+struct Errand<R: Rules, J: BoardName> {
+    task: Task,
+    work: Work<R, Mark<J>>,
+    ghost own: { work.done.run ≡ task.run },
+}
+
+/// What a worker leaves the store's lock with.
+#[derive(Drop)]
+enum Turn<R: Rules, J: BoardName> {
+    /// Work of a run.
+    Carry(Errand<R, J>),
+    /// The run, which goes on.
+    GoesOn(Task),
+    /// A reply to the client of a run that is over.
+    Reply(Client, Option<Ready<R, Mark<J>>>),
+    /// Nothing: the run is over without a reply, or is parked.
+    Free,
+    /// The hall is shut.
+    Shut,
+}
+
+/// Takes one turn after the other, from `first` on, until there is none. A loop over a `Turn` would be
+/// proved with the drops of all its parts, so this one is over any type.
+fn go_round<T: Drop, H: Wait, F: Fn(T) -> Option<T>>(rt: &H, first: T, follow: F)
+    requires { F.IsAlwaysCallable follow }
+{
+    let mut turn = first;
+    for _ in rt.forever() {
+        match follow(turn) {
+            Some(next) => turn = next,
+            None => return,
+        }
+    }
+}
+
+impl<R: Rules + OneValue, J: BoardName, H: Wait + Copy + Drop> Hall<R, J, H> {
+    /// Runs a worker until the hall is shut. It holds no lock while it carries work out.
+    pub fn work<G: Gate<R>>(&self, rt: &H, gate: &G) {
+        go_round(rt, Turn::Free, |turn: Turn<R, J>| -> Option<Turn<R, J>> {
+            self.follow(rt, gate, turn)
+        });
+    }
+
+    /// Does what `turn` leaves to do without the lock, and takes the next turn. Returns `None` where
+    /// the hall is shut.
+    fn follow<G: Gate<R>>(&self, rt: &H, gate: &G, turn: Turn<R, J>) -> Option<Turn<R, J>> {
+        match turn {
+            Turn::Carry(errand) => return Some(self.carry_work(rt, gate, errand)),
+            Turn::GoesOn(task) => return Some(self.go_on(rt, task, Hand::Look)),
+            Turn::Reply(client, ready) => return Some(self.hand_over(rt, client, ready)),
+            Turn::Free => return Some(self.begin(rt)),
+            Turn::Shut => return None,
+        }
+    }
+
+    /// Delivers `ready` to `client`, and takes the next turn.
+    fn hand_over(
+        &self,
+        rt: &H,
+        client: Client,
+        ready: Option<Ready<R, Mark<J>>>,
+    ) -> Turn<R, J> {
+        self.deliver(rt, client, ready);
+        self.begin(rt)
+    }
+
+    /// Carries the work of `errand` out, and brings its run what that gives.
+    fn carry_work<G: Gate<R>>(&self, rt: &H, gate: &G, errand: Errand<R, J>) -> Turn<R, J> {
+        let Errand { task, work } = errand;
+        gate.pass(&work);
+        match work.carry_out(self.alloc) {
+            Ok(done) => return self.go_on(rt, task, Hand::Made(done)),
+            Err(work) => return self.go_on(rt, task, Hand::Unmade(work)),
+        }
+    }
+
+    /// Takes a run, once there is one, and its first steps.
+    fn begin(&self, rt: &H) -> Turn<R, J> {
+        let mut state = self.state.lock(rt);
+        for _ in rt.forever() {
+            if state.is_shut {
+                return Turn::Shut;
+            }
+            if let Some(task) = state.pick() {
+                return self.advance(&mut state, task, Hand::Look, STEPS);
+            }
+            state = self.work_came.wait(rt, state);
+        }
+        unreachable!()
+    }
+
+    /// Brings `brought` to the run of `task`, and takes its next steps.
+    fn go_on(&self, rt: &H, task: Task, brought: Brought<R, J>) -> Turn<R, J>
+        requires { IsFor task.run brought }
+    {
+        let mut state = self.state.lock(rt);
+        if state.is_shut {
+            return Turn::Shut;
+        }
+        self.advance(&mut state, task, brought, STEPS)
+    }
+
+    /// Takes at most `left + 1` steps of the run of `task` under the lock.
+    fn advance(&self, state: &mut State<R, J>, task: Task, brought: Brought<R, J>, left: u8) -> Turn<R, J>
+        requires { IsFor task.run brought }
+    {
+        let run = RunId::new(task.run);
+        match run_step(&self.board, &mut state.store, self.alloc, run, brought) {
+            Next::Moved(moved) => match moved {
+                Move::Carry(work) => return Turn::Carry(Errand { task, work }),
+                Move::Blocked(_) => return self.park(state, task),
+                Move::Stepped => {
+                    self.stepped(state);
+                    if left == 0 {
+                        return Turn::GoesOn(task);
+                    }
+                    return self.advance(state, task, Hand::Look, left - 1);
+                }
+                Move::Answered => return self.ended(state, task),
+                Move::Stopped => return self.ended(state, task),
+            },
+            Next::Starved => return self.ended(state, task),
+            Next::Over => return Turn::Free,
+        }
+    }
+
+    /// Counts a step, after which a parked run may go on.
+    fn stepped(&self, state: &mut State<R, J>) {
+        state.moved();
+        if state.has_parked() {
+            self.work_came.notify_all();
+        }
+    }
+
+    /// Parks the run of `task`, or keeps it where there is no memory for that.
+    fn park(&self, state: &mut State<R, J>, task: Task) -> Turn<R, J> {
+        if state.park(task) {
+            return Turn::Free;
+        }
+        Turn::GoesOn(task)
+    }
+
+    /// Collects the reply of the run of `task`, which is over.
+    fn ended(&self, state: &mut State<R, J>, task: Task) -> Turn<R, J> {
+        self.stepped(state);
+        Turn::Reply(task.client, state.store.collect(task.client.id()))
+    }
+}
