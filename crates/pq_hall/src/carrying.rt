@@ -9,12 +9,12 @@ ghost use Rattle.pq_mail.specs.declared.post.Post.{Post};
 use crate::fault::HallFault;
 use crate::hall::Hall;
 use crate::mark::{BoardName, Mark};
+use crate::one_value::OneValue;
 use crate::posting::{Moved, post_step};
 use crate::state::{Client, State};
 use pq_core::{Memory, Ready};
 use pq_inputs::Inputs;
 use pq_mail::{PorterEnd, Post};
-use crate::one_value::OneValue;
 use pq_rules::Rules;
 use std::sync::Wait;
 

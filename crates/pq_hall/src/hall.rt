@@ -3,11 +3,11 @@ ghost use Rattle.std.specs.Prelude.{◌≡◌, IfSome};
 
 use crate::board::{Board, NewBoard};
 use crate::mark::{BoardName, Mark};
+use crate::one_value::OneValue;
 use crate::seats::{Seat, Sent, free_seats, has_seat, send_in};
 use crate::state::{Client, State};
 use pq_core::{ClientId, Memory, Number, Ready, Store};
 use pq_inputs::{Inputs, Revision};
-use crate::one_value::OneValue;
 use pq_rules::Rules;
 use std::alloc::Global;
 use std::sync::{Condvar, Mutex, Wait};
@@ -108,12 +108,7 @@ impl<R: Rules + OneValue, J: BoardName, H: Wait + Copy + Drop> Hall<R, J, H> {
 
     /// Fills `ready` into the lane of `client`, if it is there, puts what has room, and acknowledges
     /// it. A client whose taking end is gone is closed.
-    pub(crate) fn deliver(
-        &self,
-        rt: &H,
-        client: Client,
-        ready: Option<Ready<R, Mark<J>>>,
-    ) {
+    pub(crate) fn deliver(&self, rt: &H, client: Client, ready: Option<Ready<R, Mark<J>>>) {
         match self.send(rt, client, ready) {
             Sent::Nothing => {}
             Sent::Below(number) => self.acknowledge(rt, client.id(), number),

@@ -3,11 +3,11 @@ ghost use Rattle.std.specs.Prelude.{◌≡◌, [], IfOk};
 
 use crate::hall::Hall;
 use crate::mark::{BoardName, Mark};
+use crate::one_value::OneValue;
 use crate::seats::Seat;
 use crate::state::Client;
 use pq_core::OpenFault;
 use pq_mail::{LaneEnd, PorterEnd, PostEnd, TakeEnd, inbox, outbox};
-use crate::one_value::OneValue;
 use pq_rules::Rules;
 use std::sync::Wait;
 

@@ -55,10 +55,7 @@ pub(crate) struct State<R: Rules, J: BoardName> {
 
 impl<R: Rules, J: BoardName> State<R, J> {
     /// The state at the start.
-    pub(crate) fn new(
-        alloc: Global,
-        store: Store<R, Mark<J>>,
-    ) -> Result<State<R, J>, Memory> {
+    pub(crate) fn new(alloc: Global, store: Store<R, Mark<J>>) -> Result<State<R, J>, Memory> {
         let mut seats = Vec::new(alloc);
         for _ in 0..MAX_CLIENTS {
             seats.push(None)?;

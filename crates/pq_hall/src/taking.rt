@@ -4,9 +4,9 @@ ghost use Rattle.pq_mail.specs.Posts.{IsReceiptOf, Misses};
 
 use crate::hall::Hall;
 use crate::mark::{BoardName, Mark};
+use crate::one_value::OneValue;
 use crate::state::Client;
 use pq_mail::{MailEnd, Receipt, RightReply, TakeEnd};
-use crate::one_value::OneValue;
 use pq_rules::Rules;
 use std::sync::Wait;
 

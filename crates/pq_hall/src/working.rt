@@ -4,10 +4,10 @@ ghost use Rattle.pq_hall.specs.aux.Ends.{IsFor};
 
 use crate::hall::Hall;
 use crate::mark::{BoardName, Mark};
+use crate::one_value::OneValue;
 use crate::running::{Hand, Next, run_step};
 use crate::state::{Client, State, Task};
 use pq_core::{Done, Move, Ready, RunId, Stamp, Work};
-use crate::one_value::OneValue;
 use pq_rules::Rules;
 use std::sync::Wait;
 
@@ -81,12 +81,7 @@ impl<R: Rules + OneValue, J: BoardName, H: Wait + Copy + Drop> Hall<R, J, H> {
     }
 
     /// Delivers `ready` to `client`, and takes the next turn.
-    fn hand_over(
-        &self,
-        rt: &H,
-        client: Client,
-        ready: Option<Ready<R, Mark<J>>>,
-    ) -> Turn<R, J> {
+    fn hand_over(&self, rt: &H, client: Client, ready: Option<Ready<R, Mark<J>>>) -> Turn<R, J> {
         self.deliver(rt, client, ready);
         self.begin(rt)
     }
@@ -128,7 +123,13 @@ impl<R: Rules + OneValue, J: BoardName, H: Wait + Copy + Drop> Hall<R, J, H> {
     }
 
     /// Takes at most `left + 1` steps of the run of `task` under the lock.
-    fn advance(&self, state: &mut State<R, J>, task: Task, brought: Brought<R, J>, left: u8) -> Turn<R, J>
+    fn advance(
+        &self,
+        state: &mut State<R, J>,
+        task: Task,
+        brought: Brought<R, J>,
+        left: u8,
+    ) -> Turn<R, J>
         requires { IsFor task.run brought }
     {
         let run = RunId::new(task.run);
