@@ -1,5 +1,5 @@
 -- What the hand of a worker does to a store, from the one or two calls that it is.
-use Rattle.std.proofs.Common.{◌≡◌, ℕ, Result, Ok, Err, refl, sym, ap, ◌∙◌, subst, inl, inr}
+use Rattle.std.proofs.Common.{◌≡◌, ℕ, Ok, Err, sym, ap, ◌∙◌, subst, inl, inr}
 use Rattle.std.specs.declared.cmp.Ordering.{Ordering}
 use Rattle.pq_inputs.specs.Sources.{Table}
 use Rattle.pq_rules.specs.Turns.{Machine}
@@ -20,7 +20,7 @@ use Rattle.pq_hall.specs.declared.running.Hand.{Hand}
 use Rattle.pq_hall.specs.declared.running.Hand.TheVariants.{Look, Made, Unmade}
 use Rattle.pq_hall.specs.declared.running.Next.{Next}
 use Rattle.pq_hall.specs.declared.running.Next.TheVariants.{Moved, Starved, Over}
-use Rattle.pq_hall.specs.Steps.{Steps, IsHandOf, OnMoved, not_this_run, no_memory}
+use Rattle.pq_hall.specs.Steps.{Steps, IsHandOf, OnMoved, no_memory}
 use Rattle.pq_hall.specs.aux.Ends.{Ends, IsEnd, IsFor}
 
 pub on_end : {W : Type 0} (Says : Move W → Type 0) (next : Next W) → IsEnd next → OnMoved Says next

@@ -1,5 +1,5 @@
 -- What was carried of an inbox.
-use Rattle.std.specs.Prelude.{ℕ, ◌≡◌, ◌⊎◌, List, [], ◌∷◌, ◌++◌}
+use Rattle.std.specs.Prelude.{◌≡◌, ◌⊎◌, List, [], ◌∷◌, ◌++◌}
 use Rattle.pq_core.specs.Changes.{ChangeView}
 use Rattle.pq_core.specs.declared.request.Request.{Request}
 use Rattle.pq_mail.specs.declared.post.Post.{Post}

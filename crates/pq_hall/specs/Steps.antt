@@ -1,5 +1,5 @@
 -- What a post and a step of a run do to the store: each is one call of it, and answers as that call.
-use Rattle.std.specs.Prelude.{ℕ, ◌≡◌, ◌⊎◌, Option, Some, None, Result, Ok, Err, true, false}
+use Rattle.std.specs.Prelude.{ℕ, ◌≡◌, ◌⊎◌, Option, Some, Result, Ok, Err, true, false}
 use Rattle.std.specs.declared.cmp.Ordering.{Ordering}
 use Rattle.pq_inputs.specs.Sources.{Table}
 use Rattle.pq_inputs.specs.declared.fault.InputFault.{InputFault}
@@ -7,11 +7,10 @@ use Rattle.pq_inputs.specs.declared.fault.InputFault.TheVariants.{TextTooLong, T
 use Rattle.pq_rules.specs.Turns.{Machine}
 use Rattle.pq_core.specs.Changes.{ChangeView}
 use Rattle.pq_core.specs.Points.{Point, point_now}
-use Rattle.pq_core.specs.Works.{DoneView, WorkView, IsWorkOf}
+use Rattle.pq_core.specs.Works.{DoneView, WorkView}
 use Rattle.pq_core.specs.Ledger.{Ledger}
 use Rattle.pq_core.specs.Moves.{changed, Accepts, Edits, Looks, Gives, Starves}
 use Rattle.pq_core.specs.Told.{Told, told_puts}
-use Rattle.pq_core.specs.Stores.{StoreView, HandsOut}
 use Rattle.pq_core.specs.declared.request.Request.{Request}
 use Rattle.pq_core.specs.declared.fault.AcceptFault.{AcceptFault}
 use Rattle.pq_core.specs.declared.fault.AcceptFault.TheVariants.{NoClient as AcceptNoClient, Closed as AcceptClosed, WindowFull, Memory as AcceptMemory}
