@@ -25,6 +25,7 @@ pub mod Marks
 pub mod LastDots
 pub mod OutwardSearch
 pub mod Inside
+pub mod Answered
 pub mod ResolvedRuns
 pub mod Searches
 pub mod Grouping

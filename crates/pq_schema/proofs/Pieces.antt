@@ -22,21 +22,15 @@ same_tail x y t =
     ∙ ap (λ (b : List ℕ). slice_cmp nat_cmp (reverse t ++ reverse x) b) (reverse-append y t)
     ∙ same_front (reverse t) (reverse x) (reverse y)
 
--- the second name's last piece is the tail of the first's
-pub cut_first : (ps os piece other text : List ℕ) → piece ≡ text ++ other → name_order (ps ++ piece) (os ++ other) ≡ name_order (ps ++ text) (os ++ [])
-cut_first ps os piece other text is =
-    ap (λ (b : List ℕ). name_order (ps ++ b) (os ++ other)) is
-    ∙ ap (λ (b : List ℕ). name_order b (os ++ other)) (sym (append_assoc ps text other))
-    ∙ same_tail (ps ++ text) os other
-    ∙ ap (λ (b : List ℕ). name_order (ps ++ text) b) (sym (append-nil os))
-
--- the first name's last piece is the tail of the second's
-pub cut_second : (ps os piece other text : List ℕ) → other ≡ text ++ piece → name_order (ps ++ piece) (os ++ other) ≡ name_order (ps ++ []) (os ++ text)
-cut_second ps os piece other text is =
-    ap (λ (b : List ℕ). name_order (ps ++ piece) (os ++ b)) is
-    ∙ ap (λ (b : List ℕ). name_order (ps ++ piece) b) (sym (append_assoc os text piece))
-    ∙ same_tail ps (os ++ text) piece
-    ∙ ap (λ (b : List ℕ). name_order b (os ++ text)) (sym (append-nil ps))
+-- the last pieces of two names end in the same bytes
+pub cut_both : (ps os piece other text rest end : List ℕ) → piece ≡ text ++ end → other ≡ rest ++ end
+    → name_order (ps ++ piece) (os ++ other) ≡ name_order (ps ++ text) (os ++ rest)
+cut_both ps os piece other text rest end first second =
+    ap (λ (b : List ℕ). name_order (ps ++ b) (os ++ other)) first
+    ∙ ap (λ (b : List ℕ). name_order (ps ++ (text ++ end)) (os ++ b)) second
+    ∙ ap (λ (b : List ℕ). name_order b (os ++ (rest ++ end))) (sym (append_assoc ps text end))
+    ∙ ap (λ (b : List ℕ). name_order ((ps ++ text) ++ end) b) (sym (append_assoc os rest end))
+    ∙ same_tail (ps ++ text) (os ++ rest) end
 
 pub less_first : (ps piece other text : List ℕ) → piece ≡ text ++ other → 0 < length other → length (ps ++ text) < length (ps ++ piece)
 less_first ps piece other text is some =

@@ -9,6 +9,7 @@ pub mod Digests
 pub mod SameContents
 pub mod Equal
 pub mod Hits
+pub mod Asked
 pub mod Scopes
 pub mod Grouping
 pub mod FirstOf

@@ -42,6 +42,11 @@ impl Coded {
         Coded { code, name }
     }
 
+    /// The code.
+    pub(crate) fn code(&self) -> u64 {
+        self.code
+    }
+
     /// Compares the name with `name`, whose code is `code`.
     pub(crate) fn compare_to(&self, code: u64, name: Spelled<'_>) -> Ordering
         ensures order { result ≡ ordering_then (nat_cmp (code_of self.now) code) (name_order self.now name.entry) }

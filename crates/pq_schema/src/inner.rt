@@ -2,7 +2,7 @@
 //!
 //! The scopes of a file share their parts, and what is before a name in each. So to open a scope
 //! costs its own name and its depth, however long the names around it are.
-ghost use Rattle.std.specs.Prelude.{◌≡◌, ◌++◌, [], IfOk, OnOk};
+ghost use Rattle.std.specs.Prelude.{◌≡◌, ◌++◌, [], IfOk, OnOk, length};
 ghost use Rattle.std.specs.Option.{option_copied};
 ghost use Rattle.pq_schema.specs.aux.Inside.{next_in, opened, opened_by};
 ghost use Rattle.pq_schema.specs.aux.InPackage.{dotted};
@@ -98,6 +98,13 @@ impl Inner {
     {
         &self.leads
     }
+}
+
+/// The number of scopes from `scope` up to the package, without that.
+pub(crate) fn depth_of(scope: &Shared<Inner>) -> usize
+    ensures depth { result ≡ length scope.now.1 }
+{
+    scope.get().leads().len()
 }
 
 /// The scope of what `statement` contains, where `outer` is the scope of the statement itself.

@@ -18,10 +18,15 @@ use std::alloc::Global;
 use std::marker::Model;
 use std::slice;
 
+/// The most bytes that are compared again for each name.
+const LONG: usize = 256;
+
 /// What is before a simple name in a scope, in pieces. Contracts see its bytes.
 #[derive(Drop)]
 pub(crate) struct Lead {
     parts: Vec<Text>,
+    /// Whether these are many bytes.
+    is_long: bool,
 }
 
 impl Model for Lead {
@@ -38,18 +43,25 @@ impl Lead {
     pub(crate) fn of(alloc: Global, text: Text) -> Result<Lead, Memory>
         ensures text { IfOk result (λ l. l ≡ text) }
     {
+        let is_long = text.as_str().len() > LONG;
         let mut parts = Vec::with_capacity(alloc, 1)?;
         parts.push(text)?;
-        Ok(Lead { parts })
+        Ok(Lead { parts, is_long })
     }
 
     /// The bytes of `front`, which are shared, and then those of `text`.
     fn after(alloc: Global, front: &[Text], text: Text) -> Result<Lead, Memory>
         ensures text { IfOk result (λ l. l ≡ concat front.now ++ text) }
     {
+        let is_long = Spelled::new(front, text.as_str()).is_longer(LONG);
         let mut parts = copy_parts(alloc, front)?;
         parts.push(text)?;
-        Ok(Lead { parts })
+        Ok(Lead { parts, is_long })
+    }
+
+    /// Whether the bytes are so many that no name should be compared with them twice.
+    pub(crate) fn is_long(&self) -> bool {
+        self.is_long
     }
 
     /// The full name of `name` in the scope.

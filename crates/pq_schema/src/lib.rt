@@ -21,6 +21,7 @@
 #![tactic(auto)]
 
 mod along;
+mod asked;
 mod below;
 mod by_package;
 mod coded;

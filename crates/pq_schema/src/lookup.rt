@@ -18,7 +18,7 @@ use crate::below::first_below;
 use crate::by_package::Entry;
 use crate::files::Files;
 use crate::named::{Place, first_listed};
-use crate::near_names::{Named, count_of, names_of};
+use crate::near_names::{Named, count_of, has_code, has_code_at, names_of};
 use crate::spelled::Spelled;
 use pq_names::Memory;
 use std::alloc::Global;
@@ -187,6 +187,21 @@ impl<'a> Lookup<'a> {
             Some(_) => first_listed(self.files.files(), &self.all, &self.names, name),
             None => first_below(self.files.files(), along, near, name),
         }
+    }
+
+    /// Whether a definition in the files, of which `near` has those that can have the name `name`, has
+    /// its code. Only these are compared with it.
+    pub(crate) fn may_have(&self, near: &[usize], name: &Spelled<'_>) -> bool {
+        let code = name.code();
+        if let Some(names) = &self.names {
+            return has_code(names, code);
+        }
+        'places: for place in near {
+            if has_code_at(self.files.files(), *place, code) {
+                return true;
+            }
+        }
+        false
     }
 
     /// Whether `name` is a package of the files, or the part of one before a dot. A name that may be

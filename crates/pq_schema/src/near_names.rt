@@ -141,3 +141,25 @@ pub(crate) fn first_place(names: &[Named<'_>], name: &Spelled<'_>) -> Option<usi
         None => None,
     }
 }
+
+/// Whether a name of the index has the code `code`.
+pub(crate) fn has_code(names: &[Named<'_>], code: u64) -> bool {
+    let first = names.partition_point(|entry: &Named<'_>| -> bool { entry.0.code() < code });
+    match names.get(first) {
+        Some(entry) => entry.0.code() == code,
+        None => false,
+    }
+}
+
+/// Whether a name that the file at `place` defines has the code `code`.
+pub(crate) fn has_code_at(files: &[FileDefs], place: usize, code: u64) -> bool {
+    let index = match files.get(place) {
+        Some(file) => file.defs.get().index(),
+        None => return false,
+    };
+    let first = index.partition_point(|entry: &(Coded, usize)| -> bool { entry.0.code() < code });
+    match index.get(first) {
+        Some(entry) => entry.0.code() == code,
+        None => false,
+    }
+}

@@ -3,9 +3,10 @@
 //!
 //! Each scope costs one look-up of a full name, which is spelled in pieces, without a copy of the
 //! scope. The files that can have one of these names are found once.
-ghost use Rattle.std.specs.Prelude.{◌≡◌, ◌++◌, ℕ, List, ◌<◌, IfOk, length, map};
+ghost use Rattle.std.specs.Prelude.{◌≡◌, ◌++◌, ℕ, List, ◌<◌, IfOk, OnOk, length, map};
 ghost use Rattle.pq_rules.specs.Relations.{Each};
 ghost use Rattle.pq_schema.specs.Resolution.{found, found_as, has_names, decides, meaning, unless_type, single, dotted, scopes, search, lookup, lookup_by};
+ghost use Rattle.pq_schema.specs.aux.Asked.{AreAsked};
 ghost use Rattle.pq_schema.specs.aux.Fronts.{Begins};
 ghost use Rattle.pq_schema.specs.aux.Grouping.{AreNear, around};
 ghost use Rattle.pq_schema.specs.aux.Hits.{found_at, lookup_at, meaning_at};
@@ -15,6 +16,7 @@ ghost use Rattle.pq_schema.specs.aux.Outward.{IsOutward};
 ghost use Rattle.pq_schema.specs.aux.Spots.{IsPlain};
 
 use crate::along::Along;
+use crate::asked::{Asked, look_inside};
 use crate::definitions::DefinitionKind;
 use crate::files::Files;
 use crate::lead::Lead;
@@ -175,27 +177,31 @@ pub(crate) fn unless_type<'a>(inner: Hit<'a>, outer: Hit<'a>) -> Hit<'a>
 /// What the name `name`, which has no dot, is found as from the scopes `inner` and then from those of
 /// the package of `outward`. `near` has the places of the files that can have it there.
 fn find_single<'a>(
+    alloc: Global,
     buffer: &mut String,
     files: &Lookup<'a>,
     near: &[usize],
     outward: Outward<'_>,
     inner: &[Shared<Lead>],
+    asked: &mut Vec<Asked<'a>>,
     name: &str,
 ) -> Result<Hit<'a>, Memory>
     requires near { AreNear near.now files.now (scopes outward.root.now) }
     requires inner { Each (λ l. AreNear near.now files.now (around (l ++ name.now))) inner.now }
     requires below { Each (λ l. Begins (leading outward.root.now) l) inner.now }
     requires outward { IsOutward files.now outward.along.now outward.root.now outward.spots.now }
+    requires asked { AreAsked files.now inner.now asked.old.items }
     requires some { 0 < length name.now }
     requires plain { IsPlain name.now }
     ensures is { IfOk result (λ hit. found_at hit
         ≡ single_from files.now inner.now (single files.now (scopes outward.entry.root.now) name.now) name.now) }
+    ensures asked { OnOk result (AreAsked files.now inner.now asked.new.items) }
 {
     let mut best = Hit::Nothing;
     'scopes: for i in 0..inner.len() {
+        let place = look_inside(alloc, files, near, outward.along, inner, asked, i, name)?;
         let lead = inner[i].get();
         let full = lead.spell(name);
-        let place = files.definition_below(outward.along, near, &full);
         best = unless_type(best, find_full(buffer, files, place, &full)?);
         if let Hit::Type(_) = best {
             return Ok(best);
@@ -215,6 +221,7 @@ fn find_dotted<'a>(
     near: &[usize],
     outward: Outward<'_>,
     inner: &[Shared<Lead>],
+    asked: &mut Vec<Asked<'a>>,
     first: &str,
     name: &str,
 ) -> Result<Hit<'a>, Memory>
@@ -222,15 +229,17 @@ fn find_dotted<'a>(
     requires inner { Each (λ l. AreNear near.now files.now (around (l ++ first.now))) inner.now }
     requires below { Each (λ l. Begins (leading outward.root.now) l) inner.now }
     requires outward { IsOutward files.now outward.along.now outward.root.now outward.spots.now }
+    requires asked { AreAsked files.now inner.now asked.old.items }
     requires some { 0 < length first.now }
     requires plain { IsPlain first.now }
     ensures is { IfOk result (λ hit. found_at hit ≡ dotted_from files.now inner.now
         (dotted files.now (scopes outward.entry.root.now) first.now name.now) first.now name.now) }
+    ensures asked { OnOk result (AreAsked files.now inner.now asked.new.items) }
 {
     'scopes: for i in 0..inner.len() {
+        let place = look_inside(alloc, files, near, outward.along, inner, asked, i, first)?;
         let lead = inner[i].get();
         let full = lead.spell(first);
-        let place = files.definition_below(outward.along, near, &full);
         if decides(buffer, files, place, &full)? {
             let whole = lead.spell(name);
             return find_below(alloc, buffer, files, outward.along, &whole);
@@ -249,14 +258,17 @@ pub(crate) fn find<'a>(
     near: &[usize],
     outward: Outward<'_>,
     inner: &[Shared<Lead>],
+    asked: &mut Vec<Asked<'a>>,
     name: &str,
 ) -> Result<Hit<'a>, Memory>
     requires near { AreNear near.now files.now (scopes outward.root.now) }
     requires inner { (n : List ℕ) → IsPlain n → Each (λ l. AreNear near.now files.now (around (l ++ n))) inner.now }
     requires below { Each (λ l. Begins (leading outward.root.now) l) inner.now }
     requires outward { IsOutward files.now outward.along.now outward.root.now outward.spots.now }
+    requires asked { AreAsked files.now inner.now asked.old.items }
     ensures is { IfOk result (λ hit. (ss : List (List ℕ)) → inner.now ≡ map leading ss
         → found_at hit ≡ search files.now (ss ++ scopes outward.entry.root.now) name.now) }
+    ensures asked { OnOk result (AreAsked files.now inner.now asked.new.items) }
 {
     if name.is_empty() {
         return Ok(Hit::Nothing);
@@ -265,9 +277,11 @@ pub(crate) fn find<'a>(
         Some(full) => find_any(alloc, buffer, files, &Spelled::new(&[], full)),
         None => match name.split_once('.') {
             Some((first, _)) => {
-                find_dotted(alloc, buffer, files, near, outward, inner, first, name)
+                find_dotted(
+                    alloc, buffer, files, near, outward, inner, asked, first, name,
+                )
             }
-            None => find_single(buffer, files, near, outward, inner, name),
+            None => find_single(alloc, buffer, files, near, outward, inner, asked, name),
         },
     }
 }

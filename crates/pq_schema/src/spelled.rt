@@ -1,8 +1,8 @@
 //! Names in pieces, and their comparison.
 //!
 //! Two names are compared from their last bytes to their first. Pieces that end in the same bytes
-//! are compared many bytes at a time, and only the piece in which the names differ is read byte by
-//! byte. Names that are known to begin with the same bytes are compared after these first. A code
+//! are compared many bytes at a time, and so are halves of pieces that differ. Only the last few
+//! bytes are read one by one. Names that are known to begin with the same bytes are compared after these first. A code
 //! is made of the last bytes of a name and of their number.
 ghost use Rattle.std.specs.Prelude.{◌≡◌, ◌≤◌, ◌<◌, ◌-◌, ◌%◌, ◌^◌, ℕ, List, [], ◌∷◌, ◌++◌, ◌==◌, IfErr, IfOk, IfSome, None, Some, bytes_eq, length, option_to_list, string_bytes, take, true};
 ghost use Rattle.std.specs.List.{concat};
@@ -176,8 +176,54 @@ fn before<'a>(text: &'a str, end: &str) -> Option<&'a str>
     if after == end { Some(before) } else { None }
 }
 
+/// The fewest bytes that are compared at once where neither of two pieces ends in the other.
+const FEWEST: usize = 64;
+
+/// How often a piece can be halved.
+const HALVES: usize = 32;
+
+/// The last half of `piece`, or that of this half, and so on, if `other` ends in it too.
+fn common_end<'a>(piece: &'a str, other: &str) -> Option<&'a str>
+    ensures some { IfSome result (λ e. 0 < length e.now) }
+{
+    let mut count = piece.len() / 2;
+    'halves: for _ in 0..HALVES {
+        if count < FEWEST {
+            return None;
+        }
+        let (_, end) = piece.split_at_checked(piece.len() - count)?;
+        if before(other, end).is_some() {
+            return Some(end);
+        }
+        count /= 2;
+    }
+    None
+}
+
+/// The names of `parts` and `piece` and of `others` and `other`, without some bytes in which both end.
+/// Pieces that differ far from their ends have such bytes.
+fn cut_end<'a, 'b>(
+    parts: &'a [Text],
+    piece: &'a str,
+    others: &'b [Text],
+    other: &'b str,
+) -> Option<(Spelled<'a>, Spelled<'b>)>
+    ensures order { IfSome result (λ r. name_order (concat parts.now ++ piece.now) (concat others.now ++ other.now) ≡ name_order r.0 r.1) }
+    ensures less { IfSome result (λ r. length r.0 < length (concat parts.now ++ piece.now)) }
+{
+    let end = common_end(piece, other)?;
+    let text = before(piece, end)?;
+    let left = Spelled { parts, text };
+    let text = before(other, end)?;
+    let right = Spelled {
+        parts: others,
+        text,
+    };
+    Some((left, right))
+}
+
 /// The names of `parts` and `piece` and of `others` and `other`, without the bytes in which both end,
-/// if one of the two pieces ends in the other.
+/// if one of the two pieces ends in the other, or if both end in some half of one.
 fn cut<'a, 'b>(
     parts: &'a [Text],
     piece: &'a str,
@@ -196,13 +242,15 @@ fn cut<'a, 'b>(
         };
         return Some((left, right));
     }
-    let text = before(other, piece)?;
-    let left = Spelled { parts, text: "" };
-    let right = Spelled {
-        parts: others,
-        text,
-    };
-    Some((left, right))
+    if let Some(text) = before(other, piece) {
+        let left = Spelled { parts, text: "" };
+        let right = Spelled {
+            parts: others,
+            text,
+        };
+        return Some((left, right));
+    }
+    cut_end(parts, piece, others, other)
 }
 
 /// The order of `a` and `b`, or two shorter names of the same order.

@@ -6,15 +6,17 @@ ghost use Rattle.std.specs.Prelude.{◌≡◌, ◌++◌, ◌∷◌, [], IfOk, On
 ghost use Rattle.pq_syntax.specs.Places.{places};
 ghost use Rattle.pq_schema.specs.References.{references_at, references_by, type_reference};
 ghost use Rattle.pq_schema.specs.Resolution.{scopes, search};
+ghost use Rattle.pq_schema.specs.aux.Asked.{AreAsked};
 ghost use Rattle.pq_schema.specs.aux.Grouping.{AreNear};
 ghost use Rattle.pq_schema.specs.aux.Hits.{found_at};
 ghost use Rattle.pq_schema.specs.aux.Inside.{AreInner, IsNear, found_use, used, used_as};
 ghost use Rattle.pq_schema.specs.aux.Outward.{IsOutward};
 
 use crate::along::Along;
+use crate::asked::{Asked, close_scopes, open_scopes};
 use crate::files::Files;
 use crate::full_name::FullName;
-use crate::inner::{Inner, inner_of};
+use crate::inner::{Inner, depth_of, inner_of};
 use crate::lead::lead_text;
 use crate::lookup::{Lookup, most_of_one};
 use crate::nesting::innermost as innermost_of;
@@ -86,12 +88,15 @@ fn find_at<'a>(
     near: &[usize],
     outward: Outward<'_>,
     scope: &Inner,
+    asked: &mut Vec<Asked<'a>>,
     name: &str,
 ) -> Result<Hit<'a>, Memory>
     requires near { AreNear near.now files.now (scopes scope.now.0) }
     requires outward { IsOutward files.now outward.along.now outward.root.now outward.spots.now }
     requires inner { AreInner scope.now.1 outward.root.now scope.now.0 }
+    requires asked { AreAsked files.now scope.now.1 asked.old.items }
     ensures is { IfOk result (λ hit. found_at hit ≡ search files.now (scopes scope.now.0) name.now) }
+    ensures asked { OnOk result (AreAsked files.now scope.now.1 asked.new.items) }
 {
     let mut buffer = String::new(alloc);
     find(
@@ -101,6 +106,7 @@ fn find_at<'a>(
         near,
         outward,
         scope.leads(),
+        asked,
         name,
     )
 }
@@ -113,18 +119,21 @@ fn find_in<'a>(
     scope: &Inner,
     name: &str,
     last: &mut Nearby,
+    asked: &mut Vec<Asked<'a>>,
 ) -> Result<Hit<'a>, Memory>
     requires near { IsNear files.now last.old }
     requires outward { IsOutward files.now outward.along.now outward.root.now outward.spots.now }
     requires inner { AreInner scope.now.1 outward.root.now scope.now.0 }
+    requires asked { AreAsked files.now scope.now.1 asked.old.items }
     ensures is { IfOk result (λ hit. found_at hit ≡ search files.now (scopes scope.now.0) name.now) }
     ensures near { OnOk result (IsNear files.now last.new) }
+    ensures asked { OnOk result (AreAsked files.now scope.now.1 asked.new.items) }
 {
     match files.all() {
-        Some(all) => find_at(alloc, files, all, outward, scope, name),
+        Some(all) => find_at(alloc, files, all, outward, scope, asked, name),
         None => {
             look_near(alloc, files, scope.name(), last)?;
-            find_at(alloc, files, &last.places, outward, scope, name)
+            find_at(alloc, files, &last.places, outward, scope, asked, name)
         }
     }
 }
@@ -139,16 +148,27 @@ fn put<'a>(
     part: TypePart,
     name: &Name,
     last: &mut Nearby,
+    asked: &mut Vec<Asked<'a>>,
     uses: &mut Vec<Use<'a>>,
 ) -> Result<(), Memory>
     requires near { IsNear files.now last.old }
     requires outward { IsOutward files.now outward.along.now outward.root.now outward.spots.now }
     requires inner { AreInner scope.now.1 outward.root.now scope.now.0 }
+    requires asked { AreAsked files.now scope.now.1 asked.old.items }
     ensures found { OnOk result (map used uses.new.items ≡ map used uses.old.items
         ++ used_as files.now (record { item = item; part = part; within = scope.now.0; name = name.now.text }) ∷ []) }
     ensures near { OnOk result (IsNear files.now last.new) }
+    ensures asked { OnOk result (AreAsked files.now scope.now.1 asked.new.items) }
 {
-    let hit = find_in(alloc, files, outward, scope, name.text.as_str(), last)?;
+    let hit = find_in(
+        alloc,
+        files,
+        outward,
+        scope,
+        name.text.as_str(),
+        last,
+        asked,
+    )?;
     uses.push(Use { item, part, hit })?;
     Ok(())
 }
@@ -162,14 +182,17 @@ fn put_type<'a>(
     item: usize,
     name: &Name,
     last: &mut Nearby,
+    asked: &mut Vec<Asked<'a>>,
     uses: &mut Vec<Use<'a>>,
 ) -> Result<(), Memory>
     requires near { IsNear files.now last.old }
     requires outward { IsOutward files.now outward.along.now outward.root.now outward.spots.now }
     requires inner { AreInner scope.now.1 outward.root.now scope.now.0 }
+    requires asked { AreAsked files.now scope.now.1 asked.old.items }
     ensures found { OnOk result (map used uses.new.items
         ≡ map used uses.old.items ++ map (used_as files.now) (type_reference item scope.now.0 name.now.text)) }
     ensures near { OnOk result (IsNear files.now last.new) }
+    ensures asked { OnOk result (AreAsked files.now scope.now.1 asked.new.items) }
 {
     if is_scalar(name.text.as_str()) {
         return Ok(());
@@ -183,6 +206,7 @@ fn put_type<'a>(
         TypePart::Type,
         name,
         last,
+        asked,
         uses,
     )
 }
@@ -197,21 +221,26 @@ fn refer<'a>(
     item: usize,
     statement: &Statement,
     last: &mut Nearby,
+    asked: &mut Vec<Asked<'a>>,
     uses: &mut Vec<Use<'a>>,
 ) -> Result<(), Memory>
     requires near { IsNear files.now last.old }
     requires outward { IsOutward files.now outward.along.now outward.root.now outward.spots.now }
     requires inner { AreInner scope.now.1 outward.root.now scope.now.0 }
+    requires asked { AreAsked files.now scope.now.1 asked.old.items }
     ensures found { OnOk result (map used uses.new.items
         ≡ map used uses.old.items ++ map (used_as files.now) (references_by scope.now.0 item statement.now)) }
     ensures near { OnOk result (IsNear files.now last.new) }
+    ensures asked { OnOk result (AreAsked files.now scope.now.1 asked.new.items) }
 {
     match statement {
         Statement::Field { type_name, .. } => {
-            put_type(alloc, files, outward, scope, item, type_name, last, uses)
+            put_type(
+                alloc, files, outward, scope, item, type_name, last, asked, uses,
+            )
         }
         Statement::MapField { value, .. } => {
-            put_type(alloc, files, outward, scope, item, value, last, uses)
+            put_type(alloc, files, outward, scope, item, value, last, asked, uses)
         }
         Statement::Method { input, output, .. } => {
             let name = &input.type_name;
@@ -224,6 +253,7 @@ fn refer<'a>(
                 TypePart::Input,
                 name,
                 last,
+                asked,
                 uses,
             )?;
             let name = &output.type_name;
@@ -236,6 +266,7 @@ fn refer<'a>(
                 TypePart::Output,
                 name,
                 last,
+                asked,
                 uses,
             )
         }
@@ -270,11 +301,14 @@ fn find_under<'a>(
 {
     let mut last = near;
     let mut stack: Stack<Shared<Inner>> = Stack::new(alloc);
+    let mut asked = Vec::new(alloc);
     let mut uses = Vec::new(alloc);
     'items: for item in 0..nodes.len() {
         let node = &nodes[item];
         stack.close_to(node.depth);
         let scope = innermost(&stack, root);
+        let depth = depth_of(scope);
+        close_scopes(&mut asked, depth);
         let inside = inner_of(alloc, &node.statement, scope)?;
         refer(
             alloc,
@@ -284,8 +318,11 @@ fn find_under<'a>(
             item,
             &node.statement,
             &mut last,
+            &mut asked,
             &mut uses,
         )?;
+        let more = depth_of(&inside);
+        open_scopes(alloc, &mut asked, more)?;
         stack.open(node.depth, inside)?;
     }
     Ok(uses)

@@ -35,6 +35,7 @@ returns-in-Some-split_once c =
           ∙ ap (λ (ls : List (List ℕ)). dotted_from files ls (dotted files outer first.now name) first.now name) are
           ∙ sym (dotted_leads files ss outer first.now name)
           ∙ sym (search_dotted files (ss ++ outer) name first.now rest.now parts.0 parts.1 leads)) c.find_dotted.ensures.is;
+      asked = c.find_dotted.ensures.asked;
     }
 
 pub find_single-requires-clause-plain : goal.find_single-requires-clause-plain
@@ -53,4 +54,5 @@ returns-in-None-split_once c =
           ∙ ap (λ (ls : List (List ℕ)). single_from files ls (single files outer name) name) are
           ∙ sym (single_leads files ss outer name)
           ∙ sym (search_single files (ss ++ outer) name some parts)) c.find_single.ensures.is;
+      asked = c.find_single.ensures.asked;
     }

@@ -1,34 +1,33 @@
-use Rattle.std.proofs.Common.{◌++◌, List, ℕ, true, false, sym, ap, subst, ◌∙◌}
+use Rattle.std.proofs.Common.{◌++◌, [], get_or, List, ℕ, true, false, sym, ap, subst, ◌∙◌}
 use Rattle.std.proofs.lemmas.Result.{IfOk-weaker}
 use Rattle.pq_schema.specs.Resolution.{decides, dotted, found, scopes}
 use Rattle.pq_schema.specs.aux.Fronts.{Begins}
 use Rattle.pq_schema.specs.aux.Grouping.{AreNear, around}
 use Rattle.pq_schema.specs.aux.NameParts.{leading}
+use Rattle.pq_schema.proofs.Answered.{asked_on, looked}
 use Rattle.pq_schema.proofs.Inside.{dotted_end, dotted_step, each_at, lead_at}
 use Rattle.pq_schema.proofs.SamePackage.{full_begins}
 use Rattle.pq_schema.proofs.search.find_dotted.Goals as goal
 
-pub definition_below-place-requires : goal.definition_below-place-requires
-definition_below-place-requires c =
+pub look_inside-requires : goal.look_inside-requires
+look_inside-requires c =
     let near = c.args.near.now in
     let files = c.args.files.now in
     let first = c.args.first.now in
-    let root = c.args.outward.root.now in
-    let e = c.index-inner-i.result in
-    let l = c.get-lead.result.now in
-    let is = c.get-lead.ensures.value ∙ c.index-inner-i.is in
-    let here = each_at (λ (x : List ℕ). AreNear near files (around (x ++ first))) c.args.inner.now c.scopes.i e c.requires.inner c.scopes-test.true in
-    let front = each_at (λ (x : List ℕ). Begins (leading root) x) c.args.inner.now c.scopes.i e c.requires.below c.scopes-test.true in
     record {
-      near = subst (λ (n : List ℕ). AreNear near files (around n)) (sym c.spell-full.ensures.name)
-          (subst (λ (x : List ℕ). AreNear near files (around (x ++ first))) (sym is) here);
+      at = c.scopes-test.true;
+      near = each_at (λ (x : List ℕ). AreNear near files (around (x ++ first))) c.args.inner.now c.scopes.i [] c.requires.inner c.scopes-test.true;
       files = c.requires.outward.of_files;
-      front = full_begins root c.args.outward.along.now.root l first c.spell-full.result c.requires.outward.of_root c.spell-full.ensures.name
-          (subst (λ (x : List ℕ). Begins (leading root) x) (sym is) front);
+      front = subst (λ (r : List ℕ). Begins (leading r) (get_or c.args.inner.now c.scopes.i [])) (sym c.requires.outward.of_root)
+          (each_at (λ (x : List ℕ). Begins (leading c.args.outward.root.now) x) c.args.inner.now c.scopes.i [] c.requires.below c.scopes-test.true);
+      asked = c.scopes.invariant.1;
     }
 
 pub decides-requires : goal.decides-requires
-decides-requires c = record { place = c.definition_below-place.ensures.first }
+decides-requires c = record {
+  place = looked c.args.files.now c.args.inner.now c.scopes.i c.get-lead.result.now c.index-inner-i.result c.args.first.now c.spell-full.result _
+      c.scopes-test.true c.get-lead.ensures.value c.index-inner-i.is c.spell-full.ensures.name c.in_ok-place.ensures.first;
+}
 
 pub find_below-requires : goal.find_below-requires
 find_below-requires c =
@@ -51,21 +50,24 @@ returns-then-branch c =
     let l = c.get-lead.result.now in
     let step = dotted_step files first name c.args.inner.now c.scopes.i l true (dotted files (scopes c.args.outward.root.now) first name) _
     c.scopes-test.true (lead_at c.args.inner.now c.scopes.i c.get-lead.result.now c.index-inner-i.result c.scopes-test.true c.get-lead.ensures.value c.index-inner-i.is)
-    (sym c.if-branch.true ∙ c.in_ok-decides.ensures.is ∙ ap (λ (n : List ℕ). decides files n) c.spell-full.ensures.name) c.scopes.invariant in
+    (sym c.if-branch.true ∙ c.in_ok-decides.ensures.is ∙ ap (λ (n : List ℕ). decides files n) c.spell-full.ensures.name) c.scopes.invariant.0 in
     record {
       is = IfOk-weaker c.find_below.result _ _
           (λ hit h. h ∙ ap (λ (n : List ℕ). found files n) c.spell-whole.ensures.name ∙ sym step)
           c.find_below.ensures.is;
+      asked = asked_on c.find_below.result c.in_ok-place.ensures.asked;
     }
 
 pub scopes-preserved : goal.scopes-preserved
 scopes-preserved c =
     let files = c.args.files.now in
     let first = c.args.first.now in
-    let name = c.args.name.now in
-    dotted_step files first name c.args.inner.now c.scopes.i c.get-lead.result.now false (dotted files (scopes c.args.outward.root.now) first name) _
-    c.scopes-test.true (lead_at c.args.inner.now c.scopes.i c.get-lead.result.now c.index-inner-i.result c.scopes-test.true c.get-lead.ensures.value c.index-inner-i.is)
-    (sym c.if-branch.false ∙ c.in_ok-decides.ensures.is ∙ ap (λ (n : List ℕ). decides files n) c.spell-full.ensures.name) c.scopes.invariant
+    let name = c.args.name.now in (
+      dotted_step files first name c.args.inner.now c.scopes.i c.get-lead.result.now false (dotted files (scopes c.args.outward.root.now) first name) _
+          c.scopes-test.true (lead_at c.args.inner.now c.scopes.i c.get-lead.result.now c.index-inner-i.result c.scopes-test.true c.get-lead.ensures.value c.index-inner-i.is)
+          (sym c.if-branch.false ∙ c.in_ok-decides.ensures.is ∙ ap (λ (n : List ℕ). decides files n) c.spell-full.ensures.name) c.scopes.invariant.0,
+      c.in_ok-place.ensures.asked,
+    )
 
 pub returns : goal.returns
 returns c =
@@ -74,6 +76,7 @@ returns c =
     let name = c.args.name.now in
     record {
       is = IfOk-weaker c.dotted_outward.result _ _
-          (λ hit h. h ∙ sym (dotted_end files first name c.args.inner.now c.scopes.i (dotted files (scopes c.args.outward.root.now) first name) _ c.scopes-test.false c.scopes.invariant))
+          (λ hit h. h ∙ sym (dotted_end files first name c.args.inner.now c.scopes.i (dotted files (scopes c.args.outward.root.now) first name) _ c.scopes-test.false c.scopes.invariant.0))
           c.dotted_outward.ensures.is;
+      asked = asked_on c.dotted_outward.result c.scopes.invariant.1;
     }

@@ -1,17 +1,22 @@
+use Rattle.std.proofs.Common.{[], refl}
 use Rattle.std.specs.List.{concat}
-use Rattle.pq_schema.proofs.Pieces.{cut_first, cut_second, less_first, less_second}
+use Rattle.pq_schema.proofs.Pieces.{cut_both, less_first, less_second}
 use Rattle.pq_schema.proofs.spelled.cut.Goals as goal
 
 pub returns-in-Some : goal.returns-in-Some
 returns-in-Some c =
+    let piece = c.args.piece.now in
+    let other = c.args.other.now in
     record {
-      order = cut_first (concat c.args.parts.now) (concat c.args.others.now) c.args.piece.now c.args.other.now c.in-Some.text.now c.in-Some.ensures.before;
-      less = less_first (concat c.args.parts.now) c.args.piece.now c.args.other.now c.in-Some.text.now c.in-Some.ensures.before c.requires.some.1;
+      order = cut_both (concat c.args.parts.now) (concat c.args.others.now) piece other c.in-Some.text.now [] other c.in-Some.ensures.before refl;
+      less = less_first (concat c.args.parts.now) piece other c.in-Some.text.now c.in-Some.ensures.before c.requires.some.1;
     }
 
-pub returns : goal.returns
-returns c =
+pub returns-in-Some-before : goal.returns-in-Some-before
+returns-in-Some-before c =
+    let piece = c.args.piece.now in
+    let other = c.args.other.now in
     record {
-      order = cut_second (concat c.args.parts.now) (concat c.args.others.now) c.args.piece.now c.args.other.now c.in_ok-text.text.now c.in_ok-text.ensures.before;
-      less = less_second (concat c.args.parts.now) c.args.piece.now c.requires.some.0;
+      order = cut_both (concat c.args.parts.now) (concat c.args.others.now) piece other [] c.in-Some-before.text.now piece refl c.in-Some-before.ensures.before;
+      less = less_second (concat c.args.parts.now) piece c.requires.some.0;
     }

@@ -1,7 +1,8 @@
-use Rattle.std.proofs.Common.{◌++◌, ℕ, List, sym, ap, subst, ◌∙◌}
+use Rattle.std.proofs.Common.{◌++◌, ℕ, List, OnOk, sym, ap, subst, ◌∙◌}
 use Rattle.std.proofs.lemmas.Result.{IfOk-weaker}
 use Rattle.pq_rules.specs.Relations.{Each}
 use Rattle.pq_schema.specs.Resolution.{search}
+use Rattle.pq_schema.specs.aux.Asked.{AreAsked}
 use Rattle.pq_schema.specs.aux.Fronts.{Begins}
 use Rattle.pq_schema.specs.aux.Grouping.{AreNear, around}
 use Rattle.pq_schema.specs.aux.NameParts.{leading}
@@ -22,6 +23,7 @@ find-requires c =
           (near_inner near files scope.1 root scope.0 are c.requires.near);
       below = subst (λ (ls : List (List ℕ)). Each (λ l. Begins (leading root) l) ls) (sym c.leads.ensures.leads) are.begin;
       outward = c.requires.outward;
+      asked = subst (λ (ls : List (List ℕ)). AreAsked files ls c.args.asked.now.items) (sym c.leads.ensures.leads) c.requires.asked;
     }
 
 pub returns : goal.returns
@@ -32,4 +34,5 @@ returns c =
       is = IfOk-weaker c.find.result _ _
           (λ hit h. h are.scopes (c.leads.ensures.leads ∙ are.are) ∙ ap (λ (ss : List (List ℕ)). search files ss c.args.name.now) (sym are.all))
           c.find.ensures.is;
+      asked = subst (λ (ls : List (List ℕ)). OnOk c.find.result (AreAsked files ls c.find.new.asked.items)) c.leads.ensures.leads c.find.ensures.asked;
     }

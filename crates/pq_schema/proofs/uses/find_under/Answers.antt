@@ -1,15 +1,23 @@
-use Rattle.std.proofs.Common.{◌≡◌, ℕ, List, [], ◌∷◌, ◌++◌, map, sym, ap, subst, ◌∙◌}
+use Rattle.std.proofs.Common.{◌≡◌, ℕ, List, [], ◌∷◌, ◌++◌, length, map, sym, ap, subst, ◌∙◌}
 use Rattle.pq_syntax.specs.Places.{places}
 use Rattle.pq_syntax.specs.Stacks.{closed}
 use Rattle.pq_syntax.proofs.Walk.{walked_none, walked_more, walked_all, item_at}
+use Rattle.pq_schema.specs.declared.asked.Asked.{Asked}
+use Rattle.pq_schema.specs.aux.Asked.{AreAsked}
 use Rattle.pq_schema.specs.aux.Inside.{used}
+use Rattle.pq_schema.proofs.Answered.{asked_closed, asked_opened, nested_more, nested_none, none_open}
 use Rattle.pq_schema.proofs.Inside.{Fits, emit, fit_inner, fit_more, given_found, inner_opened, keep}
 use Rattle.pq_schema.proofs.uses.find_under.Goals as goal
 
 pub items-init : goal.items-init
 items-init c =
-    rw (c.new-stack.ensures, c.new-uses.ensures.items)
-    (walked_none keep (c.args.outward.root.now, []) (emit c.args.files.now) c.args.nodes.now, tt, c.requires.near)
+    rw (c.new-stack.ensures, c.new-uses.ensures.items) (
+      walked_none keep (c.args.outward.root.now, []) (emit c.args.files.now) c.args.nodes.now,
+      tt,
+      c.requires.near,
+      nested_none c.args.outward.root.now,
+      subst (λ (xs : List Asked). AreAsked c.args.files.now [] xs) (sym c.new-asked.ensures.items) (none_open c.args.files.now),
+    )
 
 pub refer-requires : goal.refer-requires
 refer-requires c =
@@ -20,6 +28,9 @@ refer-requires c =
       near = c.items.invariant.2;
       outward = c.requires.outward;
       inner = subst (Fits root) (sym (c.get.ensures.value ∙ inner)) (fit_inner root c.items.stack node.depth c.items.invariant.1);
+      asked = subst (λ (s : List ℕ × List (List ℕ)). AreAsked c.args.files.now s.1 c.close_scopes.new.asked.items) (sym c.get.ensures.value)
+          (asked_closed c.args.files.now root c.items.stack node.depth c.innermost-scope.result.now c.items.asked.items c.close_scopes.new.asked.items c.depth_of-depth.result
+          inner c.depth_of-depth.ensures.depth c.close_scopes.ensures.asked c.items.invariant.3 c.items.invariant.4);
     }
 
 pub items-preserved : goal.items-preserved
@@ -38,6 +49,10 @@ items-preserved c =
           c.items.invariant.0,
       fit_more root c.items.stack c.open.new.self node.depth (item_at c.items.item node) scope opened fits c.items.invariant.1,
       c.in_ok-refer.ensures.near,
+      nested_more root node.depth c.items.stack c.open.new.self (item_at c.items.item node) scope inner opened c.items.invariant.3,
+      asked_opened c.args.files.now root node.depth (item_at c.items.item node) scope c.open.new.self (closed node.depth c.items.stack) c.refer.new.asked.items c.open_scopes.new.asked.items c.depth_of-more.result
+          opened (c.depth_of-more.ensures.depth ∙ ap (λ (s : List ℕ × List (List ℕ)). length s.1) c.in_ok-inside.ensures) c.in_ok-open_scopes.ensures.asked
+          (subst (λ (s : List ℕ × List (List ℕ)). AreAsked c.args.files.now s.1 c.refer.new.asked.items) c.get.ensures.value c.in_ok-refer.ensures.asked),
     )
 
 pub returns : goal.returns

@@ -9,4 +9,5 @@ returns c =
     record {
       found = put_more c.args.uses.now.items c.push.new.self.items _ _ c.in_ok-push.ensures.items (ap (λ (f : Found). (c.args.item, (c.args.part, f))) same);
       near = c.in_ok-hit.ensures.near;
+      asked = c.in_ok-hit.ensures.asked;
     }

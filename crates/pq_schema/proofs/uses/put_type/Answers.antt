@@ -14,6 +14,7 @@ returns-then-is_scalar c =
     record {
       found = sym (append-nil old) ∙ ap (λ (b : Bool). old ++ map (used_as c.args.files.now) (cond b [] (r ∷ []))) test;
       near = c.requires.near;
+      asked = c.requires.asked;
     }
 
 pub returns : goal.returns
@@ -24,4 +25,5 @@ returns c =
     record {
       found = IfOk-weaker c.put.result _ _ (λ _ h. h ∙ ap (λ (b : Bool). old ++ map (used_as c.args.files.now) (cond b [] (r ∷ []))) test) c.put.ensures.found;
       near = c.put.ensures.near;
+      asked = c.put.ensures.asked;
     }

@@ -1,0 +1,233 @@
+//! What was looked up in the open scopes.
+//!
+//! A full name is compared with the definition that has it, and the name of a scope can be as long
+//! as the file. So the answers of look-ups in scopes of long names are kept while the scope is open:
+//! a name is looked up once in each of these scopes, however often it is asked. Of many names that
+//! are not found only those are kept whose code some definition has, since no other is compared.
+ghost use Rattle.std.specs.Prelude.{◌≡◌, ◌++◌, ◌<◌, ◌+◌, ℕ, List, [], IfOk, IfSome, OnOk, get_or, length};
+ghost use Rattle.pq_schema.specs.declared.scope.FileDefs.{FileDefs};
+ghost use Rattle.pq_schema.specs.aux.Asked.{AreAsked, IsAsked};
+ghost use Rattle.pq_schema.specs.aux.Fronts.{Begins};
+ghost use Rattle.pq_schema.specs.aux.Grouping.{AreNear, around};
+ghost use Rattle.pq_schema.specs.aux.Hits.{meaning_at};
+ghost use Rattle.pq_schema.specs.aux.NameParts.{leading};
+ghost use Rattle.pq_schema.specs.Resolution.{meaning};
+
+use crate::along::Along;
+use crate::lead::Lead;
+use crate::lookup::Lookup;
+use crate::named::Place;
+use crate::spelled::Spelled;
+use pq_names::{Memory, Text};
+use pq_rules::Shared;
+use std::alloc::Global;
+use std::collections::BTreeMap;
+
+/// A name that was looked up in a scope, and its first definition.
+#[derive(Drop)]
+pub(crate) struct Answer<'a> {
+    pub(crate) name: Text,
+    pub(crate) place: Option<Place<'a>>,
+}
+
+/// The look-ups in one scope.
+#[derive(Drop)]
+pub(crate) struct Asked<'a> {
+    pub(crate) answers: Vec<Answer<'a>>,
+    /// Where a name may be in `answers`.
+    numbers: BTreeMap<Text, usize>,
+}
+
+impl<'a> Asked<'a> {
+    /// No look-ups.
+    fn new(alloc: Global) -> Asked<'a>
+        ensures none { result.answers.items ≡ [] }
+    {
+        Asked {
+            answers: Vec::new(alloc),
+            numbers: BTreeMap::new(alloc),
+        }
+    }
+
+    /// The number of the answer for `name`, if there is one.
+    fn number(&self, alloc: Global, name: &str) -> Result<Option<usize>, Memory> {
+        if self.answers.is_empty() {
+            return Ok(None);
+        }
+        let key = Text::new(alloc, name)?;
+        match self.numbers.get(&key) {
+            Some(number) => Ok(Some(*number)),
+            None => Ok(None),
+        }
+    }
+
+    /// The first definition of `name`, if it was looked up.
+    fn known(&self, alloc: Global, name: &str) -> Result<Option<Option<Place<'a>>>, Memory>
+        ensures known { IfOk result (λ o. IfSome o (λ p. (files : List FileDefs) (lead : List ℕ)
+            → IsAsked files lead self.now → meaning_at p ≡ meaning files (lead ++ name.now))) }
+    {
+        let number = match self.number(alloc, name)? {
+            Some(number) => number,
+            None => return Ok(None),
+        };
+        match self.answers.get(number) {
+            Some(answer) => {
+                if answer.name.as_str() == name {
+                    Ok(Some(answer.place))
+                } else {
+                    Ok(None)
+                }
+            }
+            None => Ok(None),
+        }
+    }
+
+    /// Keeps that the first definition of `name` is at `place`.
+    fn keep(&mut self, alloc: Global, name: &str, place: Option<Place<'a>>) -> Result<(), Memory>
+        ensures kept { OnOk result ((files : List FileDefs) (lead : List ℕ) → IsAsked files lead self.old
+            → meaning_at place.entry ≡ meaning files (lead ++ name.now) → IsAsked files lead self.new) }
+    {
+        let name = Text::new(alloc, name)?;
+        self.numbers.insert(name.copy()?, self.answers.len())?;
+        self.answers.push(Answer { name, place })?;
+        Ok(())
+    }
+}
+
+/// The first definition of `name` in the scope `level` of `asked`, if it was looked up.
+fn known_at<'a>(
+    alloc: Global,
+    asked: &[Asked<'a>],
+    level: usize,
+    name: &str,
+) -> Result<Option<Option<Place<'a>>>, Memory>
+    ensures known { IfOk result (λ o. IfSome o (λ p. (files : List FileDefs) (leads : List (List ℕ)) (at : ℕ)
+        → AreAsked files leads asked.now → level + (at + 1) ≡ length leads
+        → meaning_at p ≡ meaning files (get_or leads at [] ++ name.now))) }
+{
+    match asked.get(level) {
+        Some(scope) => scope.known(alloc, name),
+        None => Ok(None),
+    }
+}
+
+/// Keeps that the first definition of `name` in the scope `level` of `asked` is at `place`.
+fn keep_at<'a>(
+    alloc: Global,
+    asked: &mut Vec<Asked<'a>>,
+    level: usize,
+    name: &str,
+    place: Option<Place<'a>>,
+) -> Result<(), Memory>
+    ensures kept { OnOk result ((files : List FileDefs) (leads : List (List ℕ)) (at : ℕ)
+        → AreAsked files leads asked.old.items → level + (at + 1) ≡ length leads
+        → meaning_at place.entry ≡ meaning files (get_or leads at [] ++ name.now) → AreAsked files leads asked.new.items) }
+{
+    if level < asked.len() {
+        asked[level].keep(alloc, name, place)?;
+    }
+    Ok(())
+}
+
+/// The most names that are kept in each scope, whatever their codes.
+const FEW: usize = 64;
+
+/// Whether it is kept that the full name `name`, in the scope `level` of `asked`, is not found in
+/// `files`.
+fn is_worth(
+    files: &Lookup<'_>,
+    near: &[usize],
+    asked: &[Asked<'_>],
+    level: usize,
+    name: &Spelled<'_>,
+) -> bool {
+    match asked.get(level) {
+        Some(scope) => scope.answers.len() < FEW || files.may_have(near, name),
+        None => false,
+    }
+}
+
+/// The first definition in `files` of the name `name`, which is in the scope `at` of `inner`. What is
+/// before a name in it is long.
+fn look_long<'a>(
+    alloc: Global,
+    files: &Lookup<'a>,
+    near: &[usize],
+    along: &Along<'_>,
+    inner: &[Shared<Lead>],
+    asked: &mut Vec<Asked<'a>>,
+    at: usize,
+    name: &str,
+) -> Result<Option<Place<'a>>, Memory>
+    requires at { at < length inner.now }
+    requires near { AreNear near.now files.now (around (get_or inner.now at [] ++ name.now)) }
+    requires files { along.now.files ≡ files.now }
+    requires front { Begins (leading along.now.root) (get_or inner.now at []) }
+    requires asked { AreAsked files.now inner.now asked.old.items }
+    ensures first { IfOk result (λ p. meaning_at p ≡ meaning files.now (get_or inner.now at [] ++ name.now)) }
+    ensures asked { OnOk result (AreAsked files.now inner.now asked.new.items) }
+{
+    let level = inner.len() - 1 - at;
+    if let Some(place) = known_at(alloc, asked, level, name)? {
+        return Ok(place);
+    }
+    let lead = inner[at].get();
+    let full = lead.spell(name);
+    let place = files.definition_below(along, near, &full);
+    if place.is_none() && !is_worth(files, near, asked, level, &full) {
+        return Ok(place);
+    }
+    keep_at(alloc, asked, level, name, place)?;
+    Ok(place)
+}
+
+/// The first definition in `files` of the name `name`, which is in the scope `at` of `inner`. `near`
+/// has the places of the files that can have the name.
+pub(crate) fn look_inside<'a>(
+    alloc: Global,
+    files: &Lookup<'a>,
+    near: &[usize],
+    along: &Along<'_>,
+    inner: &[Shared<Lead>],
+    asked: &mut Vec<Asked<'a>>,
+    at: usize,
+    name: &str,
+) -> Result<Option<Place<'a>>, Memory>
+    requires at { at < length inner.now }
+    requires near { AreNear near.now files.now (around (get_or inner.now at [] ++ name.now)) }
+    requires files { along.now.files ≡ files.now }
+    requires front { Begins (leading along.now.root) (get_or inner.now at []) }
+    requires asked { AreAsked files.now inner.now asked.old.items }
+    ensures first { IfOk result (λ p. meaning_at p ≡ meaning files.now (get_or inner.now at [] ++ name.now)) }
+    ensures asked { OnOk result (AreAsked files.now inner.now asked.new.items) }
+{
+    let lead = inner[at].get();
+    if lead.is_long() {
+        return look_long(alloc, files, near, along, inner, asked, at, name);
+    }
+    let full = lead.spell(name);
+    Ok(files.definition_below(along, near, &full))
+}
+
+/// Forgets the look-ups in all but the outermost `count` scopes.
+pub(crate) fn close_scopes(asked: &mut Vec<Asked<'_>>, count: usize)
+    ensures asked { (files : List FileDefs) (more leads : List (List ℕ)) → count ≡ length leads
+        → AreAsked files (more ++ leads) asked.old.items → AreAsked files leads asked.new.items }
+{
+    asked.truncate(count);
+}
+
+/// Adds scopes without look-ups until there are `count`.
+pub(crate) fn open_scopes(
+    alloc: Global,
+    asked: &mut Vec<Asked<'_>>,
+    count: usize,
+) -> Result<(), Memory>
+    ensures asked { OnOk result ((files : List FileDefs) (more leads : List (List ℕ)) → count ≡ length (more ++ leads)
+        → AreAsked files leads asked.old.items → AreAsked files (more ++ leads) asked.new.items) }
+{
+    'scopes: for _ in asked.len()..count {
+        asked.push(Asked::new(alloc))?;
+    }
+    Ok(())
+}
