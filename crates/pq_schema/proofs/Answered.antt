@@ -1,6 +1,6 @@
 -- What was looked up in the open scopes: answers that are kept, and scopes that close and open.
-use Rattle.std.proofs.Common.{◌≡◌, ◌⊎◌, ℕ, zero, suc, ◌+◌, ◌-◌, ◌<◌, ◌≤◌, cond, nat_lt, List, [], ◌∷◌, ◌++◌, length, get_or, map, take, slice_set, unwrap_or, Option, Some, None, IfSome, Result, Ok, Err, OnOk, refl, sym, ap, subst, ◌∙◌, inl, inr, arith, append_assoc, append-nil}
-use Rattle.std.proofs.lemmas.List.{get_or-append-add, get_or_append_left, get_or-append_right, get_or-take, get_or_default, length-append, length-take-le}
+use Rattle.std.proofs.Common.{◌≡◌, ◌⊎◌, ℕ, zero, suc, ◌+◌, ◌-◌, ◌<◌, ◌≤◌, cond, nat_lt, List, [], ◌∷◌, ◌++◌, length, drop, get_or, map, slice_set, unwrap_or, Option, Some, None, IfSome, Result, Ok, Err, OnOk, refl, sym, ap, subst, ◌∙◌, inl, inr, arith, append_assoc, append-nil}
+use Rattle.std.proofs.lemmas.List.{get_or-append-add, get_or_append_left, drop_more, get_or_default, length-append}
 use Rattle.pq_rules.specs.Relations.{Each}
 use Rattle.pq_rules.proofs.Characterisation.{each_append}
 use Rattle.pq_syntax.specs.declared.tree.Statement.{Statement}
@@ -14,7 +14,7 @@ use Rattle.pq_schema.specs.declared.named.Place.{Place}
 use Rattle.pq_schema.specs.declared.scope.FileDefs.{FileDefs}
 use Rattle.pq_schema.specs.Definitions.{qualified}
 use Rattle.pq_schema.specs.Resolution.{Meaning, meaning}
-use Rattle.pq_schema.specs.aux.Asked.{AreAsked, IsAsked}
+use Rattle.pq_schema.specs.aux.Asked.{AreAsked, IsAsked, IsFront, IsRight}
 use Rattle.pq_schema.specs.aux.Hits.{meaning_at}
 use Rattle.pq_schema.specs.aux.Inside.{next_in, opened_by}
 use Rattle.pq_schema.specs.aux.NameParts.{leading}
@@ -39,6 +39,23 @@ known_right files lead items answers n a text name are within at is same all =
     (each_or (λ (x : Answer). meaning_at x.place ≡ meaning files (lead ++ x.name)) items n a
     (subst (λ (xs : List Answer). Each (λ (x : Answer). meaning_at x.place ≡ meaning files (lead ++ x.name)) xs) (sym are) all) within)
     ∙ ap (λ (b : List ℕ). meaning files (lead ++ b)) (sym is ∙ same)
+
+-- a scope of which one more answer is kept
+pub kept_more : (files : List FileDefs) (lead : List ℕ) (old new : Asked) (a : Answer) (name : List ℕ)
+    → new.lead ≡ old.lead → new.answers.items ≡ old.answers.items ++ a ∷ [] → a.name ≡ name
+    → IsAsked files lead old → meaning_at a.place ≡ meaning files (lead ++ name) → IsAsked files lead new
+kept_more files lead old new a name same added is are right =
+    let here : meaning_at a.place ≡ meaning files (old.lead ++ a.name) =
+    right ∙ ap (λ (b : List ℕ). meaning files (lead ++ b)) (sym is) ∙ ap (λ (l : List ℕ). meaning files (l ++ a.name)) (sym are.0) in (
+      same ∙ are.0,
+      subst (λ (l : List ℕ). Each (λ (x : Answer). meaning_at x.place ≡ meaning files (l ++ x.name)) new.answers.items) (sym same)
+          (subst (λ (xs : List Answer). Each (λ (x : Answer). meaning_at x.place ≡ meaning files (old.lead ++ x.name)) xs) (sym added)
+          (each_append (λ (x : Answer). meaning_at x.place ≡ meaning files (old.lead ++ x.name)) old.answers.items (a ∷ []) are.1 (here, tt))),
+    )
+
+-- a scope without answers
+pub none_right : (files : List FileDefs) (s : Asked) → s.answers.items ≡ [] → IsRight files s
+none_right files s none = subst (λ (xs : List Answer). Each (λ (a : Answer). meaning_at a.place ≡ meaning files (s.lead ++ a.name)) xs) (sym none) tt
 
 -- the same of one of several scopes
 pub known_scope : (asked : List Asked) (scope : Asked) (level : ℕ) (name : List ℕ) (o : Option (Option Place)) → get_or asked level scope ≡ scope
@@ -88,75 +105,107 @@ kept_at files leads asked level at scope there right are = record {
     cases l a d is (inr other) = subst (λ (s : Asked). IsAsked files (get_or leads a []) s) (sym other) (are.right l a d is)
 
 -- the scopes that are left once the others are closed
-pub closed_to : (files : List FileDefs) (more leads : List (List ℕ)) (old new : List Asked) (count : ℕ) → count ≡ length leads → new ≡ take count old
+pub closed_to : (files : List FileDefs) (more leads : List (List ℕ)) (old new : List Asked) → length new ≡ length leads → IsFront old new
     → AreAsked files (more ++ leads) old → AreAsked files leads new
-closed_to files more leads old new count is made are =
+closed_to files more leads old new long front are =
     let total = length-append more leads in
-    let within : count ≤ length old = omega (arith, is, total, are.count) in
-    subst (λ (xs : List Asked). AreAsked files leads xs) (sym made) (record {
-      count = length-take-le count old within ∙ is;
-      right = λ level at d there.
-          subst (λ (s : Asked). IsAsked files (get_or leads at []) s) (sym (get_or-take count old level d (omega (arith, is, there))))
-          (subst (λ (l : List ℕ). IsAsked files l (get_or old level d)) (get_or-append-add more leads at [])
-          (are.right level (length more + at) d (omega (arith, total, there))));
-    })
-
--- `AreOpened old new` is that `new` has the scopes `old`, and then scopes without look-ups
-pub record AreOpened (old new : List Asked) : Type 0 where
-  pub more : List Asked
-  pub is : new ≡ old ++ more
-  pub empty : Each (λ (s : Asked). s.answers.items ≡ []) more
-
-pub opened_none : (old : List Asked) → AreOpened old old
-opened_none old = record { more = []; is = sym (append-nil old); empty = tt }
-
-pub opened_more : (old xs new : List Asked) (s : Asked) → AreOpened old xs → s.answers.items ≡ [] → new ≡ xs ++ s ∷ [] → AreOpened old new
-opened_more old xs new s are none made = record {
-  more = are.more ++ s ∷ [];
-  is = made ∙ ap (λ (ys : List Asked). ys ++ s ∷ []) are.is ∙ append_assoc old are.more (s ∷ []);
-  empty = each_append (λ (x : Asked). x.answers.items ≡ []) are.more (s ∷ []) are.empty (none, tt);
-}
-
-none_asked : (files : List FileDefs) (lead : List ℕ) (s : Asked) → s.answers.items ≡ [] → IsAsked files lead s
-none_asked files lead s none = subst (λ (xs : List Answer). Each (λ (a : Answer). meaning_at a.place ≡ meaning files (lead ++ a.name)) xs) (sym none) tt
-
--- the scopes once some are opened
-pub opened_to : (files : List FileDefs) (more leads : List (List ℕ)) (old new : List Asked) → length new ≡ length (more ++ leads)
-    → AreOpened old new → AreAsked files leads old → AreAsked files (more ++ leads) new
-opened_to files more leads old new long opened are =
-    let total = length-append more leads in
-    let sizes = length-append old opened.more in
-    let all = ap length opened.is in
     record {
       count = long;
-      right = λ level at d there. cases level at d there (le_or_lt (length old) level);
+      right = λ level at d there.
+          subst (λ (s : Asked). IsAsked files (get_or leads at []) s)
+          (ap (λ (xs : List Asked). get_or xs level d) front.is ∙ get_or_append_left new front.rest d level (omega (arith, long, there)))
+          (subst (λ (l : List ℕ). IsAsked files l (get_or old level d)) (get_or-append-add more leads at [])
+          (are.right level (length more + at) d (omega (arith, total, there))));
     }
-  where
-    le_or_lt : (n k : ℕ) → (n ≤ k) ⊎ (k < n)
-    le_or_lt zero k = inl (omega arith)
-    le_or_lt (suc n) zero = inr (omega arith)
-    le_or_lt (suc n) (suc k) = shifted (le_or_lt n k)
-      where
-        shifted : (n ≤ k) ⊎ (k < n) → (suc n ≤ suc k) ⊎ (suc k < suc n)
-        shifted (inl h) = inl (omega (arith, h))
-        shifted (inr h) = inr (omega (arith, h))
 
-    cases : (level at : ℕ) (d : Asked) → level + (at + 1) ≡ length (more ++ leads) → (length old ≤ level) ⊎ (level < length old)
-        → IsAsked files (get_or (more ++ leads) at []) (get_or new level d)
-    cases level at d there (inl past) =
-        let sizes = length-append old opened.more in
-        let all = ap length opened.is in
-        none_asked files (get_or (more ++ leads) at []) (get_or new level d)
-        (ap (λ (xs : List Asked). (get_or xs level d).answers.items) opened.is
-        ∙ ap (λ (s : Asked). s.answers.items) (get_or-append_right old opened.more (length old) level d refl past)
-        ∙ each_or (λ (s : Asked). s.answers.items ≡ []) opened.more (level - length old) d opened.empty (omega (arith, there, long, all, sizes, past)))
-    cases level at d there (inr before) =
-        let total = length-append more leads in
-        let from : (length more ≤ at) = omega (arith, there, total, before, are.count) in
-        subst (λ (s : Asked). IsAsked files (get_or (more ++ leads) at []) s)
-        (sym (ap (λ (xs : List Asked). get_or xs level d) opened.is ∙ get_or_append_left old opened.more d level before))
-        (subst (λ (l : List ℕ). IsAsked files l (get_or old level d)) (sym (get_or-append_right more leads (length more) at [] refl from))
-        (are.right level (at - length more) d (omega (arith, there, total, from))))
+pub front_all : (all : List Asked) → IsFront all all
+front_all all = record { rest = []; is = sym (append-nil all) }
+
+pub front_through : (all some part : List Asked) → IsFront all some → IsFront some part → IsFront all part
+front_through all some part f g = record {
+  rest = g.rest ++ f.rest;
+  is = f.is ∙ ap (λ (xs : List Asked). xs ++ f.rest) g.is ∙ append_assoc part g.rest f.rest;
+}
+
+-- what all scopes are, those that are left are
+each_left : {A : Type 0} (P : A → Type 0) (xs ys : List A) → Each P (xs ++ ys) → Each P xs
+each_left P [] ys all = tt
+each_left P (x ∷ xs) ys all = (all.0, each_left P xs ys all.1)
+
+pub each_front : (P : Asked → Type 0) (all part : List Asked) → IsFront all part → Each P all → Each P part
+each_front P all part front right = each_left P part front.rest (subst (λ (xs : List Asked). Each P xs) front.is right)
+
+pub each_last : (P : Asked → Type 0) (xs : List Asked) (x : Asked) → Each P (xs ++ x ∷ []) → P x
+each_last P [] x all = all.0
+each_last P (y ∷ ys) x all = each_last P ys x all.1
+
+pub each_set : (P : Asked → Type 0) (xs : List Asked) (n : ℕ) (x : Asked) → P x → Each P xs → Each P (slice_set xs n x)
+each_set P [] n x one all = tt
+each_set P (y ∷ ys) zero x one all = (one, all.1)
+each_set P (y ∷ ys) (suc n) x one all = (all.0, each_set P ys n x one all.1)
+
+pub each_in : (P : Asked → Type 0) (xs : List Asked) (n : ℕ) (d : Asked) → Each P xs → n < length xs → P (get_or xs n d)
+each_in P xs n d all within = each_or P xs n d all within
+
+each_all : (P : Asked → Type 0) (xs : List Asked) → ((i : ℕ) (d : Asked) → i < length xs → P (get_or xs i d)) → Each P xs
+each_all P [] h = tt
+each_all P (x ∷ xs) h = (h zero x (omega arith), each_all P xs (λ i d within. h (suc i) d (omega (arith, within))))
+
+-- the answers of the open scopes are right
+pub all_right : (files : List FileDefs) (leads : List (List ℕ)) (asked : List Asked) → AreAsked files leads asked → Each (IsRight files) asked
+all_right files leads asked are =
+    each_all (IsRight files) asked (λ i d within. (are.right i (length leads - (i + 1)) d (omega (arith, within, are.count))).1)
+
+-- one more scope is opened
+asked_more : (files : List FileDefs) (leads : List (List ℕ)) (asked : List Asked) (lead : List ℕ) (s : Asked)
+    → AreAsked files leads asked → IsAsked files lead s → AreAsked files (lead ∷ leads) (asked ++ s ∷ [])
+asked_more files leads asked lead s are one = record {
+  count = omega (arith, length-append asked (s ∷ []), are.count);
+  right = λ level at d there. by_place level at d there;
+}
+  where
+    by_place : (level at : ℕ) (d : Asked) → level + (at + 1) ≡ length (lead ∷ leads) → IsAsked files (get_or (lead ∷ leads) at []) (get_or (asked ++ s ∷ []) level d)
+    by_place level zero d there =
+        let here : length asked + 0 ≡ level = omega (arith, there, are.count) in
+        subst (λ (n : ℕ). IsAsked files lead (get_or (asked ++ s ∷ []) n d)) here
+        (subst (λ (x : Asked). IsAsked files lead x) (sym (get_or-append-add asked (s ∷ []) 0 d)) one)
+    by_place level (suc at) d there =
+        let within : level < length asked = omega (arith, there, are.count) in
+        subst (λ (x : Asked). IsAsked files (get_or leads at []) x) (sym (get_or_append_left asked (s ∷ []) d level within))
+        (are.right level at d (omega (arith, there)))
+
+drop_to : (more leads : List (List ℕ)) → drop (length more) (more ++ leads) ≡ leads
+drop_to [] leads = refl
+drop_to (m ∷ more) leads = drop_to more leads
+
+-- before some scopes are opened
+pub opened_none : (files : List FileDefs) (more leads inner : List (List ℕ)) (asked : List Asked) (k : ℕ) → inner ≡ more ++ leads → k ≡ length asked
+    → AreAsked files leads asked → AreAsked files (drop (length inner - k) inner) asked
+opened_none files more leads inner asked k is count are =
+    let total = ap length is ∙ length-append more leads in
+    let past : length inner - k ≡ length more = omega (arith, total, count, are.count) in
+    subst (λ (ls : List (List ℕ)). AreAsked files ls asked)
+    (sym (ap (λ (n : ℕ). drop n inner) past ∙ ap (λ (ls : List (List ℕ)). drop (length more) ls) is ∙ drop_to more leads)) are
+
+-- once one of them is
+pub opened_more : (files : List FileDefs) (inner : List (List ℕ)) (xs new : List Asked) (k at : ℕ) (lead item : List ℕ) (s : Asked)
+    → k < length inner → at + (k + 1) ≡ length inner → lead ≡ item → item ≡ get_or inner at item → new ≡ xs ++ s ∷ [] → IsAsked files lead s
+    → AreAsked files (drop (length inner - k) inner) xs → AreAsked files (drop (length inner - (k + 1)) inner) new
+opened_more files inner xs new k at lead item s within there same is made one are =
+    let here : length inner - (k + 1) ≡ at = omega (arith, there) in
+    let after : length inner - k ≡ at + 1 = omega (arith, there) in
+    let inside : at < length inner = omega (arith, there) in
+    subst (λ (ls : List (List ℕ)). AreAsked files ls new)
+    (sym (ap (λ (n : ℕ). drop n inner) here ∙ drop_more inner at item inside ∙ ap (λ (l : List ℕ). l ∷ drop (at + 1) inner) (sym is ∙ sym same)))
+    (subst (λ (ys : List Asked). AreAsked files (lead ∷ drop (at + 1) inner) ys) (sym made)
+    (asked_more files (drop (at + 1) inner) xs lead s (subst (λ (n : ℕ). AreAsked files (drop n inner) xs) after are) one))
+
+-- once all are
+pub opened_all : (files : List FileDefs) (inner : List (List ℕ)) (asked : List Asked) (k : ℕ) → length inner ≤ k
+    → AreAsked files (drop (length inner - k) inner) asked → AreAsked files inner asked
+opened_all files inner asked k past are =
+    let none : length inner - k ≡ 0 = omega (arith, past) in
+    subst (λ (n : ℕ). AreAsked files (drop n inner) asked) none are
 
 -- ---- a search from scope to scope
 
@@ -172,6 +221,10 @@ looked files inner i lead item name full m within same at spelled is =
 pub asked_on : {A E P : Type 0} (r : Result A E) → P → OnOk r P
 asked_on (Ok a) p = p
 asked_on (Err e) p = tt
+
+pub on_ok : {A E P Q : Type 0} (r : Result A E) → OnOk r P → (P → Q) → OnOk r Q
+on_ok (Ok a) p f = f p
+on_ok (Err e) p f = tt
 
 -- ---- the walk
 
@@ -240,15 +293,15 @@ asked_closed files root stack depth scope old new count inner is closes nested a
     (subst (λ (ls : List (List ℕ)). AreAsked files ls old) ends.1 are))
 
 -- what is kept once the scope of a statement's contents is opened
-pub asked_opened : (files : List FileDefs) (root : List ℕ) (depth : ℕ) (i : Item) (scope : List ℕ × List (List ℕ)) (new rest : List (ℕ × (List ℕ × List (List ℕ)))) (old opened : List Asked) (count : ℕ)
-    → new ≡ (depth, keep i scope) ∷ rest → count ≡ length (keep i scope).1
-    → ((fs : List FileDefs) (more leads : List (List ℕ)) → count ≡ length (more ++ leads) → AreAsked fs leads old → AreAsked fs (more ++ leads) opened)
-    → AreAsked files scope.1 old → AreAsked files (first root new).1 opened
-asked_opened files root depth i scope new rest old opened count is long opens are =
+pub asked_opened : (files : List FileDefs) (root : List ℕ) (depth : ℕ) (i : Item) (scope : List ℕ × List (List ℕ)) (new rest : List (ℕ × (List ℕ × List (List ℕ)))) (old opened closed : List Asked) (inner : List (List ℕ))
+    → new ≡ (depth, keep i scope) ∷ rest → inner ≡ (keep i scope).1
+    → ((fs : List FileDefs) (more leads : List (List ℕ)) → inner ≡ more ++ leads → Each (IsRight fs) closed → AreAsked fs leads old → AreAsked fs (more ++ leads) opened)
+    → Each (IsRight files) closed → AreAsked files scope.1 old → AreAsked files (first root new).1 opened
+asked_opened files root depth i scope new rest old opened closed inner is same opens right are =
     let ends = keep_ends i scope in
     subst (λ (es : List (ℕ × (List ℕ × List (List ℕ)))). AreAsked files (first root es).1 opened) (sym is)
     (subst (λ (ls : List (List ℕ)). AreAsked files ls opened) (sym ends.1)
-    (opens files ends.0 scope.1 (long ∙ ap length ends.1) are))
+    (opens files ends.0 scope.1 (same ∙ ends.1) right are))
 
 pub nested_more : (root : List ℕ) (depth : ℕ) (stack new : List (ℕ × (List ℕ × List (List ℕ)))) (i : Item) (scope : List ℕ × List (List ℕ))
     → scope ≡ inner_at (root, []) stack depth → new ≡ (depth, keep i scope) ∷ closed depth stack → AreNested root stack → AreNested root new

@@ -17,7 +17,6 @@ use crate::along::Along;
 use crate::lead::Lead;
 use crate::lookup::Lookup;
 use crate::named::Place;
-use crate::spelled::Spelled;
 use pq_names::{Memory, Text};
 use pq_rules::Shared;
 use std::alloc::Global;
@@ -33,20 +32,40 @@ pub(crate) struct Answer<'a> {
 /// The look-ups in one scope.
 #[derive(Drop)]
 pub(crate) struct Asked<'a> {
+    /// What is before a name in the scope.
+    pub(crate) lead: Shared<Lead>,
     pub(crate) answers: Vec<Answer<'a>>,
     /// Where a name may be in `answers`.
     numbers: BTreeMap<Text, usize>,
+    /// A number that no scope of another name has.
+    id: usize,
+    /// Whether a definition was compared with a name in the scope.
+    is_dear: bool,
 }
 
 impl<'a> Asked<'a> {
-    /// No look-ups.
-    fn new(alloc: Global) -> Asked<'a>
+    /// The scope with `lead` before its names, without look-ups.
+    pub(crate) fn new(alloc: Global, lead: Shared<Lead>, id: usize) -> Asked<'a>
+        ensures lead { result.lead ≡ lead }
         ensures none { result.answers.items ≡ [] }
     {
         Asked {
+            lead,
             answers: Vec::new(alloc),
             numbers: BTreeMap::new(alloc),
+            id,
+            is_dear: false,
         }
+    }
+
+    /// A number that no scope of another name has.
+    pub(crate) fn id(&self) -> usize {
+        self.id
+    }
+
+    /// Whether a definition was compared with a name in the scope.
+    pub(crate) fn is_dear(&self) -> bool {
+        self.is_dear
     }
 
     /// The number of the answer for `name`, if there is one.
@@ -83,13 +102,20 @@ impl<'a> Asked<'a> {
     }
 
     /// Keeps that the first definition of `name` is at `place`.
-    fn keep(&mut self, alloc: Global, name: &str, place: Option<Place<'a>>) -> Result<(), Memory>
+    fn keep(
+        &mut self,
+        alloc: Global,
+        name: &str,
+        place: Option<Place<'a>>,
+        is_dear: bool,
+    ) -> Result<(), Memory>
         ensures kept { OnOk result ((files : List FileDefs) (lead : List ℕ) → IsAsked files lead self.old
             → meaning_at place.entry ≡ meaning files (lead ++ name.now) → IsAsked files lead self.new) }
     {
         let name = Text::new(alloc, name)?;
         self.numbers.insert(name.copy()?, self.answers.len())?;
         self.answers.push(Answer { name, place })?;
+        self.is_dear |= is_dear;
         Ok(())
     }
 }
@@ -118,13 +144,14 @@ fn keep_at<'a>(
     level: usize,
     name: &str,
     place: Option<Place<'a>>,
+    is_dear: bool,
 ) -> Result<(), Memory>
     ensures kept { OnOk result ((files : List FileDefs) (leads : List (List ℕ)) (at : ℕ)
         → AreAsked files leads asked.old.items → level + (at + 1) ≡ length leads
         → meaning_at place.entry ≡ meaning files (get_or leads at [] ++ name.now) → AreAsked files leads asked.new.items) }
 {
     if level < asked.len() {
-        asked[level].keep(alloc, name, place)?;
+        asked[level].keep(alloc, name, place, is_dear)?;
     }
     Ok(())
 }
@@ -132,17 +159,10 @@ fn keep_at<'a>(
 /// The most names that are kept in each scope, whatever their codes.
 const FEW: usize = 64;
 
-/// Whether it is kept that the full name `name`, in the scope `level` of `asked`, is not found in
-/// `files`.
-fn is_worth(
-    files: &Lookup<'_>,
-    near: &[usize],
-    asked: &[Asked<'_>],
-    level: usize,
-    name: &Spelled<'_>,
-) -> bool {
+/// Whether few names are kept in the scope `level` of `asked`.
+fn has_few(asked: &[Asked<'_>], level: usize) -> bool {
     match asked.get(level) {
-        Some(scope) => scope.answers.len() < FEW || files.may_have(near, name),
+        Some(scope) => scope.answers.len() < FEW,
         None => false,
     }
 }
@@ -174,10 +194,11 @@ fn look_long<'a>(
     let lead = inner[at].get();
     let full = lead.spell(name);
     let place = files.definition_below(along, near, &full);
-    if place.is_none() && !is_worth(files, near, asked, level, &full) {
+    let is_dear = place.is_some() || files.may_have(near, &full);
+    if !is_dear && !has_few(asked, level) {
         return Ok(place);
     }
-    keep_at(alloc, asked, level, name, place)?;
+    keep_at(alloc, asked, level, name, place, is_dear)?;
     Ok(place)
 }
 
@@ -207,27 +228,4 @@ pub(crate) fn look_inside<'a>(
     }
     let full = lead.spell(name);
     Ok(files.definition_below(along, near, &full))
-}
-
-/// Forgets the look-ups in all but the outermost `count` scopes.
-pub(crate) fn close_scopes(asked: &mut Vec<Asked<'_>>, count: usize)
-    ensures asked { (files : List FileDefs) (more leads : List (List ℕ)) → count ≡ length leads
-        → AreAsked files (more ++ leads) asked.old.items → AreAsked files leads asked.new.items }
-{
-    asked.truncate(count);
-}
-
-/// Adds scopes without look-ups until there are `count`.
-pub(crate) fn open_scopes(
-    alloc: Global,
-    asked: &mut Vec<Asked<'_>>,
-    count: usize,
-) -> Result<(), Memory>
-    ensures asked { OnOk result ((files : List FileDefs) (more leads : List (List ℕ)) → count ≡ length (more ++ leads)
-        → AreAsked files leads asked.old.items → AreAsked files (more ++ leads) asked.new.items) }
-{
-    'scopes: for _ in asked.len()..count {
-        asked.push(Asked::new(alloc))?;
-    }
-    Ok(())
 }

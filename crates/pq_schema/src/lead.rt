@@ -2,7 +2,7 @@
 //!
 //! The scopes of a file begin with its package, which can be as long as the file. So they share its
 //! bytes, and a full name in a scope is spelled in pieces, without a copy of the scope.
-ghost use Rattle.std.specs.Prelude.{◌≡◌, ◌++◌, ℕ, List, IfOk, map};
+ghost use Rattle.std.specs.Prelude.{◌≡◌, ◌++◌, ℕ, List, IfOk, map, true};
 ghost use Rattle.std.specs.List.{concat};
 ghost use Rattle.std.specs.Option.{option_copied};
 ghost use Rattle.pq_schema.specs.Definitions.{qualified};
@@ -11,7 +11,7 @@ ghost use Rattle.pq_schema.specs.aux.Scopes.{before};
 
 use crate::full_name::{copy_parts, with_dot};
 use crate::nesting::outer;
-use crate::spelled::Spelled;
+use crate::spelled::{Spelled, compare};
 use pq_names::{Memory, Text};
 use pq_rules::Shared;
 use std::alloc::Global;
@@ -62,6 +62,21 @@ impl Lead {
     /// Whether the bytes are so many that no name should be compared with them twice.
     pub(crate) fn is_long(&self) -> bool {
         self.is_long
+    }
+
+    /// The last of the pieces: the name of the scope itself, with a dot after it.
+    pub(crate) fn own(&self, alloc: Global) -> Result<Text, Memory> {
+        match self.parts.last() {
+            Some(part) => part.copy(),
+            None => Text::new(alloc, ""),
+        }
+    }
+
+    /// Whether these are the bytes of `other`.
+    pub(crate) fn is(&self, other: &Lead) -> bool
+        ensures is { result ≡ true → self.now ≡ other.now }
+    {
+        compare(self.spell(""), other.spell("")).is_eq()
     }
 
     /// The full name of `name` in the scope.

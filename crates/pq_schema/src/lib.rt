@@ -24,6 +24,7 @@ mod along;
 mod asked;
 mod below;
 mod by_package;
+mod closed;
 mod coded;
 mod collected;
 mod define;

@@ -13,7 +13,8 @@ ghost use Rattle.pq_schema.specs.aux.Inside.{AreInner, IsNear, found_use, used, 
 ghost use Rattle.pq_schema.specs.aux.Outward.{IsOutward};
 
 use crate::along::Along;
-use crate::asked::{Asked, close_scopes, open_scopes};
+use crate::asked::Asked;
+use crate::closed::{Closed, close_scopes, open_scopes};
 use crate::files::Files;
 use crate::full_name::FullName;
 use crate::inner::{Inner, depth_of, inner_of};
@@ -302,13 +303,14 @@ fn find_under<'a>(
     let mut last = near;
     let mut stack: Stack<Shared<Inner>> = Stack::new(alloc);
     let mut asked = Vec::new(alloc);
+    let mut closed = Closed::new(alloc);
     let mut uses = Vec::new(alloc);
     'items: for item in 0..nodes.len() {
         let node = &nodes[item];
         stack.close_to(node.depth);
         let scope = innermost(&stack, root);
         let depth = depth_of(scope);
-        close_scopes(&mut asked, depth);
+        close_scopes(alloc, &mut asked, &mut closed, depth)?;
         let inside = inner_of(alloc, &node.statement, scope)?;
         refer(
             alloc,
@@ -321,8 +323,7 @@ fn find_under<'a>(
             &mut asked,
             &mut uses,
         )?;
-        let more = depth_of(&inside);
-        open_scopes(alloc, &mut asked, more)?;
+        open_scopes(alloc, &mut asked, &mut closed, inside.get().leads())?;
         stack.open(node.depth, inside)?;
     }
     Ok(uses)

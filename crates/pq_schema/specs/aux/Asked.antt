@@ -8,10 +8,13 @@ use Rattle.pq_schema.specs.declared.scope.FileDefs.{FileDefs}
 use Rattle.pq_schema.specs.Resolution.{meaning}
 use Rattle.pq_schema.specs.aux.Hits.{meaning_at}
 
--- `IsAsked files lead scope` is that the answers of `scope` are right in the files `files`, where `lead`
--- is what is before a name in the scope
+-- `IsRight files scope` is that the answers of `scope` are right in the files `files`
+abbrev pub IsRight : List FileDefs → Asked → Type 0
+IsRight files scope = Each (λ (a : Answer). meaning_at a.place ≡ meaning files (scope.lead ++ a.name)) scope.answers.items
+
+-- `IsAsked files lead scope` is that `scope` has `lead` before its names, and that its answers are right
 abbrev pub IsAsked : List FileDefs → List ℕ → Asked → Type 0
-IsAsked files lead scope = Each (λ (a : Answer). meaning_at a.place ≡ meaning files (lead ++ a.name)) scope.answers.items
+IsAsked files lead scope = (scope.lead ≡ lead) × IsRight files scope
 
 -- `AreAsked files leads asked` is that `asked` has as many scopes as `leads`, the outermost first, and
 -- that their answers are right. `leads` has what is before a name in each, the innermost first.
@@ -19,3 +22,8 @@ pub record AreAsked (files : List FileDefs) (leads : List (List ℕ)) (asked : L
   pub count : length asked ≡ length leads
   pub right : (level at : ℕ) (d : Asked) → level + (at + 1) ≡ length leads
       → IsAsked files (get_or leads at []) (get_or asked level d)
+
+-- `IsFront all part` is that `all` begins with `part`
+pub record IsFront (all part : List Asked) : Type 0 where
+  pub rest : List Asked
+  pub is : all ≡ part ++ rest

@@ -1,6 +1,7 @@
 use Rattle.std.proofs.Common.{[], map}
 use Rattle.pq_syntax.proofs.Walk.{Walked}
-use Rattle.pq_schema.specs.aux.Asked.{AreAsked}
+use Rattle.pq_rules.specs.Relations.{Each}
+use Rattle.pq_schema.specs.aux.Asked.{AreAsked, IsRight}
 use Rattle.pq_schema.specs.aux.Inside.{IsNear, used}
 use Rattle.pq_schema.proofs.Answered.{AreNested, first}
 use Rattle.pq_schema.proofs.Inside.{AllFit, emit, keep}
@@ -15,3 +16,4 @@ invariant-items l =
     × IsNear l.files l.last
     × AreNested l.outward.root.now l.stack
     × AreAsked l.files (first l.outward.root.now l.stack).1 l.asked.items
+    × Each (IsRight l.files) l.closed.scopes.items
