@@ -16,8 +16,9 @@
 //! and reaches), `files` over `by_package` and `named` (the look-up of a full name, which files it
 //! asks, and the first that has it), `other_files` over `near_names` (many look-ups in the same
 //! files), `nesting` (the scopes around a scope), `search` (the search from scope to scope), `uses`
-//! over `inner` (the references of a file and its open scopes), `resolution` (their answers); `keys` (what a sum offers), `defined`, `scopes` over `collected`,
-//! and `resolved` (the queries), `rules` (the rule set); `laws`, `scope_laws`.
+//! over `inner` (the references of a file and its open scopes), `asked` and `closed` (what was looked
+//! up in these), `resolution` (their answers); `keys` (what a sum offers), `defined`, `scopes` over
+//! `collected`, and `resolved` (the queries), `rules` (the rule set); `laws`, `scope_laws`.
 #![tactic(auto)]
 
 mod along;
