@@ -47,6 +47,9 @@ impl<K, V> Entry<K, V> {
     ) -> Self
         ensures { result ≡ record { answer = answer; verified = verified; changed = changed; reads = reads.items; durability = durability } }
     {
+        // The list grew by doubling, and the entry may stay for long.
+        let mut reads = reads;
+        reads.shrink_to_fit();
         Entry {
             answer,
             verified,

@@ -190,7 +190,7 @@ impl<R: Rules> Memos<R> {
         reads: &[R::Key],
     ) -> Result<Vec<usize>, Memory> {
         let mut numbers = Vec::new(self.entries.alloc());
-        numbers.reserve(reads.len())?;
+        numbers.reserve_exact(reads.len())?;
         for i in 0..reads.len() {
             let number = self.number(&reads[i], self.read_number(key, near, i));
             push(&mut numbers, number)?;
