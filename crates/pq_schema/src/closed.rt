@@ -24,7 +24,7 @@ pub(crate) struct Closed<'a> {
     numbers: BTreeMap<(usize, Text), usize>,
     /// The numbers of the scopes around those that are kept.
     outer: BTreeMap<usize, bool>,
-    /// The number of numbers that were given.
+    /// How many numbers were given.
     ids: usize,
 }
 

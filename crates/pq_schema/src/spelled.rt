@@ -2,7 +2,7 @@
 //!
 //! Two names are compared from their last bytes to their first. Pieces that end in the same bytes
 //! are compared many bytes at a time, and so are halves of pieces that differ. Only the last few
-//! bytes are read one by one. Names that are known to begin with the same bytes are compared after these first. A code
+//! bytes are read one by one. Names known to begin alike are compared after that first. A code
 //! is made of the last bytes of a name and of their number.
 ghost use Rattle.std.specs.Prelude.{◌≡◌, ◌≤◌, ◌<◌, ◌-◌, ◌%◌, ◌^◌, ℕ, List, [], ◌∷◌, ◌++◌, ◌==◌, IfErr, IfOk, IfSome, None, Some, bytes_eq, length, option_to_list, string_bytes, take, true};
 ghost use Rattle.std.specs.List.{concat};
