@@ -20,12 +20,16 @@ The verdict is one of:
     refused in the gate     `rt ci` refused it when it was in the gate; the clause was read from the contract, not seen
     refused in a review     a reviewer's check refused it, at `clause`
     not tried               nothing is known of it yet
+    fails a test            no contract can refuse it, since it turns what threads do; the test that `clause` names fails with it
 
 The edits are tried in a copy of the repository, over the work that the last `rt check` of the crate kept: run `rt check`
 in the crate's folder first. Edits of different functions are tried together, in one `rt check --allow-holes`. A goal is
 stated by the contracts of what a function calls, so no edit hides another. An edit counts as refused there if the checker
 names a goal or an answer of the very function that it changes. An edit can bring answers of that function. Each other edit is
 tried alone, and is let through if the whole crate is proved with it. A refusal by a name that the edit took away does not count.
+
+An edit that fails a test has a line `tests:` with the crate of the test. With `--tests` these edits are tried, and no others: each in
+a run of that crate's tests without a proof, in which a test that `clause` names has to fail.
 
 Printed are, for each edit, whether it was refused, the processor seconds, and what was refused first.
 The status is 1 if an edit was let through or could not be tried.
@@ -35,6 +39,7 @@ usage: bench/edits.py CRATE [NAME..]     tries all edits of the crate, or those 
        bench/edits.py --apply-only ..    proves nothing: says whether each edit still applies
        bench/edits.py --alone ..         tries each edit alone
        bench/edits.py --note ..          writes the verdict and the clause of each refused edit into the list
+       bench/edits.py --tests ..         tries those that fail a test, and not the others
        bench/edits.py --jobs N ..        gives each check N processors, else one
 """
 import argparse
@@ -53,14 +58,15 @@ PARTS = ["src", "specs", "proofs"]
 # what the checker says of a proof file that names what an edit took away
 BY_NAME = r"has no field|is not in scope|has no `|was not admitted"
 NAME_ALONE = "by a name alone: "
-VERDICTS = ["refused", "refused in the gate", "refused in a review", "not tried"]
+TESTED = "fails a test"
+VERDICTS = ["refused", "refused in the gate", "refused in a review", "not tried", TESTED]
 
 
 class Edit:
     """One edit of a list: its name, its verdict, its clause, and triples of a file, an old and a new text."""
 
     def __init__(self, name):
-        self.name, self.verdict, self.clause, self.pairs = name, "", "", []
+        self.name, self.verdict, self.clause, self.tests, self.pairs = name, "", "", "", []
 
 
 def read_list(crate):
@@ -86,7 +92,7 @@ def read_list(crate):
             file = None
         elif word == "file" and edits:
             file = value
-        elif word in ("verdict", "clause") and edits:
+        elif word in ("verdict", "clause", "tests") and edits:
             setattr(edits[-1], word, value)
         elif line.strip() and line[0] != "#":
             sys.exit("%s:%d: this line has no meaning: %s" % (path, number, line))
@@ -94,6 +100,8 @@ def read_list(crate):
     for edit in edits:
         if edit.verdict not in VERDICTS or not edit.clause or not edit.pairs or any(new is None for _, _, new in edit.pairs):
             sys.exit("%s: %s lacks a verdict, a clause, an old text or a new text" % (path, edit.name))
+        if (edit.verdict == TESTED) != bool(edit.tests):
+            sys.exit("%s: %s needs a line `tests:` and the verdict `%s`, or neither" % (path, edit.name, TESTED))
     names = [edit.name for edit in edits]
     if len(set(names)) < len(names):
         sys.exit("%s: a name stands twice" % path)
@@ -330,12 +338,45 @@ def try_all(crate, edits, alone, notes, jobs):
     return len(edits) - len(refused)
 
 
+def fails_a_test(crate, edit):
+    """Whether a test of the edit's crate of tests fails with it, and what the run said last."""
+    with tempfile.TemporaryDirectory(prefix="edits-") as room:
+        for name in ["crates.txt", "HANDLES"]:
+            shutil.copy(os.path.join(TOP, name), room)
+        os.mkdir(os.path.join(room, ".git"))
+        shutil.copytree(os.path.join(TOP, "crates"), os.path.join(room, "crates"), ignore=shutil.ignore_patterns("out", "must-fail"))
+        texts, why = changed(edit, os.path.join(room, "crates", crate))
+        if texts is None:
+            return False, "it cannot be applied: " + why
+        written(os.path.join(room, "crates", crate), texts)
+        ran = subprocess.run(["rt", "try", "--test"], cwd=os.path.join(room, "crates", edit.tests), stdin=subprocess.DEVNULL,
+                             stdout=subprocess.PIPE, stderr=subprocess.STDOUT, text=True, errors="replace")
+        lines = [it for it in ran.stdout.split("\n") if it.strip()]
+        named = re.findall(r"`([\w:]+)`", edit.clause)
+        found = dict(it.groups() for it in (re.match(r"test (\S+) \.\.\. (.*)", line) for line in lines) if it)
+        if not any(name in found for name in named):
+            return False, "the test did not run: " + lines[-1][:200]
+        failed = [name for name in named if found.get(name, "ok") != "ok"]
+        return bool(failed), "`%s`" % "`, `".join(failed) if failed else "LET THROUGH"
+
+
+def try_tests(crate, edits):
+    """Tries the edits that fail a test, and returns how many failed none."""
+    left = 0
+    for edit in edits:
+        start = seconds()
+        well, said = fails_a_test(crate, edit)
+        left += not well
+        print("%-10s %-45s %-8s %6.1f s  %s" % (crate, edit.name, "caught" if well else "NOT SO", seconds() - start, said), flush=True)
+    return left
+
+
 def main():
     words = argparse.ArgumentParser(usage=__doc__[__doc__.index("usage: ") + 7:])
     words.add_argument("crate", nargs="?")
     words.add_argument("names", nargs="*")
     words.add_argument("--all", action="store_true")
-    for it in ["--apply-only", "--alone", "--note"]:
+    for it in ["--apply-only", "--alone", "--note", "--tests"]:
         words.add_argument(it, action="store_true")
     words.add_argument("--jobs", type=int, default=1)
     words = words.parse_args()
@@ -350,7 +391,12 @@ def main():
         if absent:
             sys.exit("%s has no edit %s" % (crate, ", ".join(absent)))
         edits = [it for it in edits if it.name in words.names] if words.names else edits
-        failed += apply_all(crate, edits) if words.apply_only else try_all(crate, edits, words.alone, words.note, words.jobs)
+        if words.apply_only:
+            failed += apply_all(crate, edits)
+        elif words.tests:
+            failed += try_tests(crate, [it for it in edits if it.verdict == TESTED])
+        else:
+            failed += try_all(crate, [it for it in edits if it.verdict != TESTED], words.alone, words.note, words.jobs)
     return 1 if failed else 0
 
 

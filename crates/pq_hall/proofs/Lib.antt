@@ -1,2 +1,3 @@
 pub mod PostMoves
 pub mod HandMoves
+pub mod Crosses

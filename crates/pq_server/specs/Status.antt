@@ -90,3 +90,10 @@ start_status library.Memory = 5
 abbrev pub start_line : LibraryFault → List ℕ
 start_line library.Unreadable = line (codes "pq_server: start failed")
 start_line library.Memory = line (codes "pq_server: out of memory")
+
+-- `server_line status` is the line of standard error after a server of many clients with this status:
+-- 4 says that the port or the library failed, 5 that an allocation failed.
+abbrev pub server_line : ℕ → List ℕ
+server_line status =
+    if status == 4 then line (codes "pq_server: start failed")
+    else (if status == 5 then line (codes "pq_server: out of memory") else [])

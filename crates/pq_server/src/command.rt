@@ -1,32 +1,104 @@
-//! The command line. `script` is its one subcommand.
-use clap::{Arg, ArgAction, Command, Error};
+//! The command line. Its subcommands are `script` and `listen`.
+use clap::{Arg, ArgAction, ArgMatches, Command, Error, value_parser};
 use std::alloc::Global;
 
-/// The command line of the program, as `clap` describes it.
-fn command<'a>(alloc: Global) -> Result<Command<'a>, Error> {
-    let library = Arg::new(alloc, "lib")
+/// What the command line asks for.
+#[derive(Clone, Copy, Debug)]
+pub(crate) enum Task<'a> {
+    /// One client on the standard streams.
+    Script {
+        /// The folder of the library, if there is one.
+        library: Option<&'a str>,
+    },
+    /// Many clients, each on its own connection.
+    Listen {
+        /// The port of 127.0.0.1. The system chooses one for 0.
+        port: u16,
+        /// The number of workers, from 1 to 32.
+        workers: u8,
+        /// The folder of the library, if there is one.
+        library: Option<&'a str>,
+        /// The number of sessions after which the server ends, at least 1. `None` if it does not end.
+        sessions: Option<u32>,
+    },
+}
+
+/// The option that names the folder of a library.
+fn library<'a>(alloc: Global) -> Arg<'a> {
+    Arg::new(alloc, "lib")
         .long("lib")
         .value_name("DIR")
         .help("reads the .proto files under DIR before the first frame, so that imports find them")
-        .action(ArgAction::Set);
+        .action(ArgAction::Set)
+}
+
+/// The subcommand `script`, as `clap` describes it.
+fn script<'a>(alloc: Global) -> Result<Command<'a>, Error> {
     let script = Command::new(alloc, "script")
         .about("answers the frames of standard input on standard output")
-        .arg(library)?;
+        .arg(library(alloc))?;
+    Ok(script)
+}
+
+/// The subcommand `listen`, as `clap` describes it.
+fn listen<'a>(alloc: Global) -> Result<Command<'a>, Error> {
+    let port = Arg::new(alloc, "port")
+        .long("port")
+        .value_name("N")
+        .help("the port of 127.0.0.1 to listen on, or 0 for one that the system chooses")
+        .required(true)
+        .value_parser(value_parser!(u16));
+    let workers = Arg::new(alloc, "workers")
+        .long("workers")
+        .value_name("N")
+        .help("the number of threads that compile, from 1 to 32")
+        .required(true)
+        .value_parser(value_parser!(u8).range(1..=32));
+    let sessions = Arg::new(alloc, "sessions")
+        .long("sessions")
+        .value_name("N")
+        .help("ends when N sessions have ended")
+        .value_parser(value_parser!(u32).range(1..=4_294_967_295));
+    let listen = Command::new(alloc, "listen")
+        .about("answers the frames of many connections")
+        .arg(port)?
+        .arg(workers)?
+        .arg(library(alloc))?
+        .arg(sessions)?;
+    Ok(listen)
+}
+
+/// The command line of the program, as `clap` describes it.
+fn command<'a>(alloc: Global) -> Result<Command<'a>, Error> {
     let whole = Command::new(alloc, "pq_server")
         .about("a compile server for proto3")
         .subcommand_required(true)
-        .subcommand(script)?;
+        .subcommand(script(alloc)?)?
+        .subcommand(listen(alloc)?)?;
     Ok(whole)
 }
 
-/// The folder of the library that the command line `words` names, or `None` if it names none. The
-/// first word is the program's name.
+/// The task that the options of `listen` name. `clap` has seen that the port and the workers are
+/// there and are in their ranges.
+fn listen_task<'a>(given: &ArgMatches<'a>) -> Task<'a> {
+    Task::Listen {
+        port: given.get_one("port").unwrap_or(0),
+        workers: given.get_one("workers").unwrap_or(1),
+        library: given.get_str("lib"),
+        sessions: given.get_one("sessions"),
+    }
+}
+
+/// The task that the command line `words` names. The first word is the program's name.
 ///
 /// The error of `clap` says that `words` is not a command line of the program, or asks for help.
-pub(crate) fn library_of<'a>(words: &'a [String], alloc: Global) -> Result<Option<&'a str>, Error> {
+pub(crate) fn task_of<'a>(words: &'a [String], alloc: Global) -> Result<Task<'a>, Error> {
     let matches = command(alloc)?.try_get_matches_from(words)?;
     match matches.subcommand() {
-        Some((_, script)) => Ok(script.get_str("lib")),
-        None => Ok(None),
+        Some(("listen", given)) => Ok(listen_task(given)),
+        Some((_, given)) => Ok(Task::Script {
+            library: given.get_str("lib"),
+        }),
+        None => Ok(Task::Script { library: None }),
     }
 }

@@ -18,7 +18,7 @@ mod texts;
 mod walk;
 
 pub(crate) use fault::LibraryFault;
-pub(crate) use folder::read_library;
+pub(crate) use folder::{no_library, read_library};
 pub(crate) use serving::run_library_script;
 #[cfg(test)]
 pub(crate) use walk::MAX_DEPTH;

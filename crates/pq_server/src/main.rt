@@ -1,26 +1,78 @@
 //! pq_server: a compile server for proto3 that speaks the Language Server Protocol.
-//! Here are the words of the command line, the library that they may name, and the standard streams.
-//! `command` reads the words, `library` reads the library before the first message, and `status` maps
-//! the outcome of a script to the exit status and the line of standard error.
+//! Here are the words of the command line, the library that they may name, the standard streams, and
+//! the port.
+//! `command` reads the words, `library` reads the library before the first message, `serving` serves
+//! many clients over TCP, and `status` maps the outcome of a script to the exit status and the line of
+//! standard error.
 #![tactic(auto)]
 
 mod command;
 mod library;
+mod serving;
 mod status;
 #[cfg(test)]
 mod tests;
 
-use command::library_of;
-use library::{read_library, run_library_script};
+use command::{Task, task_of};
+use library::{no_library, read_library, run_library_script};
+use log::Log;
 use pq_session::Counted;
-use status::{COMMAND_LINE, run_script, unread};
+use serving::{OpenGate, Size, serve};
+use status::{COMMAND_LINE, START_FAILED, run_script, served, unannounced, unread};
+use std::net::{Ipv4Addr, Net, SocketAddr, TcpListener, TcpStream};
 use std::process::ExitCode;
-use std::rt::Env;
+use std::rt::{Env, Files};
+use std::sync::Wait;
+use std::thread::Threads;
 use std::{env, io};
 
 /// The words of the command line, from the program's name on; `InvalidData` if one is not UTF-8.
 fn words(rt: &(impl Env + AllocGlobal)) -> io::Result<Vec<String>> {
     Ok(env::args(rt)?.collect(rt.alloc())?)
+}
+
+/// Serves one client on the standard streams. Returns the exit status.
+fn run_on_streams(rt: HostRuntime, library: Option<&str>) -> u8 {
+    let alloc = rt.alloc();
+    let mut input = Counted::new(rt.stdin());
+    let mut output = Counted::new(rt.stdout());
+    let mut errors = Counted::new(rt.stderr());
+    match library {
+        None => run_script(alloc, &mut input, &mut output, &mut errors),
+        Some(dir) => run_library_script(
+            alloc,
+            read_library(&rt, dir),
+            &mut input,
+            &mut output,
+            &mut errors,
+        ),
+    }
+}
+
+/// Serves many clients on a port of 127.0.0.1. Returns the exit status and the line of standard error.
+///
+/// The line of the port is written before the library is read, and the library is read before the
+/// first connection is accepted.
+fn run_on_port<R>(rt: &R, port: u16, dir: Option<&str>, size: Size) -> (u8, &'static str)
+where
+    R: Net<Listener = TcpListener, Stream = TcpStream> + Files + Print + AllocGlobal,
+    R: Threads + Wait + Log + Copy + Drop + Send + Sync + 'static,
+{
+    let address = SocketAddr::from((Ipv4Addr::LOCALHOST, port));
+    let Ok(listener) = TcpListener::bind(rt, address) else {
+        return served(START_FAILED);
+    };
+    let Ok(address) = listener.local_addr() else {
+        return served(START_FAILED);
+    };
+    if println!(rt; "listening on {address}").is_err() {
+        return unannounced();
+    }
+    let library = match dir {
+        None => no_library(rt.alloc()),
+        Some(dir) => read_library(rt, dir),
+    };
+    served(serve(rt, rt.alloc(), &listener, library, size, &OpenGate))
 }
 
 /// Runs the command line. A failed write to standard error is ignored, since the status says it.
@@ -34,25 +86,25 @@ fn main(rt: HostRuntime) -> ExitCode {
             return ExitCode::from(status);
         }
     };
-    let library = match library_of(words.as_slice(), alloc) {
-        Ok(library) => library,
+    let task = match task_of(words.as_slice(), alloc) {
+        Ok(task) => task,
         Err(error) => {
             let _ = eprint!(rt; "{error}");
             return ExitCode::from(COMMAND_LINE);
         }
     };
-    let mut input = Counted::new(rt.stdin());
-    let mut output = Counted::new(rt.stdout());
-    let mut errors = Counted::new(rt.stderr());
-    let status = match library {
-        None => run_script(alloc, &mut input, &mut output, &mut errors),
-        Some(dir) => run_library_script(
-            alloc,
-            read_library(&rt, dir),
-            &mut input,
-            &mut output,
-            &mut errors,
-        ),
+    let status = match task {
+        Task::Script { library } => run_on_streams(rt, library),
+        Task::Listen {
+            port,
+            workers,
+            library,
+            sessions,
+        } => {
+            let (status, line) = run_on_port(&rt, port, library, Size { workers, sessions });
+            let _ = eprint!(rt; "{line}");
+            status
+        }
     };
     ExitCode::from(status)
 }

@@ -12,13 +12,14 @@
 //!
 //! `specs/Status` has this table for the outcomes of a script and for the faults of a library, with
 //! the lines. [`run_script`] and `run_library_script` are proved to follow it.
-ghost use Rattle.std.specs.Prelude.{◌≡◌, ◌+◌, ◌<◌, ◌^◌, ℕ, List, Result};
+ghost use Rattle.std.specs.Prelude.{◌≡◌, ◌+◌, ◌<◌, ◌^◌, ℕ, List, Result, Err};
 ghost use Rattle.std.specs.Io.KnownBytes.{Appends, Consumes, IsAtEnd};
 ghost use Rattle.pq_session.specs.Counts.{inner_of, failed_of, reads_of};
 ghost use Rattle.pq_session.specs.Responses.{fresh};
 ghost use Rattle.pq_session.specs.Script.{Scripts, IsMemoryAlone, FailsToRead, FailsToWrite};
 ghost use Rattle.pq_session.specs.declared.fault.ScriptFault.{ScriptFault};
-ghost use Rattle.pq_server.specs.Status.{status_of, line_of, frame_line, edit_line, unread_status, unread_line, start_status, start_line};
+ghost use Rattle.pq_session.specs.declared.fault.ScriptFault.TheVariants.{Write};
+ghost use Rattle.pq_server.specs.Status.{status_of, line_of, frame_line, edit_line, unread_status, unread_line, start_status, start_line, server_line};
 
 use crate::library::LibraryFault;
 use pq_frame::FrameFault;
@@ -31,10 +32,13 @@ use std::io::{ErrorKind, Read, Write};
 pub(crate) const COMMAND_LINE: u8 = 64;
 
 /// The status when memory ran out outside a reply.
-const OUT_OF_MEMORY: u8 = 5;
+pub(crate) const OUT_OF_MEMORY: u8 = 5;
 
-/// The status when the library was not read.
-const START_FAILED: u8 = 4;
+/// The status when the library was not read, and when the port fails.
+pub(crate) const START_FAILED: u8 = 4;
+
+/// The status when a write failed.
+const WRITE_FAILED: u8 = 4;
 
 /// The status when an edit was refused.
 const EDIT_REFUSED: u8 = 3;
@@ -59,6 +63,26 @@ pub(crate) fn not_started(fault: LibraryFault) -> (u8, &'static str)
     match fault {
         LibraryFault::Unreadable => (START_FAILED, "pq_server: start failed\n"),
         LibraryFault::Memory => (OUT_OF_MEMORY, "pq_server: out of memory\n"),
+    }
+}
+
+/// The exit status and the line of standard error of a server whose port could not be announced.
+pub(crate) fn unannounced() -> (u8, &'static str)
+    ensures { (result.0 ≡ status_of (Err Write)) × (result.1.now ≡ line_of (Err Write)) }
+{
+    (WRITE_FAILED, "pq_server: write failed\n")
+}
+
+/// The exit status of a server, and its line of standard error: `start failed` for a port or a library
+/// that failed.
+pub(crate) fn served(status: u8) -> (u8, &'static str)
+    ensures status { result.0 ≡ status }
+    ensures line { result.1.now ≡ server_line status }
+{
+    match status {
+        START_FAILED => (status, "pq_server: start failed\n"),
+        OUT_OF_MEMORY => (status, "pq_server: out of memory\n"),
+        _ => (status, ""),
     }
 }
 

@@ -1,4 +1,5 @@
-//! Tests of the program: its command line, its statuses, and sessions through devices that fail.
+//! Tests of the program: its command line, its statuses, sessions through devices that fail, and
+//! sessions over sockets.
 //!
 //! They cover what no contract says. All other tests are rows of `cases/`, or stand in crates of
 //! tests alone.
@@ -6,4 +7,5 @@ mod libraries;
 mod over_library;
 mod program;
 mod scratch;
+mod sockets;
 mod support;

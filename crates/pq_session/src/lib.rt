@@ -29,7 +29,7 @@ pub use laws::{
 };
 pub use protocol::answers::reply_text;
 pub use protocol::root::Root;
-pub use run::{MAX_READS, script, script_over};
+pub use run::{MAX_READS, at_end, script, script_over};
 pub use send::write_all;
 pub use state::items::Item;
 pub use state::notifications::UNREADABLE_PARAMETERS;

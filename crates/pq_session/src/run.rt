@@ -47,8 +47,8 @@ fn take_piece<W: Write>(
     Ok(None)
 }
 
-/// The result where the input ends: 1 between two frames.
-fn at_end(frames: &FrameReader) -> Result<u8, ScriptFault>
+/// The result where the input ends: 1 if it ends between two frames, and `Cut` inside a frame.
+pub fn at_end(frames: &FrameReader) -> Result<u8, ScriptFault>
     ensures { (rest : List ℕ) → frames.now ≡ Reading rest → MatchResult result
         (λ status. (status ≡ 1) × (rest ≡ []))
         (λ e. (e ≡ ScriptFault.Cut) × (rest ≢ [])) }

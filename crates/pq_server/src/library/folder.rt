@@ -1,5 +1,5 @@
 //! A library, read from a folder.
-ghost use Rattle.std.specs.Prelude.{map, string_bytes, IfOk};
+ghost use Rattle.std.specs.Prelude.{◌≡◌, [], map, string_bytes, IfOk};
 ghost use Rattle.pq_server.specs.Library.{IsLibrary, IsLibraryOf};
 
 use crate::library::fault::LibraryFault;
@@ -9,6 +9,7 @@ use crate::library::paths::base_of;
 use crate::library::texts::files_of;
 use crate::library::walk::names_below;
 use pq_inputs::Inputs;
+use std::alloc::Global;
 use std::rt::Files;
 
 /// The inputs that have the files of these names, and no other file. The names are relative to the
@@ -45,4 +46,14 @@ pub fn read_library<R: Files + AllocGlobal + Clone + Drop>(
     let names = names_below(rt, base.as_str())?;
     let inputs = library_of(rt, base.as_str(), names)?;
     Ok(inputs)
+}
+
+/// The inputs without any file: those of a server that has no library.
+pub fn no_library(alloc: Global) -> Result<Inputs, LibraryFault>
+    ensures { IfOk result (λ inputs. (inputs.files ≡ []) × (inputs.revision ≡ 0)) }
+{
+    match Inputs::new(alloc) {
+        Ok(inputs) => Ok(inputs),
+        Err(_) => Err(LibraryFault::Memory),
+    }
 }

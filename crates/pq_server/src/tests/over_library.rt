@@ -16,7 +16,7 @@ piece.proto = syntax = "proto3"; import "common/kind.proto"; message Piece { com
 notes.txt = syntax = "proto3"; message Note {}"#;
 
 /// How each session begins. `> BODY` is a frame of the client, and `< BODY` one of the server.
-const BEGIN: &str = r#"> {"id":0,"jsonrpc":"2.0","method":"initialize","params":{}}
+pub(super) const BEGIN: &str = r#"> {"id":0,"jsonrpc":"2.0","method":"initialize","params":{}}
 < {"id":0,"jsonrpc":"2.0","result":{"capabilities":{"definitionProvider":true,"diagnosticProvider":{"interFileDependencies":true,"workspaceDiagnostics":false},"documentSymbolProvider":true,"positionEncoding":"utf-16","textDocumentSync":{"change":1,"openClose":true}},"serverInfo":{"name":"pq_server"}}}"#;
 
 /// An import of a file of the library.
@@ -44,7 +44,11 @@ const OTHER_NAMES: &str =
 < {"id":1,"jsonrpc":"2.0","result":{"items":[{"code":"P102","message":"import \"notes.txt\" is not found","range":{"end":{"character":18,"line":1},"start":{"character":7,"line":1}},"severity":1,"source":"proto"}],"kind":"full","resultId":"3"}}"#;
 
 /// The frames of the rows of `side`, which is `<` or `>`.
-fn frames_of(rt: &(impl Abort + AllocGlobal), rows: &str, side: &str) -> Result<Vec<u8>, Memory> {
+pub(super) fn frames_of(
+    rt: &(impl Abort + AllocGlobal),
+    rows: &str,
+    side: &str,
+) -> Result<Vec<u8>, Memory> {
     let mut bytes = Vec::new(rt.alloc());
     for row in rows.lines() {
         let (mark, body) = split_row(rt, row, " ");

@@ -1,6 +1,6 @@
 //! The program: its exit statuses, its lines of standard error, and its command lines.
 use super::support::{check_row_count, check_text, frames, split_row};
-use crate::command::library_of;
+use crate::command::{Task, task_of};
 use crate::library::{LibraryFault, read_library, run_library_script};
 use crate::status::{COMMAND_LINE, line_of, not_started, run_script, status_of, unread};
 use pq_frame::FrameFault;
@@ -200,42 +200,85 @@ fn outcomes_out_of_reach(rt: HostRuntime) -> Result<(), Fail> {
     check_outcome(&rt, ScriptFault::TooManyReads, "4 pq_server: read failed")
 }
 
-/// What the command line `words`, which are separated by blanks, says of a library, as text:
-/// `refused` if `clap` refuses it.
+/// What the command line `words`, which are separated by blanks, asks for, as text: `refused` if
+/// `clap` refuses it.
 fn shown_words(alloc: Global, words: &str) -> Result<String, Memory> {
     let mut given = Vec::new(alloc);
     for word in words.split_whitespace() {
         given.push(String::from_str(alloc, word)?)?;
     }
-    match library_of(given.as_slice(), alloc) {
-        Ok(Some(dir)) => format!(in alloc; "library {dir}"),
-        Ok(None) => String::from_str(alloc, "no library"),
+    match task_of(given.as_slice(), alloc) {
+        Ok(Task::Script { library }) => { format!(in alloc; "script {}", library.unwrap_or("-")) }
+        Ok(
+            Task::Listen {
+                port,
+                workers,
+                library,
+                sessions,
+            },
+        ) => {
+            let library = library.unwrap_or("-");
+            let sessions = sessions.unwrap_or(0);
+            format!(in alloc; "listen {port} {workers} {library} {sessions}")
+        }
         Err(_) => String::from_str(alloc, "refused"),
     }
 }
 
+/// Checks rows `WORDS => TASK`.
+fn check_words(rt: &(impl Abort + AllocGlobal), count: usize, rows: &str) -> Result<(), Fail> {
+    check_row_count(rt, count, rows);
+    for row in rows.lines() {
+        let (words, want) = split_row(rt, row, " => ");
+        let found = shown_words(rt.alloc(), words)?;
+        check_text(rt, found.as_str(), want, row);
+    }
+    Ok(())
+}
+
 #[test]
 fn command_lines(rt: HostRuntime) -> Result<(), Fail> {
-    let rows = "\
+    assert_eq!(rt; COMMAND_LINE, 64);
+    check_words(
+        &rt,
+        9,
+        "\
         pq_server => refused\n\
         pq_server --help => refused\n\
-        pq_server listen => refused\n\
         pq_server script more => refused\n\
         pq_server --lib a script => refused\n\
         pq_server script --lib => refused\n\
         pq_server script --lib a --lib b => refused\n\
-        pq_server script => no library\n\
-        pq_server script --lib a/b => library a/b\n\
-        pq_server script --lib=a/b => library a/b\
-        ";
-    check_row_count(&rt, 10, rows);
-    for row in rows.lines() {
-        let (words, want) = split_row(&rt, row, " => ");
-        let found = shown_words(rt.alloc(), words)?;
-        check_text(&rt, found.as_str(), want, row);
-    }
-    assert_eq!(rt; COMMAND_LINE, 64);
-    Ok(())
+        pq_server script => script -\n\
+        pq_server script --lib a/b => script a/b\n\
+        pq_server script --lib=a/b => script a/b\
+        ",
+    )
+}
+
+// `-` is no library, and 0 no number of sessions.
+#[test]
+fn command_lines_of_listen(rt: HostRuntime) -> Result<(), Fail> {
+    check_words(
+        &rt,
+        14,
+        "\
+        pq_server listen => refused\n\
+        pq_server listen --port 1 => refused\n\
+        pq_server listen --workers 1 => refused\n\
+        pq_server listen --port 65536 --workers 1 => refused\n\
+        pq_server listen --port -1 --workers 1 => refused\n\
+        pq_server listen --port a --workers 1 => refused\n\
+        pq_server listen --port 1 --workers 0 => refused\n\
+        pq_server listen --port 1 --workers 33 => refused\n\
+        pq_server listen --port 1 --workers 1 --sessions 0 => refused\n\
+        pq_server listen --port 1 --workers 1 --sessions 4294967296 => refused\n\
+        pq_server listen --port 0 --workers 1 => listen 0 1 - 0\n\
+        pq_server listen --port 65535 --workers 32 => listen 65535 32 - 0\n\
+        pq_server listen --port 1 --workers 2 --lib a/b --sessions 1 => listen 1 2 a/b 1\n\
+        pq_server listen --sessions 4294967295 --workers=2 --port=1 => listen 1 2 - 4294967295\
+        ",
+    )
 }
 
 /// Checks the status and the line if a library was not taken.

@@ -1,0 +1,285 @@
+#!/usr/bin/env python3
+"""Measures `pq_server listen`: many connections over one store.
+
+Each part starts a server of its own, and prints ratios of rates that were taken in the same run:
+
+    requests    requests a second with 1, 8 and 64 connections and 1, 2 and 4 workers, where nothing changed
+    files       first diagnostics of independent files, 8 connections: 4 workers by 1
+    edit        from an edit to its diagnostics, by `listen` and by `script` over pipes
+    flow        64 connections that come and go: replies in order and none lost, memory before and after
+    lazy        a client that reads nothing: the rate of others beside it, and without it
+    held        a client with a dear file, two workers: the time of another client's small request beside it
+
+An edit of any client overtakes the requests that run, so some replies of `flow` say cancelled.
+
+The clients are processes of this script. A ratio depends on the processors: they are printed first. The status is 1 where
+a reply is lost or out of order, where memory grows in `flow`, or where `lazy` or `held` hold another client up.
+
+usage: bench/hall.py [--program PATH] [--quick] [--only WORD]
+"""
+import argparse
+import multiprocessing
+import os
+import subprocess
+import sys
+import time
+
+import files
+from clients import Connection, Server
+from messages import FIRST, asked, changed, diagnosed, opened, read_body
+
+HERE = os.path.dirname(os.path.abspath(__file__))
+PROGRAM = os.path.join(HERE, "..", "crates", "pq_server", "out", "pq_server")
+BATCH = 30
+
+
+def asked_by(port, names, rounds, start, sink):
+    """A process with one connection for each name: it sends batches to all, and reads all, so many times."""
+    text = files.proto_text(300)
+    clients = []
+    for name in names:
+        client = Connection(port)
+        client.begin(opened(name + ".proto", text))
+        clients.append((client, b"".join(diagnosed(i, name + ".proto") for i in range(BATCH))))
+    start.wait()
+    for _ in range(rounds):
+        for client, batch in clients:
+            client.send(batch)
+        for client, _ in clients:
+            client.skip(BATCH)
+    for client, _ in clients:
+        client.end()
+    sink.put(len(clients) * rounds * BATCH)
+
+
+def together(work, shares):
+    """Runs `work(*share, start, sink)` for each share in a process, and gives the seconds from the start and what they put."""
+    start, sink = multiprocessing.Event(), multiprocessing.Queue()
+    started = [multiprocessing.Process(target=work, args=tuple(share) + (start, sink)) for share in shares]
+    for process in started:
+        process.start()
+    time.sleep(0.5)
+    before = time.perf_counter()
+    start.set()
+    found = [sink.get(timeout=300) for _ in started]
+    took = time.perf_counter() - before
+    for process in started:
+        process.join()
+        if process.exitcode != 0:
+            sys.exit("a client failed")
+    return took, found
+
+
+def rate(program, workers, connections, requests):
+    """Requests a second, and the server's processor microseconds for one."""
+    server = Server(program, workers)
+    processes = min(connections, 4)
+    names = ["c%d" % i for i in range(connections)]
+    rounds = max(1, requests // (connections * BATCH))
+    before = server.seconds()
+    took, found = together(asked_by, [(server.port, names[i::processes], rounds) for i in range(processes)])
+    spent = server.seconds() - before
+    server.stop()
+    return sum(found) / took, spent / sum(found) * 1e6
+
+
+def requests_part(program, quick):
+    total = 30_000 if quick else 300_000
+    rates = {}
+    for connections in (1, 8, 64):
+        for workers in (1, 2, 4):
+            rates[connections, workers], each = rate(program, workers, connections, total)
+            print("%3d connections, %d workers: %8.0f requests/s, %.1f us of the server's processors each"
+                  % (connections, workers, rates[connections, workers], each), flush=True)
+    print("64 connections by 1, with 4 workers: %.2f" % (rates[64, 4] / rates[1, 4]))
+    return True
+
+
+def compiled_by(port, name, count, size, start, sink):
+    """A process with one connection: it opens files of its own, and then asks for the diagnostics of each of them once."""
+    text = files.proto_text(size)
+    client = Connection(port)
+    client.begin(*[opened("%s_%d.proto" % (name, i), text) for i in range(count)])
+    client.send(asked(0, "x/none", "none"))
+    client.bodies(1)
+    start.wait()
+    client.send(b"".join(diagnosed(i, "%s_%d.proto" % (name, i)) for i in range(count)))
+    for body in client.bodies(count):
+        if b'"items":[],' not in body:
+            sys.exit("an answer that is not empty: %r" % body[:200])
+    client.end()
+    sink.put(count)
+
+
+def files_part(program, quick):
+    count = 4 if quick else 20
+    rates = {}
+    for workers in (1, 2, 4):
+        server = Server(program, workers)
+        took, found = together(compiled_by, [(server.port, "c%d" % i, count, 200_000) for i in range(8)])
+        server.stop()
+        rates[workers] = sum(found) / took
+        print("8 connections with %d files of 200 kB each, %d workers: %6.1f files/s" % (count, workers, rates[workers]), flush=True)
+    print("4 workers by 1: %.2f, 2 by 1: %.2f (3 wanted of 4 on 4 processors)" % (rates[4] / rates[1], rates[2] / rates[1]))
+    return True
+
+
+def middle(times):
+    return sorted(times)[len(times) // 2]
+
+
+def edit_part(program, quick):
+    rounds = 50 if quick else 500
+    text = files.proto_text(1_000)
+
+    def times(send, read):
+        found = []
+        for i in range(rounds):
+            data = changed("a.proto", text + "message Last%d {}\n" % i) + diagnosed(i, "a.proto")
+            before = time.perf_counter()
+            send(data)
+            read()
+            found.append(time.perf_counter() - before)
+        return middle(found)
+
+    server = Server(program, 2)
+    client = Connection(server.port)
+    client.begin(opened("a.proto", text))
+    by_port = times(client.send, lambda: client.bodies(1))
+    client.end()
+    server.stop()
+    script = subprocess.Popen([program, "script"], stdin=subprocess.PIPE, stdout=subprocess.PIPE)
+
+    def send(data):
+        script.stdin.write(data)
+        script.stdin.flush()
+
+    send(FIRST + opened("a.proto", text))
+    read_body(script.stdout)
+    by_pipe = times(send, lambda: read_body(script.stdout))
+    script.kill()
+    script.wait()
+    print("from an edit of 1 kB to its diagnostics: %.0f us by listen, %.0f us by script: %.2f" % (by_port * 1e6, by_pipe * 1e6, by_port / by_pipe))
+    return True
+
+
+def joined(port, opens):
+    """A connection that was not closed unanswered: for a moment after a session has ended its place is still taken."""
+    while True:
+        client = Connection(port)
+        try:
+            client.begin(opens)
+            return client
+        except (EOFError, ConnectionError):
+            client.socket.close()
+
+
+def flowing(port, first, sessions, requests, start, sink):
+    """A process whose connections come and go: each session asks, checks its labels in order, and ends."""
+    text = files.proto_text(300)
+    start.wait()
+    done, cancelled = 0, 0
+    for session in range(sessions):
+        name = "c%d_%d.proto" % (first, session % 4)
+        client = joined(port, opened(name, text))
+        for low in range(0, requests, BATCH):
+            labels = range(low, min(low + BATCH, requests))
+            client.send(b"".join(diagnosed(i, name) for i in labels))
+            for label, body in zip(labels, client.bodies(len(labels))):
+                overtaken = b'"code":-32801,' in body
+                if b'"id":%d,' % label not in body or not overtaken and b'"items":[],' not in body:
+                    sys.exit("label %d was answered %r" % (label, body[:200]))
+                done += 1
+                cancelled += overtaken
+        client.end()
+    sink.put((done, cancelled))
+
+
+def flow_part(program, quick):
+    total = 50_000 if quick else 1_000_000
+    server = Server(program, 4)
+    requests = 300
+    sessions = max(1, total // (64 * requests))
+    # the first round fills what the server keeps; memory is compared after it
+    together(flowing, [(server.port, i, 2, requests) for i in range(64)])
+    before = server.kilobytes()
+    took, found = together(flowing, [(server.port, i, sessions, requests) for i in range(64)])
+    after = server.kilobytes()
+    server.stop()
+    wanted, done = 64 * sessions * requests, sum(one for one, _ in found)
+    print("%d requests of 64 connections at a time, %d sessions, in %.1f s: %d answered in order, %d of them cancelled; %.1f MB before, %.1f MB after"
+          % (wanted, 64 * sessions, took, done, sum(one for _, one in found), before / 1024, after / 1024), flush=True)
+    return done == wanted and after <= before * 1.2 + 4096
+
+
+def lazy_part(program, quick):
+    total = 10_000 if quick else 100_000
+    server = Server(program, 2)
+    shares = [(server.port, ["c%d" % i], total // (4 * BATCH)) for i in range(4)]
+    alone, found = together(asked_by, shares)
+    lazy = Connection(server.port)
+    lazy.begin(opened("lazy.proto", "message M { int32 a = 0; }\n" * 2_000))
+    lazy.socket.setblocking(False)
+    data = b"".join(diagnosed(i, "lazy.proto") for i in range(100_000))
+    sent = 0
+    try:
+        while sent < len(data):
+            sent += lazy.socket.send(data[sent:sent + 65536])
+    except BlockingIOError:
+        pass
+    beside, _ = together(asked_by, shares)
+    server.stop()
+    print("4 clients beside one that reads nothing (it posted %d of %d bytes): %.2f times their time alone" % (sent, len(data), beside / alone))
+    return beside < 2 * alone
+
+
+def held_part(program, quick):
+    server = Server(program, 2)
+    dear = Connection(server.port)
+    dear.begin()
+    size = 400_000 if quick else 900_000
+    text = files.proto_text(size)
+    other = Connection(server.port)
+    other.begin(opened("small.proto", files.proto_text(300)))
+
+    def asked(label):
+        before = time.perf_counter()
+        other.send(diagnosed(label, "small.proto"))
+        other.bodies(1)
+        return time.perf_counter() - before
+
+    alone = middle([asked(i) for i in range(200)])
+    times, whole = [], 0
+    for i in range(5):
+        before = time.perf_counter()
+        dear.send(changed("dear.proto", text + "message Last%d {}\n" % i) + diagnosed(i, "dear.proto"))
+        time.sleep(0.005)
+        for k in range(3):
+            times.append(asked(1000 + 10 * i + k))
+        dear.bodies(1)
+        whole = max(whole, time.perf_counter() - before)
+    server.stop()
+    print("a small request beside a file of %d bytes that takes %.0f ms: %.2f ms in the middle, %.2f at most, %.2f alone"
+          % (size, whole * 1e3, middle(times) * 1e3, max(times) * 1e3, alone * 1e3))
+    return middle(times) < whole / 4
+
+
+PARTS = [("requests", requests_part), ("files", files_part), ("edit", edit_part), ("flow", flow_part), ("lazy", lazy_part), ("held", held_part)]
+
+
+def main():
+    words = argparse.ArgumentParser()
+    words.add_argument("--program", default=PROGRAM)
+    words.add_argument("--quick", action="store_true", help="a tenth of the input, to see that it runs")
+    words.add_argument("--only", default="", help="a word of the parts to run")
+    words = words.parse_args()
+    print("%d processors" % os.cpu_count())
+    good = True
+    for name, part in PARTS:
+        if words.only in name:
+            good = part(words.program, words.quick) and good
+    return 0 if good else 1
+
+
+if __name__ == "__main__":
+    sys.exit(main())

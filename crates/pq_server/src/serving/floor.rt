@@ -1,0 +1,252 @@
+//! What the threads of a server ask of a hall.
+//!
+//! They see the hall through a trait, and the hall's rule set through one. So the code that starts
+//! threads is proved for any rule set, without the values of proto3 files.
+use pq_core::{OpenFault, Reply, Stamp};
+use pq_hall::{BoardName, Client, ClientEnds, Gate, Hall, HallFault, Mark, Moved, OneValue};
+use pq_mail::{MailEnd, PorterEnd, Post, PostEnd, PostFault, Receipt, TakeEnd};
+use pq_proto::{ProtoKey, ProtoRules, ProtoValue};
+use pq_rules::Rules;
+use pq_session::{Root, reply_text};
+use std::alloc::{AllocError, Global};
+use std::sync::Wait;
+
+/// Why a receipt has no text.
+#[derive(Clone, Copy, Debug, PartialEq, Eq)]
+pub(crate) enum NoText {
+    /// The client was closed, and no reply comes.
+    Closed,
+    /// An allocation failed.
+    Memory,
+}
+
+impl From<MailEnd> for NoText {
+    /// No reply comes.
+    fn from(_end: MailEnd) -> NoText {
+        NoText::Closed
+    }
+}
+
+impl From<AllocError> for NoText {
+    /// An allocation failure is `Memory`.
+    fn from(_error: AllocError) -> NoText {
+        NoText::Memory
+    }
+}
+
+/// A rule set whose requests are those of sessions, and whose replies have texts.
+pub(crate) trait Texts: Rules {
+    /// `post`, as a post of these rules.
+    fn post_of(post: Post<ProtoKey>) -> Post<Self::Key>;
+
+    /// The text of `reply`, for a session with the root `root`.
+    fn text_of<M: Stamp>(
+        alloc: Global,
+        root: &Root,
+        reply: &Reply<Self::Key, Self::Value, M>,
+    ) -> Result<String, AllocError>;
+}
+
+impl Texts for ProtoRules {
+    fn post_of(post: Post<ProtoKey>) -> Post<ProtoKey> {
+        post
+    }
+
+    fn text_of<M: Stamp>(
+        alloc: Global,
+        root: &Root,
+        reply: &Reply<ProtoKey, ProtoValue, M>,
+    ) -> Result<String, AllocError> {
+        reply_text(alloc, root, reply)
+    }
+}
+
+/// The ends of the mailboxes of a client that has joined.
+#[derive(Drop)]
+pub(crate) struct Ends<P, C, T> {
+    pub(crate) post: P,
+    pub(crate) porter: C,
+    pub(crate) take: T,
+}
+
+/// A hall as the reader of a session sees it, whatever its rules are.
+///
+/// The reader keeps its end on one thread, so no type here is bound by `Send`.
+pub(crate) trait Posting<H> {
+    /// The end that posts.
+    type Post: Drop;
+
+    /// What a reply is taken by.
+    type Receipt: Drop;
+
+    /// Posts `post`. Returns the receipt of a request.
+    fn post(
+        &self,
+        rt: &H,
+        end: &mut Self::Post,
+        post: Post<ProtoKey>,
+    ) -> Result<Option<Self::Receipt>, PostFault>;
+}
+
+/// A hall as a server sees it, whatever its rules are and whatever names its marks.
+pub(crate) trait Floor<H>: Posting<H, Post: Send, Receipt: Send> + Sync {
+    /// The end whose posts are carried.
+    type Porter: Send + Drop;
+
+    /// The end from which the replies of a client are taken.
+    type Take: Send + Drop;
+
+    /// Opens a client. An error says that there are too many, or that an allocation failed.
+    fn join(
+        &self,
+        rt: &H,
+    ) -> Result<(Client, Ends<Self::Post, Self::Porter, Self::Take>), OpenFault>;
+
+    /// Carries the next post of `client` into the store. Returns whether there was one. An error says
+    /// why the client was closed.
+    fn carry(&self, rt: &H, client: Client, porter: &mut Self::Porter) -> Result<bool, HallFault>;
+
+    /// The text of the reply of `receipt`, for a session with the root `root`.
+    fn text(
+        &self,
+        rt: &H,
+        alloc: Global,
+        client: Client,
+        take: &mut Self::Take,
+        receipt: &Self::Receipt,
+        root: &Root,
+    ) -> Result<String, NoText>;
+
+    /// Closes `client`, if it is open.
+    fn close(&self, rt: &H, client: Client);
+
+    /// Ends the workers.
+    fn shut(&self, rt: &H);
+}
+
+/// A hall whose workers pass a gate of the type `G`.
+pub(crate) trait Works<G, H>: Sync {
+    /// Runs a worker until the hall is shut.
+    fn work_with(&self, rt: &H, gate: &G);
+}
+
+impl<S, J, G, H> Works<G, H> for Hall<S, J, H>
+where
+    S: Texts + OneValue + Send + Sync + 'static,
+    S::Key: Send + Sync,
+    S::Value: Send + Sync,
+    S::Part: Send,
+    J: BoardName + Send + Sync + 'static,
+    G: Gate<S>,
+    H: Wait + Copy + Drop + Send + Sync + 'static,
+{
+    fn work_with(&self, rt: &H, gate: &G) {
+        self.work(rt, gate);
+    }
+}
+
+impl<S, J, H> Posting<H> for Hall<S, J, H>
+where
+    S: Texts + OneValue + Send + Sync + 'static,
+    S::Key: Send + Sync,
+    S::Value: Send + Sync,
+    S::Part: Send,
+    J: BoardName + Send + Sync + 'static,
+    H: Wait + Copy + Drop + Send + Sync + 'static,
+{
+    type Post = PostEnd<S>;
+
+    type Receipt = Receipt<S::Key>;
+
+    fn post(
+        &self,
+        rt: &H,
+        end: &mut PostEnd<S>,
+        post: Post<ProtoKey>,
+    ) -> Result<Option<Receipt<S::Key>>, PostFault> {
+        match end.post(rt, S::post_of(post)) {
+            Ok(receipt) => Ok(asked(receipt)),
+            Err(refused) => Err(refused.fault),
+        }
+    }
+}
+
+impl<S, J, H> Floor<H> for Hall<S, J, H>
+where
+    S: Texts + OneValue + Send + Sync + 'static,
+    S::Key: Send + Sync,
+    S::Value: Send + Sync,
+    S::Part: Send,
+    J: BoardName + Send + Sync + 'static,
+    H: Wait + Copy + Drop + Send + Sync + 'static,
+{
+    type Porter = PorterEnd<S::Key>;
+
+    type Take = TakeEnd<S, Mark<J>>;
+
+    fn join(
+        &self,
+        rt: &H,
+    ) -> Result<
+        (
+            Client,
+            Ends<PostEnd<S>, PorterEnd<S::Key>, TakeEnd<S, Mark<J>>>,
+        ),
+        OpenFault,
+    > {
+        let ClientEnds {
+            client,
+            post,
+            porter,
+            take,
+        } = self.join_client(rt)?;
+        Ok((client, Ends { post, porter, take }))
+    }
+
+    fn carry(
+        &self,
+        rt: &H,
+        client: Client,
+        porter: &mut PorterEnd<S::Key>,
+    ) -> Result<bool, HallFault> {
+        let moved = self.carry_one(rt, client, porter)?;
+        Ok(!is_end(moved))
+    }
+
+    fn text(
+        &self,
+        rt: &H,
+        alloc: Global,
+        client: Client,
+        take: &mut TakeEnd<S, Mark<J>>,
+        receipt: &Receipt<S::Key>,
+        root: &Root,
+    ) -> Result<String, NoText> {
+        let reply = self.take_one(rt, client, take, receipt)?;
+        Ok(S::text_of(alloc, root, reply.reply())?)
+    }
+
+    fn close(&self, rt: &H, client: Client) {
+        self.close(rt, client);
+    }
+
+    fn shut(&self, rt: &H) {
+        self.shut(rt);
+    }
+}
+
+/// Whether `moved` is the end of the posts.
+fn is_end<K: Drop>(moved: Moved<K>) -> bool {
+    match moved {
+        Moved::Ended => true,
+        _ => false,
+    }
+}
+
+/// `receipt`, if it is that of a request.
+fn asked<K: Drop>(receipt: Receipt<K>) -> Option<Receipt<K>> {
+    if receipt.request.is_none() {
+        return None;
+    }
+    Some(receipt)
+}

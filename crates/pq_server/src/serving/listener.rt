@@ -1,0 +1,200 @@
+//! The listener: it accepts connections, and starts workers and sessions.
+ghost use Rattle.std.specs.Prelude.{◌≡◌};
+
+use crate::library::LibraryFault;
+use crate::serving::floor::{Floor, Texts, Works};
+use crate::serving::session::run_session;
+use crate::status::{OUT_OF_MEMORY, START_FAILED, not_started};
+use log::Log;
+use pq_core::{Stamp, Work};
+use pq_hall::{BoardName, Gate, Hall, NewBoard, OneValue};
+use pq_inputs::Inputs;
+use pq_proto::ProtoRules;
+use std::alloc::Global;
+use std::marker::Brand;
+use std::net::{TcpListener, TcpStream};
+use std::sync::Wait;
+use std::thread;
+use std::thread::{Scope, Threads};
+
+/// A gate that holds nothing back.
+pub(crate) struct OpenGate;
+
+impl Gate<ProtoRules> for OpenGate {
+    fn pass<M: Stamp>(&self, _work: &Work<ProtoRules, M>) {}
+}
+
+/// How much a server serves.
+#[derive(Clone, Copy, Debug)]
+pub(crate) struct Size {
+    /// The number of workers, from 1 to 32.
+    pub(crate) workers: u8,
+    /// The number of sessions after which it ends, at least 1, or `None` if it does not end.
+    pub(crate) sessions: Option<u32>,
+}
+
+/// Serves the connections of `listener` over the sources of `library`, with the workers and for the
+/// sessions of `size`. Each work passes `gate` before it is carried out.
+///
+/// A connection beyond the clients that may be open is closed unanswered, and is no session.
+///
+/// Returns 0 when so many sessions have ended. Returns 4 if no library was read, and if a connection
+/// could not be accepted; then the sessions that run have ended. Returns 5 if an allocation failed
+/// for the hall, or no thread could be started for a worker.
+pub(crate) fn serve<R, G>(
+    rt: &R,
+    alloc: Global,
+    listener: &TcpListener,
+    library: Result<Inputs, LibraryFault>,
+    size: Size,
+    gate: &G,
+) -> u8
+where
+    R: Threads + Wait + Log + Copy + Drop + Send + Sync + 'static,
+    G: Gate<ProtoRules> + Sync,
+{
+    let inputs = match library {
+        Ok(inputs) => inputs,
+        Err(fault) => return not_started(fault).0,
+    };
+    match NewBoard::new(alloc) {
+        Ok(board) => serve_in::<ProtoRules, Brand, R, G>(
+            rt, alloc, ProtoRules, board, listener, inputs, size, gate,
+        ),
+        Err(_) => OUT_OF_MEMORY,
+    }
+}
+
+/// Serves over a hall of `rules` whose marks are those of `board`, which `J` names.
+fn serve_in<S, J, R, G>(
+    rt: &R,
+    alloc: Global,
+    rules: S,
+    board: NewBoard,
+    listener: &TcpListener,
+    inputs: Inputs,
+    size: Size,
+    gate: &G,
+) -> u8
+where
+    S: Texts + OneValue + Send + Sync + 'static,
+    S::Key: Send + Sync,
+    S::Value: Send + Sync,
+    S::Part: Send,
+    J: BoardName + Send + Sync + 'static,
+    R: Threads + Wait + Log + Copy + Drop + Send + Sync + 'static,
+    G: Gate<S> + Sync,
+    requires { board ≡ J.vector }
+{
+    let made: Result<Hall<S, J, R>, _> = Hall::new(rt, alloc, rules, board, inputs);
+    match made {
+        Ok(hall) => run(rt, alloc, &hall, listener, size, gate),
+        Err(_) => OUT_OF_MEMORY,
+    }
+}
+
+/// Starts the workers, serves the sessions, and ends the workers.
+fn run<F, R, G>(
+    rt: &R,
+    alloc: Global,
+    floor: &F,
+    listener: &TcpListener,
+    size: Size,
+    gate: &G,
+) -> u8
+where
+    F: Floor<R> + Works<G, R>,
+    R: Threads + Wait + Log + Sync,
+    G: Sync,
+{
+    thread::scope(thread::scope_env(), rt, |scope| {
+        let mut status = 0;
+        for _ in 0..size.workers {
+            if scope.spawn(move || floor.work_with(rt, gate)).is_err() {
+                status = OUT_OF_MEMORY;
+            }
+        }
+        if status == 0 {
+            status = accept_all(rt, alloc, floor, listener, size.sessions);
+        }
+        floor.shut(rt);
+        status
+    })
+}
+
+/// Accepts the connections of so many sessions. Returns when these have ended.
+fn accept_all<F, R>(
+    rt: &R,
+    alloc: Global,
+    floor: &F,
+    listener: &TcpListener,
+    sessions: Option<u32>,
+) -> u8
+where
+    F: Floor<R>,
+    R: Threads + Wait + Log + Sync,
+{
+    thread::scope(thread::scope_env(), rt, |scope| {
+        accept_in(scope, rt, alloc, floor, listener, sessions)
+    })
+}
+
+/// Accepts the connections of so many sessions, each with a thread of `scope`.
+fn accept_in<'s, E, F, R>(
+    scope: &Scope<'s, E>,
+    rt: &'s R,
+    alloc: Global,
+    floor: &'s F,
+    listener: &TcpListener,
+    sessions: Option<u32>,
+) -> u8
+where
+    F: Floor<R>,
+    F::Post: 's,
+    F::Porter: 's,
+    F::Take: 's,
+    R: Threads + Wait + Log + Sync,
+{
+    let mut accepted = 0u32;
+    for stream in listener.incoming() {
+        let Ok(stream) = stream else {
+            return START_FAILED;
+        };
+        if start(scope, rt, alloc, floor, stream) {
+            accepted = accepted.saturating_add(1);
+        }
+        if Some(accepted) == sessions {
+            break;
+        }
+    }
+    0
+}
+
+/// Opens a client for `stream`, and starts the thread of its session. Returns whether it is one:
+/// otherwise the stream is closed unanswered.
+fn start<'s, E, F, R>(
+    scope: &Scope<'s, E>,
+    rt: &'s R,
+    alloc: Global,
+    floor: &'s F,
+    stream: TcpStream,
+) -> bool
+where
+    F: Floor<R>,
+    F::Post: 's,
+    F::Porter: 's,
+    F::Take: 's,
+    R: Threads + Wait + Log + Sync,
+{
+    let Ok((client, ends)) = floor.join(rt) else {
+        return false;
+    };
+    if scope
+        .spawn(move || run_session(rt, alloc, floor, client, ends, &stream))
+        .is_ok()
+    {
+        return true;
+    }
+    floor.close(rt, client);
+    false
+}

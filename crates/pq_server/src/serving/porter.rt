@@ -1,0 +1,43 @@
+//! The porter of a session: it carries the posts of the client into the hall.
+use crate::serving::floor::Floor;
+use pq_core::EditFault;
+use pq_hall::{Client, HallFault};
+use pq_session::ScriptFault;
+use std::net::{Shutdown, TcpStream};
+use std::sync::Wait;
+
+/// Carries the posts of `client` until there are no more.
+///
+/// A post that is refused for good ends it. The client is closed then, and the stream is shut down,
+/// so that the reader ends too. The error says why, unless another thread had closed the client.
+pub(crate) fn carry_all<F: Floor<H>, H: Wait>(
+    rt: &H,
+    floor: &F,
+    client: Client,
+    porter: F::Porter,
+    stream: &TcpStream,
+) -> Result<(), ScriptFault> {
+    let mut porter = porter;
+    for _ in rt.forever() {
+        match floor.carry(rt, client, &mut porter) {
+            Ok(true) => {}
+            Ok(false) => return Ok(()),
+            Err(fault) => {
+                let _ = stream.shutdown(Shutdown::Both);
+                return ended_by(fault);
+            }
+        }
+    }
+    unreachable!()
+}
+
+/// The outcome of a session whose post was refused with this error.
+fn ended_by(fault: HallFault) -> Result<(), ScriptFault> {
+    match fault {
+        HallFault::Edit(EditFault::Input(fault)) => Err(ScriptFault::Edit(fault)),
+        HallFault::Edit(EditFault::NoClient) => Ok(()),
+        HallFault::Edit(EditFault::Closed) => Ok(()),
+        HallFault::Closed => Ok(()),
+        HallFault::Memory => Err(ScriptFault::Memory),
+    }
+}

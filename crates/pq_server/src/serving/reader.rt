@@ -1,0 +1,195 @@
+//! The reader of a session: it posts what the messages of the client say.
+use crate::serving::floor::Posting;
+use crossbeam_channel::Sender;
+use pq_frame::{FrameReader, Message};
+use pq_mail::{Post, PostFault};
+use pq_proto::ProtoKey;
+use pq_session::{Item, Root, ScriptFault, Session, at_end};
+use std::alloc::{AllocError, Global};
+use std::io::Read;
+use std::net::TcpStream;
+use std::sync::Wait;
+
+/// Whether a session goes on after a message.
+#[derive(Clone, Copy, Debug, PartialEq, Eq)]
+enum Step {
+    GoesOn,
+    /// The message ended the session with this status.
+    Finish(u8),
+    /// Another thread has ended the session.
+    Overtaken,
+}
+
+/// What the writer of a session owes its client: the reply of a receipt.
+#[derive(Drop)]
+pub(crate) struct Owed<Q> {
+    pub(crate) receipt: Q,
+    /// The root of the session when the request came.
+    pub(crate) root: Root,
+}
+
+/// What the reader of a session holds: the end that posts, of the type `P`, and the way of receipts, of
+/// the type `Q`, to the writer.
+#[derive(Drop)]
+pub(crate) struct Intake<P, Q> {
+    session: Session,
+    post: P,
+    receipts: Sender<Owed<Q>>,
+}
+
+impl<P: Drop, Q: Drop> Intake<P, Q> {
+    /// The intake of a session whose client has sent nothing.
+    pub(crate) fn new(post: P, receipts: Sender<Owed<Q>>) -> Intake<P, Q> {
+        Intake {
+            session: Session::new(),
+            post,
+            receipts,
+        }
+    }
+
+    /// Posts `post`. A receipt of a request goes to the writer.
+    fn hand_in<F, H>(
+        &mut self,
+        rt: &H,
+        alloc: Global,
+        floor: &F,
+        post: Post<ProtoKey>,
+    ) -> Result<Step, ScriptFault>
+    where
+        F: Posting<H, Post = P, Receipt = Q>,
+        H: Wait,
+    {
+        match floor.post(rt, &mut self.post, post) {
+            Ok(Some(receipt)) => self.hand_on(rt, alloc, receipt),
+            Ok(None) => Ok(Step::GoesOn),
+            Err(fault) => ended_by(fault),
+        }
+    }
+
+    /// Hands `receipt` to the writer.
+    fn hand_on<H: Wait>(&self, rt: &H, alloc: Global, receipt: Q) -> Result<Step, ScriptFault> {
+        let root = root_of(alloc, &self.session)?;
+        match self.receipts.send(rt, Owed { receipt, root }) {
+            Ok(()) => Ok(Step::GoesOn),
+            Err(_) => Ok(Step::Overtaken),
+        }
+    }
+
+    /// Does what the message of this body asks for.
+    fn handle<F, H>(
+        &mut self,
+        rt: &H,
+        alloc: Global,
+        floor: &F,
+        body: &[u8],
+    ) -> Result<Step, ScriptFault>
+    where
+        F: Posting<H, Post = P, Receipt = Q>,
+        H: Wait,
+    {
+        let message = Message::read(alloc, body)?;
+        match self.session.on(alloc, message)? {
+            Item::Ask(request) => self.hand_in(rt, alloc, floor, Post::Ask(request)),
+            Item::Say(request) => self.hand_in(rt, alloc, floor, Post::Ask(request)),
+            Item::Edit(change) => self.hand_in(rt, alloc, floor, Post::Edit(change)),
+            Item::Ignore => Ok(Step::GoesOn),
+            Item::End(status) => Ok(Step::Finish(status)),
+        }
+    }
+
+    /// Does what the messages of `bodies` ask for, up to the first after which the session does not
+    /// go on.
+    fn handle_all<F, H>(
+        &mut self,
+        rt: &H,
+        alloc: Global,
+        floor: &F,
+        bodies: &[Vec<u8>],
+    ) -> Result<Step, ScriptFault>
+    where
+        F: Posting<H, Post = P, Receipt = Q>,
+        H: Wait,
+    {
+        for body in bodies {
+            match self.handle(rt, alloc, floor, body)? {
+                Step::GoesOn => {}
+                step => return Ok(step),
+            }
+        }
+        Ok(Step::GoesOn)
+    }
+
+    /// Does what the messages ask for that `piece` completes.
+    fn take_in<F, H>(
+        &mut self,
+        rt: &H,
+        alloc: Global,
+        floor: &F,
+        frames: &mut FrameReader,
+        piece: &[u8],
+    ) -> Result<Step, ScriptFault>
+    where
+        F: Posting<H, Post = P, Receipt = Q>,
+        H: Wait,
+    {
+        let bodies = frames.feed(piece)?;
+        if bodies.is_empty() {
+            return Ok(Step::GoesOn);
+        }
+        match self.handle_all(rt, alloc, floor, bodies.as_slice())? {
+            Step::GoesOn => {}
+            step => return Ok(step),
+        }
+        // An error after the bodies comes with the next call.
+        frames.feed(&[])?;
+        Ok(Step::GoesOn)
+    }
+}
+
+/// Where a session stands after a post that was refused with this error.
+fn ended_by(fault: PostFault) -> Result<Step, ScriptFault> {
+    match fault {
+        PostFault::Gone => Ok(Step::Overtaken),
+        PostFault::Memory => Err(ScriptFault::Memory),
+    }
+}
+
+/// A copy of the root of `session`.
+fn root_of(alloc: Global, session: &Session) -> Result<Root, AllocError> {
+    match session.root() {
+        Some(root) => root.copy(),
+        None => Root::of(alloc, None),
+    }
+}
+
+/// Reads the messages of `stream`, at most 16,384 bytes at a time, and posts what they say, until
+/// the input ends or a message ends the session.
+///
+/// Returns the status with which the session ended, or `None` if another thread has ended it.
+pub(crate) fn read_all<F: Posting<H>, H: Wait>(
+    rt: &H,
+    alloc: Global,
+    floor: &F,
+    intake: Intake<F::Post, F::Receipt>,
+    stream: &TcpStream,
+) -> Result<Option<u8>, ScriptFault> {
+    let mut intake = intake;
+    let mut input = stream;
+    let mut buffer = [0u8; 16384];
+    let mut frames = FrameReader::new(alloc);
+    for _ in rt.forever() {
+        let count = match input.read(&mut buffer) {
+            Ok(count) => count,
+            Err(_) => return Err(ScriptFault::Read),
+        };
+        if count == 0 {
+            return Ok(Some(at_end(&frames)?));
+        }
+        match intake.take_in(rt, alloc, floor, &mut frames, &buffer[..count])? {
+            Step::GoesOn => {}
+            Step::Finish(status) => return Ok(Some(status)),
+            Step::Overtaken => return Ok(None),
+        }
+    }
+    unreachable!()
+}
