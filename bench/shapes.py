@@ -68,14 +68,24 @@ def long_part(n):
     return one_file(compile.deep_package(1, n // 10)[0].replace("package a", "package " + "a" * n).replace("N x", "M x"))
 
 
-def half_package(part, name, apart=False):
-    """Texts of n bytes: half is a package of such parts, the rest references to a name, each in a message of its own or not."""
+def beside(package, text):
+    """The text beside a file of this package, which it imports, or alone if there is none."""
+    if package is None:
+        return one_file(text)
+    before, measured = one_file(text.replace(HEAD, HEAD + 'import "b.proto";', 1))
+    return before, opened("b.proto", HEAD + "package " + package + ";") + measured
+
+
+def half_package(part, name, apart=False, longer=False):
+    """Texts of n bytes: half is a package of such parts, the rest references to a name, each in a message of its own or not. A file
+    of a longer package can be visible, too."""
     def text(n):
-        start = HEAD + "package " + ".".join([part(n)] * (n // 2 // (len(part(n)) + 1))) + ";"
+        package = ".".join([part(n)] * (n // 2 // (len(part(n)) + 1)))
+        start = HEAD + "package " + package + ";"
         field = ("message M%(n)d{" + name + " x=1;}") if apart else (name + " x%(n)d=%(field)d;")
         fields = itertools.takewhile(lambda at: at[0] < n, accumulated(field, len(start)))
         inner = "".join(more for _, more in fields)
-        return one_file(start + (inner if apart else "message M{" + inner + "}"))
+        return beside(package + ".P.Q" if longer else None, start + (inner if apart else "message M{" + inner + "}"))
     return text
 
 
@@ -87,14 +97,20 @@ def nested_in_half(n):
     return one_file(start + "".join(more for _, more in fields) + "}" * 60)
 
 
-def long_message(inner, field):
-    """Texts of n bytes: half is the name of a message, which has `inner`, and fields or messages like `field`."""
+def long_message(inner, field, package=lambda name: None):
+    """Texts of n bytes: half is the name of a message, which has `inner`, and fields or messages like `field`. `package` gives the
+    package of another visible file, by that name."""
     def text(n):
         start = HEAD + "message X{}message " + "M" * (n // 2) + "{" + inner
         ends = "}" * (1 + inner.count("message M{"))
         fields = itertools.takewhile(lambda at: at[0] < n - len(ends), accumulated(field, len(start)))
-        return one_file(start + "".join(more for _, more in fields) + ends)
+        return beside(package("M" * (n // 2)), start + "".join(more for _, more in fields) + ends)
     return text
+
+
+def inside_all(name):
+    """A package inside a message of this name, and inside 60 messages M, each in the one before."""
+    return ".".join([name] + ["M"] * 60 + ["P" * len(name)])
 
 
 def accumulated(field, length):
@@ -364,6 +380,18 @@ TEXTS = [of_compile(*case) for case in compile.CASES] + [
           long_message("message M{int32 X=536870911;" * 60, "X x%(n)d=%(field)d;"), 25_000),
     Shape("n bytes: half a message's name, messages of one reference to such fields",
           long_message("message M{int32 X=536870911;" * 60, "message N%(n)d{X x=1;}"), 25_000),
+    Shape("n bytes: half a message's name, references to nothing nested 60 deep in it, beside a longer package",
+          long_message("message M{" * 60, "N x%(n)d=%(field)d;", lambda name: "P" + name * 2), 25_000),
+    Shape("n bytes: half a message's name, references to nothing nested 60 deep in it, beside a package inside all of these",
+          long_message("message M{" * 60, "N x%(n)d=%(field)d;", inside_all), 25_000),
+    Shape("n bytes: half a message's name, dotted names nested 60 deep in it, beside a package inside all of these",
+          long_message("message X{}" + "message M{" * 60, "X.N x%(n)d=%(field)d;", inside_all), 25_000),
+    Shape("n bytes: half a message's name, messages of one reference in it, beside a package inside it",
+          long_message("", "message N%(n)d{X x=1;}", inside_all), 25_000),
+    Shape("n bytes: half a package, references to nothing, beside a longer package", half_package(lambda n: "a", "N", longer=True), 25_000),
+    Shape("n bytes: half a package, dotted names whose first part is found, beside a longer package",
+          half_package(lambda n: "a", "M.N", longer=True), 25_000),
+    Shape("n bytes: half a package, dotted names whose first part is a package", half_package(lambda n: "a", "a.N"), 25_000),
     Shape("n equal messages in a package of 10 n bytes", equal_messages, 250, REPLIED),
     Shape("n references in a package of 10 n bytes: descriptors", long_names, 250, REPLIED),
     Shape("messages", lambda n: repeated("message M%(n)d{}", n), 1_000),

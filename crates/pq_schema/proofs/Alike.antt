@@ -12,7 +12,7 @@ use Rattle.std.proofs.lemmas.List.{length-append, get_or_default}
 use Rattle.std.proofs.lemmas.List.Sorted.{Contains-permutation, IsPermutation-sym}
 use Rattle.pq_schema.specs.declared.definitions.Definition.{Definition}
 use Rattle.pq_schema.specs.aux.CodeOrder.{codes_tie, codes_total}
-use Rattle.pq_schema.specs.aux.Fronts.{AreAlike, BeginAlike, IsBehind, IsParted, IsSeen}
+use Rattle.pq_schema.specs.aux.Fronts.{AreAlike, BeginAlike, IsBehind, IsMet, IsParted, IsSeen}
 use Rattle.pq_schema.specs.aux.Index.{IsIndexOf, entries, entry_order}
 use Rattle.pq_schema.specs.aux.NameCodes.{code_order}
 use Rattle.pq_schema.specs.aux.NameOrder.{names_total}
@@ -105,6 +105,17 @@ seen_more index name middle seen next e order is is_next so_far =
 
 pub none_seen : (index : List (List ℕ × ℕ)) (name : List ℕ) (k : ℕ) → k ≡ length index → IsSeen index name k
 none_seen index name k is within = absurd (omega arith)
+
+-- the entry at the upper end has the name only if it is the one that was seen
+pub met_more : (index : List (List ℕ × ℕ)) (name : List ℕ) (middle seen next : ℕ) (e : List ℕ × ℕ) (order : Ordering)
+    → order ≡ code_order (get_or index middle e).0 name → next ≡ cond (is_eq order) middle seen → IsMet index name middle next
+met_more index name middle seen next e order is is_next within here =
+    let same : (get_or index middle e).0 ≡ name = ap (λ (f : List ℕ × ℕ). f.0) (get_or_default index middle e no_entry within) ∙ here in
+    let tie : is_eq order ≡ true = ap is_eq is ∙ sym (codes_tie (get_or index middle e).0 name) ∙ (bytes_decides (get_or index middle e).0 name).1 same in
+    is_next ∙ ap (λ (b : Bool). cond b middle seen) tie
+
+pub none_met : (index : List (List ℕ × ℕ)) (name : List ℕ) (first seen : ℕ) → length index ≤ first → IsMet index name first seen
+none_met index name first seen past within = absurd (omega (arith, past, within))
 
 -- an entry that was seen is the one that is found
 pub seen_here : (index : List (List ℕ × ℕ)) (name : List ℕ) (seen first : ℕ) (e : List ℕ × ℕ) → IsSeen index name seen → seen ≡ first → first < length index

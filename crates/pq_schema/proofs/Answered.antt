@@ -1,5 +1,5 @@
 -- What was looked up in the open scopes: answers that are kept, and scopes that close and open.
-use Rattle.std.proofs.Common.{◌≡◌, ◌⊎◌, ℕ, zero, suc, ◌+◌, ◌-◌, ◌<◌, ◌≤◌, cond, nat_lt, List, [], ◌∷◌, ◌++◌, length, drop, get_or, map, slice_set, unwrap_or, Option, Some, None, IfSome, Result, Ok, Err, OnOk, refl, sym, ap, subst, ◌∙◌, inl, inr, arith, append_assoc, append-nil}
+use Rattle.std.proofs.Common.{◌≡◌, ◌⊎◌, ℕ, zero, suc, ◌+◌, ◌-◌, ◌<◌, ◌≤◌, Bool, true, false, cond, nat_lt, List, [], ◌∷◌, ◌++◌, length, drop, get_or, map, slice_set, unwrap_or, Option, Some, None, IfSome, Result, Ok, Err, OnOk, refl, sym, ap, subst, ◌∙◌, inl, inr, arith, append_assoc, append-nil}
 use Rattle.std.proofs.lemmas.List.{get_or-append-add, get_or_append_left, drop_more, get_or_default, length-append}
 use Rattle.pq_rules.specs.Relations.{Each}
 use Rattle.pq_rules.proofs.Characterisation.{each_append}
@@ -11,6 +11,7 @@ use Rattle.pq_syntax.proofs.Walk.{inner_at}
 use Rattle.pq_schema.specs.declared.asked.Answer.{Answer}
 use Rattle.pq_schema.specs.declared.asked.Asked.{Asked}
 use Rattle.pq_schema.specs.declared.named.Place.{Place}
+use Rattle.pq_schema.specs.declared.package_range.PackageRange.{PackageRange}
 use Rattle.pq_schema.specs.declared.scope.FileDefs.{FileDefs}
 use Rattle.pq_schema.specs.Definitions.{qualified}
 use Rattle.pq_schema.specs.Resolution.{Meaning, meaning}
@@ -18,6 +19,7 @@ use Rattle.pq_schema.specs.aux.Asked.{AreAsked, IsAsked, IsFront, IsRight}
 use Rattle.pq_schema.specs.aux.Hits.{meaning_at}
 use Rattle.pq_schema.specs.aux.Inside.{next_in, opened_by}
 use Rattle.pq_schema.specs.aux.NameParts.{leading}
+use Rattle.pq_schema.specs.aux.PackageRange.{IsRangeOf}
 use Rattle.pq_schema.specs.aux.Scopes.{before}
 use Rattle.pq_schema.proofs.Cases.{either}
 use Rattle.pq_schema.proofs.Inside.{keep}
@@ -42,20 +44,34 @@ known_right files lead items answers n a text name are within at is same all =
 
 -- a scope of which one more answer is kept
 pub kept_more : (files : List FileDefs) (lead : List ℕ) (old new : Asked) (a : Answer) (name : List ℕ)
-    → new.lead ≡ old.lead → new.answers.items ≡ old.answers.items ++ a ∷ [] → a.name ≡ name
+    → new.lead ≡ old.lead → new.packages ≡ old.packages → new.answers.items ≡ old.answers.items ++ a ∷ [] → a.name ≡ name
     → IsAsked files lead old → meaning_at a.place ≡ meaning files (lead ++ name) → IsAsked files lead new
-kept_more files lead old new a name same added is are right =
+kept_more files lead old new a name same kept added is are right =
     let here : meaning_at a.place ≡ meaning files (old.lead ++ a.name) =
     right ∙ ap (λ (b : List ℕ). meaning files (lead ++ b)) (sym is) ∙ ap (λ (l : List ℕ). meaning files (l ++ a.name)) (sym are.0) in (
       same ∙ are.0,
-      subst (λ (l : List ℕ). Each (λ (x : Answer). meaning_at x.place ≡ meaning files (l ++ x.name)) new.answers.items) (sym same)
-          (subst (λ (xs : List Answer). Each (λ (x : Answer). meaning_at x.place ≡ meaning files (old.lead ++ x.name)) xs) (sym added)
-          (each_append (λ (x : Answer). meaning_at x.place ≡ meaning files (old.lead ++ x.name)) old.answers.items (a ∷ []) are.1 (here, tt))),
+      (
+        subst (λ (l : List ℕ). Each (λ (x : Answer). meaning_at x.place ≡ meaning files (l ++ x.name)) new.answers.items) (sym same)
+            (subst (λ (xs : List Answer). Each (λ (x : Answer). meaning_at x.place ≡ meaning files (old.lead ++ x.name)) xs) (sym added)
+            (each_append (λ (x : Answer). meaning_at x.place ≡ meaning files (old.lead ++ x.name)) old.answers.items (a ∷ []) are.1.0 (here, tt))),
+        subst (λ (p : Option PackageRange). IsRangeOf files p new.lead) (sym kept)
+            (subst (λ (l : List ℕ). IsRangeOf files old.packages l) (sym same) are.1.1),
+      ),
     )
 
 -- a scope without answers
-pub none_right : (files : List FileDefs) (s : Asked) → s.answers.items ≡ [] → IsRight files s
-none_right files s none = subst (λ (xs : List Answer). Each (λ (a : Answer). meaning_at a.place ≡ meaning files (s.lead ++ a.name)) xs) (sym none) tt
+pub none_right : (files : List FileDefs) (s : Asked) → s.answers.items ≡ [] → IsRangeOf files s.packages s.lead → IsRight files s
+none_right files s none range = (subst (λ (xs : List Answer). Each (λ (a : Answer). meaning_at a.place ≡ meaning files (s.lead ++ a.name)) xs) (sym none) tt, range)
+
+-- the packages of a scope that is opened, if they are those of the innermost
+pub range_there : (files : List FileDefs) (inner : List (List ℕ)) (at : ℕ) (item : List ℕ) (is_there : Bool) (packages there : Option PackageRange)
+    → there ≡ cond is_there packages None → (is_there ≡ true → at ≡ 0) → item ≡ get_or inner at item → 0 < length inner
+    → IsRangeOf files packages (get_or inner 0 []) → IsRangeOf files there item
+range_there files inner at item true packages there is first here some range =
+    subst (λ (o : Option PackageRange). IsRangeOf files o item) (sym is)
+    (subst (λ (l : List ℕ). IsRangeOf files packages l)
+    (sym (here ∙ ap (λ (n : ℕ). get_or inner n item) (first refl) ∙ get_or_default inner 0 item [] some)) range)
+range_there files inner at item false packages there is first here some range = subst (λ (o : Option PackageRange). IsRangeOf files o item) (sym is) tt
 
 -- the same of one of several scopes
 pub known_scope : (asked : List Asked) (scope : Asked) (level : ℕ) (name : List ℕ) (o : Option (Option Place)) → get_or asked level scope ≡ scope
@@ -217,6 +233,13 @@ looked files inner i lead item name full m within same at spelled is =
     is ∙ ap (λ (l : List ℕ). meaning files (l ++ name)) (get_or_default inner i [] item within ∙ sym at ∙ sym same)
     ∙ ap (λ (n : List ℕ). meaning files n) (sym spelled)
 
+-- the packages inside it
+pub scope_range : (files : List FileDefs) (inner : List (List ℕ)) (i : ℕ) (lead item parts : List ℕ) (o : Option PackageRange)
+    → i < length inner → lead ≡ item → item ≡ get_or inner i item → parts ≡ lead
+    → IsRangeOf files o (get_or inner i []) → IsRangeOf files o parts
+scope_range files inner i lead item parts o within same at are range =
+    subst (λ (l : List ℕ). IsRangeOf files o l) (get_or_default inner i [] item within ∙ sym at ∙ sym same ∙ sym are) range
+
 -- what stays where a call that does not change it is the last
 pub asked_on : {A E P : Type 0} (r : Result A E) → P → OnOk r P
 asked_on (Ok a) p = p
@@ -295,13 +318,13 @@ asked_closed files root stack depth scope old new count inner is closes nested a
 -- what is kept once the scope of a statement's contents is opened
 pub asked_opened : (files : List FileDefs) (root : List ℕ) (depth : ℕ) (i : Item) (scope : List ℕ × List (List ℕ)) (new rest : List (ℕ × (List ℕ × List (List ℕ)))) (old opened closed : List Asked) (inner : List (List ℕ))
     → new ≡ (depth, keep i scope) ∷ rest → inner ≡ (keep i scope).1
-    → ((fs : List FileDefs) (more leads : List (List ℕ)) → inner ≡ more ++ leads → Each (IsRight fs) closed → AreAsked fs leads old → AreAsked fs (more ++ leads) opened)
+    → ((more leads : List (List ℕ)) → inner ≡ more ++ leads → Each (IsRight files) closed → AreAsked files leads old → AreAsked files (more ++ leads) opened)
     → Each (IsRight files) closed → AreAsked files scope.1 old → AreAsked files (first root new).1 opened
 asked_opened files root depth i scope new rest old opened closed inner is same opens right are =
     let ends = keep_ends i scope in
     subst (λ (es : List (ℕ × (List ℕ × List (List ℕ)))). AreAsked files (first root es).1 opened) (sym is)
     (subst (λ (ls : List (List ℕ)). AreAsked files ls opened) (sym ends.1)
-    (opens files ends.0 scope.1 (same ∙ ends.1) right are))
+    (opens ends.0 scope.1 (same ∙ ends.1) right are))
 
 pub nested_more : (root : List ℕ) (depth : ℕ) (stack new : List (ℕ × (List ℕ × List (List ℕ)))) (i : Item) (scope : List ℕ × List (List ℕ))
     → scope ≡ inner_at (root, []) stack depth → new ≡ (depth, keep i scope) ∷ closed depth stack → AreNested root stack → AreNested root new

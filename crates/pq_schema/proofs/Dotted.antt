@@ -48,7 +48,7 @@ bytes_by x c P same less more =
     tie false true e = refl
     tie false false e = cc
 
-starts_first : (x c : ℕ) (xs cs : List ℕ) (b : Bool) → x ≡ c → starts_with nat_eq (x ∷ xs) (c ∷ cs) ≡ b → starts_with nat_eq xs cs ≡ b
+pub starts_first : (x c : ℕ) (xs cs : List ℕ) (b : Bool) → x ≡ c → starts_with nat_eq (x ∷ xs) (c ∷ cs) ≡ b → starts_with nat_eq xs cs ≡ b
 starts_first x c xs cs b same h = sym (ap (λ (t : Bool). t && starts_with nat_eq xs cs) ((Decides-eqb c x).1 (sym same))) ∙ h
 
 tie_first : (x c : ℕ) (o : Ordering) → x ≡ c → ordering_then (nat_cmp x c) o ≡ o
@@ -137,7 +137,7 @@ dotted_length (c ∷ cs) = let rest = dotted_length cs in omega arith
 -- ---- those that begin with a name are neighbours
 
 -- what is between a name and what begins with it begins with it
-between : (q x p : List ℕ) → is_lt (order x q) ≡ false → is_lt (order p x) ≡ false → starts_with nat_eq p q ≡ true → starts_with nat_eq x q ≡ true
+pub between : (q x p : List ℕ) → is_lt (order x q) ≡ false → is_lt (order p x) ≡ false → starts_with nat_eq p q ≡ true → starts_with nat_eq x q ≡ true
 between [] x p up down h = refl
 between (c ∷ cs) [] p up down h = absurd (true≢false up)
 between (c ∷ cs) (y ∷ ys) [] up down h = absurd (true≢false (sym h))
@@ -158,7 +158,7 @@ between (c ∷ cs) (y ∷ ys) (z ∷ zs) up down h =
     lower z y c same more = ap (λ (n : ℕ). nat_cmp n y) same ∙ nat_cmp_total.antisymm c y ∙ ap Rattle.std.specs.Ordering.ordering_reverse more
 
 -- what begins with a name is not before it
-not_before : (p q : List ℕ) → starts_with nat_eq p q ≡ true → is_lt (order p q) ≡ true → ⊥
+pub not_before : (p q : List ℕ) → starts_with nat_eq p q ≡ true → is_lt (order p q) ≡ true → ⊥
 not_before [] [] h l = cc
 not_before (z ∷ zs) [] h l = cc
 not_before [] (c ∷ cs) h l = cc

@@ -14,6 +14,7 @@ pub mod Meanings
 pub mod Among
 pub mod Dotted
 pub mod Near
+pub mod PackageRanges
 pub mod PartsAlong
 pub mod AlongScopes
 pub mod PartSearch
@@ -26,6 +27,7 @@ pub mod LastDots
 pub mod OutwardSearch
 pub mod Inside
 pub mod Answered
+pub mod OpenedPackages
 pub mod ResolvedRuns
 pub mod Searches
 pub mod Grouping

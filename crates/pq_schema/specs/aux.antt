@@ -12,6 +12,7 @@ pub mod Hits
 pub mod Asked
 pub mod Scopes
 pub mod Grouping
+pub mod PackageRange
 pub mod FirstOf
 pub mod NearNames
 pub mod NearFiles

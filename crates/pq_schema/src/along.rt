@@ -24,9 +24,11 @@ ghost use Rattle.pq_schema.specs.aux.Along.{AllMeet, AreKept, HasMet, IsAlong, I
 ghost use Rattle.pq_schema.specs.aux.Fronts.{AreRoots, CountsAt};
 ghost use Rattle.pq_schema.specs.aux.Grouping.{root_order};
 ghost use Rattle.pq_schema.specs.aux.NameParts.{leading};
+ghost use Rattle.pq_schema.specs.aux.PackageRange.{IsRange};
 
 use crate::by_package::Entry;
 use crate::files::Files;
+use crate::package_range::PackageRange;
 use crate::scope::FileDefs;
 use pq_names::Memory;
 use std::alloc::Global;
@@ -303,6 +305,8 @@ pub(crate) struct Along<'a> {
     roots: Vec<bool>,
     /// The number of bytes before a simple name in `root`.
     count: usize,
+    /// The packages inside `root`.
+    packages: PackageRange<'a>,
 }
 
 impl<'a> Model for Along<'a> {
@@ -310,6 +314,7 @@ impl<'a> Model for Along<'a> {
     ghost use Rattle.pq_schema.specs.aux.Along.{Contents, IsAlong};
     ghost use Rattle.pq_schema.specs.aux.Fronts.{AreRoots};
     ghost use Rattle.pq_schema.specs.aux.NameParts.{leading};
+    ghost use Rattle.pq_schema.specs.aux.PackageRange.{IsRange};
 
     ghost Value = { Contents };
 
@@ -317,7 +322,8 @@ impl<'a> Model for Along<'a> {
 
     ghost invariant = { λ a. IsAlong a.parts.items a.files.now a.root.now
         × AreRoots a.roots.items a.files.now a.root.now
-        × (a.count ≡ length (leading a.root.now)) };
+        × (a.count ≡ length (leading a.root.now))
+        × IsRange a.files.now (leading a.root.now) a.packages };
 }
 
 impl<'a> Along<'a> {
@@ -333,7 +339,15 @@ impl<'a> Along<'a> {
             parts,
             roots,
             count: lead_count(root),
+            packages: files.packages_in(root),
         })
+    }
+
+    /// The packages inside `root`.
+    pub(crate) fn packages(&self) -> PackageRange<'a>
+        ensures range { IsRange self.now.files (leading self.now.root) result }
+    {
+        self.packages
     }
 
     /// The number of bytes before a simple name in `root`.

@@ -1,4 +1,4 @@
-//! What was looked up in the open scopes.
+//! What was looked up in the open scopes, and the packages inside them.
 //!
 //! A full name is compared with the definition that has it, and the name of a scope can be as long
 //! as the file. So the answers of look-ups in scopes of long names are kept while the scope is open:
@@ -11,12 +11,14 @@ ghost use Rattle.pq_schema.specs.aux.Fronts.{Begins};
 ghost use Rattle.pq_schema.specs.aux.Grouping.{AreNear, around};
 ghost use Rattle.pq_schema.specs.aux.Hits.{meaning_at};
 ghost use Rattle.pq_schema.specs.aux.NameParts.{leading};
+ghost use Rattle.pq_schema.specs.aux.PackageRange.{IsRangeOf};
 ghost use Rattle.pq_schema.specs.Resolution.{meaning};
 
 use crate::along::Along;
 use crate::lead::Lead;
 use crate::lookup::Lookup;
 use crate::named::Place;
+use crate::package_range::PackageRange;
 use pq_names::{Memory, Text};
 use pq_rules::Shared;
 use std::alloc::Global;
@@ -35,6 +37,8 @@ pub(crate) struct Asked<'a> {
     /// What is before a name in the scope.
     pub(crate) lead: Shared<Lead>,
     pub(crate) answers: Vec<Answer<'a>>,
+    /// The packages inside the scope, if they were looked for.
+    pub(crate) packages: Option<PackageRange<'a>>,
     /// Where a name may be in `answers`.
     numbers: BTreeMap<Text, usize>,
     /// A number that no scope of another name has.
@@ -44,14 +48,21 @@ pub(crate) struct Asked<'a> {
 }
 
 impl<'a> Asked<'a> {
-    /// The scope with `lead` before its names, without look-ups.
-    pub(crate) fn new(alloc: Global, lead: Shared<Lead>, id: usize) -> Asked<'a>
+    /// The scope with `lead` before its names, without look-ups. `packages` has the packages inside it.
+    pub(crate) fn new(
+        alloc: Global,
+        lead: Shared<Lead>,
+        packages: Option<PackageRange<'a>>,
+        id: usize,
+    ) -> Asked<'a>
         ensures lead { result.lead ≡ lead }
         ensures none { result.answers.items ≡ [] }
+        ensures packages { result.packages ≡ packages.entry }
     {
         Asked {
             lead,
             answers: Vec::new(alloc),
+            packages,
             numbers: BTreeMap::new(alloc),
             id,
             is_dear: false,
@@ -200,6 +211,22 @@ fn look_long<'a>(
     }
     keep_at(alloc, asked, level, name, place, is_dear)?;
     Ok(place)
+}
+
+/// The packages inside the scope `at` of `inner`, if they were looked for.
+pub(crate) fn packages_at<'a>(
+    inner: &[Shared<Lead>],
+    asked: &[Asked<'a>],
+    at: usize,
+) -> Option<PackageRange<'a>>
+    requires at { at < length inner.now }
+    ensures packages { (files : List FileDefs) → AreAsked files inner.now asked.now
+        → IsRangeOf files result (get_or inner.now at []) }
+{
+    match asked.get(inner.len() - 1 - at) {
+        Some(scope) => scope.packages,
+        None => None,
+    }
 }
 
 /// The first definition in `files` of the name `name`, which is in the scope `at` of `inner`. `near`

@@ -44,12 +44,12 @@ fn begins(text: &str, start: &str) -> bool
     text.starts_with(start)
 }
 
-/// Whether `entry` comes before `name` with a dot after it.
-fn is_before(entry: &str, name: &str) -> bool
+/// Whether the bytes `entry` come before `name` with a dot after it.
+pub(crate) fn is_before(entry: &[u8], name: &[u8]) -> bool
     ensures is { result ≡ is_lt (slice_cmp nat_cmp entry.now (dotted name.now)) }
 {
-    if begins(entry, name) {
-        match entry.as_bytes().get(name.len()) {
+    if entry.starts_with(name) {
+        match entry.get(name.len()) {
             Some(byte) => *byte < b'.',
             None => true,
         }
@@ -58,12 +58,12 @@ fn is_before(entry: &str, name: &str) -> bool
     }
 }
 
-/// Whether `entry` begins with `name` and a dot.
-fn is_inside(entry: &str, name: &str) -> bool
+/// Whether the bytes `entry` begin with `name` and a dot.
+pub(crate) fn is_inside(entry: &[u8], name: &[u8]) -> bool
     ensures is { result ≡ starts_with nat_eq entry.now (dotted name.now) }
 {
-    match entry.as_bytes().get(name.len()) {
-        Some(byte) => *byte == b'.' && begins(entry, name),
+    match entry.get(name.len()) {
+        Some(byte) => *byte == b'.' && entry.starts_with(name),
         None => false,
     }
 }
@@ -73,7 +73,7 @@ fn is_dotted(entry: &str, name: &str) -> bool
     ensures is { result ≡ bytes_eq entry.now (dotted name.now) }
 {
     if entry.len().saturating_sub(name.len()) == 1 {
-        is_inside(entry, name)
+        is_inside(entry.as_bytes(), name.as_bytes())
     } else {
         false
     }
@@ -91,7 +91,7 @@ fn first_from(packages: &[Entry], name: &str) -> usize
     packages.partition_point(
         |entry: &Entry| -> bool
             ensures { result ≡ is_lt (slice_cmp nat_cmp entry.now.0 (dotted name.entry.now)) }
-        { is_before(entry.0.as_str(), name) },
+        { is_before(entry.0.as_str().as_bytes(), name.as_bytes()) },
     )
 }
 
@@ -101,7 +101,7 @@ pub(crate) fn has_package(packages: &[Entry], name: &str) -> bool
     ensures is { result ≡ list_any (λ e. starts_with nat_eq e.0 (dotted name.now)) packages.now }
 {
     match packages.get(first_from(packages, name)) {
-        Some(entry) => is_inside(entry.0.as_str(), name),
+        Some(entry) => is_inside(entry.0.as_str().as_bytes(), name.as_bytes()),
         None => false,
     }
 }

@@ -3,13 +3,15 @@
 //! Messages of one name can be opened again and again. What was looked up in such a scope is kept
 //! when it is closed, and taken up when a scope of its name is opened. It is found by the number of
 //! the scope around it and the last part of its name, and then the names are compared once.
-ghost use Rattle.std.specs.Prelude.{◌≡◌, ◌++◌, ◌<◌, ◌+◌, List, ℕ, [], IfOk, OnOk, get_or, length, true};
+ghost use Rattle.std.specs.Prelude.{◌≡◌, ◌++◌, ◌<◌, ◌+◌, List, ℕ, [], IfOk, None, OnOk, cond, get_or, length, true};
 ghost use Rattle.pq_rules.specs.Relations.{Each};
 ghost use Rattle.pq_schema.specs.declared.scope.FileDefs.{FileDefs};
 ghost use Rattle.pq_schema.specs.aux.Asked.{AreAsked, IsAsked, IsFront, IsRight};
+ghost use Rattle.pq_schema.specs.aux.PackageRange.{IsRangeOf};
 
 use crate::asked::Asked;
 use crate::lead::Lead;
+use crate::package_range::PackageRange;
 use pq_names::{Memory, Text};
 use pq_rules::Shared;
 use std::alloc::Global;
@@ -65,20 +67,21 @@ impl<'a> Closed<'a> {
     }
 
     /// A scope with `lead` before its names, in the scope of the number `outer`: one that was closed, or a
-    /// new one.
+    /// new one with the packages `packages`.
     fn open(
         &mut self,
         alloc: Global,
         outer: usize,
         lead: &Shared<Lead>,
+        packages: Option<PackageRange<'a>>,
     ) -> Result<Asked<'a>, Memory>
-        ensures opened { IfOk result (λ s. (files : List FileDefs)
+        ensures opened { IfOk result (λ s. (files : List FileDefs) → IsRangeOf files packages.entry lead.now
             → Each (IsRight files) self.old.scopes.items → IsAsked files lead.now s) }
-        ensures closed { OnOk result ((files : List FileDefs)
+        ensures closed { OnOk result ((files : List FileDefs) → IsRangeOf files packages.entry lead.now
             → Each (IsRight files) self.old.scopes.items → Each (IsRight files) self.new.scopes.items) }
     {
         self.ids = self.ids.wrapping_add(1);
-        let fresh = Asked::new(alloc, lead.copy()?, self.ids);
+        let fresh = Asked::new(alloc, lead.copy()?, packages, self.ids);
         if !lead.get().is_long() {
             return Ok(fresh);
         }
@@ -154,22 +157,33 @@ pub(crate) fn close_scopes<'a>(
     Ok(())
 }
 
-/// Opens the scopes of `inner` that `asked` does not have.
+/// `packages` if `is_there`.
+fn packages_if<'a>(is_there: bool, packages: Option<PackageRange<'a>>) -> Option<PackageRange<'a>>
+    ensures packages { result ≡ cond is_there packages.entry None }
+{
+    if is_there { packages } else { None }
+}
+
+/// Opens the scopes of `inner` that `asked` does not have. `packages` has the packages inside the
+/// innermost.
 pub(crate) fn open_scopes<'a>(
     alloc: Global,
     asked: &mut Vec<Asked<'a>>,
     closed: &mut Closed<'a>,
     inner: &[Shared<Lead>],
+    packages: Option<PackageRange<'a>>,
 ) -> Result<(), Memory>
     ensures asked { OnOk result ((files : List FileDefs) (more leads : List (List ℕ)) → inner.now ≡ more ++ leads
+        → IsRangeOf files packages.entry (get_or inner.now 0 [])
         → Each (IsRight files) closed.old.scopes.items
         → AreAsked files leads asked.old.items → AreAsked files (more ++ leads) asked.new.items) }
-    ensures closed { OnOk result ((files : List FileDefs)
+    ensures closed { OnOk result ((files : List FileDefs) → IsRangeOf files packages.entry (get_or inner.now 0 [])
         → Each (IsRight files) closed.old.scopes.items → Each (IsRight files) closed.new.scopes.items) }
 {
     'scopes: for level in asked.len()..inner.len() {
-        let lead = &inner[inner.len() - 1 - level];
-        let scope = closed.open(alloc, innermost_id(asked), lead)?;
+        let at = inner.len() - 1 - level;
+        let there = packages_if(at == 0, packages);
+        let scope = closed.open(alloc, innermost_id(asked), &inner[at], there)?;
         asked.push(scope)?;
     }
     Ok(())

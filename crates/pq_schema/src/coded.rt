@@ -69,15 +69,6 @@ impl Coded {
         }
     }
 
-    /// Whether this is the name `name`, where both begin with the same `count` bytes.
-    #[tactic(auto, using(crate::specs::aux::NameOrder::names_tie))]
-    pub(crate) fn is_alike(&self, name: &Spelled<'_>, count: usize) -> bool
-        requires alike { take count self.now ≡ take count name.now }
-        ensures is { result ≡ bytes_eq self.now name.now }
-    {
-        self.name.compare_alike(name, count).is_eq()
-    }
-
     /// Whether this is the name `name`.
     #[tactic(auto, using(crate::specs::aux::NameOrder::names_tie))]
     pub(crate) fn is(&self, name: Spelled<'_>) -> bool

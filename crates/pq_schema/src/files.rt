@@ -11,11 +11,14 @@ ghost use Rattle.pq_schema.specs.aux.Grouping.{AreNear, IsBelow, IsIndex, around
 ghost use Rattle.pq_schema.specs.aux.Inside.{AreShort};
 ghost use Rattle.pq_schema.specs.aux.NearFiles.{AreOthers};
 ghost use Rattle.pq_schema.specs.aux.Hits.{meaning_at};
+ghost use Rattle.pq_schema.specs.aux.NameParts.{leading};
+ghost use Rattle.pq_schema.specs.aux.PackageRange.{IsRange};
 ghost use Rattle.pq_schema.specs.aux.Scopes.{chain};
 
 use crate::by_package::{Entry, has_package, packages_of, places_near};
 use crate::named::{Place, file_of, first_definition};
 use crate::nesting::outer;
+use crate::package_range::PackageRange;
 use crate::scope::FileDefs;
 use crate::spelled::Spelled;
 use pq_names::{Memory, Text};
@@ -205,6 +208,17 @@ impl Files {
         }
         name.write_to(buffer)?;
         Ok(self.has(buffer.as_str()))
+    }
+
+    /// The packages of the files inside the package `root`.
+    pub(crate) fn packages_in(&self, root: &str) -> PackageRange<'_>
+        ensures range { IsRange self.now (leading root.now) result }
+    {
+        let all = PackageRange::all(&self.packages);
+        if root.is_empty() {
+            return all;
+        }
+        all.inside(root)
     }
 
     /// The packages of the files, sorted.

@@ -10,7 +10,7 @@ ghost use Rattle.std.specs.Prelude.{◌≡◌, ℕ, ◌<◌, ◌≤◌, true, fa
 ghost use Rattle.std.specs.Option.{option_copied};
 ghost use Rattle.std.specs.Ordering.{is_eq, is_lt};
 ghost use Rattle.std.specs.List.Sorted.{IsSorted};
-ghost use Rattle.pq_schema.specs.aux.Fronts.{AreAlike, IsSeen};
+ghost use Rattle.pq_schema.specs.aux.Fronts.{AreAlike, IsMet, IsSeen};
 ghost use Rattle.pq_schema.specs.aux.Index.{IsIndexOf, entry_order, group_start};
 ghost use Rattle.pq_schema.specs.aux.NameCodes.{code_order};
 ghost use Rattle.pq_schema.specs.Repeated.{AreRepeated};
@@ -54,27 +54,13 @@ pub(crate) fn first_named<'a>(
     if first == index.len() {
         return None;
     }
-    let entry = &index[first];
-    if !is_named(&entry.0, name, count, seen == first) {
+    if seen != first {
         return None;
     }
-    let place = entry.1;
+    let place = index[first].1;
     let inside = place < definitions.len();
     prove!(inside);
     Some(&definitions[place])
-}
-
-/// Whether `entry` has the name `name`. They begin with the same `count` bytes. Where `is_seen`, it is
-/// known that it has, and the names are not compared.
-fn is_named(entry: &Coded, name: &Spelled<'_>, count: usize, is_seen: bool) -> bool
-    requires alike { take count entry.now ≡ take count name.now }
-    requires seen { is_seen ≡ true → entry.now ≡ name.now }
-    ensures is { result ≡ bytes_eq entry.now name.now }
-{
-    if is_seen {
-        return true;
-    }
-    entry.is_alike(name, count)
 }
 
 /// `place` if the order is that of equal names, else `seen`.
@@ -84,8 +70,10 @@ fn seen_at(order: Ordering, place: usize, seen: usize) -> usize
     if order.is_eq() { place } else { seen }
 }
 
-/// The number of entries whose name comes before `name`, and the place of an entry that was found to
-/// have the name, if the search met one. The name and all theirs begin with the same `count` bytes.
+/// The number of entries whose name comes before `name`, and the place of an entry that has the name. It
+/// is the first such entry, if there is one. The name and all theirs begin with the same `count` bytes.
+///
+/// The entry after those before `name` was compared with it, so no names are compared after the search.
 fn lower_bound(index: &[(Coded, usize)], name: &Spelled<'_>, count: usize) -> (usize, usize)
     requires sorted { IsSorted entry_order index.now }
     requires alike { AreAlike count name.now index.now }
@@ -95,6 +83,7 @@ fn lower_bound(index: &[(Coded, usize)], name: &Spelled<'_>, count: usize) -> (u
     ensures others { (k : ℕ) → result.0 ≤ k → k < length index.now →
         is_lt (code_order (get_or index.now k ([], 0)).0 name.now) ≡ false }
     ensures seen { IsSeen index.now name.now result.1 }
+    ensures met { IsMet index.now name.now result.0 result.1 }
 {
     let code = name.code();
     let mut low = 0;

@@ -64,6 +64,13 @@ impl Lead {
         self.is_long
     }
 
+    /// The pieces.
+    pub(crate) fn parts(&self) -> &[Text]
+        ensures parts { concat result.now ≡ self.now }
+    {
+        &self.parts
+    }
+
     /// The last of the pieces: the name of the scope itself, with a dot after it.
     pub(crate) fn own(&self, alloc: Global) -> Result<Text, Memory> {
         match self.parts.last() {

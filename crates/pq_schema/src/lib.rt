@@ -48,6 +48,7 @@ mod nesting;
 mod other_files;
 mod outline;
 mod outward;
+mod package_range;
 mod references;
 mod resolution;
 mod resolved;

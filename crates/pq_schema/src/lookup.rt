@@ -11,6 +11,7 @@ ghost use Rattle.pq_schema.specs.aux.Fronts.{Begins};
 ghost use Rattle.pq_schema.specs.aux.Grouping.{AreNear, around};
 ghost use Rattle.pq_schema.specs.aux.Hits.{meaning_at};
 ghost use Rattle.pq_schema.specs.aux.NameParts.{leading};
+ghost use Rattle.pq_schema.specs.aux.PackageRange.{IsRange};
 ghost use Rattle.pq_schema.specs.aux.Scopes.{chain};
 
 use crate::along::Along;
@@ -19,6 +20,7 @@ use crate::by_package::Entry;
 use crate::files::Files;
 use crate::named::{Place, first_listed};
 use crate::near_names::{Named, count_of, has_code, has_code_at, names_of};
+use crate::package_range::PackageRange;
 use crate::spelled::Spelled;
 use pq_names::Memory;
 use std::alloc::Global;
@@ -202,6 +204,13 @@ impl<'a> Lookup<'a> {
             }
         }
         false
+    }
+
+    /// The packages of the files inside the package `root`.
+    pub(crate) fn packages_in(&self, root: &str) -> PackageRange<'a>
+        ensures range { IsRange self.now (leading root.now) result }
+    {
+        self.files.packages_in(root)
     }
 
     /// Whether `name` is a package of the files, or the part of one before a dot. A name that may be

@@ -21,6 +21,7 @@ use crate::named::Place;
 use crate::search::{Hit, find_any, find_below, has_names, hit_at, unless_type};
 use pq_names::{Memory, Text};
 use std::alloc::Global;
+use std::slice;
 
 /// What a search from the package `root` outwards needs to know, made once for a file.
 #[derive(Clone, Copy)]
@@ -68,11 +69,12 @@ fn find_in_spot<'a>(
     requires spot { IsSpotOf along.now.root spot.now }
     ensures is { IfOk result (λ hit. found_at hit ≡ found files.now (spot.now ++ name.now)) }
 {
-    let full = spell(spot, name);
+    let lead = slice::from_ref(spot);
     if spot.as_str().len() == along.count() {
-        return find_below(alloc, buffer, files, along, &full);
+        let packages = Some(along.packages());
+        return find_below(alloc, buffer, files, along, packages, lead, name);
     }
-    find_any(alloc, buffer, files, &full)
+    find_any(alloc, buffer, files, None, lead, name)
 }
 
 /// What a name whose first definition is at `place` is found as, where packages do not count.
@@ -204,7 +206,7 @@ fn find_from<'a>(
     match count {
         Some(count) => {
             let lead = lead_text(alloc, &root[..count])?;
-            find_any(alloc, buffer, files, &spell(&lead, name))
+            find_any(alloc, buffer, files, None, slice::from_ref(&lead), name)
         }
         None => Ok(Hit::Nothing),
     }

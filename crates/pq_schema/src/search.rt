@@ -2,10 +2,11 @@
 //! (proto3 language specification, "Packages and Name Resolution".)
 //!
 //! Each scope costs one look-up of a full name, which is spelled in pieces, without a copy of the
-//! scope. The files that can have one of these names are found once.
+//! scope, and one among the packages inside the scope. The files that can have one of these names are found once.
 ghost use Rattle.std.specs.Prelude.{◌≡◌, ◌++◌, ℕ, List, ◌<◌, IfOk, OnOk, length, map};
+ghost use Rattle.std.specs.List.{concat};
 ghost use Rattle.pq_rules.specs.Relations.{Each};
-ghost use Rattle.pq_schema.specs.Resolution.{found, found_as, has_names, decides, meaning, unless_type, single, dotted, scopes, search, lookup, lookup_by};
+ghost use Rattle.pq_schema.specs.Resolution.{found, found_as, has_names, decides, is_package, meaning, unless_type, single, dotted, scopes, search, lookup, lookup_by};
 ghost use Rattle.pq_schema.specs.aux.Asked.{AreAsked};
 ghost use Rattle.pq_schema.specs.aux.Fronts.{Begins};
 ghost use Rattle.pq_schema.specs.aux.Grouping.{AreNear, around};
@@ -13,10 +14,11 @@ ghost use Rattle.pq_schema.specs.aux.Hits.{found_at, lookup_at, meaning_at};
 ghost use Rattle.pq_schema.specs.aux.Inside.{IsFirstAt, dotted_from, single_from};
 ghost use Rattle.pq_schema.specs.aux.NameParts.{leading};
 ghost use Rattle.pq_schema.specs.aux.Outward.{IsOutward};
+ghost use Rattle.pq_schema.specs.aux.PackageRange.{IsRangeOf};
 ghost use Rattle.pq_schema.specs.aux.Spots.{IsPlain};
 
 use crate::along::Along;
-use crate::asked::{Asked, look_inside};
+use crate::asked::{Asked, look_inside, packages_at};
 use crate::definitions::DefinitionKind;
 use crate::files::Files;
 use crate::lead::Lead;
@@ -24,6 +26,7 @@ use crate::lookup::Lookup;
 use crate::named::Place;
 use crate::nesting::{innermost, outer};
 use crate::outward::{Outward, dotted_outward, single_outward};
+use crate::package_range::PackageRange;
 use crate::scope::Scope;
 use crate::spelled::Spelled;
 use crate::uses::{find_each, hit_or_nothing};
@@ -74,20 +77,43 @@ pub(crate) fn has_names(kind: DefinitionKind) -> bool
     )
 }
 
-/// What the full name `name`, whose first definition in `files` is at `place`, is found as.
+/// Whether `name` with `lead` before it is a package of `files`. `packages` has those that begin with
+/// `lead`, if they were looked for. Else the name is written to `buffer`.
+fn is_package(
+    buffer: &mut String,
+    files: &Lookup<'_>,
+    packages: Option<PackageRange<'_>>,
+    lead: &[Text],
+    name: &str,
+) -> Result<bool, Memory>
+    requires packages { IsRangeOf files.now packages (concat lead.now) }
+    ensures is { IfOk result (λ b. b ≡ is_package files.now (concat lead.now ++ name.now)) }
+{
+    if let Some(packages) = packages {
+        if !name.is_empty() {
+            return Ok(packages.has(name));
+        }
+    }
+    files.is_package(buffer, &Spelled::new(lead, name))
+}
+
+/// What `name` with `lead` before it, whose first definition in `files` is at `place`, is found as.
 fn find_full<'a>(
     buffer: &mut String,
     files: &Lookup<'_>,
+    packages: Option<PackageRange<'_>>,
     place: Option<Place<'a>>,
-    name: &Spelled<'_>,
+    lead: &[Text],
+    name: &str,
 ) -> Result<Hit<'a>, Memory>
-    requires place { meaning_at place ≡ meaning files.now name.now }
-    ensures is { IfOk result (λ hit. found_at hit ≡ found files.now name.now) }
+    requires packages { IsRangeOf files.now packages (concat lead.now) }
+    requires place { meaning_at place ≡ meaning files.now (concat lead.now ++ name.now) }
+    ensures is { IfOk result (λ hit. found_at hit ≡ found files.now (concat lead.now ++ name.now)) }
 {
     match place {
         Some(place) => Ok(hit_at(place)),
         None => {
-            if files.is_package(buffer, name)? {
+            if is_package(buffer, files, packages, lead, name)? {
                 Ok(Hit::Other)
             } else {
                 Ok(Hit::Nothing)
@@ -96,68 +122,84 @@ fn find_full<'a>(
     }
 }
 
-/// What the full name `name` is found as in `files`.
+/// What `name` with `lead` before it is found as in `files`. `packages` has those that begin with
+/// `lead`, if they were looked for.
 pub(crate) fn find_any<'a>(
     alloc: Global,
     buffer: &mut String,
     files: &Lookup<'a>,
-    name: &Spelled<'_>,
+    packages: Option<PackageRange<'_>>,
+    lead: &[Text],
+    name: &str,
 ) -> Result<Hit<'a>, Memory>
-    ensures is { IfOk result (λ hit. found_at hit ≡ found files.now name.now) }
+    requires packages { IsRangeOf files.now packages (concat lead.now) }
+    ensures is { IfOk result (λ hit. found_at hit ≡ found files.now (concat lead.now ++ name.now)) }
 {
+    let full = Spelled::new(lead, name);
     match files.all() {
-        Some(all) => find_full(buffer, files, files.definition(all, name), name),
+        Some(all) => {
+            let place = files.definition(all, &full);
+            find_full(buffer, files, packages, place, lead, name)
+        }
         None => {
             let mut text = String::new(alloc);
-            name.write_to(&mut text)?;
+            full.write_to(&mut text)?;
             let near = files.near(alloc, outer(text.as_str()))?;
-            find_full(buffer, files, files.definition(&near, name), name)
+            let place = files.definition(&near, &full);
+            find_full(buffer, files, packages, place, lead, name)
         }
     }
 }
 
-/// What the full name `name`, which begins with the package of `along`, is found as in `files`.
+/// What `name` with `lead` before it, which begins with the package of `along`, is found as in `files`.
+/// `packages` has those that begin with `lead`, if they were looked for.
 pub(crate) fn find_below<'a>(
     alloc: Global,
     buffer: &mut String,
     files: &Lookup<'a>,
     along: &Along<'_>,
-    name: &Spelled<'_>,
+    packages: Option<PackageRange<'_>>,
+    lead: &[Text],
+    name: &str,
 ) -> Result<Hit<'a>, Memory>
     requires files { along.now.files ≡ files.now }
-    requires front { Begins (leading along.now.root) name.now }
-    ensures is { IfOk result (λ hit. found_at hit ≡ found files.now name.now) }
+    requires front { Begins (leading along.now.root) (concat lead.now ++ name.now) }
+    requires packages { IsRangeOf files.now packages (concat lead.now) }
+    ensures is { IfOk result (λ hit. found_at hit ≡ found files.now (concat lead.now ++ name.now)) }
 {
     match files.all() {
-        Some(all) => find_full(
-            buffer,
-            files,
-            files.definition_below(along, all, name),
-            name,
-        ),
-        None => find_any(alloc, buffer, files, name),
+        Some(all) => {
+            let full = Spelled::new(lead, name);
+            let place = files.definition_below(along, all, &full);
+            find_full(buffer, files, packages, place, lead, name)
+        }
+        None => find_any(alloc, buffer, files, packages, lead, name),
     }
 }
 
-/// Whether the full name `name`, whose first definition in `files` is at `place`, decides for a
-/// dotted name whose first part it is.
+/// Whether `name` with `lead` before it, whose first definition in `files` is at `place`, decides for a
+/// dotted name whose first part `name` is. `packages` has those that begin with `lead`, if they were
+/// looked for.
 fn decides(
     buffer: &mut String,
     files: &Lookup<'_>,
+    packages: Option<PackageRange<'_>>,
     place: Option<Place<'_>>,
-    name: &Spelled<'_>,
+    lead: &[Text],
+    name: &str,
 ) -> Result<bool, Memory>
-    requires place { meaning_at place ≡ meaning files.now name.now }
-    ensures is { IfOk result (λ b. b ≡ decides files.now name.now) }
+    requires packages { IsRangeOf files.now packages (concat lead.now) }
+    requires place { meaning_at place ≡ meaning files.now (concat lead.now ++ name.now) }
+    ensures is { IfOk result (λ b. b ≡ decides files.now (concat lead.now ++ name.now)) }
 {
     match place {
         Some(place) => {
             if has_names(place.definition.kind) {
                 return Ok(true);
             }
-            files.is_package(buffer, name)
+            is_package(buffer, files, packages, lead, name)
         }
-        None => files.is_package(buffer, name),
+        None => is_package(buffer, files, packages, lead, name),
     }
 }
 
@@ -200,9 +242,13 @@ fn find_single<'a>(
     let mut best = Hit::Nothing;
     'scopes: for i in 0..inner.len() {
         let place = look_inside(alloc, files, near, outward.along, inner, asked, i, name)?;
+        let packages = packages_at(inner, asked, i);
         let lead = inner[i].get();
-        let full = lead.spell(name);
-        best = unless_type(best, find_full(buffer, files, place, &full)?);
+        let parts = lead.parts();
+        best = unless_type(
+            best,
+            find_full(buffer, files, packages, place, parts, name)?,
+        );
         if let Hit::Type(_) = best {
             return Ok(best);
         }
@@ -238,11 +284,11 @@ fn find_dotted<'a>(
 {
     'scopes: for i in 0..inner.len() {
         let place = look_inside(alloc, files, near, outward.along, inner, asked, i, first)?;
+        let packages = packages_at(inner, asked, i);
         let lead = inner[i].get();
-        let full = lead.spell(first);
-        if decides(buffer, files, place, &full)? {
-            let whole = lead.spell(name);
-            return find_below(alloc, buffer, files, outward.along, &whole);
+        let parts = lead.parts();
+        if decides(buffer, files, packages, place, parts, first)? {
+            return find_below(alloc, buffer, files, outward.along, packages, parts, name);
         }
     }
     dotted_outward(alloc, buffer, files, near, outward, first, name)
@@ -274,7 +320,7 @@ pub(crate) fn find<'a>(
         return Ok(Hit::Nothing);
     }
     match name.strip_prefix('.') {
-        Some(full) => find_any(alloc, buffer, files, &Spelled::new(&[], full)),
+        Some(full) => find_any(alloc, buffer, files, None, &[], full),
         None => match name.split_once('.') {
             Some((first, _)) => {
                 find_dotted(

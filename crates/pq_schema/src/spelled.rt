@@ -7,7 +7,7 @@
 ghost use Rattle.std.specs.Prelude.{◌≡◌, ◌≤◌, ◌<◌, ◌-◌, ◌%◌, ◌^◌, ℕ, List, [], ◌∷◌, ◌++◌, ◌==◌, IfErr, IfOk, IfSome, None, Some, bytes_eq, length, option_to_list, string_bytes, take, true};
 ghost use Rattle.std.specs.List.{concat};
 ghost use Rattle.pq_schema.specs.aux.NameParts.{name_order};
-ghost use Rattle.pq_schema.specs.aux.Fronts.{IsBehind};
+ghost use Rattle.pq_schema.specs.aux.Fronts.{IsBehind, IsCommonEnd};
 ghost use Rattle.pq_schema.specs.aux.NameCodes.{coded, code_of, tail_code};
 ghost use Rattle.pq_schema.specs.aux.Spots.{IsPlain};
 
@@ -182,18 +182,19 @@ const FEWEST: usize = 64;
 /// How often a piece can be halved.
 const HALVES: usize = 32;
 
-/// The last half of `piece`, or that of this half, and so on, if `other` ends in it too.
-fn common_end<'a>(piece: &'a str, other: &str) -> Option<&'a str>
-    ensures some { IfSome result (λ e. 0 < length e.now) }
+/// What is before the last half of `piece`, or of this half, and so on, in `piece` and in `other`, if
+/// `other` ends in it too. Each byte is compared at most once where it does.
+fn before_common_end<'a, 'b>(piece: &'a str, other: &'b str) -> Option<(&'a str, &'b str)>
+    ensures end { IfSome result (λ r. IsCommonEnd piece.now other.now r.0.now r.1.now) }
 {
     let mut count = piece.len() / 2;
     'halves: for _ in 0..HALVES {
         if count < FEWEST {
             return None;
         }
-        let (_, end) = piece.split_at_checked(piece.len() - count)?;
-        if before(other, end).is_some() {
-            return Some(end);
+        let (text, end) = piece.split_at_checked(piece.len() - count)?;
+        if let Some(rest) = before(other, end) {
+            return Some((text, rest));
         }
         count /= 2;
     }
@@ -211,13 +212,11 @@ fn cut_end<'a, 'b>(
     ensures order { IfSome result (λ r. name_order (concat parts.now ++ piece.now) (concat others.now ++ other.now) ≡ name_order r.0 r.1) }
     ensures less { IfSome result (λ r. length r.0 < length (concat parts.now ++ piece.now)) }
 {
-    let end = common_end(piece, other)?;
-    let text = before(piece, end)?;
+    let (text, rest) = before_common_end(piece, other)?;
     let left = Spelled { parts, text };
-    let text = before(other, end)?;
     let right = Spelled {
         parts: others,
-        text,
+        text: rest,
     };
     Some((left, right))
 }

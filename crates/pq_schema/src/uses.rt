@@ -2,15 +2,18 @@
 //!
 //! The walk keeps the open scopes, each with what is before a name in it. So a reference costs its
 //! look-ups, and no scope is compared or copied for it.
-ghost use Rattle.std.specs.Prelude.{◌≡◌, ◌++◌, ◌∷◌, [], IfOk, OnOk, flat_map, map, slice_get};
+ghost use Rattle.std.specs.Prelude.{◌≡◌, ◌++◌, ◌∷◌, ℕ, List, [], IfOk, OnOk, flat_map, get_or, map, slice_get};
 ghost use Rattle.pq_syntax.specs.Places.{places};
 ghost use Rattle.pq_schema.specs.References.{references_at, references_by, type_reference};
 ghost use Rattle.pq_schema.specs.Resolution.{scopes, search};
 ghost use Rattle.pq_schema.specs.aux.Asked.{AreAsked};
 ghost use Rattle.pq_schema.specs.aux.Grouping.{AreNear};
 ghost use Rattle.pq_schema.specs.aux.Hits.{found_at};
-ghost use Rattle.pq_schema.specs.aux.Inside.{AreInner, IsNear, found_use, used, used_as};
+ghost use Rattle.pq_schema.specs.aux.Inside.{AreInner, IsNear, found_use, opened, opened_by, used, used_as};
+ghost use Rattle.pq_schema.specs.aux.NameParts.{leading};
 ghost use Rattle.pq_schema.specs.aux.Outward.{IsOutward};
+ghost use Rattle.pq_schema.specs.aux.PackageRange.{IsRange, IsRangeOf};
+ghost use Rattle.pq_schema.specs.declared.scope.FileDefs.{FileDefs};
 
 use crate::along::Along;
 use crate::asked::Asked;
@@ -23,6 +26,7 @@ use crate::lookup::{Lookup, most_of_one};
 use crate::nesting::innermost as innermost_of;
 use crate::outline::innermost;
 use crate::outward::Outward;
+use crate::package_range::PackageRange;
 use crate::references::is_scalar;
 use crate::search::{Hit, find, near_scopes};
 use crate::spots::spots_of;
@@ -285,6 +289,44 @@ fn refer<'a>(
     }
 }
 
+/// The packages inside the scope `name` that is inside the innermost scope of `asked`, or inside the
+/// package of the file, whose packages are `outermost`, if there is none.
+fn packages_of<'a>(
+    outermost: PackageRange<'a>,
+    asked: &[Asked<'a>],
+    name: &str,
+) -> Option<PackageRange<'a>>
+    ensures packages { (files : List FileDefs) (root : List ℕ) (scope : List ℕ × List (List ℕ)) → IsRange files (leading root) outermost.entry
+        → AreInner scope.1 root scope.0 → AreAsked files scope.1 asked.now
+        → IsRangeOf files result (get_or (opened name.now scope).1 0 []) }
+{
+    if name.is_empty() {
+        return None;
+    }
+    let outer = match asked.last() {
+        Some(scope) => scope.packages?,
+        None => outermost,
+    };
+    Some(outer.inside(name))
+}
+
+/// The packages inside the scope of what `statement` contains, if it opens one.
+fn packages_in<'a>(
+    outermost: PackageRange<'a>,
+    asked: &[Asked<'a>],
+    statement: &Statement,
+) -> Option<PackageRange<'a>>
+    ensures packages { (files : List FileDefs) (root : List ℕ) (scope : List ℕ × List (List ℕ)) → IsRange files (leading root) outermost.entry
+        → AreInner scope.1 root scope.0 → AreAsked files scope.1 asked.now
+        → IsRangeOf files result (get_or (opened_by statement.now scope).1 0 []) }
+{
+    match statement {
+        Statement::Message { name } => packages_of(outermost, asked, name.text.as_str()),
+        Statement::Service { name } => packages_of(outermost, asked, name.text.as_str()),
+        _ => None,
+    }
+}
+
 /// The references of a file of the package of `outward` with the statements `nodes`, in text order.
 fn find_under<'a>(
     alloc: Global,
@@ -301,6 +343,7 @@ fn find_under<'a>(
         ≡ map (used_as files.now) (flat_map (references_at outward.entry.root.now) (places nodes.now))) }
 {
     let mut last = near;
+    let outermost = files.packages_in(outward.root);
     let mut stack: Stack<Shared<Inner>> = Stack::new(alloc);
     let mut asked = Vec::new(alloc);
     let mut closed = Closed::new(alloc);
@@ -323,7 +366,14 @@ fn find_under<'a>(
             &mut asked,
             &mut uses,
         )?;
-        open_scopes(alloc, &mut asked, &mut closed, inside.get().leads())?;
+        let packages = packages_in(outermost, &asked, &node.statement);
+        open_scopes(
+            alloc,
+            &mut asked,
+            &mut closed,
+            inside.get().leads(),
+            packages,
+        )?;
         stack.open(node.depth, inside)?;
     }
     Ok(uses)

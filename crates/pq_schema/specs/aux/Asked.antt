@@ -7,10 +7,14 @@ use Rattle.pq_schema.specs.declared.asked.Asked.{Asked}
 use Rattle.pq_schema.specs.declared.scope.FileDefs.{FileDefs}
 use Rattle.pq_schema.specs.Resolution.{meaning}
 use Rattle.pq_schema.specs.aux.Hits.{meaning_at}
+use Rattle.pq_schema.specs.aux.PackageRange.{IsRangeOf}
 
--- `IsRight files scope` is that the answers of `scope` are right in the files `files`
+-- `IsRight files scope` is that the answers of `scope` are right in the files `files`, and that its
+-- packages, if it has them, are those of these files
 abbrev pub IsRight : List FileDefs → Asked → Type 0
-IsRight files scope = Each (λ (a : Answer). meaning_at a.place ≡ meaning files (scope.lead ++ a.name)) scope.answers.items
+IsRight files scope =
+    Each (λ (a : Answer). meaning_at a.place ≡ meaning files (scope.lead ++ a.name)) scope.answers.items
+    × IsRangeOf files scope.packages scope.lead
 
 -- `IsAsked files lead scope` is that `scope` has `lead` before its names, and that its answers are right
 abbrev pub IsAsked : List FileDefs → List ℕ → Asked → Type 0

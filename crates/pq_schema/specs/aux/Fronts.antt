@@ -14,6 +14,10 @@ pub record IsBehind (n : ℕ) (whole rest : List ℕ) : Type 0 where
   pub count : length front ≡ n
   pub is : whole ≡ front ++ rest
 
+-- `IsCommonEnd a b x y` is that `a` is `x` and `b` is `y` with the same bytes after them, at least one
+abbrev pub IsCommonEnd : List ℕ → List ℕ → List ℕ → List ℕ → Type 0
+IsCommonEnd a b x y = (end : List ℕ) × ((0 < length end) × ((a ≡ x ++ end) × (b ≡ y ++ end)))
+
 -- `Begins front name` is that `name` begins with `front`
 abbrev pub Begins : List ℕ → List ℕ → Type 0
 Begins front name = (rest : List ℕ) × (name ≡ front ++ rest)
@@ -46,6 +50,11 @@ pub record IsParted (entries : List (List ℕ × ℕ)) (name : List ℕ) (low hi
   pub within : high ≤ length entries
   pub less : (k : ℕ) → k < low → is_lt (code_order (get_or entries k ([], 0)).0 name) ≡ true
   pub others : (k : ℕ) → high ≤ k → k < length entries → is_lt (code_order (get_or entries k ([], 0)).0 name) ≡ false
+
+-- `IsMet entries name first seen` is that `seen` is `first` if the entry `first` of `entries` has the
+-- name `name`
+abbrev pub IsMet : List (List ℕ × ℕ) → List ℕ → ℕ → ℕ → Type 0
+IsMet entries name first seen = first < length entries → (get_or entries first ([], 0)).0 ≡ name → seen ≡ first
 
 -- `IsSeen entries name k` is that the entry `k` of `entries`, if there is one, has the name `name`
 abbrev pub IsSeen : List (List ℕ × ℕ) → List ℕ → ℕ → Type 0

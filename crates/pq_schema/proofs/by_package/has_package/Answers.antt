@@ -14,7 +14,8 @@ returns-in-Some c =
     let at = slice_get-get_or packages n e c.in-Some.ensures.lookup.3.0 ∙ ap Some (sym (c.in-Some.ensures.lookup.3.1 e)) in
     record {
       is = c.is_inside.ensures.is
-          ∙ ap (λ (x : List ℕ). starts_with nat_eq x (dotted name)) c.as_str.ensures.same
+          ∙ ap (λ (x : List ℕ). starts_with nat_eq c.as_bytes.result.now (dotted x)) c.as_bytes-in-Some.ensures.value
+          ∙ ap (λ (x : List ℕ). starts_with nat_eq x (dotted name)) (c.as_bytes.ensures.value ∙ c.as_str.ensures.same)
           ∙ any_begins packages c.requires name n c.first_from.ensures.less c.first_from.ensures.others e at;
     }
 

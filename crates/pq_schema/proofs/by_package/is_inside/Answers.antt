@@ -1,5 +1,4 @@
-use Rattle.std.proofs.Common.{◌≡◌, ℕ, List, length, Some, sym, ap, subst, ◌∙◌, ◌&&◌, nat_eq}
-use Rattle.std.specs.Prelude.{slice_get}
+use Rattle.std.proofs.Common.{Some, sym, ap, ◌∙◌, ◌&&◌, nat_eq}
 use Rattle.std.specs.List.{starts_with}
 use Rattle.std.proofs.lemmas.Bool.Decides.{Decides-eqb}
 use Rattle.std.proofs.lemmas.Option.{slice_get-get_or}
@@ -11,11 +10,9 @@ returns-then-byte-eq46 c =
     let e = c.args.entry.now in
     let q = c.args.name.now in
     let b = c.in-Some.byte.now in
-    let bytes = c.as_bytes.result.now in
-    let there = slice_get-get_or bytes _ b c.in-Some.ensures.lookup.3.0 ∙ ap Some (sym (c.in-Some.ensures.lookup.3.1 b)) in
-    let at = subst (λ (x : List ℕ). slice_get x (length c.args.name.now) ≡ Some b) c.as_bytes.ensures.value there in
+    let at = slice_get-get_or e _ b c.in-Some.ensures.lookup.3.0 ∙ ap Some (sym (c.in-Some.ensures.lookup.3.1 b)) in
     record {
-      is = c.begins.ensures.is
+      is = c.starts_with.ensures.value
           ∙ sym (ap (λ t. t && starts_with nat_eq e q) ((Decides-eqb b 46).1 c.if-byte-eq46.true))
           ∙ inside_at e q b at;
     }
@@ -25,7 +22,5 @@ returns-else-byte-eq46 c =
     let e = c.args.entry.now in
     let q = c.args.name.now in
     let b = c.in-Some.byte.now in
-    let bytes = c.as_bytes.result.now in
-    let there = slice_get-get_or bytes _ b c.in-Some.ensures.lookup.3.0 ∙ ap Some (sym (c.in-Some.ensures.lookup.3.1 b)) in
-    let at = subst (λ (x : List ℕ). slice_get x (length c.args.name.now) ≡ Some b) c.as_bytes.ensures.value there in
+    let at = slice_get-get_or e _ b c.in-Some.ensures.lookup.3.0 ∙ ap Some (sym (c.in-Some.ensures.lookup.3.1 b)) in
     record { is = other_byte b (starts_with nat_eq e q) c.if-byte-eq46.false ∙ inside_at e q b at }

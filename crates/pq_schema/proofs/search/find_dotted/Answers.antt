@@ -4,7 +4,9 @@ use Rattle.pq_schema.specs.Resolution.{decides, dotted, found, scopes}
 use Rattle.pq_schema.specs.aux.Fronts.{Begins}
 use Rattle.pq_schema.specs.aux.Grouping.{AreNear, around}
 use Rattle.pq_schema.specs.aux.NameParts.{leading}
-use Rattle.pq_schema.proofs.Answered.{asked_on, looked}
+use Rattle.pq_schema.specs.declared.asked.Asked.{Asked}
+use Rattle.pq_schema.specs.aux.Asked.{AreAsked}
+use Rattle.pq_schema.proofs.Answered.{asked_on, looked, scope_range}
 use Rattle.pq_schema.proofs.Inside.{dotted_end, dotted_step, each_at, lead_at}
 use Rattle.pq_schema.proofs.SamePackage.{full_begins}
 use Rattle.pq_schema.proofs.search.find_dotted.Goals as goal
@@ -24,22 +26,35 @@ look_inside-requires c =
     }
 
 pub decides-requires : goal.decides-requires
-decides-requires c = record {
-  place = looked c.args.files.now c.args.inner.now c.scopes.i c.get-lead.result.now c.index-inner-i.result c.args.first.now c.spell-full.result _
-      c.scopes-test.true c.get-lead.ensures.value c.index-inner-i.is c.spell-full.ensures.name c.in_ok-place.ensures.first;
-}
+decides-requires c =
+    let files = c.args.files.now in
+    let inner = c.args.inner.now in
+    let parts = c.parts-parts.ensures.parts in
+    record {
+      packages = scope_range files inner c.scopes.i c.get-lead.result.now c.index-inner-i.result _ c.packages_at-packages.result
+          c.scopes-test.true c.get-lead.ensures.value c.index-inner-i.is parts
+          (c.packages_at-packages.ensures.packages files (subst (λ (xs : List Asked). AreAsked files inner xs) (sym c.deref.ensures.value) c.in_ok-place.ensures.asked));
+      place = looked files inner c.scopes.i c.get-lead.result.now c.index-inner-i.result c.args.first.now _ _
+          c.scopes-test.true c.get-lead.ensures.value c.index-inner-i.is (ap (λ (l : List ℕ). l ++ c.args.first.now) parts) c.in_ok-place.ensures.first;
+    }
 
 pub find_below-requires : goal.find_below-requires
 find_below-requires c =
+    let files = c.args.files.now in
+    let inner = c.args.inner.now in
     let root = c.args.outward.root.now in
     let e = c.index-inner-i.result in
     let l = c.get-lead.result.now in
     let is = c.get-lead.ensures.value ∙ c.index-inner-i.is in
-    let front = each_at (λ (x : List ℕ). Begins (leading root) x) c.args.inner.now c.scopes.i e c.requires.below c.scopes-test.true in
+    let parts = c.parts-parts.ensures.parts in
+    let front = each_at (λ (x : List ℕ). Begins (leading root) x) inner c.scopes.i e c.requires.below c.scopes-test.true in
     record {
       files = c.requires.outward.of_files;
-      front = full_begins root c.args.outward.along.now.root l c.args.name.now c.spell-whole.result c.requires.outward.of_root c.spell-whole.ensures.name
+      front = full_begins root c.args.outward.along.now.root l c.args.name.now _ c.requires.outward.of_root (ap (λ (x : List ℕ). x ++ c.args.name.now) parts)
           (subst (λ (x : List ℕ). Begins (leading root) x) (sym is) front);
+      packages = scope_range files inner c.scopes.i l e _ c.packages_at-packages.result
+          c.scopes-test.true c.get-lead.ensures.value c.index-inner-i.is parts
+          (c.packages_at-packages.ensures.packages files (subst (λ (xs : List Asked). AreAsked files inner xs) (sym c.deref.ensures.value) c.in_ok-place.ensures.asked));
     }
 
 pub returns-then-branch : goal.returns-then-branch
@@ -50,10 +65,10 @@ returns-then-branch c =
     let l = c.get-lead.result.now in
     let step = dotted_step files first name c.args.inner.now c.scopes.i l true (dotted files (scopes c.args.outward.root.now) first name) _
     c.scopes-test.true (lead_at c.args.inner.now c.scopes.i c.get-lead.result.now c.index-inner-i.result c.scopes-test.true c.get-lead.ensures.value c.index-inner-i.is)
-    (sym c.if-branch.true ∙ c.in_ok-decides.ensures.is ∙ ap (λ (n : List ℕ). decides files n) c.spell-full.ensures.name) c.scopes.invariant.0 in
+    (sym c.if-branch.true ∙ c.in_ok-decides.ensures.is ∙ ap (λ (x : List ℕ). decides files (x ++ first)) c.parts-parts.ensures.parts) c.scopes.invariant.0 in
     record {
       is = IfOk-weaker c.find_below.result _ _
-          (λ hit h. h ∙ ap (λ (n : List ℕ). found files n) c.spell-whole.ensures.name ∙ sym step)
+          (λ hit h. h ∙ ap (λ (x : List ℕ). found files (x ++ name)) c.parts-parts.ensures.parts ∙ sym step)
           c.find_below.ensures.is;
       asked = asked_on c.find_below.result c.in_ok-place.ensures.asked;
     }
@@ -65,7 +80,7 @@ scopes-preserved c =
     let name = c.args.name.now in (
       dotted_step files first name c.args.inner.now c.scopes.i c.get-lead.result.now false (dotted files (scopes c.args.outward.root.now) first name) _
           c.scopes-test.true (lead_at c.args.inner.now c.scopes.i c.get-lead.result.now c.index-inner-i.result c.scopes-test.true c.get-lead.ensures.value c.index-inner-i.is)
-          (sym c.if-branch.false ∙ c.in_ok-decides.ensures.is ∙ ap (λ (n : List ℕ). decides files n) c.spell-full.ensures.name) c.scopes.invariant.0,
+          (sym c.if-branch.false ∙ c.in_ok-decides.ensures.is ∙ ap (λ (x : List ℕ). decides files (x ++ first)) c.parts-parts.ensures.parts) c.scopes.invariant.0,
       c.in_ok-place.ensures.asked,
     )
 

@@ -7,7 +7,9 @@ use Rattle.pq_schema.specs.aux.Hits.{found_at}
 use Rattle.pq_schema.specs.aux.Inside.{single_from}
 use Rattle.pq_schema.specs.aux.NameParts.{leading}
 use Rattle.pq_schema.specs.declared.search.Hit.{Hit}
-use Rattle.pq_schema.proofs.Answered.{looked}
+use Rattle.pq_schema.specs.declared.asked.Asked.{Asked}
+use Rattle.pq_schema.specs.aux.Asked.{AreAsked}
+use Rattle.pq_schema.proofs.Answered.{looked, scope_range}
 use Rattle.pq_schema.proofs.Inside.{each_at, lead_at, single_end, single_step}
 use Rattle.pq_schema.proofs.Walks.{stays_type}
 use Rattle.pq_schema.proofs.search.find_single.Goals as goal
@@ -27,10 +29,17 @@ look_inside-requires c =
     }
 
 pub find_full-requires : goal.find_full-requires
-find_full-requires c = record {
-  place = looked c.args.files.now c.args.inner.now c.scopes.i c.get-lead.result.now c.index-inner-i.result c.args.name.now c.spell-full.result _
-      c.scopes-test.true c.get-lead.ensures.value c.index-inner-i.is c.spell-full.ensures.name c.in_ok-place.ensures.first;
-}
+find_full-requires c =
+    let files = c.args.files.now in
+    let inner = c.args.inner.now in
+    let parts = c.parts-parts.ensures.parts in
+    record {
+      packages = scope_range files inner c.scopes.i c.get-lead.result.now c.index-inner-i.result _ c.packages_at-packages.result
+          c.scopes-test.true c.get-lead.ensures.value c.index-inner-i.is parts
+          (c.packages_at-packages.ensures.packages files (subst (λ (xs : List Asked). AreAsked files inner xs) (sym c.deref.ensures.value) c.in_ok-place.ensures.asked));
+      place = looked files inner c.scopes.i c.get-lead.result.now c.index-inner-i.result c.args.name.now _ _
+          c.scopes-test.true c.get-lead.ensures.value c.index-inner-i.is (ap (λ (l : List ℕ). l ++ c.args.name.now) parts) c.in_ok-place.ensures.first;
+    }
 
 pub returns-in-Type : goal.returns-in-Type
 returns-in-Type c =
@@ -41,7 +50,7 @@ returns-in-Type c =
     let best = found_at c.unless_type-best.result in
     record {
       is = sym (single_step files name inner c.scopes.i c.get-lead.result.now (found_at c.scopes.best) (found_at c.in_ok-find_full.field-0) best outer _
-          c.scopes-test.true (lead_at c.args.inner.now c.scopes.i c.get-lead.result.now c.index-inner-i.result c.scopes-test.true c.get-lead.ensures.value c.index-inner-i.is) (c.in_ok-find_full.ensures.is ∙ ap (λ (n : List ℕ). found files n) c.spell-full.ensures.name) c.unless_type-best.ensures.is c.scopes.invariant.0
+          c.scopes-test.true (lead_at c.args.inner.now c.scopes.i c.get-lead.result.now c.index-inner-i.result c.scopes-test.true c.get-lead.ensures.value c.index-inner-i.is) (c.in_ok-find_full.ensures.is ∙ ap (λ (l : List ℕ). found files (l ++ name)) c.parts-parts.ensures.parts) c.unless_type-best.ensures.is c.scopes.invariant.0
           ∙ stays_type best (single_from files (drop (c.scopes.i + 1) inner) outer name) c.in-Type.field-0.file.now c.in-Type.field-0.definition.now
           (ap (λ (h : Hit). found_at h) c.in-Type.is));
       asked = c.in_ok-place.ensures.asked;
@@ -53,7 +62,7 @@ scopes-preserved c =
     let name = c.args.name.now in (
       single_step files name c.args.inner.now c.scopes.i c.get-lead.result.now (found_at c.scopes.best) (found_at c.in_ok-find_full.field-0) (found_at c.unless_type-best.result)
           (single files (scopes c.args.outward.root.now) name) _
-          c.scopes-test.true (lead_at c.args.inner.now c.scopes.i c.get-lead.result.now c.index-inner-i.result c.scopes-test.true c.get-lead.ensures.value c.index-inner-i.is) (c.in_ok-find_full.ensures.is ∙ ap (λ (n : List ℕ). found files n) c.spell-full.ensures.name) c.unless_type-best.ensures.is c.scopes.invariant.0,
+          c.scopes-test.true (lead_at c.args.inner.now c.scopes.i c.get-lead.result.now c.index-inner-i.result c.scopes-test.true c.get-lead.ensures.value c.index-inner-i.is) (c.in_ok-find_full.ensures.is ∙ ap (λ (l : List ℕ). found files (l ++ name)) c.parts-parts.ensures.parts) c.unless_type-best.ensures.is c.scopes.invariant.0,
       c.in_ok-place.ensures.asked,
     )
 

@@ -6,9 +6,9 @@ pub returns : goal.returns
 returns c =
     let ps = concat c.args.parts.now in
     let piece = c.args.piece.now in
-    let end = c.in_ok-end.end.now in
     let text = c.in_ok-text.text.now in
+    let e = c.in_ok-text.ensures.end in
     record {
-      order = cut_both ps (concat c.args.others.now) piece c.args.other.now text c.in_ok-text-2.text.now end c.in_ok-text.ensures.before c.in_ok-text-2.ensures.before;
-      less = less_first ps piece end text c.in_ok-text.ensures.before c.in_ok-end.ensures.some;
+      order = cut_both ps (concat c.args.others.now) piece c.args.other.now text c.in_ok-text.rest.now e.0 e.1.1.0 e.1.1.1;
+      less = less_first ps piece e.0 text e.1.1.0 e.1.0;
     }

@@ -1,4 +1,4 @@
-use Rattle.std.proofs.Common.{◌≡◌, ℕ, List, [], ◌∷◌, ◌++◌, map, sym, ap, subst, ◌∙◌}
+use Rattle.std.proofs.Common.{◌≡◌, ℕ, List, [], ◌∷◌, ◌++◌, get_or, map, sym, ap, subst, ◌∙◌}
 use Rattle.pq_syntax.specs.Places.{places}
 use Rattle.pq_syntax.specs.Stacks.{closed}
 use Rattle.pq_syntax.proofs.Walk.{walked_none, walked_more, walked_all, item_at}
@@ -6,6 +6,7 @@ use Rattle.pq_schema.specs.declared.asked.Asked.{Asked}
 use Rattle.pq_rules.specs.Relations.{Each}
 use Rattle.pq_schema.specs.aux.Asked.{AreAsked, IsRight}
 use Rattle.pq_schema.specs.aux.Inside.{used}
+use Rattle.pq_schema.specs.aux.PackageRange.{IsRangeOf}
 use Rattle.pq_schema.proofs.Answered.{all_right, asked_closed, asked_opened, nested_more, nested_none, none_open}
 use Rattle.pq_schema.proofs.Inside.{Fits, emit, fit_inner, fit_more, given_found, inner_opened, keep}
 use Rattle.pq_schema.proofs.uses.find_under.Goals as goal
@@ -43,6 +44,12 @@ items-preserved c =
     let inner = inner_opened root c.args.root.now c.items.stack c.close_to.new.self node.depth scope c.requires.root c.close_to.ensures c.innermost-scope.ensures in
     let fits = subst (Fits root) (sym inner) (fit_inner root c.items.stack node.depth c.items.invariant.1) in
     let right = c.in_ok-close_scopes.ensures.closed c.args.files.now (all_right c.args.files.now _ c.items.asked.items c.items.invariant.4) c.items.invariant.5 in
+    let asked = subst (λ (s : List ℕ × List (List ℕ)). AreAsked c.args.files.now s.1 c.refer.new.asked.items) c.get.ensures.value c.in_ok-refer.ensures.asked in
+    let leads = c.leads.ensures.leads ∙ ap (λ (s : List ℕ × List (List ℕ)). s.1) (c.get-in-items.ensures.value ∙ c.in_ok-inside.ensures) in
+    let range : IsRangeOf c.args.files.now c.packages_in-packages.result (get_or c.leads.result.now 0 []) =
+    subst (λ (ls : List (List ℕ)). IsRangeOf c.args.files.now c.packages_in-packages.result (get_or ls 0 [])) (sym leads)
+    (c.packages_in-packages.ensures.packages c.args.files.now root scope c.packages_in-outermost.ensures.range fits
+    (subst (λ (xs : List Asked). AreAsked c.args.files.now scope.1 xs) (sym c.deref.ensures.value) asked)) in
     let opened : c.open.new.self ≡ (node.depth, keep (item_at c.items.item node) scope) ∷ closed node.depth c.items.stack =
     c.in_ok-open.ensures.opened ∙ ap (λ (s : List ℕ × List (List ℕ)). (node.depth, s) ∷ c.close_to.new.self) c.in_ok-inside.ensures
     ∙ ap (λ (es : List (ℕ × (List ℕ × List (List ℕ)))). (node.depth, keep (item_at c.items.item node) scope) ∷ es) c.close_to.ensures in (
@@ -55,10 +62,9 @@ items-preserved c =
       nested_more root node.depth c.items.stack c.open.new.self (item_at c.items.item node) scope inner opened c.items.invariant.3,
       asked_opened c.args.files.now root node.depth (item_at c.items.item node) scope c.open.new.self (closed node.depth c.items.stack) c.refer.new.asked.items c.open_scopes.new.asked.items
           c.close_scopes.new.closed.scopes.items c.leads.result.now
-          opened (c.leads.ensures.leads ∙ ap (λ (s : List ℕ × List (List ℕ)). s.1) (c.get-in-items.ensures.value ∙ c.in_ok-inside.ensures)) c.in_ok-open_scopes.ensures.asked
-          right
-          (subst (λ (s : List ℕ × List (List ℕ)). AreAsked c.args.files.now s.1 c.refer.new.asked.items) c.get.ensures.value c.in_ok-refer.ensures.asked),
-      c.in_ok-open_scopes.ensures.closed c.args.files.now right,
+          opened leads (λ more some is. c.in_ok-open_scopes.ensures.asked c.args.files.now more some is range)
+          right asked,
+      c.in_ok-open_scopes.ensures.closed c.args.files.now range right,
     )
 
 pub returns : goal.returns

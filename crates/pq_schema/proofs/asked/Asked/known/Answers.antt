@@ -10,6 +10,6 @@ returns-then-eq c =
     record {
       known = λ files lead are. known_right files c.args.self.now.lead c.deref.result.now c.args.self.now.answers.items c.in-Some.number a c.as_str.result.now c.args.name.now
           c.deref.ensures.value c.in-Some-get.ensures.lookup.3.0 (sym (c.in-Some-get.ensures.lookup.3.1 a)) c.as_str.ensures.same
-          ((bytes_decides c.as_str.result.now c.args.name.now).0 (sym c.if-eq.ensures)) are.1
+          ((bytes_decides c.as_str.result.now c.args.name.now).0 (sym c.if-eq.ensures)) are.1.0
           ∙ ap (λ (l : List ℕ). meaning files (l ++ c.args.name.now)) are.0;
     }
