@@ -172,9 +172,6 @@ def predicted(top):
     sums = table(minutes, crates)
     print()
     gate_model.say(crates, gate_model.MACHINES)
-    coming = gate_model.read(top, times)
-    gate_model.with_coming(coming, times)
-    gate_model.say(coming, gate_model.MACHINES, " with those that are still to come")
     return sums, crates
 
 

@@ -18,7 +18,6 @@ The script reads lines, edits and what stands on what from the repository, and p
 model was compared with the toolchain's own function over the same table: 160.8 and 162.8 minutes, 214.8 and 214.9.
 
 usage: bench/gate_model.py [--top FOLDER] [--times FILE] [--machine PROCESSORS,GIGABYTES].. [--scale FACTOR]
-    --coming   as if what is still to come stood, with its edits and tests
     --plan     also prints the plan: for each crate its memory, lines, edits and minutes
     --trace    also prints when each task starts and ends
 """
@@ -36,11 +35,6 @@ MOST = 6.4     # planned GB of a crate past which two do not run side by side on
 MACHINES = ["4,23", "2,23"]  # what is free of 24 GB
 # libraries of the kit that the plan does not count
 SEALED = {"core", "std", "std_alloc", "std_collections", "std_heap", "std_io", "io", "libc", "os"}
-# crates that do not stand yet: what each stands on, the crates that will stand on it, lines of .rt and .antt, edits
-COMING = [
-    ("pq_hall", ["pq_mail"], ["pq_session"], 2500, 3500, 3),
-]
-COMING_TESTS = ("tests_hall", ["pq_hall"], 3500, 12.0)
 
 
 class Crate:
@@ -101,20 +95,6 @@ def read(top, times):
         if name in rows:
             crates[name].take(rows[name])
     return crates
-
-
-def with_coming(crates, times):
-    """Adds the crates that are still to come."""
-    rows = rows_of(times)
-    for name, deps, over, lines, antt, edits in COMING:
-        if name not in crates:
-            crates[name] = Crate(name, deps, {"std"}, lines, antt, edits)
-            crates[name].take(rows[name])
-            for it in over:
-                crates[it].deps = crates[it].deps + [name]
-    name, deps, lines, tests = COMING_TESTS
-    crates[name] = Crate(name, deps, {"std"}, lines, 0, 0)
-    crates[name].proof, crates[name].tests = 0.5, tests
 
 
 def below(crates, name, found=None):
@@ -223,12 +203,12 @@ def run(crates, processors, gigabytes, trace=False):
     return now, total, lonely
 
 
-def say(crates, machines, which="", trace=False):
+def say(crates, machines, trace=False):
     """Prints what the model predicts for each machine."""
     for text in machines:
         processors, gigabytes = text.split(",")
         minutes, total, lonely = run(crates, int(processors), float(gigabytes), trace)
-        print("- %d crates%s, %s processors, %s GB free: %.0f minutes of wall time, %.0f processor minutes; at most one processor is busy for %.0f minutes." % (len(crates), which, processors, gigabytes, minutes, total, lonely))
+        print("- %d crates, %s processors, %s GB free: %.0f minutes of wall time, %.0f processor minutes; at most one processor is busy for %.0f minutes." % (len(crates), processors, gigabytes, minutes, total, lonely))
 
 
 def main():
@@ -237,12 +217,10 @@ def main():
     words.add_argument("--times", default=os.path.join(HERE, "gate_times.tsv"))
     words.add_argument("--machine", action="append", default=[])
     words.add_argument("--scale", type=float, default=1.0)
-    for it in ["--coming", "--plan", "--trace"]:
+    for it in ["--plan", "--trace"]:
         words.add_argument(it, action="store_true")
     words = words.parse_args()
     crates = read(words.top, words.times)
-    if words.coming:
-        with_coming(crates, words.times)
     for it in crates.values():
         it.proof, it.tests, it.edit = it.proof * words.scale, it.tests * words.scale, it.edit * words.scale
     if words.plan:
