@@ -2,13 +2,18 @@
 //!
 //! A script has a line `CALL => ANSWER` for each call. `ask`, `edit` and `end` post, and answer the
 //! number of the receipt. `carry` carries a post of a client, and `take` takes the reply of its next
-//! receipt. `say` posts what a message asks for, and `text` takes a reply and answers its text. `mark` says whether a revision has a mark. `free` opens the gate, which holds the work on
-//! `held.proto` until then, and says whether the gate had waited for too long before.
+//! receipt. `say` posts what a message asks for, and `text` takes a reply and answers its text. `mark`
+//! says whether a revision has a mark. `free` opens the gate, which holds the work on `held.proto` until
+//! then, and says whether the gate had waited for too long before.
+//!
+//! `stored` makes the calls of the stored session.
+mod stored;
+
 ghost use Rattle.std.specs.Prelude.{◌≡◌};
 
-use crate::checks::{check_page, check_row_count, check_text, split_row};
+use crate::checks::{check_page, check_row_count, split_row};
 use pq_core::{Change, Label, OpenFault, Outcome, Reply, Request, Stamp, Want, Work};
-use pq_frame::{Message, frame};
+use pq_frame::Message;
 use pq_hall::{
     BoardName, Client, ClientEnds, Gate, Hall, HallFault, Mark, Moved, NewBoard, OneValue,
 };
@@ -17,7 +22,7 @@ use pq_mail::{MailEnd, PorterEnd, Post, PostEnd, PostFault, Receipt, TakeEnd};
 use pq_names::Text;
 use pq_proto::{ProtoKey, ProtoRules, ProtoValue};
 use pq_rules::Rules;
-use pq_session::{Counted, Item, Root, Session, reply_text, script};
+use pq_session::{Item, Root, Session, reply_text};
 use std::alloc::{AllocError, Global};
 use std::collections::VecDeque;
 use std::marker::Brand;
@@ -566,7 +571,7 @@ where
 }
 
 /// Makes the calls of `rows`, which has `count` lines, in a hall with `workers` workers.
-fn check_calls<R>(rt: &R, count: usize, workers: u8, rows: &str)
+pub(crate) fn check_calls<R>(rt: &R, count: usize, workers: u8, rows: &str)
 where
     R: Abort + AllocGlobal + Clock + Threads + Wait + Copy + Drop + Send + Sync + 'static,
 {
@@ -677,52 +682,4 @@ fn two_workers(rt: HostRuntime) {
         free 0 => in time\n\
         take 0 - => 0 at 2 answered",
     );
-}
-
-/// The stored session, call by call.
-const STORED: &str = r#"say 0 {"id":0,"jsonrpc":"2.0","method":"initialize","params":{}} => 0
-say 0 {"jsonrpc":"2.0","method":"textDocument/didOpen","params":{"textDocument":{"uri":"file:///a.proto","text":"syntax = \"proto3\";\nmessage M { int32 x = 1; }"}}} => 1
-say 0 {"id":1,"jsonrpc":"2.0","method":"textDocument/diagnostic","params":{"textDocument":{"uri":"file:///a.proto"}}} => 1
-say 0 {"id":2,"jsonrpc":"2.0","method":"shutdown"} => 2
-say 0 {"jsonrpc":"2.0","method":"exit"} => 3
-carry 0 - => accepted 0
-carry 0 - => edited 1
-carry 0 - => accepted 1
-carry 0 - => accepted 2
-carry 0 - => ended
-text 0 - => {"id":0,"jsonrpc":"2.0","result":{"capabilities":{"definitionProvider":true,"diagnosticProvider":{"interFileDependencies":true,"workspaceDiagnostics":false},"documentSymbolProvider":true,"positionEncoding":"utf-16","textDocumentSync":{"change":1,"openClose":true}},"serverInfo":{"name":"pq_server"}}}
-text 0 - => {"id":1,"jsonrpc":"2.0","result":{"items":[],"kind":"full","resultId":"1"}}
-text 0 - => {"id":2,"jsonrpc":"2.0","result":null}"#;
-
-/// The frames of what the calls `word` of `rows` have on one side, which is that of the answers or not.
-fn frames_of(rt: &(impl Abort + AllocGlobal), rows: &str, word: &str, is_answer: bool) -> Vec<u8> {
-    let mut bytes = Vec::new(rt.alloc());
-    for row in rows.lines() {
-        let (call, answer) = split_row(rt, row, " => ");
-        let (found, rest) = split_row(rt, call, " 0 ");
-        if found == word {
-            let body = if is_answer { answer } else { rest };
-            let frame = frame(rt.alloc(), body.as_bytes()).expect(rt, "memory");
-            bytes
-                .extend_from_slice(frame.as_slice())
-                .expect(rt, "memory");
-        }
-    }
-    bytes
-}
-
-// The texts of the stored session are those that `script` writes.
-#[test]
-fn the_stored_session(rt: HostRuntime) {
-    check_calls(&rt, 13, 1, STORED);
-    let sent = frames_of(&rt, STORED, "say", false);
-    let wanted = frames_of(&rt, STORED, "text", true);
-    let mut written = Vec::new(rt.alloc());
-    let mut reader = Counted::new(sent.as_slice());
-    let mut writer = Counted::new(&mut written);
-    let ended = script(rt.alloc(), &mut reader, &mut writer);
-    assert_eq!(rt; ended.ok(), Some(0));
-    let wanted = String::from_utf8_lossy(rt.alloc(), wanted.as_slice()).expect(&rt, "memory");
-    let found = String::from_utf8_lossy(rt.alloc(), written.as_slice()).expect(&rt, "memory");
-    check_text(&rt, found.as_str(), wanted.as_str(), "script");
 }
