@@ -125,11 +125,6 @@ seen_here index name seen first e so_far same within is =
     ∙ ap (λ (k : ℕ). (get_or index k no_entry).0) (sym same)
     ∙ so_far (omega (arith, same, within))
 
-pub alike_here : (n : ℕ) (index : List (List ℕ × ℕ)) (name : List ℕ) (first : ℕ) (e : List ℕ × ℕ) → AreAlike n name index → first < length index
-    → e ≡ get_or index first e → take n e.0 ≡ take n name
-alike_here n index name first e all within is =
-    ap (λ (f : List ℕ × ℕ). take n f.0) (is ∙ get_or_default index first e no_entry within) ∙ all first within
-
 -- ---- the entries of definitions
 
 entry_alike : (n m j : ℕ) (name own : List ℕ) (ds : List Definition) → BeginAlike n name ds → Contains (entries m ds) (own, j) → take n own ≡ take n name

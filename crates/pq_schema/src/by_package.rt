@@ -9,7 +9,7 @@ ghost use Rattle.std.specs.Prelude.{◌≡◌, ℕ, ◌<◌, ◌≤◌, ◌++◌
 ghost use Rattle.std.specs.Option.{option_copied};
 ghost use Rattle.std.specs.Ordering.{is_lt, nat_cmp};
 ghost use Rattle.std.specs.Cmp.Lexicographic.{slice_cmp};
-ghost use Rattle.std.specs.List.{Contains, list_any, starts_with};
+ghost use Rattle.std.specs.List.{Contains, starts_with};
 ghost use Rattle.std.specs.List.Sorted.{IsSorted};
 ghost use Rattle.pq_rules.specs.Relations.{In};
 ghost use Rattle.pq_schema.specs.aux.Grouping.{IsIndex, root_order};
@@ -93,17 +93,6 @@ fn first_from(packages: &[Entry], name: &str) -> usize
             ensures { result ≡ is_lt (slice_cmp nat_cmp entry.now.0 (dotted name.entry.now)) }
         { is_before(entry.0.as_str().as_bytes(), name.as_bytes()) },
     )
-}
-
-/// Whether one of the packages is `name`, or begins with `name` and a dot.
-pub(crate) fn has_package(packages: &[Entry], name: &str) -> bool
-    requires { IsSorted root_order packages.now }
-    ensures is { result ≡ list_any (λ e. starts_with nat_eq e.0 (dotted name.now)) packages.now }
-{
-    match packages.get(first_from(packages, name)) {
-        Some(entry) => is_inside(entry.0.as_str().as_bytes(), name.as_bytes()),
-        None => false,
-    }
 }
 
 /// Adds the places of the files of the package `root` to `near`.

@@ -15,7 +15,7 @@ ghost use Rattle.pq_schema.specs.aux.NameParts.{leading};
 ghost use Rattle.pq_schema.specs.aux.PackageRange.{IsRange};
 ghost use Rattle.pq_schema.specs.aux.Scopes.{chain};
 
-use crate::by_package::{Entry, has_package, packages_of, places_near};
+use crate::by_package::{Entry, packages_of, places_near};
 use crate::named::{Place, file_of, first_definition};
 use crate::nesting::outer;
 use crate::package_range::PackageRange;
@@ -195,7 +195,7 @@ impl Files {
         if text.is_empty() {
             return false;
         }
-        has_package(&self.packages, text)
+        PackageRange::all(&self.packages).has(text)
     }
 
     /// Whether `name` is a package of the files, or the part of one before a dot. A name that is no

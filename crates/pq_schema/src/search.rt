@@ -2,7 +2,8 @@
 //! (proto3 language specification, "Packages and Name Resolution".)
 //!
 //! Each scope costs one look-up of a full name, which is spelled in pieces, without a copy of the
-//! scope, and one among the packages inside the scope. The files that can have one of these names are found once.
+//! scope, and one among the packages inside the scope. The files that can have one of these names are
+//! found once.
 ghost use Rattle.std.specs.Prelude.{◌≡◌, ◌++◌, ℕ, List, ◌<◌, IfOk, OnOk, length, map};
 ghost use Rattle.std.specs.List.{concat};
 ghost use Rattle.pq_rules.specs.Relations.{Each};
