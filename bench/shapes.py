@@ -113,6 +113,16 @@ def inside_all(name):
     return ".".join([name] + ["M"] * 60 + ["P" * len(name)])
 
 
+def copies_in_long(copy):
+    """Texts of n bytes: half is the name of a message, the rest copies of other messages in it. A definition is asked, which
+    nothing of the text answers: errors would have the long name each."""
+    def text(n):
+        start = HEAD + "message " + "M" * (n // 2) + "{"
+        text = start + copy * ((n - len(start)) // len(copy)) + "}"
+        return b"", opened("a.proto", text) + asked(1, METHODS["definitions"], "a.proto", position={"line": 0, "character": 0})
+    return text
+
+
 def accumulated(field, length):
     """The texts of fields, each with the length of what ends in it."""
     for i in itertools.count(1):
@@ -392,6 +402,9 @@ TEXTS = [of_compile(*case) for case in compile.CASES] + [
     Shape("n bytes: half a package, dotted names whose first part is found, beside a longer package",
           half_package(lambda n: "a", "M.N", longer=True), 25_000),
     Shape("n bytes: half a package, dotted names whose first part is a package", half_package(lambda n: "a", "a.N"), 25_000),
+    Shape("n bytes: half a message's name, copies of two messages in it: a definition", copies_in_long("message A{message A{}}"), 25_000),
+    Shape("n bytes: half a message's name, copies of messages nested 60 deep in it: a definition",
+          copies_in_long("message A{" * 60 + "}" * 60), 25_000),
     Shape("n equal messages in a package of 10 n bytes", equal_messages, 250, REPLIED),
     Shape("n references in a package of 10 n bytes: descriptors", long_names, 250, REPLIED),
     Shape("messages", lambda n: repeated("message M%(n)d{}", n), 1_000),

@@ -1,5 +1,5 @@
 //! The files that a file reaches, the first of them with their definitions.
-ghost use Rattle.std.specs.Prelude.{◌≡◌, ◌++◌, ◌∷◌, [], ℕ, List, Some, cond, length, IfOk, OnOk, OnErr, option_copied, option_map, option_to_list, slice_get, drop, find, bytes_eq};
+ghost use Rattle.std.specs.Prelude.{◌≡◌, ◌++◌, ◌∷◌, [], ℕ, List, Some, cond, length, IfOk, OnOk, OnErr, option_copied, option_map, option_to_list, slice_get, drop, find, bytes_eq, true};
 ghost use Rattle.std.specs.BTreeMap.{get, is_at};
 ghost use Rattle.std.specs.Cmp.Lexicographic.{slice_cmp};
 ghost use Rattle.std.specs.Ordering.{nat_cmp};
@@ -159,6 +159,16 @@ fn pick(alloc: Global, files: &[FileDefs], names: &[Text]) -> Result<Vec<FileDef
     }
 }
 
+/// Whether `files` is one file, and `visible` its name alone.
+fn is_alone(visible: &[Text], files: &[FileDefs]) -> bool
+    ensures alone { result ≡ true → picked files.now visible.now ≡ files.now }
+{
+    match (visible, files) {
+        ([name], [file]) => file.file == *name,
+        _ => false,
+    }
+}
+
 /// The scope of a file that reaches `files` and sees those of them with the names `visible`.
 pub(crate) fn scope_of(
     alloc: Global,
@@ -167,6 +177,9 @@ pub(crate) fn scope_of(
 ) -> Result<Shared<Scope>, Memory>
     ensures scope { IfOk result (λ s. s ≡ scope_by visible.now files.items) }
 {
+    if is_alone(visible, files.as_slice()) {
+        return Shared::new(alloc, Scope::of_visible(alloc, files)?);
+    }
     let visible = pick(alloc, files.as_slice(), visible)?;
     let scope = Scope::new(alloc, visible, files)?;
     Shared::new(alloc, scope)

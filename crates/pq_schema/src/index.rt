@@ -6,6 +6,10 @@
 //! first. So most names are told apart by one comparison of numbers, and names of one scope without
 //! a look at the scope. The names come from strangers; neither cost grows faster than N log N
 //! comparisons of names, whatever their codes.
+//!
+//! Equal names are the dearest to compare, since all their bytes are read. So the entries are sorted
+//! by code alone before: copies of a name are then side by side, in order, and the sort by name,
+//! which begins with what is in order, compares each with its neighbour alone.
 ghost use Rattle.std.specs.Prelude.{◌≡◌, ℕ, ◌<◌, ◌≤◌, true, false, length, get_or, [], cond, find, bytes_eq, take, IfOk};
 ghost use Rattle.std.specs.Option.{option_copied};
 ghost use Rattle.std.specs.Ordering.{is_eq, is_lt};
@@ -34,6 +38,7 @@ pub(crate) fn index_of(
         let name = definitions[place].full_name.copy()?;
         index.push((Coded::new(name), place))?;
     }
+    index.sort_by_key(|entry: &(Coded, usize)| -> u64 { entry.0.code() })?;
     index.sort()?;
     Ok(index)
 }

@@ -127,7 +127,8 @@ fn resolve_uses(
 }
 
 /// The resolved references of a file of the package `root` with the statements `nodes` and the scope
-/// `scope`. The files that are reached are searched only where the visible files lack one.
+/// `scope`. The files that are reached are searched only where the visible files lack one, and are
+/// others.
 fn resolve_nodes(
     alloc: Global,
     scope: &Scope,
@@ -138,6 +139,9 @@ fn resolve_nodes(
     ensures resolved { IfOk result (λ rs. rs ≡ resolved_by scope.now nodes.now) }
 {
     let visible = find_each(alloc, scope.visible_files(), root, nodes)?;
+    if scope.sees_all() {
+        return resolve_uses(alloc, &visible, &visible);
+    }
     let reached = find_missing(alloc, scope, root, nodes, &visible)?;
     resolve_uses(alloc, &visible, &reached)
 }

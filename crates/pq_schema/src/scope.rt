@@ -1,5 +1,5 @@
 //! The scope of a file: the definitions that it sees, and those that it reaches.
-ghost use Rattle.std.specs.Prelude.{◌≡◌, IfOk, IsTrue};
+ghost use Rattle.std.specs.Prelude.{◌≡◌, IfOk, IsTrue, true};
 ghost use Rattle.std.specs.Option.{option_copied};
 ghost use Rattle.pq_schema.specs.Others.{first_other, other_files};
 
@@ -24,15 +24,17 @@ pub struct FileDefs {
 #[derive(Drop)]
 pub struct Scope {
     visible: Files,
-    reach: Files,
+    /// The files that are reached, unless they are those that are visible.
+    reach: Option<Files>,
 }
 
 impl Model for Scope {
+    ghost use Rattle.std.specs.Prelude.{unwrap_or};
     ghost use Rattle.pq_schema.specs.ScopeContents.{Scope as Contents};
 
     ghost Value = { Contents };
 
-    ghost view = { λ s. record { visible = s.visible; reach = s.reach } };
+    ghost view = { λ s. record { visible = s.visible; reach = unwrap_or s.reach s.visible } };
 }
 
 impl Scope {
@@ -43,7 +45,22 @@ impl Scope {
     {
         let visible = Files::new(alloc, visible)?;
         let reach = Files::new(alloc, reach)?;
-        Ok(Scope { visible, reach })
+        Ok(Scope {
+            visible,
+            reach: Some(reach),
+        })
+    }
+
+    /// The scope of a file that sees and reaches the files `files`.
+    pub(crate) fn of_visible(alloc: Global, files: Vec<FileDefs>) -> Result<Scope, Memory>
+        ensures contents { IfOk result
+            (λ s. s ≡ record { visible = files.items; reach = files.items }) }
+    {
+        let visible = Files::new(alloc, files)?;
+        Ok(Scope {
+            visible,
+            reach: None,
+        })
     }
 
     /// The files whose definitions the file sees, in order.
@@ -57,7 +74,14 @@ impl Scope {
     pub fn reach(&self) -> &[FileDefs]
         ensures value { result.now ≡ self.now.reach }
     {
-        self.reach.as_slice()
+        self.reached_files().as_slice()
+    }
+
+    /// Whether the file is known to see each file that it reaches.
+    pub(crate) fn sees_all(&self) -> bool
+        ensures all { result ≡ true → self.now.visible ≡ self.now.reach }
+    {
+        self.reach.is_none()
     }
 
     /// The name of the first file that defines `full_name`, of the files that the file `file` sees,
@@ -105,7 +129,10 @@ impl Scope {
     pub(crate) fn reached_files(&self) -> &Files
         ensures value { result.now ≡ self.now.reach }
     {
-        &self.reach
+        match &self.reach {
+            Some(files) => files,
+            None => &self.visible,
+        }
     }
 }
 

@@ -1,5 +1,7 @@
 use Rattle.std.proofs.Common.{◌≡◌, ℕ, List, [], ◌∷◌, ◌++◌, get_or, ap, subst, ◌∙◌}
 use Rattle.std.specs.List.Sorted.{IsPermutation}
+use Rattle.std.proofs.lemmas.List.Sorted.{IsPermutation-trans}
+use Rattle.pq_schema.specs.aux.Index.{entries}
 use Rattle.pq_schema.proofs.IndexLemmas.{entries_more, entries_all}
 use Rattle.pq_schema.proofs.index.index_of.Goals as goal
 
@@ -16,7 +18,9 @@ places-preserved c =
 pub returns : goal.returns
 returns c =
     let all = entries_all c.args.definitions.now c.places.place c.places.index.items c.places-test.false c.places.invariant in
+    let coded : IsPermutation (entries 0 c.args.definitions.now) c.sort_by_key.new.self.items =
+    subst (λ (es : List (List ℕ × ℕ)). IsPermutation es c.sort_by_key.new.self.items) all c.sort_by_key.ensures.permutation in
     record {
-      same = subst (λ (es : List (List ℕ × ℕ)). IsPermutation es c.sort.new.self.items) all c.in_ok-sort.ensures.permutation;
+      same = IsPermutation-trans (entries 0 c.args.definitions.now) c.sort_by_key.new.self.items c.sort.new.self.items coded c.sort.ensures.permutation;
       sorted = c.in_ok-sort.ensures.sorted;
     }
