@@ -23,7 +23,7 @@ pub fn copy_answer<R: Rules>(
 pub fn is_same_key<R: Rules>(_rules: &R, a: &R::Key, b: &R::Key) -> bool
     ensures { IsTrue result ↔ (a.now ≡ b.now) }
 {
-    a.cmp(b).is_eq()
+    a == b
 }
 
 /// Whether `a` and `b` are the same keys in the same order.
