@@ -114,12 +114,12 @@ def inside_all(name):
 
 
 def copies_in_long(copy):
-    """Texts of n bytes: half is the name of a message, the rest copies of other messages in it. A definition is asked, which
-    nothing of the text answers: errors would have the long name each."""
+    """Texts of n bytes: half is the name of a message, the rest copies of other messages in it. The definition at a place that
+    has none is asked: diagnostics would have the long name in each error."""
     def text(n):
         start = HEAD + "message " + "M" * (n // 2) + "{"
-        text = start + copy * ((n - len(start)) // len(copy)) + "}"
-        return b"", opened("a.proto", text) + asked(1, METHODS["definitions"], "a.proto", position={"line": 0, "character": 0})
+        whole = start + copy * ((n - len(start)) // len(copy)) + "}"
+        return b"", opened("a.proto", whole) + asked(1, METHODS["definitions"], "a.proto", position={"line": 0, "character": 0})
     return text
 
 
