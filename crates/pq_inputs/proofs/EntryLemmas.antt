@@ -167,6 +167,13 @@ put_at_end ns es name paired nowhere =
       written = λ e. rw (side_push ns es name blank paired, at_end, with_new entries name e none) (set-append_seam entries (name, blank) [] (name, e));
     }
 
+-- the source of an entry stands at its place
+pub sources_get : (es : Entries) (i : ℕ) (n : List ℕ) (e : Entry) → slice_get es i ≡ Some (n, e) → slice_get (sources_of es) i ≡ Some (n, e.file)
+unfolding sources_of
+sources_get [] i n e is = absurd (none-some (n, e) is)
+sources_get (f ∷ es) zero n e is = ap (λ (p : List ℕ × Entry). Some (p.0, p.1.file)) (same_Some f (n, e) is)
+sources_get (f ∷ es) (suc i) n e is = sources_get es i n e is
+
 -- the file of an entry that was found
 pub file_found : (es : Entries) (files : Sources) (name : List ℕ) (entry : Entry) → sources_of es ≡ files → lookup es name ≡ Some entry → file_in files name ≡ entry.file
 file_found es files name entry are found = ap (λ (s : Sources). file_in s name) (sym are) ∙ file_is es name ∙ ap (λ (e : Entry). e.file) (entry_found es name entry found)

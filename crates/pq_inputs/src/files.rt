@@ -1,5 +1,5 @@
 //! The records of all files that were ever set, by name. A look-up is one search of the names.
-ghost use Rattle.std.specs.Prelude.{◌≡◌, ◌≢◌, ◌≤◌, [], length, slice_get, slice_set, string_bytes, MatchOption, IfOk, IfErr, OnErr, if◌then◌else◌, is_some, Some};
+ghost use Rattle.std.specs.Prelude.{◌≡◌, ◌≢◌, ◌≤◌, [], length, slice_get, slice_set, string_bytes, MatchOption, IfOk, IfErr, IfSome, IfNone, OnErr, if◌then◌else◌, is_some, None, Some};
 ghost use Rattle.std.specs.Option.{option_map, option_copied};
 ghost use Rattle.pq_inputs.specs.Sources.{File};
 ghost use Rattle.pq_inputs.specs.Refusal.{max_files};
@@ -53,12 +53,36 @@ impl Files {
         self.records.len()
     }
 
+    /// The record at `place`, that of the file `_name`.
+    fn record(&self, _name: &str, place: usize) -> &Record
+        requires { slice_get self.now place ≡ Some (_name.now, entry_in self.now _name.now) }
+        ensures { result.now ≡ entry_in self.now _name.now }
+    {
+        &self.records[place]
+    }
+
     /// The record of the file `name`, or `None` where it was never set.
     pub(crate) fn get(&self, name: &str) -> Option<&Record>
         ensures { option_copied result ≡ lookup self.now name.now }
     {
         match self.names.find(name) {
             Some(id) => Some(&self.records[id.number() as usize]),
+            None => None,
+        }
+    }
+
+    /// The place of the file `name`, or `None` where it was never set. It is looked for first at
+    /// `near`.
+    pub(crate) fn find(&self, name: &str, near: usize) -> Option<usize>
+        ensures found { IfSome result (λ place.
+            slice_get self.now place ≡ Some (name.now, entry_in self.now name.now)) }
+        ensures none { IfNone result (lookup self.now name.now ≡ None) }
+    {
+        if self.names.is_at(near, name) {
+            return Some(near);
+        }
+        match self.names.find(name) {
+            Some(id) => Some(id.number() as usize),
             None => None,
         }
     }
@@ -93,6 +117,21 @@ impl Files {
         };
         self.records.push_reserved(Record::blank());
         Ok(id.number() as usize)
+    }
+
+    /// The revision of the last change of the file `name`, or 0, and its durability. The file is
+    /// looked for first at the place `near`.
+    pub(crate) fn last_change(&self, name: &str, near: usize) -> (u64, Durability)
+        ensures changed { result.0 ≡ (entry_in self.now name.now).changed }
+        ensures durability { result.1 ≡ (entry_in self.now name.now).file.durability }
+    {
+        match self.find(name, near) {
+            Some(place) => {
+                let record = self.record(name, place);
+                (record.changed(), record.durability())
+            }
+            None => (0, Durability::Low),
+        }
     }
 
     /// Writes `text` and `durability` to the file `name` at `revision`. Where the file changed, its

@@ -1,10 +1,10 @@
 //! The inputs: the files now, and what is known of their changes.
-ghost use Rattle.std.specs.Prelude.{◌≡◌, ℕ, ◌+◌, ◌<◌, ◌≤◌, List, [], ◌∷◌, ◌++◌, length, slice_get, string_bytes, Option, Some, None, unwrap_or, IfOk, OnOk, IfErr, OnErr};
+ghost use Rattle.std.specs.Prelude.{◌≡◌, ℕ, ◌+◌, ◌<◌, ◌≤◌, List, [], ◌∷◌, ◌++◌, length, slice_get, string_bytes, Option, Some, None, false, unwrap_or, IfOk, IfSome, IfNone, OnOk, IfErr, OnErr};
 ghost use Rattle.std.specs.Option.{option_map, option_copied};
 ghost use Rattle.pq_inputs.specs.declared.durability.Durability.{Durability};
 ghost use Rattle.pq_inputs.specs.Sources.{File, Sources, file_in, with_file, ChangesAt};
 ghost use Rattle.pq_inputs.specs.Changes.{level, IsLastChange, IsLastChangeOf};
-ghost use Rattle.pq_inputs.specs.Refusal.{is_full_for, is_too_long, last_revision, refusal};
+ghost use Rattle.pq_inputs.specs.Refusal.{is_full_for, is_too_long, last_revision, refusal, was_set};
 
 use crate::durability::Durability;
 use crate::fault::{InputFault, Memory, SetRefused};
@@ -28,6 +28,15 @@ pub struct Inputs {
     revision: u64,
     last_changed: LastChanged,
     history: Vec<Past>,
+}
+
+/// The last change of a file.
+#[derive(Clone, Copy, Debug, PartialEq, Eq)]
+pub struct Change {
+    /// The last revision at which the text or durability of the file changed, or 0.
+    pub revision: Revision,
+    /// The durability of the file since, or `Low` where it was never set.
+    pub durability: Durability,
 }
 
 impl Model for Inputs {
@@ -172,6 +181,35 @@ impl Inputs {
             file_in then name.now ≡ file_in self.now.files name.now }
     {
         Revision::of(self.files.changed(name))
+    }
+
+    /// The number of the file `name`: that of the files that were set before it, or `None` where it
+    /// was never set. It stays when files are set.
+    ///
+    /// It is looked for first at `near`. Where that is the number, this takes one comparison of
+    /// names, and else a search.
+    pub fn number_of(&self, name: &str, near: usize) -> Option<usize>
+        ensures number { IfSome result (λ number. slice_get self.now.files number ≡
+            Some (name.now, file_in self.now.files name.now)) }
+        ensures none { IfNone result (was_set self.now.files name.now ≡ false) }
+    {
+        match self.files.find(name, near) {
+            Some(number) => Some(number),
+            None => None,
+        }
+    }
+
+    /// The last change of the file `name`: what `changed_at` and `durability` return. The file is
+    /// looked for first at the number `near`.
+    pub fn change_of(&self, name: &str, near: usize) -> Change
+        ensures last { IsLastChange self.now.history name.now result.revision }
+        ensures durability { result.durability ≡ (file_in self.now.files name.now).durability }
+    {
+        let (revision, durability) = self.files.last_change(name, near);
+        Change {
+            revision: Revision::of(revision),
+            durability,
+        }
     }
 
     /// The last revision at which a file changed whose durability before the change was at least

@@ -12,7 +12,8 @@
 //!
 //! `now` and `last_changed` take constant time. `get`, `durability` and `changed_at` search the
 //! names of n files once: log n comparisons. `set` does so too, compares the text with the one
-//! before, and copies the name where the file is new.
+//! before, and copies the name where the file is new. `number_of` and `change_of` take one comparison
+//! where they are given the number of the file.
 //!
 //! Modules: `inputs`, `files` (records by name), `record`, `last_changed`, `past` (the history),
 //! `revision`, `durability`, `fault` (errors), `limits`, `laws`.
@@ -31,7 +32,7 @@ mod revision;
 
 pub use durability::Durability;
 pub use fault::{InputFault, Memory, SetRefused};
-pub use inputs::Inputs;
+pub use inputs::{Change, Inputs};
 pub use laws::one_last_change;
 pub use limits::{LAST_REVISION, MAX_FILES, MAX_TEXT};
 pub use revision::Revision;

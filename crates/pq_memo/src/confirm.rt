@@ -20,7 +20,7 @@ ghost use Rattle.pq_memo.specs.aux.Slots.{key_at};
 use crate::entry::{Entry, number_at};
 use crate::frame::Frame;
 use crate::memos::Memos;
-use crate::slots::NOWHERE;
+use crate::slots::{FILES, NOWHERE, file_number};
 use crate::stack::Stack;
 use crate::trail::{Mark, Passage, Trail};
 use crate::writes::lower;
@@ -48,7 +48,7 @@ impl<R: Rules> Memos<R> {
     }
 
     /// What a pass over the memos in the slots `numbers`, from the place `from` on, comes to. One
-    /// that was verified before `now`, or changed after `since`, ends it.
+    /// that was verified before `now`, or changed after `since`, ends it. It goes past inputs.
     fn passed_from(&self, numbers: &[usize], from: usize, since: u64, now: u64) -> Passage {
         for i in from..numbers.len() {
             match self.entries.entry_of(numbers[i]) {
@@ -61,7 +61,7 @@ impl<R: Rules> Memos<R> {
                     }
                 }
                 None => {
-                    if numbers[i] != NOWHERE {
+                    if numbers[i] < FILES {
                         return Passage::Shut;
                     }
                 }
@@ -102,7 +102,10 @@ impl<R: Rules> Memos<R> {
         ensures durability { IfSome result (λ p. HasDurability (R.machine self.now.rules) inputs.now.files (HasIn (memo_at R.Key.cmp self.now.places)) key.now p.1) }
     {
         match self.rules.file(key) {
-            Some(name) => Some((inputs.changed_at(name).number(), inputs.durability(name))),
+            Some(name) => {
+                let change = inputs.change_of(name, file_number(near));
+                Some((change.revision.number(), change.durability))
+            }
             None => match self.entry(key, near) {
                 Some(entry) => {
                     if entry.verified() == inputs.now().number() {

@@ -264,7 +264,7 @@ impl<R: Rules> Memos<R> {
         ensures refused { OnErr result (IsSameTable (memo_at R.Key.cmp self.old.places) (memo_at R.Key.cmp self.new.places)) }
         ensures returned { IfErr result (λ f. (f.key ≡ key) × WaitsAt f.stage part asked reads.items) }
     {
-        near.next = self.read_number(&key, near.own, reads.len());
+        near.next = self.read_number(near.own, reads.len());
         match self.read_answer(alloc, &asked, inputs, &mut near.next) {
             Ok(Some(answer)) => self.go_on(key, near.own, part, asked, reads, answer, inputs),
             Ok(None) => match self.rules().copy_key(alloc, &asked) {
@@ -301,7 +301,7 @@ impl<R: Rules> Memos<R> {
         ensures refused { OnErr result (IsSameTable (memo_at R.Key.cmp self.old.places) (memo_at R.Key.cmp self.new.places)) }
         ensures returned { IfErr result (λ f. (f.key ≡ frame.key) × IsSameStage f.stage frame.stage) }
     {
-        let mut near = Near::new(self.number(&frame.key, NOWHERE));
+        let mut near = Near::new(self.number(&frame.key, NOWHERE, inputs));
         self.step_near(alloc, frame, inputs, &mut near)
     }
 

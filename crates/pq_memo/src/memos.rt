@@ -12,7 +12,7 @@ ghost use Rattle.pq_memo.specs.Table.{memo_at, HasIn};
 
 use crate::entry::{Entry, number_at};
 use crate::look::{Look, Why};
-use crate::slots::{NOWHERE, Slots};
+use crate::slots::{NOWHERE, Slots, file_number, input_number};
 use crate::state::{Passed, State};
 use pq_inputs::Inputs;
 use pq_rules::{Answer, Rules, is_same_key};
@@ -60,14 +60,17 @@ impl<R: Rules> Memos<R> {
         &self.rules
     }
 
-    /// The number of `key`, looked for first at `near`, or `NOWHERE`. An input has none.
-    pub(crate) fn number(&self, key: &R::Key, near: usize) -> usize {
-        if self.rules.level(key) == 0 {
-            return NOWHERE;
-        }
-        match self.entries.find(&self.rules, key, near) {
-            Some(number) => number,
-            None => NOWHERE,
+    /// The number of `key`, which is looked for first at `near`, or `NOWHERE`.
+    pub(crate) fn number(&self, key: &R::Key, near: usize, inputs: &Inputs) -> usize {
+        match self.rules.file(key) {
+            Some(name) => match inputs.number_of(name, file_number(near)) {
+                Some(file) => input_number(file),
+                None => NOWHERE,
+            },
+            None => match self.entries.find(&self.rules, key, near) {
+                Some(number) => number,
+                None => NOWHERE,
+            },
         }
     }
 
@@ -90,10 +93,10 @@ impl<R: Rules> Memos<R> {
         self.entries.entry(&self.rules, key, near)
     }
 
-    /// Where to look for the read `i` of `key`, whose slot is looked for at `near`: where it was
-    /// when the memo of `key` was made.
-    pub(crate) fn read_number(&self, key: &R::Key, near: usize, i: usize) -> usize {
-        match self.entry(key, near) {
+    /// Where to look for the read `i` of the memo in the slot `number`: where it was when that memo
+    /// was made.
+    pub(crate) fn read_number(&self, number: usize, i: usize) -> usize {
+        match self.entries.entry_of(number) {
             Some(entry) => entry.number(i),
             None => NOWHERE,
         }
@@ -116,7 +119,10 @@ impl<R: Rules> Memos<R> {
         ensures stale { IfNone result (IsUpToDate (R.machine self.now.rules) inputs.now.revision (HasIn (memo_at R.Key.cmp self.now.places)) key.now → ⊥) }
     {
         match self.rules.file(key) {
-            Some(name) => Some(inputs.changed_at(name).number()),
+            Some(name) => {
+                let change = inputs.change_of(name, file_number(near));
+                Some(change.revision.number())
+            }
             None => match self.entry(key, near) {
                 Some(entry) => {
                     if entry.verified() == inputs.now().number() {

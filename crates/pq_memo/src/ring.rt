@@ -106,12 +106,13 @@ impl<R: Rules> Memos<R> {
         alloc: Global,
         members: &[Member<R::Key>],
         numbers: &[usize],
+        inputs: &Inputs,
     ) -> Result<Vec<Hint>, Memory> {
         let mut hints = Vec::new(alloc);
         for i in 0..members.len() {
             let key = members[i].key();
-            let own = self.number(key, number_at(numbers, i));
-            let reads = self.numbers_of(key, own, members[i].reads())?;
+            let own = self.number(key, number_at(numbers, i), inputs);
+            let reads = self.numbers_of(own, members[i].reads(), inputs)?;
             push(&mut hints, Hint { own, reads })?;
         }
         Ok(hints)
@@ -266,7 +267,7 @@ impl<R: Rules> Memos<R> {
         ensures returned { IfErr result (λ u. u.members.items ≡ members.items) }
     {
         let now = inputs.now().number();
-        let hints = match self.hints_of(alloc, &members, numbers) {
+        let hints = match self.hints_of(alloc, &members, numbers, inputs) {
             Ok(hints) => hints,
             Err(_) => return Err(UnpublishedRing { members }),
         };

@@ -3,7 +3,8 @@
 //! A key has a number, that of its slot: the count of the slots made before. It never changes. An
 //! index finds the number of a key in logarithmic time. Who knows where a key may be passes that
 //! number along: one comparison then takes the place of the search, and a wrong number only costs
-//! that comparison. So numbers that are kept elsewhere are in no contract.
+//! that comparison. So numbers that are kept elsewhere are in no contract. An input has no slot; its
+//! number says where its file is among the inputs.
 ghost use Rattle.std.specs.Prelude.{◌≡◌, ◌<◌, ◌++◌, ◌∷◌, [], length, IsTrue, IsSome, IfSome, IfNone, IfErr, OnOk, OnErr, Some, None, option_copied, if◌then◌else◌};
 ghost use Rattle.std.specs.Option.{option_map};
 ghost use Rattle.std.specs.Map.{lookup};
@@ -25,6 +26,22 @@ use std::marker::Model;
 
 /// A number that no slot has.
 pub(crate) const NOWHERE: usize = usize::MAX;
+
+/// Numbers from this one on are of inputs, which have no slots: this one and that of the file.
+pub(crate) const FILES: usize = usize::MAX / 2;
+
+/// The number of the input whose file has the number `file`.
+pub(crate) fn input_number(file: usize) -> usize {
+    file.saturating_add(FILES)
+}
+
+/// The number of the file of the input with the number `number`, or `NOWHERE`.
+pub(crate) fn file_number(number: usize) -> usize {
+    match number.checked_sub(FILES) {
+        Some(file) => file,
+        None => NOWHERE,
+    }
+}
 
 /// Where to look first for the key of a frame, and for the key that it waits for. No contract
 /// speaks of it.

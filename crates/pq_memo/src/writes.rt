@@ -19,7 +19,7 @@ ghost use Rattle.pq_memo.specs.aux.Written.{HasRoom};
 
 use crate::entry::{Entry, number_at};
 use crate::memos::Memos;
-use crate::slots::NOWHERE;
+use crate::slots::{NOWHERE, file_number};
 use crate::unpublished::Unpublished;
 use pq_inputs::{Durability, Inputs};
 use pq_rules::{Answer, Memory, Rules, Shared, push, same_answer};
@@ -41,7 +41,7 @@ impl<R: Rules> Memos<R> {
         ensures { HasDurability (R.machine self.now.rules) inputs.now.files (HasIn (memo_at R.Key.cmp self.now.places)) key.now result }
     {
         match self.rules.file(key) {
-            Some(name) => inputs.durability(name),
+            Some(name) => inputs.change_of(name, file_number(near)).durability,
             None => match self.entry(key, near) {
                 Some(entry) => entry.durability(),
                 None => unreachable!(),
@@ -90,7 +90,7 @@ impl<R: Rules> Memos<R> {
         ensures kept { KeptOver R.Key.cmp (R.machine self.old.rules) inputs.now self.new.places }
         ensures marked { IsMarked R.Key.cmp (R.machine self.old.rules) inputs.now self.old.places key.now self.new.places }
     {
-        let near = self.number(key, NOWHERE);
+        let near = self.number(key, NOWHERE, inputs);
         self.mark_near(key, near, inputs);
     }
 
@@ -177,23 +177,23 @@ impl<R: Rules> Memos<R> {
         ensures refused { OnErr result (IsSameTable (memo_at R.Key.cmp self.old.places) (memo_at R.Key.cmp self.new.places)) }
         ensures returned { IfErr result (λ u. (u.key ≡ key) × (u.answer ≡ answer) × (u.reads.items ≡ reads.items)) }
     {
-        let near = self.number(&key, NOWHERE);
+        let near = self.number(&key, NOWHERE, inputs);
         self.publish_near(key, near, answer, reads, inputs)
     }
 
-    /// The numbers of `reads`, which the rule of `key` made. They are looked for where the reads of
-    /// its memo are, if it has one, which is looked for first at `near`.
+    /// The numbers of `reads`, which the rule of the key in the slot `own` made. They are looked for
+    /// where the reads of its memo are, if it has one.
     pub(crate) fn numbers_of(
         &self,
-        key: &R::Key,
-        near: usize,
+        own: usize,
         reads: &[R::Key],
+        inputs: &Inputs,
     ) -> Result<Vec<usize>, Memory> {
         let mut numbers = Vec::new(self.entries.alloc());
         numbers.reserve_exact(reads.len())?;
         for i in 0..reads.len() {
-            let number = self.number(&reads[i], self.read_number(key, near, i));
-            push(&mut numbers, number)?;
+            let near = self.read_number(own, i);
+            push(&mut numbers, self.number(&reads[i], near, inputs))?;
         }
         Ok(numbers)
     }
@@ -218,7 +218,7 @@ impl<R: Rules> Memos<R> {
         ensures refused { OnErr result (IsSameTable (memo_at R.Key.cmp self.old.places) (memo_at R.Key.cmp self.new.places)) }
         ensures returned { IfErr result (λ u. (u.key ≡ key) × (u.answer ≡ answer) × (u.reads.items ≡ reads.items)) }
     {
-        let numbers = match self.numbers_of(&key, near, &reads) {
+        let numbers = match self.numbers_of(near, &reads, inputs) {
             Ok(numbers) => numbers,
             Err(_) => return Err(Unpublished { key, answer, reads }),
         };

@@ -92,6 +92,17 @@ impl Names {
         self.texts[id.number() as usize].as_str()
     }
 
+    /// Whether `text` is the name with the number `number`. It takes one comparison.
+    pub fn is_at(&self, number: usize, text: &str) -> bool
+        ensures is { IsTrue result ↔ (slice_get self.now number ≡ Some text.now) }
+        ensures once { IsTrue result → (other : ℕ) → slice_get self.now other ≡ Some text.now → other ≡ number }
+    {
+        if number < self.texts.len() {
+            return self.text(NameId::of(number as u32)) == text;
+        }
+        false
+    }
+
     /// The number of names.
     pub fn len(&self) -> usize
         ensures count { result ≡ length self.now }

@@ -45,7 +45,7 @@ fn copy_file(file: &FileDefs) -> Result<FileDefs, Memory>
 const FEW: usize = 8;
 
 /// A copy of `files`, which shares the definitions, with room for one more.
-fn copy_files(alloc: Global, files: &[FileDefs]) -> Result<Vec<FileDefs>, Memory>
+pub(crate) fn copy_files(alloc: Global, files: &[FileDefs]) -> Result<Vec<FileDefs>, Memory>
     ensures copy { IfOk result (λ fs. fs.items ≡ files.now) }
 {
     let mut copies = Vec::with_capacity(alloc, files.len() + 1)?;

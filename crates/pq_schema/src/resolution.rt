@@ -75,7 +75,8 @@ pub fn resolve(
     ensures resolved { (result ≡ Err ResolveFault.Memory)
         ⊎ (result ≡ resolved scope.now within.now name.now) }
 {
-    match look_up(alloc, scope, within, name)? {
+    let reach = scope.reached_files(alloc)?;
+    match look_up(alloc, scope.visible_files(), &reach, within, name)? {
         Outcome::Type(place) => Ok(target_at(place)?),
         Outcome::NotFound => Err(ResolveFault::NotFound),
         Outcome::NotVisible(file) => Err(ResolveFault::NotVisible(file.copy()?)),

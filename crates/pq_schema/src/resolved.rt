@@ -79,24 +79,6 @@ fn is_missing(uses: &[Use<'_>]) -> bool
     false
 }
 
-/// What each reference of a file of the package `root` with the statements `nodes` is found as in the
-/// files that `scope` reaches. Where none of `visible` is nothing, these files are not searched.
-fn find_missing<'a>(
-    alloc: Global,
-    scope: &'a Scope,
-    root: &str,
-    nodes: &[Node],
-    visible: &[Use<'_>],
-) -> Result<Vec<Use<'a>>, Memory>
-    ensures found { IfOk result (λ v. (map used v.items ≡ map (used_as scope.now.reach) (flat_map (references_at root.now) (places nodes.now)))
-        ⊎ AreThere visible.now) }
-{
-    if is_missing(visible) {
-        return find_each(alloc, scope.reached_files(), root, nodes);
-    }
-    Ok(Vec::new(alloc))
-}
-
 /// The reference `visible` with what it resolves to, if it is found so in the visible files and as
 /// `reached` in those that are reached.
 fn resolve_at(visible: Use<'_>, reached: Hit<'_>) -> Result<ResolvedReference, Memory>
@@ -127,8 +109,8 @@ fn resolve_uses(
 }
 
 /// The resolved references of a file of the package `root` with the statements `nodes` and the scope
-/// `scope`. The files that are reached are searched only where the visible files lack one, and are
-/// others.
+/// `scope`. The files that are reached are searched only if there are more of them than visible
+/// ones, and a reference is nothing in these.
 fn resolve_nodes(
     alloc: Global,
     scope: &Scope,
@@ -142,7 +124,11 @@ fn resolve_nodes(
     if scope.sees_all() {
         return resolve_uses(alloc, &visible, &visible);
     }
-    let reached = find_missing(alloc, scope, root, nodes, &visible)?;
+    if !is_missing(&visible) {
+        return resolve_uses(alloc, &visible, &visible);
+    }
+    let files = scope.reached_files(alloc)?;
+    let reached = find_each(alloc, &files, root, nodes)?;
     resolve_uses(alloc, &visible, &reached)
 }
 

@@ -3,6 +3,7 @@ ghost use Rattle.std.specs.Prelude.{◌≡◌, IfOk, IsTrue, true};
 ghost use Rattle.std.specs.Option.{option_copied};
 ghost use Rattle.pq_schema.specs.Others.{first_other, other_files};
 
+use crate::collected::copy_files;
 use crate::definitions::Defs;
 use crate::files::Files;
 use crate::other_files::OtherFiles;
@@ -25,16 +26,17 @@ pub struct FileDefs {
 pub struct Scope {
     visible: Files,
     /// The files that are reached, unless they are those that are visible.
-    reach: Option<Files>,
+    reach: Option<Vec<FileDefs>>,
 }
 
 impl Model for Scope {
     ghost use Rattle.std.specs.Prelude.{unwrap_or};
+    ghost use Rattle.std.specs.Option.{option_map};
     ghost use Rattle.pq_schema.specs.ScopeContents.{Scope as Contents};
 
     ghost Value = { Contents };
 
-    ghost view = { λ s. record { visible = s.visible; reach = unwrap_or s.reach s.visible } };
+    ghost view = { λ s. record { visible = s.visible; reach = unwrap_or (option_map (λ v. v.items) s.reach) s.visible } };
 }
 
 impl Scope {
@@ -44,7 +46,6 @@ impl Scope {
             (λ s. s ≡ record { visible = visible.items; reach = reach.items }) }
     {
         let visible = Files::new(alloc, visible)?;
-        let reach = Files::new(alloc, reach)?;
         Ok(Scope {
             visible,
             reach: Some(reach),
@@ -74,7 +75,10 @@ impl Scope {
     pub fn reach(&self) -> &[FileDefs]
         ensures value { result.now ≡ self.now.reach }
     {
-        self.reached_files().as_slice()
+        match &self.reach {
+            Some(files) => files,
+            None => self.visible.as_slice(),
+        }
     }
 
     /// Whether the file is known to see each file that it reaches.
@@ -125,14 +129,12 @@ impl Scope {
         &self.visible
     }
 
-    /// The files that the file reaches by imports.
-    pub(crate) fn reached_files(&self) -> &Files
-        ensures value { result.now ≡ self.now.reach }
+    /// The files that the file reaches by imports, to be searched. Their packages are put in order
+    /// here and not kept: where all references are found in visible files, nobody searches these.
+    pub(crate) fn reached_files(&self, alloc: Global) -> Result<Files, Memory>
+        ensures files { IfOk result (λ fs. fs ≡ self.now.reach) }
     {
-        match &self.reach {
-            Some(files) => files,
-            None => &self.visible,
-        }
+        Files::new(alloc, copy_files(alloc, self.reach())?)
     }
 }
 

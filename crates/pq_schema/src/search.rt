@@ -28,7 +28,6 @@ use crate::named::Place;
 use crate::nesting::{innermost, outer};
 use crate::outward::{Outward, dotted_outward, single_outward};
 use crate::package_range::PackageRange;
-use crate::scope::Scope;
 use crate::spelled::Spelled;
 use crate::uses::{find_each, hit_or_nothing};
 use pq_lex::Span;
@@ -391,18 +390,19 @@ fn find_within<'a>(
     Ok(hit_or_nothing(&uses, 0))
 }
 
-/// What `name` resolves to in the message, service or package `within` of a file with the scope
-/// `scope`.
+/// What `name` resolves to in the message, service or package `within` of a file that sees the files
+/// `visible` and reaches the files `reach`.
 pub(crate) fn look_up<'a>(
     alloc: Global,
-    scope: &'a Scope,
+    visible: &'a Files,
+    reach: &'a Files,
     within: &str,
     name: &str,
 ) -> Result<Outcome<'a>, Memory>
-    ensures is { IfOk result (λ o. lookup_at o ≡ lookup scope.now within.now name.now) }
+    ensures is { IfOk result (λ o. lookup_at o ≡ lookup (record { visible = visible.now; reach = reach.now }) within.now name.now) }
 {
-    let visible = find_within(alloc, scope.visible_files(), within, name)?;
-    let reached = find_within(alloc, scope.reached_files(), within, name)?;
+    let visible = find_within(alloc, visible, within, name)?;
+    let reached = find_within(alloc, reach, within, name)?;
     Ok(outcome_of(visible, reached))
 }
 
