@@ -55,7 +55,7 @@ impl<R: Rules> Memos<R> {
         alloc: Global,
         stack: &mut Stack<R>,
         key: R::Key,
-        own: usize,
+        near: Near,
         turn: Turn<R::Key, R::Part, R::Value>,
         reads: Vec<R::Key>,
         inputs: &Inputs,
@@ -75,12 +75,12 @@ impl<R: Rules> Memos<R> {
                 // bounds the steps.
                 let _left = self.rules().left(&part);
                 let stage = Stage::Waiting(part, asked, reads);
-                stack.push(alloc, self.rules(), Frame { key, stage }, own)?;
+                stack.push(alloc, self.rules(), Frame { key, stage }, near)?;
                 Ok(())
             }
             Turn::Done(value) => {
                 let answer = Shared::new(alloc, Answer::Value(value))?;
-                match self.publish_near(key, own, answer, reads, inputs) {
+                match self.publish_near(key, near.own, answer, reads, inputs) {
                     Ok(()) => return Ok(()),
                     Err(_) => {}
                 }
@@ -96,7 +96,7 @@ impl<R: Rules> Memos<R> {
         stack: &mut Stack<R>,
         carried: &mut Vec<Carried<R::Key>>,
         key: R::Key,
-        own: usize,
+        near: Near,
         why: Why<R::Key>,
         inputs: &Inputs,
     ) -> Result<(), Memory>
@@ -120,7 +120,7 @@ impl<R: Rules> Memos<R> {
             },
         )?;
         let turn = self.rules().start(alloc, &key)?;
-        self.take_turn(alloc, stack, key, own, turn, Vec::new(alloc), inputs)?;
+        self.take_turn(alloc, stack, key, near, turn, Vec::new(alloc), inputs)?;
         Ok(())
     }
 
@@ -130,7 +130,7 @@ impl<R: Rules> Memos<R> {
         alloc: Global,
         stack: &mut Stack<R>,
         key: R::Key,
-        own: usize,
+        near: Near,
         part: R::Part,
         answer: &Answer<R::Key, R::Value>,
         reads: Vec<R::Key>,
@@ -146,7 +146,7 @@ impl<R: Rules> Memos<R> {
     {
         match self.rules().advance(alloc, part, answer) {
             Ok(turn) => {
-                self.take_turn(alloc, stack, key, own, turn, reads, inputs)?;
+                self.take_turn(alloc, stack, key, near, turn, reads, inputs)?;
                 Ok(())
             }
             Err(_) => Err(Memory),
@@ -203,7 +203,7 @@ impl<R: Rules> Memos<R> {
         ensures entered { IfOk result (λ _. HasEntered inputs.now.revision (memo_at R.Key.cmp self.old.places) (memo_at R.Key.cmp self.new.places) (stack.old ++ frame ∷ []) next stack.new) }
         ensures refused { OnErr result (IsSameTable (memo_at R.Key.cmp self.old.places) (memo_at R.Key.cmp self.new.places)) }
     {
-        stack.push(alloc, self.rules(), frame, near.own)?;
+        stack.push(alloc, self.rules(), frame, near)?;
         match stack.place_of(self.rules(), &next) {
             Some(place) => {
                 self.close(alloc, stack, place, &next, inputs)?;
@@ -212,7 +212,8 @@ impl<R: Rules> Memos<R> {
             None => {
                 let number = self.make_room(alloc, &next, near.next)?;
                 let stage = Stage::Walking(0);
-                stack.push(alloc, self.rules(), Frame { key: next, stage }, number)?;
+                let near = Near::new(number);
+                stack.push(alloc, self.rules(), Frame { key: next, stage }, near)?;
                 Ok(())
             }
         }
@@ -225,7 +226,7 @@ impl<R: Rules> Memos<R> {
         stack: &mut Stack<R>,
         carried: &mut Vec<Carried<R::Key>>,
         frame: Frame<R::Key, R::Part>,
-        own: usize,
+        near: Near,
         inputs: &Inputs,
     ) -> Result<(), Memory>
         requires kept { KeptOver R.Key.cmp (R.machine self.old.rules) inputs.now self.old.places }
@@ -237,7 +238,7 @@ impl<R: Rules> Memos<R> {
         ensures advanced { IfOk result (λ _. Advances R.Key.cmp (R.machine self.old.rules) inputs.now (memo_at R.Key.cmp self.old.places) (memo_at R.Key.cmp self.new.places) frame stack.old carried.old.items stack.new carried.new.items) }
         ensures refused { OnErr result (IsSameTable (memo_at R.Key.cmp self.old.places) (memo_at R.Key.cmp self.new.places)) }
     {
-        let mut near = Near::new(own);
+        let mut near = near;
         match self.step_near(alloc, frame, inputs, &mut near) {
             Ok(Step::Finished) => Ok(()),
             Ok(Step::Needs(frame, next)) => {
@@ -245,11 +246,12 @@ impl<R: Rules> Memos<R> {
                 Ok(())
             }
             Ok(Step::Starts(key, why)) => {
-                self.start(alloc, stack, carried, key, own, why, inputs)?;
+                self.start(alloc, stack, carried, key, near, why, inputs)?;
                 Ok(())
             }
             Ok(Step::GoesOn(key, part, answer, reads)) => {
-                self.resume(alloc, stack, key, own, part, answer.get(), reads, inputs)?;
+                let near = near.after_read();
+                self.resume(alloc, stack, key, near, part, answer.get(), reads, inputs)?;
                 Ok(())
             }
             Err(_) => Err(Memory),
@@ -284,12 +286,13 @@ impl<R: Rules> Memos<R> {
         let mut stack = Stack::new(alloc);
         let copy = self.rules().copy_key(alloc, key)?;
         let stage = Stage::Walking(0);
-        stack.push(alloc, self.rules(), Frame { key: copy, stage }, number)?;
+        let near = Near::new(number);
+        stack.push(alloc, self.rules(), Frame { key: copy, stage }, near)?;
         let mut trail = Trail::new(alloc, self.entries.count());
         'steps: while let Some(frame) = stack.pop() {
-            let own = stack.popped();
-            self.confirm(&stack, &frame, own, &mut trail, inputs);
-            self.advance(alloc, &mut stack, &mut carried, frame, own, inputs)?;
+            let near = stack.popped();
+            self.confirm(&stack, &frame, near.own, &mut trail, inputs);
+            self.advance(alloc, &mut stack, &mut carried, frame, near, inputs)?;
         }
         Ok(carried)
     }

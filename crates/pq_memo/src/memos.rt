@@ -94,12 +94,16 @@ impl<R: Rules> Memos<R> {
     }
 
     /// Where to look for the read `i` of the memo in the slot `number`: where it was when that memo
-    /// was made.
-    pub(crate) fn read_number(&self, number: usize, i: usize) -> usize {
-        match self.entries.entry_of(number) {
+    /// was made, or else where the read after that in the slot `before` was last.
+    pub(crate) fn read_number(&self, number: usize, i: usize, before: usize) -> usize {
+        let known = match self.entries.entry_of(number) {
             Some(entry) => entry.number(i),
             None => NOWHERE,
+        };
+        if known == NOWHERE {
+            return self.entries.after(before);
         }
+        known
     }
 
     /// The answer of the memo of `key`, in logarithmic time.

@@ -16,10 +16,10 @@ ghost use Rattle.pq_memo.specs.Writes.{remarked};
 ghost use Rattle.pq_memo.specs.aux.Slots.{key_at, value_at, with_at};
 ghost use Rattle.pq_memo.specs.aux.Written.{HasRoom};
 
-use crate::entry::{Entry, mark_in};
+use crate::entry::{Entry, mark_in, number_at};
 use crate::stack::{noted, put_place};
 use pq_inputs::Durability;
-use pq_rules::{Memory, Rules, is_same_key};
+use pq_rules::{Memory, Rules, is_same_key, push};
 use std::alloc::Global;
 use std::collections::BTreeMap;
 use std::marker::Model;
@@ -43,18 +43,32 @@ pub(crate) fn file_number(number: usize) -> usize {
     }
 }
 
-/// Where to look first for the key of a frame, and for the key that it waits for. No contract
-/// speaks of it.
+/// Where to look first for the key of a frame, and for the key that it waits for, and where its rule
+/// found its last read. No contract speaks of it.
 #[derive(Clone, Copy)]
 pub(crate) struct Near {
     pub(crate) own: usize,
     pub(crate) next: usize,
+    pub(crate) read: usize,
 }
 
 impl Near {
     /// The key of the frame is looked for first at `own`.
     pub(crate) fn new(own: usize) -> Self {
-        Near { own, next: NOWHERE }
+        Near {
+            own,
+            next: NOWHERE,
+            read: NOWHERE,
+        }
+    }
+
+    /// The same frame, when its rule has read the key that it waited for.
+    pub(crate) fn after_read(self) -> Self {
+        Near {
+            own: self.own,
+            next: NOWHERE,
+            read: self.next,
+        }
     }
 }
 
@@ -122,6 +136,31 @@ fn set_at<K: Drop, V: Drop>(slots: &mut Vec<Slot<K, V>>, number: usize, entry: E
     slots[number].set(entry);
 }
 
+/// Makes a place in `next` for the slot `number`, if it is the first without one.
+fn make_place(next: &mut Vec<usize>, number: usize) -> Result<(), Memory> {
+    if next.as_slice().len() <= number {
+        push(next, NOWHERE)?;
+    }
+    Ok(())
+}
+
+/// Notes in `next` that the slots `numbers` were read in this order.
+fn note_order(next: &mut Vec<usize>, numbers: &[usize]) {
+    for i in 1..numbers.len() {
+        let before = numbers[i - 1];
+        if before < next.as_slice().len() {
+            next[before] = numbers[i];
+        }
+    }
+}
+
+/// Notes in `next` in which order the reads of `entry` were made, if there is one.
+fn note_order_of<K, V>(next: &mut Vec<usize>, entry: &Option<Entry<K, V>>) {
+    if let Some(entry) = entry {
+        note_order(next, entry.numbers());
+    }
+}
+
 /// Slots with distinct keys. Contracts see their list, in the order of their numbers.
 #[derive(Drop)]
 pub(crate) struct Slots<R: Rules> {
@@ -130,6 +169,8 @@ pub(crate) struct Slots<R: Rules> {
     slots: Vec<Slot<R::Key, R::Value>>,
     // Where to look for a key second: the slot that was written last. No contract speaks of it.
     last: usize,
+    // Of each slot, the one that was read after it last. No contract speaks of it.
+    next: Vec<usize>,
 }
 
 impl<R: Rules> Model for Slots<R> {
@@ -154,6 +195,7 @@ impl<R: Rules> Slots<R> {
             index: BTreeMap::new(alloc),
             slots: Vec::new(alloc),
             last: NOWHERE,
+            next: Vec::new(alloc),
         }
     }
 
@@ -187,6 +229,11 @@ impl<R: Rules> Slots<R> {
             return Some(self.last);
         }
         noted(rules, &self.index, key)
+    }
+
+    /// The slot that was read after the slot `number` last, or `NOWHERE`.
+    pub(crate) fn after(&self, number: usize) -> usize {
+        number_at(&self.next, number)
     }
 
     /// How many slots there are.
@@ -305,6 +352,7 @@ impl<R: Rules> Slots<R> {
         ensures put { IsPut R.Key.cmp (memo_at R.Key.cmp self.old) _key.now entry (memo_at R.Key.cmp self.new) }
         ensures kept { (q : R.Key) → HasRoom R.Key.cmp self.old q → HasRoom R.Key.cmp self.new q }
     {
+        note_order(&mut self.next, entry.numbers());
         set_at(&mut self.slots, number, entry);
         self.last = number;
     }
@@ -326,13 +374,14 @@ impl<R: Rules> Slots<R> {
             Err(_) => return Err((key, entry)),
         };
         let number = self.slots.as_slice().len();
-        if self.slots.reserve(1).is_err() {
+        if self.slots.reserve(1).is_err() || make_place(&mut self.next, number).is_err() {
             return Err((key, entry));
         }
         match put_place(rules, &mut self.index, copy, number) {
             Ok(()) => {}
             Err(_) => return Err((key, entry)),
         }
+        note_order_of(&mut self.next, &entry);
         self.slots.push_reserved(Slot { key, entry });
         self.last = number;
         Ok(())

@@ -10,7 +10,7 @@ ghost use Rattle.pq_memo.specs.Frames.{frame_keys};
 ghost use Rattle.pq_memo.specs.aux.Stack.{place_in, nth, IsMapped, IsNoted};
 
 use crate::frame::Frame;
-use crate::slots::NOWHERE;
+use crate::slots::{NOWHERE, Near};
 use pq_rules::{Memory, Rules, is_same_key, push};
 use std::alloc::Global;
 use std::collections::BTreeMap;
@@ -28,8 +28,8 @@ pub struct Stack<R: Rules> {
     mapped: usize,
     // Where to look first for the key of each frame among the slots of the table, and for that of
     // the frame that was popped last. No contract speaks of them.
-    numbers: Vec<usize>,
-    popped: usize,
+    numbers: Vec<Near>,
+    popped: Near,
 }
 
 impl<R: Rules> Model for Stack<R> {
@@ -165,22 +165,22 @@ impl<R: Rules> Stack<R> {
             places: BTreeMap::new(alloc),
             mapped: 0,
             numbers: Vec::new(alloc),
-            popped: NOWHERE,
+            popped: Near::new(NOWHERE),
         }
     }
 
-    /// Pushes `frame`, whose key is not on the stack. Its slot may be `number`.
+    /// Pushes `frame`, whose key is not on the stack. Its key is looked for first where `near` says.
     pub(crate) fn push(
         &mut self,
         alloc: Global,
         rules: &R,
         frame: Frame<R::Key, R::Part>,
-        number: usize,
+        near: Near,
     ) -> Result<(), Memory>
         requires { In frame.key (frame_keys self.old) → ⊥ }
         ensures { IfOk result (λ _. self.new ≡ self.old ++ frame ∷ []) }
     {
-        push(&mut self.numbers, number)?;
+        push(&mut self.numbers, near)?;
         self.mapped = map_next(
             alloc,
             rules,
@@ -198,16 +198,16 @@ impl<R: Rules> Stack<R> {
         ensures empty { IfNone result (self.old ≡ []) }
     {
         self.popped = match self.numbers.pop() {
-            Some(number) => number,
-            None => NOWHERE,
+            Some(near) => near,
+            None => Near::new(NOWHERE),
         };
         let popped = self.frames.pop();
         self.mapped = lesser(self.mapped, self.frames.as_slice().len());
         popped
     }
 
-    /// The slot that the frame that was popped last may have.
-    pub(crate) fn popped(&self) -> usize {
+    /// Where to look for the key of the frame that was popped last.
+    pub(crate) fn popped(&self) -> Near {
         self.popped
     }
 
@@ -215,7 +215,7 @@ impl<R: Rules> Stack<R> {
     pub(crate) fn numbers_from(&self, alloc: Global, place: usize) -> Result<Vec<usize>, Memory> {
         let mut numbers = Vec::new(alloc);
         for i in place..self.numbers.as_slice().len() {
-            push(&mut numbers, self.numbers.as_slice()[i])?;
+            push(&mut numbers, self.numbers.as_slice()[i].own)?;
         }
         Ok(numbers)
     }
@@ -273,7 +273,7 @@ impl<R: Rules> Stack<R> {
         ensures refused { OnErr result (self.new ≡ self.old) }
         ensures returned { IfErr result (λ f. f ≡ frame) }
     {
-        if push(&mut self.numbers, NOWHERE).is_err() {
+        if push(&mut self.numbers, Near::new(NOWHERE)).is_err() {
             return Err(frame);
         }
         match map_next(

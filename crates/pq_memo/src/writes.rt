@@ -182,7 +182,7 @@ impl<R: Rules> Memos<R> {
     }
 
     /// The numbers of `reads`, which the rule of the key in the slot `own` made. They are looked for
-    /// where the reads of its memo are, if it has one.
+    /// where the reads of its memo are, or where others read them in this order.
     pub(crate) fn numbers_of(
         &self,
         own: usize,
@@ -191,9 +191,11 @@ impl<R: Rules> Memos<R> {
     ) -> Result<Vec<usize>, Memory> {
         let mut numbers = Vec::new(self.entries.alloc());
         numbers.reserve_exact(reads.len())?;
+        let mut number = NOWHERE;
         for i in 0..reads.len() {
-            let near = self.read_number(own, i);
-            push(&mut numbers, self.number(&reads[i], near, inputs))?;
+            let near = self.read_number(own, i, number);
+            number = self.number(&reads[i], near, inputs);
+            push(&mut numbers, number)?;
         }
         Ok(numbers)
     }
