@@ -1,13 +1,11 @@
 //! The query of a file's resolved references, generic over the sum of queries in which it is used.
-ghost use Rattle.std.specs.Prelude.{◌≡◌, ◌⊎◌, false, flat_map, map, IfOk, option_copied, unwrap_or};
+ghost use Rattle.std.specs.Prelude.{◌≡◌, false, IfOk, option_copied, unwrap_or};
 ghost use Rattle.pq_rules.specs.declared.turn.Turn.TheVariants.{Ask};
 ghost use Rattle.pq_links.specs.Files.{nodes_in};
 ghost use Rattle.pq_links.specs.declared.file_items.FileItems.TheVariants.{Absent};
-ghost use Rattle.pq_syntax.specs.Places.{places};
 ghost use Rattle.pq_schema.specs.Definitions.{package_of};
-ghost use Rattle.pq_schema.specs.References.{references_at};
 ghost use Rattle.pq_schema.specs.aux.Hits.{found_at};
-ghost use Rattle.pq_schema.specs.aux.Inside.{AreThere, resolved_as, resolved_uses, used, used_as};
+ghost use Rattle.pq_schema.specs.aux.Inside.{AreThere, resolved_as, resolved_uses};
 ghost use Rattle.pq_schema.specs.aux.Outward.{is_nothing};
 ghost use Rattle.pq_schema.specs.aux.Queries.{resolved_level, resolved_starts, resolved_by, resolved_advances, resolved_left};
 ghost use Rattle.pq_schema.specs.aux.Falls.{resolved_falls};
