@@ -4,11 +4,11 @@
 //! are compared many bytes at a time, and so are halves of pieces that differ. Only the last few
 //! bytes are read one by one. Names known to begin alike are compared after that first. A code
 //! is made of the last bytes of a name and of their number.
-ghost use Rattle.std.specs.Prelude.{◌≡◌, ◌≤◌, ◌<◌, ◌-◌, ◌%◌, ◌^◌, ℕ, List, [], ◌∷◌, ◌++◌, ◌==◌, IfErr, IfOk, IfSome, None, Some, bytes_eq, length, option_to_list, string_bytes, take, true};
+ghost use Rattle.std.specs.Prelude.{◌≡◌, ◌⊎◌, ◌≤◌, ◌<◌, ◌-◌, ◌%◌, ◌^◌, ℕ, List, [], ◌∷◌, ◌++◌, ◌==◌, IfErr, IfOk, IfSome, None, Some, bytes_eq, length, option_to_list, reverse, string_bytes, take, true};
 ghost use Rattle.std.specs.List.{concat};
 ghost use Rattle.pq_schema.specs.aux.NameParts.{name_order};
 ghost use Rattle.pq_schema.specs.aux.Fronts.{IsBehind, IsCommonEnd};
-ghost use Rattle.pq_schema.specs.aux.NameCodes.{coded, code_of, tail_code};
+ghost use Rattle.pq_schema.specs.aux.NameCodes.{code_from, coded, code_of, tail_code};
 ghost use Rattle.pq_schema.specs.aux.Spots.{IsPlain};
 
 use crate::full_name::push_parts;
@@ -98,7 +98,7 @@ impl<'a> Spelled<'a> {
         Ok(())
     }
 
-    /// The code of the name, which is made of at most its last 32 bytes and of their number.
+    /// The code of the name, which is made of at most its last 128 bytes and of their number.
     #[tactic(auto, unfolding(crate::specs::aux::NameCodes::code_of))]
     pub(crate) fn code(&self) -> u64
         ensures code { result ≡ code_of self.now }
@@ -424,7 +424,7 @@ fn compare_bytes(a: Rest<'_>, b: Rest<'_>) -> Ordering
 }
 
 /// The most bytes that a code is made of.
-const CODED: usize = 32;
+const CODED: usize = 128;
 
 /// The factor of a code before each number: 2^64 over the golden ratio, odd.
 const FACTOR: u64 = 11_400_714_819_323_198_485;
@@ -447,17 +447,48 @@ fn count_of(parts: &[Text], text: &str) -> u64
     count.wrapping_add(text.len() as u64)
 }
 
-/// The code of the last bytes of `bytes`.
+/// The lesser of `a` and `b`.
+fn lesser(a: usize, b: usize) -> usize
+    ensures first { result ≤ a }
+    ensures second { result ≤ b }
+    ensures one { (result ≡ a) ⊎ (result ≡ b) }
+{
+    if a < b { a } else { b }
+}
+
+/// The code `code` with the last bytes of `text` after it, `most` of them at most.
+fn code_after(code: u64, text: &[u8], most: usize) -> u64
+    ensures code { result ≡ code_from code (take most (reverse text.now)) }
+{
+    let count = text.len();
+    let taken = lesser(most, count);
+    let mut code = code;
+    'bytes: for i in 0..taken {
+        code = coded(code, text[count - 1 - i] as u64);
+    }
+    code
+}
+
+/// The code of the last bytes of `bytes`, piece by piece.
 fn code_of_rest(bytes: Rest<'_>) -> u64
     ensures code { result ≡ tail_code bytes.entry }
 {
-    let mut rest = bytes;
+    let mut parts = bytes.parts;
+    let mut text = bytes.text;
+    let mut left = CODED;
     let mut code = 0u64;
-    'bytes: for i in 0..CODED {
-        match rest.pop() {
-            Some(byte) => code = coded(code, byte as u64),
+    'pieces: loop {
+        code = code_after(code, text, left);
+        left = left.saturating_sub(text.len());
+        if left == 0 {
+            return code;
+        }
+        match parts.split_last() {
+            Some((part, before)) => {
+                text = part.as_str().as_bytes();
+                parts = before;
+            }
             None => return code,
         }
     }
-    code
 }

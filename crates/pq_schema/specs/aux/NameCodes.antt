@@ -13,9 +13,9 @@ unfoldable pub code_from : ℕ → List ℕ → ℕ
 code_from c [] = c
 code_from c (b ∷ bs) = code_from (coded c b) bs
 
--- `tail_code name` is the code of the last 32 bytes of `name`, from the last to the first
+-- `tail_code name` is the code of the last 128 bytes of `name`, from the last to the first
 unfoldable pub tail_code : List ℕ → ℕ
-tail_code name = code_from 0 (take 32 (reverse name))
+tail_code name = code_from 0 (take 128 (reverse name))
 
 -- `code_of name` is that code with the number of bytes of `name` after it
 unfoldable pub code_of : List ℕ → ℕ

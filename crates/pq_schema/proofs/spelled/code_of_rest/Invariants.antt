@@ -1,7 +1,11 @@
-use Rattle.std.proofs.Common.{◌≡◌, ◌-◌, take, reverse}
+use Rattle.std.proofs.Common.{◌≡◌, ◌++◌, length, take, reverse}
+use Rattle.std.specs.List.{concat}
 use Rattle.pq_schema.specs.aux.NameCodes.{code_from, tail_code}
 use Rattle.pq_schema.proofs.spelled.code_of_rest.Given as goal
 
 -- the code so far, with the bytes that are left after it, is that of the whole
-abbrev pub invariant-bytes : goal.invariant-bytes
-invariant-bytes l = code_from l.code (take (32 - l.i) (reverse l.rest)) ≡ tail_code l.fn.bytes
+abbrev pub invariant-pieces : goal.invariant-pieces
+invariant-pieces l = code_from l.code (take l.left (reverse (concat l.parts ++ l.text))) ≡ tail_code l.fn.bytes
+
+abbrev pub decreases-pieces : goal.decreases-pieces
+decreases-pieces l = length l.parts
