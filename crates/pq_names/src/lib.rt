@@ -4,17 +4,18 @@
 //! A table of names keeps its texts in the order of their numbers, from 0 on, and the numbers in
 //! the order of the texts. `find` is a binary search over the latter: log n comparisons of texts,
 //! and no memory. `text` takes constant time. `intern` is a search, and a new text costs one copy
-//! of its bytes and one insertion, which moves at most 4 bytes for each name. A `Text` of up to 24
+//! of its bytes and one insertion, which moves at most 4 bytes for each name. A `Text` of up to 22
 //! bytes takes no allocation, and the copies of a longer one share its bytes.
 //!
 //! Modules: `text`, `id` (numbers of names), `fault` (why a text gets none), `order` (the search),
-//! `table`, `laws`.
+//! `table`, `short` (texts in the value itself), `laws`.
 #![tactic(auto)]
 
 mod fault;
 mod id;
 mod laws;
 mod order;
+mod short;
 mod table;
 mod text;
 

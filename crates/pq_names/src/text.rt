@@ -1,6 +1,6 @@
 //! Texts that are copied and compared often: keys, names, the parts of a tree.
 //!
-//! A text of at most 24 bytes lies in the value itself: `new` and `copy` allocate nothing. A longer
+//! A text of at most 22 bytes lies in the value itself: `new` and `copy` allocate nothing. A longer
 //! text lies behind a counted pointer, and its copies share it. `new` copies the bytes once, `copy`
 //! takes constant time, and a comparison reads the bytes in place.
 ghost use Rattle.std.specs.Prelude.{◌≡◌, List, ℕ, IfOk, string_bytes};
@@ -12,7 +12,7 @@ ghost use Rattle.std.specs.Str.{bytes_eq};
 ghost use Rattle.std.specs.Ordering.{nat_cmp, as_partial_cmp};
 
 use crate::fault::Memory;
-use arrayvec::ArrayString;
+use crate::short::{INLINE, Short};
 use std::alloc::Global;
 use std::cmp::Ordering;
 use std::fmt;
@@ -20,19 +20,16 @@ use std::fmt::{Debug, Formatter, Write};
 use std::marker::Model;
 use std::sync::ArcStr;
 
-/// The length in bytes of the longest text that lies in the value itself.
-const INLINE: usize = 24;
-
 /// Where the bytes of a text are.
 #[derive(Drop)]
 enum Bytes {
-    Inline(ArrayString<INLINE>),
+    Inline(Short),
     Shared(ArcStr),
 }
 
 /// A text, compared by its bytes. Contracts see it as the list of its bytes.
 ///
-/// Up to 24 bytes lie in the value itself. A longer text is shared by its copies, so that a copy
+/// Up to 22 bytes lie in the value itself. A longer text is shared by its copies, so that a copy
 /// takes no memory for the bytes. A text can be sent to other threads and shared among them.
 #[derive(Drop)]
 pub struct Text {
@@ -54,15 +51,15 @@ impl Text {
     pub fn new(alloc: Global, text: &str) -> Result<Text, Memory>
         ensures copy { IfOk result (λ t. t ≡ text.now) }
     {
-        match ArrayString::from(text) {
-            Ok(bytes) => Ok(Text {
+        match Short::new(text) {
+            Some(bytes) => Ok(Text {
                 bytes: Bytes::Inline(bytes),
             }),
-            Err(_) => Text::shared(String::from_str(alloc, text)?),
+            None => Text::shared(String::from_str(alloc, text)?),
         }
     }
 
-    /// The text of `text`. A string of more than 24 bytes is kept and not copied.
+    /// The text of `text`. A string of more than 22 bytes is kept and not copied.
     #[inline]
     pub fn from_string(alloc: Global, text: String) -> Result<Text, Memory>
         ensures same { IfOk result (λ t. t ≡ string_bytes text) }
@@ -102,7 +99,7 @@ impl Text {
     {
         match &self.bytes {
             Bytes::Inline(bytes) => Ok(Text {
-                bytes: Bytes::Inline(*bytes),
+                bytes: Bytes::Inline(bytes.copy()),
             }),
             Bytes::Shared(text) => Ok(Text {
                 bytes: Bytes::Shared(text.clone()?),

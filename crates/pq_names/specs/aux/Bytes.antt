@@ -7,5 +7,5 @@ use Rattle.pq_names.specs.declared.text.Bytes.TheVariants.{Inline, Shared}
 
 -- `bytes_of b` is the list of the bytes of the text that `b` keeps
 abbrev pub bytes_of : Bytes → List ℕ
-bytes_of (Inline text) = text.bytes
+bytes_of (Inline text) = text
 bytes_of (Shared text) = arc_str_bytes text
