@@ -1,6 +1,7 @@
 -- The calls of the slots of a table, over the list that contracts see.
 use Rattle.std.proofs.Common.{◌≡◌, ℕ, zero, suc, ◌<◌, List, [], ◌∷◌, ◌++◌, length, get_or, slice_set, Option, Some, None, IsSome, refl, sym, ◌∙◌, ap, subst, inl, inr, arith, Bool, true, false, cond}
 use Rattle.std.proofs.lemmas.Bool.{cases_Bool}
+use Rattle.std.proofs.lemmas.Option.{same_Some}
 use Rattle.std.specs.declared.cmp.Ordering.{Ordering}
 use Rattle.std.specs.Ordering.{is_eq}
 use Rattle.std.specs.Option.{IfNone}
@@ -35,6 +36,12 @@ module _ {K X : Type 0} where
       → a ≡ e.0 → a ≡ k → key_at now n ≡ Some k
   slot_is now inside slice n e a k view value h is key same =
       subst (λ (l : List (K × X)). key_at l n ≡ Some k) (value ∙ view) (key_get slice n e h is ∙ ap (λ (y : K). Some y) (sym key ∙ same))
+
+  -- the key of a slot that has one
+  pub key_is : (now inside slice : List (K × X)) (n : ℕ) (e : K × X) (a k : K) → inside ≡ now → slice ≡ inside → n < length slice → e ≡ get_or slice n e
+      → a ≡ e.0 → key_at now n ≡ Some k → a ≡ k
+  key_is now inside slice n e a k view value h is key there =
+      key ∙ same_Some e.0 k (sym (key_get slice n e h is) ∙ ap (λ (l : List (K × X)). key_at l n) (value ∙ view) ∙ there)
 
   pub slot_within : (now slots : List (K × X)) (n : ℕ) (k : K) → slots ≡ now → key_at now n ≡ Some k → n < length slots
   slot_within now slots n k view there = subst (λ (l : List (K × X)). n < length l) (sym view) (key_within now n k there)

@@ -17,9 +17,10 @@ ghost use Rattle.pq_memo.specs.aux.Durabilities.{HasDurability, IsLeastRead};
 ghost use Rattle.pq_memo.specs.aux.Demand.{Linked, Caused, HasMarked, HasConfirmed, HasNow, IsValidAt};
 ghost use Rattle.pq_memo.specs.aux.Slots.{key_at};
 
-use crate::entry::{Entry, number_at};
+use crate::entry::Entry;
 use crate::frame::Frame;
 use crate::memos::Memos;
+use crate::recorded::Recorded;
 use crate::slots::{FILES, NOWHERE, file_number};
 use crate::stack::Stack;
 use crate::trail::{Mark, Passage, Trail};
@@ -38,7 +39,7 @@ impl<R: Rules> Memos<R> {
                 }
                 match entry.answer() {
                     Answer::Value(_) => {
-                        self.passed_from(entry.numbers(), mark.place, entry.verified(), now)
+                        self.passed_from(entry.reads(), mark.place, entry.verified(), now)
                     }
                     Answer::Cycle(_) => Passage::Shut,
                 }
@@ -47,21 +48,28 @@ impl<R: Rules> Memos<R> {
         }
     }
 
-    /// What a pass over the memos in the slots `numbers`, from the place `from` on, comes to. One
-    /// that was verified before `now`, or changed after `since`, ends it. It goes past inputs.
-    fn passed_from(&self, numbers: &[usize], from: usize, since: u64, now: u64) -> Passage {
-        for i in from..numbers.len() {
-            match self.entries.entry_of(numbers[i]) {
+    /// What a pass over the memos of `reads`, from the place `from` on, comes to. One that was
+    /// verified before `now`, or changed after `since`, ends it. It goes past inputs.
+    fn passed_from(
+        &self,
+        reads: &[Recorded<R::Key>],
+        from: usize,
+        since: u64,
+        now: u64,
+    ) -> Passage {
+        for i in from..reads.len() {
+            let number = reads[i].number();
+            match self.entries.entry_of(number) {
                 Some(read) => {
                     if read.verified() != now {
-                        return Passage::Below(i, numbers[i]);
+                        return Passage::Below(i, number);
                     }
                     if read.changed() > since {
                         return Passage::Shut;
                     }
                 }
                 None => {
-                    if numbers[i] < FILES {
+                    if number < FILES {
                         return Passage::Shut;
                     }
                 }
@@ -121,8 +129,7 @@ impl<R: Rules> Memos<R> {
     /// The least durability of `reads`, if each is up to date and did not change after `since`.
     fn still_durability(
         &self,
-        reads: &[R::Key],
-        numbers: &[usize],
+        reads: &[Recorded<R::Key>],
         since: u64,
         inputs: &Inputs,
     ) -> Option<Durability>
@@ -131,7 +138,8 @@ impl<R: Rules> Memos<R> {
     {
         let mut least = Durability::High;
         for i in 0..reads.len() {
-            match self.fresh_pair(&reads[i], number_at(numbers, i), inputs) {
+            let read = &reads[i];
+            match self.fresh_pair(read.key(), read.number(), inputs) {
                 Some((changed, durability)) => {
                     if changed > since {
                         return None;
@@ -165,7 +173,7 @@ impl<R: Rules> Memos<R> {
         if self.is_on_its_ring(key, entry) {
             return None;
         }
-        match self.still_durability(entry.reads(), entry.numbers(), entry.verified(), inputs) {
+        match self.still_durability(entry.reads(), entry.verified(), inputs) {
             Some(durability) => Some(durability),
             None => None,
         }

@@ -18,7 +18,7 @@ use crate::demanded::Carried;
 use crate::frame::{Frame, Stage, Step};
 use crate::look::Why;
 use crate::memos::Memos;
-use crate::slots::Near;
+use crate::slots::{NOWHERE, Near};
 use crate::stack::Stack;
 use crate::trail::Trail;
 use pq_inputs::Inputs;
@@ -210,7 +210,7 @@ impl<R: Rules> Memos<R> {
                 Ok(())
             }
             None => {
-                let number = self.make_room(alloc, &next, near.next)?;
+                let number = self.make_room(alloc, &next, near.next, near.read)?;
                 let stage = Stage::Walking(0);
                 let near = Near::new(number);
                 stack.push(alloc, self.rules(), Frame { key: next, stage }, near)?;
@@ -282,7 +282,7 @@ impl<R: Rules> Memos<R> {
         if self.is_up_to_date_near(key, near, inputs) {
             return Ok(carried);
         }
-        let number = self.make_room(alloc, key, near)?;
+        let number = self.make_room(alloc, key, near, NOWHERE)?;
         let mut stack = Stack::new(alloc);
         let copy = self.rules().copy_key(alloc, key)?;
         let stage = Stage::Walking(0);

@@ -3,6 +3,7 @@ ghost use Rattle.std.specs.Prelude.{◌≡◌, IfOk};
 ghost use Rattle.std.specs.Option.{option_map};
 ghost use Rattle.pq_memo.specs.Writes.{remarked};
 
+use crate::recorded::Recorded;
 use crate::slots::NOWHERE;
 use crate::unpublished::Unpublished;
 use pq_inputs::Durability;
@@ -15,14 +16,11 @@ pub(crate) struct Entry<K, V> {
     answer: Shared<Answer<K, V>>,
     verified: u64,
     changed: u64,
-    reads: Vec<K>,
+    reads: Vec<Recorded<K>>,
     durability: Durability,
     // Where to look first for the key among the keys of the answer, if that is a cycle. It need not
     // be there: no contract speaks of it.
     place: usize,
-    // Where to look first for each read among the slots of the table. It need not be there, and the
-    // list may be shorter: no contract speaks of it.
-    numbers: Vec<usize>,
 }
 
 impl<K, V> Model for Entry<K, V> {
@@ -34,22 +32,17 @@ impl<K, V> Model for Entry<K, V> {
 }
 
 impl<K, V> Entry<K, V> {
-    /// Makes an entry. Its key is looked for first at `place` of a cycle, and its reads at
-    /// `numbers`.
+    /// Makes an entry. Its key is looked for first at `place` of a cycle.
     pub(crate) fn new(
         answer: Shared<Answer<K, V>>,
         verified: u64,
         changed: u64,
-        reads: Vec<K>,
+        reads: Vec<Recorded<K>>,
         durability: Durability,
         place: usize,
-        numbers: Vec<usize>,
     ) -> Self
         ensures { result ≡ record { answer = answer; verified = verified; changed = changed; reads = reads.items; durability = durability } }
     {
-        // The list grew by doubling, and the entry may stay for long.
-        let mut reads = reads;
-        reads.shrink_to_fit();
         Entry {
             answer,
             verified,
@@ -57,7 +50,6 @@ impl<K, V> Entry<K, V> {
             reads,
             durability,
             place,
-            numbers,
         }
     }
 
@@ -83,7 +75,7 @@ impl<K, V> Entry<K, V> {
     }
 
     /// The reads, in order.
-    pub(crate) fn reads(&self) -> &[K]
+    pub(crate) fn reads(&self) -> &[Recorded<K>]
         ensures { result.now ≡ self.now.reads }
     {
         &self.reads
@@ -103,12 +95,10 @@ impl<K, V> Entry<K, V> {
 
     /// Where to look first for the read `i`.
     pub(crate) fn number(&self, i: usize) -> usize {
-        number_at(&self.numbers, i)
-    }
-
-    /// Where to look first for each read.
-    pub(crate) fn numbers(&self) -> &[usize] {
-        &self.numbers
+        if i < self.reads.as_slice().len() {
+            return self.reads.as_slice()[i].number();
+        }
+        NOWHERE
     }
 
     /// Sets the verified revision and the durability.
@@ -119,15 +109,15 @@ impl<K, V> Entry<K, V> {
         self.durability = durability;
     }
 
-    /// What of the entry was handed in, with its `key`.
-    pub(crate) fn unpublished(self, key: K) -> Unpublished<K, V>
+    /// What was handed in for the entry, with its `key` and its `reads`.
+    pub(crate) fn unpublished(self, key: K, reads: Vec<K>) -> Unpublished<K, V>
     where
         K: Drop,
         ensures key { result.key ≡ key }
         ensures answer { result.answer ≡ self.answer }
-        ensures reads { result.reads.items ≡ self.reads }
+        ensures reads { result.reads.items ≡ reads.items }
     {
-        let Entry { answer, reads, .. } = self;
+        let Entry { answer, .. } = self;
         Unpublished { key, answer, reads }
     }
 }

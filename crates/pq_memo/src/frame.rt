@@ -88,9 +88,11 @@ impl<R: Rules> Memos<R> {
             State::Valid => Ok(Found::Valid),
             State::Behind(i) => {
                 near.next = entry.number(i);
-                Ok(Found::Behind(i, self.rules().copy_key(alloc, &reads[i])?))
+                Ok(Found::Behind(i, self.rules().copy_key(alloc, reads[i].key())?))
             }
-            State::Outdated(i) => Ok(Found::Outdated(self.rules().copy_key(alloc, &reads[i])?)),
+            State::Outdated(i) => Ok(Found::Outdated(
+                self.rules().copy_key(alloc, reads[i].key())?,
+            )),
             State::Cyclic => Ok(Found::Cyclic),
         }
     }

@@ -35,6 +35,8 @@ mod laws;
 mod look;
 mod member;
 mod memos;
+mod placed;
+mod recorded;
 mod restored;
 mod ring;
 mod round;

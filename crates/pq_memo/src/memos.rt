@@ -10,8 +10,9 @@ ghost use Rattle.pq_memo.specs.Sound.{Memo};
 ghost use Rattle.pq_memo.specs.Look.{IsUpToDate, HasChanged, IsStill, IsOnItsRing};
 ghost use Rattle.pq_memo.specs.Table.{memo_at, HasIn};
 
-use crate::entry::{Entry, number_at};
+use crate::entry::Entry;
 use crate::look::{Look, Why};
+use crate::recorded::Recorded;
 use crate::slots::{NOWHERE, Slots, file_number, input_number};
 use crate::state::{Passed, State};
 use pq_inputs::Inputs;
@@ -150,8 +151,7 @@ impl<R: Rules> Memos<R> {
     /// change after `since`.
     fn pass(
         &self,
-        reads: &[R::Key],
-        numbers: &[usize],
+        reads: &[Recorded<R::Key>],
         from: usize,
         since: u64,
         inputs: &Inputs,
@@ -161,7 +161,8 @@ impl<R: Rules> Memos<R> {
         ensures { IsPass (R.machine self.now.rules) inputs.now.history inputs.now.revision (HasIn (memo_at R.Key.cmp self.now.places)) since reads.now result }
     {
         for i in from..reads.len() {
-            match self.fresh_change(&reads[i], number_at(numbers, i), inputs) {
+            let read = &reads[i];
+            match self.fresh_change(read.key(), read.number(), inputs) {
                 Some(changed) => {
                     if changed > since {
                         return Passed::Newer(i);
@@ -241,8 +242,7 @@ impl<R: Rules> Memos<R> {
         if self.is_on_its_ring(key, entry) {
             return State::Cyclic;
         }
-        let numbers = entry.numbers();
-        match self.pass(entry.reads(), numbers, from, entry.verified(), inputs) {
+        match self.pass(entry.reads(), from, entry.verified(), inputs) {
             Passed::All => State::Valid,
             Passed::Stale(i) => State::Behind(i),
             Passed::Newer(i) => State::Outdated(i),
@@ -277,8 +277,8 @@ impl<R: Rules> Memos<R> {
         match self.state_of(key, entry, 0, inputs) {
             State::Verified => Look::Usable,
             State::Valid => Look::Green,
-            State::Behind(i) => Look::Walk(&reads[i]),
-            State::Outdated(i) => Look::Run(Why::Changed(&reads[i])),
+            State::Behind(i) => Look::Walk(reads[i].key()),
+            State::Outdated(i) => Look::Run(Why::Changed(reads[i].key())),
             State::Cyclic => Look::Run(Why::Ring),
         }
     }

@@ -21,6 +21,8 @@ ghost use Rattle.pq_memo.specs.aux.Written.{ArePrepared, HasRoom, AllHaveRoom, m
 use crate::entry::{Entry, number_at};
 use crate::member::Member;
 use crate::memos::Memos;
+use crate::placed::Placed;
+use crate::recorded::Recorded;
 use crate::slots::NOWHERE;
 use crate::unpublished::UnpublishedRing;
 use crate::writes::lower;
@@ -28,34 +30,11 @@ use pq_inputs::{Durability, Inputs};
 use pq_rules::{Answer, Memory, Ring, Rules, Shared, push};
 use std::alloc::Global;
 
-/// Where to look first for a key of a ring, and for its reads.
-#[derive(Drop)]
-pub(crate) struct Hint {
-    own: usize,
-    reads: Vec<usize>,
-}
-
-/// Where to look first for the key `i`.
-fn own_at(hints: &[Hint], i: usize) -> usize {
-    if i < hints.len() {
-        return hints[i].own;
-    }
-    NOWHERE
-}
-
-/// Where to look first for the reads of the key `i`.
-fn reads_at(hints: &[Hint], i: usize) -> &[usize] {
-    if i < hints.len() {
-        return &hints[i].reads;
-    }
-    &[]
-}
-
 /// Copies the keys of `members`.
 fn copy_keys<R: Rules>(
     alloc: Global,
     rules: &R,
-    members: &[Member<R::Key>],
+    members: &[Placed<R::Key>],
 ) -> Result<Vec<R::Key>, Memory>
     ensures { IfOk result (λ v. v.items ≡ ring_keys members.now) }
 {
@@ -69,53 +48,47 @@ fn copy_keys<R: Rules>(
 
 impl<R: Rules> Memos<R> {
     /// The least durability of `reads`, without the last, which leads to the next key of a ring.
-    fn front_durability(&self, reads: &[R::Key], numbers: &[usize], inputs: &Inputs) -> Durability
+    fn front_durability(&self, reads: &[Recorded<R::Key>], inputs: &Inputs) -> Durability
         requires { Each (IsKnown (R.machine self.now.rules) (HasIn (memo_at R.Key.cmp self.now.places))) (fronts reads.now) }
         ensures { IsLeastRead (R.machine self.now.rules) inputs.now.files (HasIn (memo_at R.Key.cmp self.now.places)) (λ q. In q (fronts reads.now)) result }
     {
         if reads.is_empty() {
             return Durability::High;
         }
-        self.least_of(&reads[..reads.len() - 1], numbers, inputs)
+        self.least_of(&reads[..reads.len() - 1], inputs)
     }
 
     /// The least durability of the reads of `members`, without the last of each.
-    fn ring_durability(
-        &self,
-        members: &[Member<R::Key>],
-        hints: &[Hint],
-        inputs: &Inputs,
-    ) -> Durability
+    fn ring_durability(&self, members: &[Placed<R::Key>], inputs: &Inputs) -> Durability
         requires { Each (λ (e : R.Key × List R.Key). Each (IsKnown (R.machine self.now.rules) (HasIn (memo_at R.Key.cmp self.now.places))) (fronts e.1)) members.now }
         ensures { IsLeastRead (R.machine self.now.rules) inputs.now.files (HasIn (memo_at R.Key.cmp self.now.places)) (IsFrontRead members.now) result }
     {
         let mut least = Durability::High;
         for i in 0..members.len() {
-            let numbers = reads_at(hints, i);
-            least = lower(
-                least,
-                self.front_durability(members[i].reads(), numbers, inputs),
-            );
+            least = lower(least, self.front_durability(members[i].reads(), inputs));
         }
         least
     }
 
-    /// Where the keys of `members` and their reads are. The keys are looked for first at `numbers`.
-    fn hints_of(
+    /// `members`, with their reads as the table keeps them. The keys are looked for first at
+    /// `numbers`.
+    fn placed_of(
         &self,
         alloc: Global,
         members: &[Member<R::Key>],
         numbers: &[usize],
         inputs: &Inputs,
-    ) -> Result<Vec<Hint>, Memory> {
-        let mut hints = Vec::new(alloc);
+    ) -> Result<Vec<Placed<R::Key>>, Memory>
+        ensures { IfOk result (λ v. v.items ≡ members.now) }
+    {
+        let mut placed = Vec::new(alloc);
         for i in 0..members.len() {
-            let key = members[i].key();
-            let own = self.number(key, number_at(numbers, i), inputs);
-            let reads = self.numbers_of(own, members[i].reads(), inputs)?;
-            push(&mut hints, Hint { own, reads })?;
+            let key = self.rules().copy_key(alloc, members[i].key())?;
+            let number = self.number(&key, number_at(numbers, i), inputs);
+            let reads = self.recorded_reads(number, members[i].reads(), inputs)?;
+            push(&mut placed, Placed::new(key, number, reads))?;
         }
-        Ok(hints)
+        Ok(placed)
     }
 
     /// Makes places for the keys of `members`, and prepares their memos, which have `answer`: a copy
@@ -123,8 +96,7 @@ impl<R: Rules> Memos<R> {
     fn prepare_all(
         &mut self,
         alloc: Global,
-        members: &[Member<R::Key>],
-        hints: &[Hint],
+        members: &[Placed<R::Key>],
         answer: &Shared<Answer<R::Key, R::Value>>,
         now: u64,
     ) -> Result<Vec<(Shared<Answer<R::Key, R::Value>>, u64)>, Memory>
@@ -137,11 +109,11 @@ impl<R: Rules> Memos<R> {
     {
         let mut prepared = Vec::new(alloc);
         let mut previous = members[0].key();
-        let mut before = own_at(hints, 0);
+        let mut before = members[0].number();
         let mut same = self.compared_first(previous, before, answer.get());
         'members: for i in 0..members.len() {
             let key = members[i].key();
-            let near = own_at(hints, i);
+            let near = members[i].number();
             let (again, changed) = self.compared(
                 previous,
                 before,
@@ -151,7 +123,7 @@ impl<R: Rules> Memos<R> {
                 answer.get(),
                 now,
             );
-            self.make_room(alloc, key, near)?;
+            self.make_room(alloc, key, near, NOWHERE)?;
             let share = answer.copy()?;
             push(&mut prepared, (share, changed))?;
             previous = key;
@@ -165,8 +137,7 @@ impl<R: Rules> Memos<R> {
     fn prepare_ring(
         &mut self,
         alloc: Global,
-        members: &[Member<R::Key>],
-        hints: &[Hint],
+        members: &[Placed<R::Key>],
         now: u64,
     ) -> Result<Vec<(Shared<Answer<R::Key, R::Value>>, u64)>, Memory>
         requires kept { (inputs : Table) × KeptOver R.Key.cmp (R.machine self.old.rules) inputs self.old.places }
@@ -179,25 +150,16 @@ impl<R: Rules> Memos<R> {
         let keys = copy_keys(alloc, self.rules(), members)?;
         let ring = Ring::new(alloc, keys)?;
         let answer = Shared::new(alloc, Answer::Cycle(ring))?;
-        let prepared = self.prepare_all(alloc, members, hints, &answer, now)?;
+        let prepared = self.prepare_all(alloc, members, &answer, now)?;
         Ok(prepared)
-    }
-
-    /// Takes the last of `hints`.
-    fn last_hint(&self, hints: &mut Vec<Hint>) -> (usize, Vec<usize>) {
-        match hints.pop() {
-            Some(Hint { own, reads }) => (own, reads),
-            None => (NOWHERE, Vec::new(self.entries.alloc())),
-        }
     }
 
     /// Gives the keys of `members`, which have places, the memos that were prepared. It takes no
     /// memory.
     fn put_all(
         &mut self,
-        members: Vec<Member<R::Key>>,
+        members: Vec<Placed<R::Key>>,
         prepared: Vec<(Shared<Answer<R::Key, R::Value>>, u64)>,
-        hints: Vec<Hint>,
         durability: Durability,
         now: u64,
     )
@@ -208,16 +170,15 @@ impl<R: Rules> Memos<R> {
     {
         let mut members = members;
         let mut prepared = prepared;
-        let mut hints = hints;
         'members: while let Some(member) = members.pop() {
             let (answer, changed) = match prepared.pop() {
                 Some(next) => next,
                 None => unreachable!(),
             };
+            let near = member.number();
             let (key, reads) = member.parts();
-            let (near, numbers) = self.last_hint(&mut hints);
             let place = members.len();
-            let entry = Entry::new(answer, now, changed, reads, durability, place, numbers);
+            let entry = Entry::new(answer, now, changed, reads, durability, place);
             self.put(key, near, entry);
         }
     }
@@ -267,14 +228,14 @@ impl<R: Rules> Memos<R> {
         ensures returned { IfErr result (λ u. u.members.items ≡ members.items) }
     {
         let now = inputs.now().number();
-        let hints = match self.hints_of(alloc, &members, numbers, inputs) {
-            Ok(hints) => hints,
+        let placed = match self.placed_of(alloc, &members, numbers, inputs) {
+            Ok(placed) => placed,
             Err(_) => return Err(UnpublishedRing { members }),
         };
-        let durability = self.ring_durability(&members, &hints, inputs);
-        match self.prepare_ring(alloc, &members, &hints, now) {
+        let durability = self.ring_durability(&placed, inputs);
+        match self.prepare_ring(alloc, &placed, now) {
             Ok(prepared) => {
-                self.put_all(members, prepared, hints, durability, now);
+                self.put_all(placed, prepared, durability, now);
                 Ok(())
             }
             Err(_) => Err(UnpublishedRing { members }),

@@ -16,6 +16,7 @@ use crate::entry::number_at;
 use crate::frame::{Frame, Stage};
 use crate::member::Member;
 use crate::memos::Memos;
+use crate::recorded::Recorded;
 use crate::slots::NOWHERE;
 use pq_inputs::Inputs;
 use pq_rules::{Memory, Rules, push};
@@ -28,6 +29,22 @@ fn copy_all<R: Rules>(alloc: Global, rules: &R, keys: &[R::Key]) -> Result<Vec<R
     let mut copies = Vec::new(alloc);
     for i in 0..keys.len() {
         let copy = rules.copy_key(alloc, &keys[i])?;
+        push(&mut copies, copy)?;
+    }
+    Ok(copies)
+}
+
+/// Copies the keys of `reads`.
+fn copy_recorded<R: Rules>(
+    alloc: Global,
+    rules: &R,
+    reads: &[Recorded<R::Key>],
+) -> Result<Vec<R::Key>, Memory>
+    ensures { IfOk result (λ v. v.items ≡ reads.now) }
+{
+    let mut copies = Vec::new(alloc);
+    for i in 0..reads.len() {
+        let copy = rules.copy_key(alloc, reads[i].key())?;
         push(&mut copies, copy)?;
     }
     Ok(copies)
@@ -48,7 +65,10 @@ impl<R: Rules> Memos<R> {
         match self.entry(key, near) {
             Some(entry) => {
                 let reads = entry.reads();
-                self.waited_reads(alloc, &reads[place], &reads[..place])
+                let mut copies = copy_recorded(alloc, self.rules(), &reads[..place])?;
+                let copy = self.rules().copy_key(alloc, reads[place].key())?;
+                push(&mut copies, copy)?;
+                Ok(copies)
             }
             None => unreachable!(),
         }

@@ -5,7 +5,7 @@
 //! number along: one comparison then takes the place of the search, and a wrong number only costs
 //! that comparison. So numbers that are kept elsewhere are in no contract. An input has no slot; its
 //! number says where its file is among the inputs.
-ghost use Rattle.std.specs.Prelude.{◌≡◌, ◌<◌, ◌++◌, ◌∷◌, [], length, IsTrue, IsSome, IfSome, IfNone, IfErr, OnOk, OnErr, Some, None, option_copied, if◌then◌else◌};
+ghost use Rattle.std.specs.Prelude.{◌≡◌, ◌<◌, ◌++◌, ◌∷◌, [], length, IsTrue, IsSome, IfSome, IfNone, IfOk, IfErr, OnOk, OnErr, Some, None, option_copied, if◌then◌else◌};
 ghost use Rattle.std.specs.Option.{option_map};
 ghost use Rattle.std.specs.Map.{lookup};
 ghost use Rattle.std.specs.BTreeMap.{is_at};
@@ -17,9 +17,10 @@ ghost use Rattle.pq_memo.specs.aux.Slots.{key_at, value_at, with_at};
 ghost use Rattle.pq_memo.specs.aux.Written.{HasRoom};
 
 use crate::entry::{Entry, mark_in, number_at};
+use crate::recorded::Recorded;
 use crate::stack::{noted, put_place};
 use pq_inputs::Durability;
-use pq_rules::{Memory, Rules, is_same_key, push};
+use pq_rules::{Memory, Rules, Shared, is_same_key, push};
 use std::alloc::Global;
 use std::collections::BTreeMap;
 use std::marker::Model;
@@ -72,10 +73,10 @@ impl Near {
     }
 }
 
-/// A key, and what the table keeps of it. Contracts see the pair.
+/// A key, which recorded reads share, and what the table keeps of it. Contracts see the pair.
 #[derive(Drop)]
 pub(crate) struct Slot<K, V> {
-    key: K,
+    key: Shared<K>,
     entry: Option<Entry<K, V>>,
 }
 
@@ -93,7 +94,7 @@ impl<K, V> Slot<K, V> {
     fn key(&self) -> &K
         ensures { result.now ≡ self.now.0 }
     {
-        &self.key
+        self.key.get()
     }
 
     /// The entry, if the key has a memo.
@@ -112,6 +113,13 @@ impl<K, V> Slot<K, V> {
 }
 
 impl<K: Drop, V: Drop> Slot<K, V> {
+    /// The key once more.
+    fn share(&self) -> Result<Shared<K>, Memory>
+        ensures { IfOk result (λ k. k ≡ self.now.0) }
+    {
+        self.key.copy()
+    }
+
     /// Gives the key the memo `entry`.
     fn set(&mut self, entry: Entry<K, V>)
         ensures { self.new ≡ (self.old.0, Some entry) }
@@ -136,20 +144,24 @@ fn set_at<K: Drop, V: Drop>(slots: &mut Vec<Slot<K, V>>, number: usize, entry: E
     slots[number].set(entry);
 }
 
-/// Makes a place in `next` for the slot `number`, if it is the first without one.
-fn make_place(next: &mut Vec<usize>, number: usize) -> Result<(), Memory> {
+/// Makes a place in `next` for the slot `number`, if it is the first without one. Notes that it was
+/// read after the slot `before`.
+fn make_place(next: &mut Vec<usize>, number: usize, before: usize) -> Result<(), Memory> {
     if next.as_slice().len() <= number {
         push(next, NOWHERE)?;
+    }
+    if before < next.as_slice().len() {
+        next[before] = number;
     }
     Ok(())
 }
 
-/// Notes in `next` that the slots `numbers` were read in this order.
-fn note_order(next: &mut Vec<usize>, numbers: &[usize]) {
-    for i in 1..numbers.len() {
-        let before = numbers[i - 1];
+/// Notes in `next` that `reads` were made in this order.
+fn note_order<K>(next: &mut Vec<usize>, reads: &[Recorded<K>]) {
+    for i in 1..reads.len() {
+        let before = reads[i - 1].number();
         if before < next.as_slice().len() {
-            next[before] = numbers[i];
+            next[before] = reads[i].number();
         }
     }
 }
@@ -157,8 +169,19 @@ fn note_order(next: &mut Vec<usize>, numbers: &[usize]) {
 /// Notes in `next` in which order the reads of `entry` were made, if there is one.
 fn note_order_of<K, V>(next: &mut Vec<usize>, entry: &Option<Entry<K, V>>) {
     if let Some(entry) = entry {
-        note_order(next, entry.numbers());
+        note_order(next, entry.reads());
     }
+}
+
+/// A copy of `key`, to be shared.
+pub(crate) fn share_copy<R: Rules>(
+    alloc: Global,
+    rules: &R,
+    key: &R::Key,
+) -> Result<Shared<R::Key>, Memory>
+    ensures { IfOk result (λ k. k ≡ key.now) }
+{
+    Shared::new(alloc, rules.copy_key(alloc, key)?)
 }
 
 /// Slots with distinct keys. Contracts see their list, in the order of their numbers.
@@ -250,6 +273,20 @@ impl<R: Rules> Slots<R> {
             return Some(slots[number].key());
         }
         None
+    }
+
+    /// `_key`, whose slot is `number`, shared with the slot.
+    pub(crate) fn share_key(
+        &self,
+        _rules: &R,
+        _key: &R::Key,
+        number: usize,
+    ) -> Result<Shared<R::Key>, Memory>
+        requires { key_at self.now number ≡ Some _key.now }
+        ensures { IfOk result (λ k. k ≡ _key.now) }
+    {
+        let shared = self.slots.as_slice()[number].share()?;
+        Ok(shared)
     }
 
     /// The entry of the slot `number`, if there is one.
@@ -352,16 +389,18 @@ impl<R: Rules> Slots<R> {
         ensures put { IsPut R.Key.cmp (memo_at R.Key.cmp self.old) _key.now entry (memo_at R.Key.cmp self.new) }
         ensures kept { (q : R.Key) → HasRoom R.Key.cmp self.old q → HasRoom R.Key.cmp self.new q }
     {
-        note_order(&mut self.next, entry.numbers());
+        note_order(&mut self.next, entry.reads());
         set_at(&mut self.slots, number, entry);
         self.last = number;
     }
 
-    /// Makes a slot of `key`, which has none, with `entry`. If an allocation fails, both come back.
+    /// Makes a slot of `key`, which has none and was read after the slot `before`, with `entry`. If
+    /// an allocation fails, both come back.
     fn add(
         &mut self,
         rules: &R,
         key: R::Key,
+        before: usize,
         entry: Option<Entry<R::Key, R::Value>>,
     ) -> Result<(), (R::Key, Option<Entry<R::Key, R::Value>>)>
         requires { lookup (is_at (R.Key.cmp key)) self.old ≡ None }
@@ -373,8 +412,12 @@ impl<R: Rules> Slots<R> {
             Ok(copy) => copy,
             Err(_) => return Err((key, entry)),
         };
+        let shared = match share_copy(self.alloc, rules, &key) {
+            Ok(shared) => shared,
+            Err(_) => return Err((key, entry)),
+        };
         let number = self.slots.as_slice().len();
-        if self.slots.reserve(1).is_err() || make_place(&mut self.next, number).is_err() {
+        if self.slots.reserve(1).is_err() || make_place(&mut self.next, number, before).is_err() {
             return Err((key, entry));
         }
         match put_place(rules, &mut self.index, copy, number) {
@@ -382,7 +425,7 @@ impl<R: Rules> Slots<R> {
             Err(_) => return Err((key, entry)),
         }
         note_order_of(&mut self.next, &entry);
-        self.slots.push_reserved(Slot { key, entry });
+        self.slots.push_reserved(Slot { key: shared, entry });
         self.last = number;
         Ok(())
     }
@@ -404,7 +447,7 @@ impl<R: Rules> Slots<R> {
                 self.set(rules, &key, number, entry);
                 Ok(())
             }
-            None => match self.add(rules, key, Some(entry)) {
+            None => match self.add(rules, key, NOWHERE, Some(entry)) {
                 Ok(()) => Ok(()),
                 Err(back) => {
                     let (key, entry) = back;
@@ -435,13 +478,15 @@ impl<R: Rules> Slots<R> {
         }
     }
 
-    /// Makes a slot of `key`, if it has none, and returns its number.
+    /// Makes a slot of `key`, if it has none, and returns its number. The key was read after the slot
+    /// `before`.
     pub(crate) fn make_room(
         &mut self,
         alloc: Global,
         rules: &R,
         key: &R::Key,
         near: usize,
+        before: usize,
     ) -> Result<usize, Memory>
         ensures same { IsSameTable (memo_at R.Key.cmp self.old) (memo_at R.Key.cmp self.new) }
         ensures room { OnOk result (HasRoom R.Key.cmp self.new key.now) }
@@ -452,7 +497,7 @@ impl<R: Rules> Slots<R> {
             None => {
                 let copy = rules.copy_key(alloc, key)?;
                 let number = self.slots.as_slice().len();
-                match self.add(rules, copy, None) {
+                match self.add(rules, copy, before, None) {
                     Ok(()) => Ok(number),
                     Err(_) => Err(Memory),
                 }

@@ -17,9 +17,10 @@ ghost use Rattle.pq_memo.specs.Writes.{IsDated, IsMarked, IsPublished, remarked}
 ghost use Rattle.pq_memo.specs.aux.Durabilities.{IsKnown, HasDurability, IsLeastRead};
 ghost use Rattle.pq_memo.specs.aux.Written.{HasRoom};
 
-use crate::entry::{Entry, number_at};
+use crate::entry::Entry;
 use crate::memos::Memos;
-use crate::slots::{NOWHERE, file_number};
+use crate::recorded::Recorded;
+use crate::slots::{NOWHERE, file_number, input_number, share_copy};
 use crate::unpublished::Unpublished;
 use pq_inputs::{Durability, Inputs};
 use pq_rules::{Answer, Memory, Rules, Shared, push, same_answer};
@@ -52,8 +53,7 @@ impl<R: Rules> Memos<R> {
     /// The least durability of `reads`.
     pub(crate) fn least_of(
         &self,
-        reads: &[R::Key],
-        numbers: &[usize],
+        reads: &[Recorded<R::Key>],
         inputs: &Inputs,
     ) -> Durability
         requires { Each (IsKnown (R.machine self.now.rules) (HasIn (memo_at R.Key.cmp self.now.places))) reads.now }
@@ -61,8 +61,11 @@ impl<R: Rules> Memos<R> {
     {
         let mut least = Durability::High;
         for i in 0..reads.len() {
-            let near = number_at(numbers, i);
-            least = lower(least, self.durability_of(&reads[i], near, inputs));
+            let read = &reads[i];
+            least = lower(
+                least,
+                self.durability_of(read.key(), read.number(), inputs),
+            );
         }
         least
     }
@@ -78,7 +81,7 @@ impl<R: Rules> Memos<R> {
         if self.lasts(entry, inputs) {
             return entry.durability();
         }
-        self.least_of(entry.reads(), entry.numbers(), inputs)
+        self.least_of(entry.reads(), inputs)
     }
 
     /// Marks the memo of `key`, which is `Green`, as verified now. Its durability becomes the least
@@ -181,23 +184,59 @@ impl<R: Rules> Memos<R> {
         self.publish_near(key, near, answer, reads, inputs)
     }
 
-    /// The numbers of `reads`, which the rule of the key in the slot `own` made. They are looked for
-    /// where the reads of its memo are, or where others read them in this order.
-    pub(crate) fn numbers_of(
+    /// The recorded read of `key`, an input or a key without a slot, at `number`.
+    fn recorded_alone(&self, key: &R::Key, number: usize) -> Result<Recorded<R::Key>, Memory>
+        ensures { IfOk result (λ r. r ≡ key.now) }
+    {
+        let shared = share_copy(self.entries.alloc(), &self.rules, key)?;
+        Ok(Recorded::new(shared, number))
+    }
+
+    /// The recorded read of `key`, which is looked for first at `near`. It shares the key with its
+    /// slot.
+    fn recorded(
+        &self,
+        key: &R::Key,
+        near: usize,
+        inputs: &Inputs,
+    ) -> Result<Recorded<R::Key>, Memory>
+        ensures { IfOk result (λ r. r ≡ key.now) }
+    {
+        match self.rules.file(key) {
+            Some(name) => match inputs.number_of(name, file_number(near)) {
+                Some(file) => self.recorded_alone(key, input_number(file)),
+                None => self.recorded_alone(key, NOWHERE),
+            },
+            None => match self.entries.find(&self.rules, key, near) {
+                Some(number) => {
+                    let shared = self.entries.share_key(&self.rules, key, number)?;
+                    Ok(Recorded::new(shared, number))
+                }
+                None => self.recorded_alone(key, NOWHERE),
+            },
+        }
+    }
+
+    /// `reads`, which the rule of the key in the slot `own` made, as recorded reads. They are looked
+    /// for where the reads of its memo are, or where others read them in this order.
+    pub(crate) fn recorded_reads(
         &self,
         own: usize,
         reads: &[R::Key],
         inputs: &Inputs,
-    ) -> Result<Vec<usize>, Memory> {
-        let mut numbers = Vec::new(self.entries.alloc());
-        numbers.reserve_exact(reads.len())?;
+    ) -> Result<Vec<Recorded<R::Key>>, Memory>
+        ensures { IfOk result (λ v. v.items ≡ reads.now) }
+    {
+        let mut recorded = Vec::new(self.entries.alloc());
+        recorded.reserve_exact(reads.len())?;
         let mut number = NOWHERE;
         for i in 0..reads.len() {
             let near = self.read_number(own, i, number);
-            number = self.number(&reads[i], near, inputs);
-            push(&mut numbers, number)?;
+            let read = self.recorded(&reads[i], near, inputs)?;
+            number = read.number();
+            push(&mut recorded, read)?;
         }
-        Ok(numbers)
+        Ok(recorded)
     }
 
     /// Publishes `answer` as that of `key`, which is looked for first at `near`: see `publish`.
@@ -220,33 +259,36 @@ impl<R: Rules> Memos<R> {
         ensures refused { OnErr result (IsSameTable (memo_at R.Key.cmp self.old.places) (memo_at R.Key.cmp self.new.places)) }
         ensures returned { IfErr result (λ u. (u.key ≡ key) × (u.answer ≡ answer) × (u.reads.items ≡ reads.items)) }
     {
-        let numbers = match self.numbers_of(near, &reads, inputs) {
-            Ok(numbers) => numbers,
+        let recorded = match self.recorded_reads(near, &reads, inputs) {
+            Ok(recorded) => recorded,
             Err(_) => return Err(Unpublished { key, answer, reads }),
         };
-        let durability = self.least_of(&reads, &numbers, inputs);
+        let durability = self.least_of(&recorded, inputs);
         let now = inputs.now().number();
         let changed = self.changed_by(&key, near, answer.get(), now);
-        let entry = Entry::new(answer, now, changed, reads, durability, 0, numbers);
+        let entry = Entry::new(answer, now, changed, recorded, durability, 0);
         match self.store(key, near, entry) {
             Ok(()) => Ok(()),
-            Err((key, entry)) => Err(entry.unpublished(key)),
+            Err((key, entry)) => Err(entry.unpublished(key, reads)),
         }
     }
 
-    /// Makes a slot of `key`, if it has none, and returns its number.
+    /// Makes a slot of `key`, if it has none, and returns its number. The key was read after the slot
+    /// `before`.
     pub(crate) fn make_room(
         &mut self,
         alloc: Global,
         key: &R::Key,
         near: usize,
+        before: usize,
     ) -> Result<usize, Memory>
         ensures rules { self.new.rules ≡ self.old.rules }
         ensures same { IsSameTable (memo_at R.Key.cmp self.old.places) (memo_at R.Key.cmp self.new.places) }
         ensures room { OnOk result (HasRoom R.Key.cmp self.new.places key.now) }
         ensures kept { (q : R.Key) → HasRoom R.Key.cmp self.old.places q → HasRoom R.Key.cmp self.new.places q }
     {
-        self.entries.make_room(alloc, &self.rules, key, near)
+        self.entries
+            .make_room(alloc, &self.rules, key, near, before)
     }
 
     /// Gives `key`, which has a place, the memo `entry`. It takes no memory.

@@ -1,4 +1,5 @@
 use Rattle.std.proofs.Common.{◌<◌, List, length, refl, sym, subst, inr, arith}
+use Rattle.pq_memo.specs.Look.{HasChangedRead, WalksTo}
 use Rattle.pq_memo.specs.Table.{memo_at, HasIn}
 use Rattle.pq_memo.proofs.Reading.{walks_to, changed_at, read_within, get_as}
 use Rattle.pq_memo.proofs.memos.Memos.look_at.Goals as goal
@@ -42,13 +43,15 @@ returns-in-Cyclic g c = let s = c.in-Cyclic.ensures {u = tt} in (c.args.entry.no
 pub returns-in-Behind : goal.returns-in-Behind
 returns-in-Behind g c =
     let s = c.in-Behind.ensures {u = tt} in
-    walks_to (g.R.Rules.machine c.args.self.now.rules) c.args.inputs.now.history c.args.inputs.now.revision (HasIn (memo_at g.R.Key.Ord.cmp c.args.self.now.places))
+    subst (λ (k : g.row.R-Key.Denot). WalksTo (g.R.Rules.machine c.args.self.now.rules) c.args.inputs.now.history c.args.inputs.now.revision (HasIn (memo_at g.R.Key.Ord.cmp c.args.self.now.places)) c.args.key.now k) (sym c.key.ensures)
+    (walks_to (g.R.Rules.machine c.args.self.now.rules) c.args.inputs.now.history c.args.inputs.now.revision (HasIn (memo_at g.R.Key.Ord.cmp c.args.self.now.places))
     c.args.key.now c.args.entry.now s.0 c.args.entry.now.verified c.args.entry.now.reads refl refl c.in-Behind.i c.index-reads-i.result s.1
-    (get_as c.reads-reads.result.now c.args.entry.now.reads c.in-Behind.i c.index-reads-i.result c.reads-reads.ensures c.index-reads-i.is)
+    (get_as c.reads-reads.result.now c.args.entry.now.reads c.in-Behind.i c.index-reads-i.result c.reads-reads.ensures c.index-reads-i.is))
 
 pub returns-in-Outdated : goal.returns-in-Outdated
 returns-in-Outdated g c =
     let s = c.in-Outdated.ensures {u = tt} in
-    changed_at (g.R.Rules.machine c.args.self.now.rules) c.args.inputs.now.history c.args.inputs.now.revision (HasIn (memo_at g.R.Key.Ord.cmp c.args.self.now.places))
+    subst (λ (k : g.row.R-Key.Denot). HasChangedRead (g.R.Rules.machine c.args.self.now.rules) c.args.inputs.now.history c.args.inputs.now.revision (HasIn (memo_at g.R.Key.Ord.cmp c.args.self.now.places)) c.args.key.now k) (sym c.key-in-Outdated.ensures)
+    (changed_at (g.R.Rules.machine c.args.self.now.rules) c.args.inputs.now.history c.args.inputs.now.revision (HasIn (memo_at g.R.Key.Ord.cmp c.args.self.now.places))
     c.args.key.now c.args.entry.now s.0 c.args.entry.now.verified c.args.entry.now.reads refl refl c.in-Outdated.i c.index-reads-i-in-Outdated.result s.1
-    (get_as c.reads-reads.result.now c.args.entry.now.reads c.in-Outdated.i c.index-reads-i-in-Outdated.result c.reads-reads.ensures c.index-reads-i-in-Outdated.is)
+    (get_as c.reads-reads.result.now c.args.entry.now.reads c.in-Outdated.i c.index-reads-i-in-Outdated.result c.reads-reads.ensures c.index-reads-i-in-Outdated.is))
