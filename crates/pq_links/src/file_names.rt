@@ -1,20 +1,21 @@
 //! Lists of names of files, each name once.
 //!
 //! The type keeps that each name is there once. So the list of a file with one import is that
-//! import's list after the file's own name, and takes one walk and no set.
+//! import's list after the file's own name, and takes one walk and no set. Lists share their names:
+//! a name in a further list is one more pointer.
 ghost use Rattle.std.specs.Prelude.{◌≡◌, ◌∷◌, ◌++◌, [], IfOk, OnOk, bytes_eq, cond};
 ghost use Rattle.pq_links.specs.Once.{each_once};
 ghost use Rattle.pq_links.specs.aux.Adding.{is_not};
 
 use crate::Memory;
-use pq_rules::Text;
+use pq_rules::{Shared, Text};
 use std::alloc::Global;
 use std::marker::Model;
 
 /// Names of files, each once. Contracts see the list of them, and `==` compares exactly that list.
 #[derive(Drop)]
 pub struct FileNames {
-    names: Vec<Text>,
+    names: Vec<Shared<Text>>,
 }
 
 impl Model for FileNames {
@@ -28,8 +29,12 @@ impl Model for FileNames {
     ghost invariant = { λ n. each_once bytes_eq n.names.items ≡ n.names.items };
 }
 
-/// Adds `name` to `names`, unless it is `file`.
-fn push_other(names: &mut Vec<Text>, file: &Text, name: &Text) -> Result<(), Memory>
+/// Adds `name` to `names`, unless it is `file`. The list shares the name.
+fn push_other(
+    names: &mut Vec<Shared<Text>>,
+    file: &Shared<Text>,
+    name: &Shared<Text>,
+) -> Result<(), Memory>
     ensures added { OnOk result
         (names.new.items ≡ names.old.items ++ cond (is_not file.now name.now) (name.now ∷ []) []) }
 {
@@ -39,8 +44,12 @@ fn push_other(names: &mut Vec<Text>, file: &Text, name: &Text) -> Result<(), Mem
     Ok(())
 }
 
-/// `file`, and after it those of `names` that are not `file`.
-fn names_after(alloc: Global, file: &Text, names: &FileNames) -> Result<Vec<Text>, Memory>
+/// `file`, and after it those of `names` that are not `file`. The list shares all of them.
+fn names_after(
+    alloc: Global,
+    file: &Shared<Text>,
+    names: &FileNames,
+) -> Result<Vec<Shared<Text>>, Memory>
     ensures names { IfOk result (λ v. v.items ≡ each_once bytes_eq (file.now ∷ names.now)) }
 {
     let others = names.as_slice();
@@ -54,7 +63,7 @@ fn names_after(alloc: Global, file: &Text, names: &FileNames) -> Result<Vec<Text
 
 impl FileNames {
     /// The names `names`, each of which is there once.
-    pub(crate) fn new(names: Vec<Text>) -> FileNames
+    pub(crate) fn new(names: Vec<Shared<Text>>) -> FileNames
         requires once { each_once bytes_eq names.items ≡ names.items }
         ensures names { result ≡ names.items }
     {
@@ -62,15 +71,15 @@ impl FileNames {
     }
 
     /// The names, in text order.
-    pub fn as_slice(&self) -> &[Text]
+    pub fn as_slice(&self) -> &[Shared<Text>]
         ensures value { result.now ≡ self.now }
         ensures once { each_once bytes_eq self.now ≡ self.now }
     {
         &self.names
     }
 
-    /// `file`, and after it the names but `file`, by one walk.
-    pub(crate) fn after(&self, alloc: Global, file: &Text) -> Result<FileNames, Memory>
+    /// `file`, and after it the names but `file`, by one walk. The list shares all of them.
+    pub(crate) fn after(&self, alloc: Global, file: &Shared<Text>) -> Result<FileNames, Memory>
         ensures names { IfOk result (λ n. n ≡ each_once bytes_eq (file.now ∷ self.now)) }
     {
         let names = names_after(alloc, file, self)?;

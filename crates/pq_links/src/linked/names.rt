@@ -1,7 +1,7 @@
 //! The three lists of a file's links, by the links of its imports' files.
 //!
 //! Each takes N log N time for N names in the lists of these files, and one walk where one file is
-//! imported. Names are shared, not copied.
+//! imported. The lists share the names of these lists, and all three share the name of the file.
 ghost use Rattle.std.specs.Prelude.{◌≡◌, [], ◌∷◌, ◌++◌, true, cond, IfOk, OnOk};
 ghost use Rattle.pq_links.specs.Visibility.{firsts, links_by, no_links, passed_on, shown, reached};
 ghost use Rattle.pq_links.specs.aux.Adding.{add_first, add_firsts, has, same_name};
@@ -14,7 +14,7 @@ use pq_rules::{Shared, Text};
 use std::alloc::Global;
 
 /// Adds `name`, if it is not there yet.
-fn add_name(names: &mut Firsts<Text>, name: &Text) -> Result<(), Memory>
+fn add_name(names: &mut Firsts<Shared<Text>>, name: &Shared<Text>) -> Result<(), Memory>
     ensures added { OnOk result (names.new ≡ add_first same_name names.old name.now) }
 {
     let item = name.copy()?;
@@ -23,7 +23,7 @@ fn add_name(names: &mut Firsts<Text>, name: &Text) -> Result<(), Memory>
 }
 
 /// Whether the name at `place` is `name`.
-fn is_at(names: &Firsts<Text>, place: usize, name: &Text) -> bool
+fn is_at(names: &Firsts<Shared<Text>>, place: usize, name: &Shared<Text>) -> bool
     ensures there { result ≡ true → has same_name names.now name.now ≡ true }
 {
     match names.at(place) {
@@ -34,7 +34,11 @@ fn is_at(names: &Firsts<Text>, place: usize, name: &Text) -> bool
 
 /// Adds `name`, if it is not there yet. The answer is where the name that follows it in the list of
 /// an import may be, where `place` is where `name` may be: there or behind, or anywhere.
-fn add_near(names: &mut Firsts<Text>, place: usize, name: &Text) -> Result<usize, Memory>
+fn add_near(
+    names: &mut Firsts<Shared<Text>>,
+    place: usize,
+    name: &Shared<Text>,
+) -> Result<usize, Memory>
     ensures added { OnOk result (names.new ≡ add_first same_name names.old name.now) }
 {
     let next = place.saturating_add(1);
@@ -54,7 +58,7 @@ const SECOND: usize = 1;
 /// Adds each name of `more` in order, if it is not there yet. Imports whose files reach the same
 /// files mostly have them in the same order. So the name after one that was there is looked for
 /// beside it, before the set is searched.
-fn add_names(names: &mut Firsts<Text>, more: &[Text]) -> Result<(), Memory>
+fn add_names(names: &mut Firsts<Shared<Text>>, more: &[Shared<Text>]) -> Result<(), Memory>
     ensures added { OnOk result (names.new ≡ add_firsts same_name names.old more.now) }
 {
     let mut place = SECOND;
@@ -66,7 +70,7 @@ fn add_names(names: &mut Firsts<Text>, more: &[Text]) -> Result<(), Memory>
 
 /// Adds what `import` passes on, if it is public.
 fn add_public(
-    names: &mut Firsts<Text>,
+    names: &mut Firsts<Shared<Text>>,
     import: &Import,
     links: &Shared<Links>,
 ) -> Result<(), Memory>
@@ -81,7 +85,7 @@ fn add_public(
 /// What `file` exports, whose one import is `import`.
 fn exports_with(
     alloc: Global,
-    file: &Text,
+    file: &Shared<Text>,
     import: &Import,
     links: &Shared<Links>,
 ) -> Result<FileNames, Memory>
@@ -97,7 +101,7 @@ fn exports_with(
 /// What `file` exports, by the imports `pairs` and one more import.
 fn exports_of(
     alloc: Global,
-    file: &Text,
+    file: &Shared<Text>,
     pairs: &[(Import, Shared<Links>)],
     last: &Import,
     links: &Shared<Links>,
@@ -119,7 +123,7 @@ fn exports_of(
 /// What `file` sees, by the imports `pairs` and one more import with `links`.
 fn visible_to(
     alloc: Global,
-    file: &Text,
+    file: &Shared<Text>,
     pairs: &[(Import, Shared<Links>)],
     links: &Shared<Links>,
 ) -> Result<FileNames, Memory>
@@ -140,7 +144,7 @@ fn visible_to(
 /// What `file` reaches, by the imports `pairs` and one more import with `links`.
 fn reached_by(
     alloc: Global,
-    file: &Text,
+    file: &Shared<Text>,
     pairs: &[(Import, Shared<Links>)],
     links: &Shared<Links>,
 ) -> Result<FileNames, Memory>
@@ -168,9 +172,10 @@ pub(crate) fn join(
 ) -> Result<Shared<Links>, Memory>
     ensures links { IfOk result (λ l. l ≡ links_by file.now (pairs.now ++ (last.now, links.now) ∷ [])) }
 {
-    let exports = exports_of(alloc, file, pairs, last, links)?;
-    let visible = visible_to(alloc, file, pairs, links)?;
-    let reach = reached_by(alloc, file, pairs, links)?;
+    let file = Shared::new(alloc, file.copy()?)?;
+    let exports = exports_of(alloc, &file, pairs, last, links)?;
+    let visible = visible_to(alloc, &file, pairs, links)?;
+    let reach = reached_by(alloc, &file, pairs, links)?;
     Shared::new(
         alloc,
         Links {
@@ -183,7 +188,7 @@ pub(crate) fn join(
 
 /// The list of `file` alone.
 #[tactic(auto, unfolding(crate::specs::Once::each_once))]
-fn only(alloc: Global, file: &Text) -> Result<FileNames, Memory>
+fn only(alloc: Global, file: &Shared<Text>) -> Result<FileNames, Memory>
     ensures names { IfOk result (λ names. names ≡ firsts (file.now ∷ [])) }
 {
     let mut names = Vec::new(alloc);
@@ -203,9 +208,10 @@ fn none(alloc: Global) -> FileNames
 pub(crate) fn alone(alloc: Global, file: &Text) -> Result<Shared<Links>, Memory>
     ensures links { IfOk result (λ l. l ≡ links_by file.now []) }
 {
-    let exports = only(alloc, file)?;
-    let visible = only(alloc, file)?;
-    let reach = only(alloc, file)?;
+    let file = Shared::new(alloc, file.copy()?)?;
+    let exports = only(alloc, &file)?;
+    let visible = only(alloc, &file)?;
+    let reach = only(alloc, &file)?;
     Shared::new(
         alloc,
         Links {
