@@ -9,7 +9,6 @@ use Rattle.std.specs.declared.cmp.Ordering.TheVariants.{Equal}
 use Rattle.std.proofs.Math.Seq.{take-append_seam}
 use Rattle.std.proofs.lemmas.Cmp.{tied_itself}
 use Rattle.std.proofs.lemmas.List.{length-append, get_or_default}
-use Rattle.std.proofs.lemmas.List.Sorted.{Contains-permutation, IsPermutation-sym}
 use Rattle.pq_schema.specs.declared.definitions.Definition.{Definition}
 use Rattle.pq_schema.specs.aux.CodeOrder.{codes_tie, codes_total}
 use Rattle.pq_schema.specs.aux.Fronts.{AreAlike, BeginAlike, IsBehind, IsMet, IsParted, IsSeen}
@@ -138,7 +137,7 @@ pub index_alike : (n : ℕ) (name : List ℕ) (index : List (List ℕ × ℕ)) (
 index_alike n name index ds x all k within =
     let e = get_or index k no_entry in
     let there : Contains index e = (k, within, get_or_default index k e no_entry within) in
-    entry_alike n 0 e.1 name e.0 ds all (Contains-permutation index (entries 0 ds) e (IsPermutation-sym (entries 0 ds) index x.same) there)
+    entry_alike n 0 e.1 name e.0 ds all (x.are.sound e there)
 
 -- no byte is the same in all names
 pub none_alike : (name : List ℕ) (ds : List Definition) → BeginAlike 0 name ds

@@ -1,7 +1,8 @@
 -- A search of the index finds the first definition of a name: its entries are sorted by name, then
 -- by place, so the first entry of a name is that of its first definition.
-use Rattle.std.proofs.Common.{◌≡◌, ℕ, zero, suc, ◌+◌, ◌<◌, ◌≤◌, true, false, cond, nat_lt, nat_eq, length, get_or, drop, List, [], ◌∷◌, ◌++◌, Some, None, refl, sym, ap, subst, ◌∙◌, inl, inr, arith, true≢false, append-nil, append_assoc, add-one}
+use Rattle.std.proofs.Common.{◌≡◌, ℕ, zero, suc, ◌+◌, ◌<◌, ◌≤◌, true, false, cond, nat_lt, nat_eq, length, get_or, List, [], ◌∷◌, ◌++◌, Some, None, refl, sym, ap, subst, ◌∙◌, inl, inr, arith, true≢false}
 use Rattle.std.specs.Prelude.{Contains, bytes_eq, find}
+use Rattle.std.specs.List.Sorted.{IsPermutation}
 use Rattle.std.specs.Cmp.Lexicographic.{bytes_decides}
 use Rattle.std.specs.Ordering.{nat_cmp, is_lt, is_eq, ordering_then, ordering_reverse}
 use Rattle.std.specs.declared.cmp.Ordering.{Ordering}
@@ -9,14 +10,18 @@ use Rattle.std.specs.declared.cmp.Ordering.TheVariants.{Less, Equal, Greater}
 use Rattle.std.proofs.lemmas.Bool.{cases_lt}
 use Rattle.std.proofs.lemmas.Bool.Decides.{nat_tests}
 use Rattle.std.proofs.lemmas.Cmp.{tied_itself}
-use Rattle.std.proofs.lemmas.List.{at_drop_all, drop_more, get_or_default}
+use Rattle.std.proofs.lemmas.List.{get_or_default}
+use Rattle.std.proofs.lemmas.List.Elements.{Contains-append_cases, Contains-append_left, Contains-append_right}
+use Rattle.std.proofs.lemmas.Option.{get_or_from_slice_get, slice_get_within}
 use Rattle.std.proofs.lemmas.List.Sorted.{sorted_far, ranks_by, Contains-permutation, IsPermutation-sym}
 use Rattle.pq_schema.proofs.Cases.{either}
 use Rattle.pq_schema.proofs.Rising.{by_order, by_name_total, not_below_itself, rises}
 use Rattle.pq_schema.specs.declared.definitions.Definition.{Definition}
 use Rattle.pq_schema.specs.aux.NameCodes.{code_order}
 use Rattle.pq_schema.specs.aux.CodeOrder.{codes_total, codes_tie}
-use Rattle.pq_schema.specs.aux.Index.{entry_order, entries, IsIndexOf}
+use Rattle.pq_schema.specs.aux.Copies.{At, IsCopy, full_names}
+use Rattle.pq_schema.specs.aux.Index.{entry_order, entries, AreEntries, IsIndexOf}
+use Rattle.pq_schema.proofs.NumberedNames.{one_at}
 
 -- ---- the entries of a list
 
@@ -84,13 +89,17 @@ tied_same a b tie = (bytes_decides a b).0 (codes_tie a b ∙ ap is_eq tie)
 
 -- ---- what is at the first entry whose name is not below a name
 
+-- a definition has an entry of its name at its place or before
+pub entry_before : (index : List (List ℕ × ℕ)) (ds : List Definition) → IsIndexOf index ds → (name : List ℕ) (m : ℕ) → Contains (entries 0 ds) (name, m)
+    → (j : ℕ) × (j ≤ m) × Contains index (name, j)
+entry_before index ds x name m c = let below = place_below 0 m name ds c in x.are.first name m (omega arith) c
+
 module _ (index : List (List ℕ × ℕ)) (ds : List Definition) (x : IsIndexOf index ds) (name : List ℕ) (p : ℕ)
     (less : (k : ℕ) → k < p → is_lt (code_order (get_or index k no_entry).0 name) ≡ true)
     (others : (k : ℕ) → p ≤ k → k < length index → is_lt (code_order (get_or index k no_entry).0 name) ≡ false) where
   -- an entry of the name is at `p` or later
-  at_or_later : (m : ℕ) → Contains (entries 0 ds) (name, m) → (k : ℕ) × (k < length index) × (get_or index k no_entry ≡ (name, m)) × (p ≤ k)
-  at_or_later m c =
-      let there = Contains-permutation (entries 0 ds) index (name, m) x.same c in
+  at_or_later : (m : ℕ) → Contains index (name, m) → (k : ℕ) × (k < length index) × (get_or index k no_entry ≡ (name, m)) × (p ≤ k)
+  at_or_later m there =
       let is : get_or index there.0 no_entry ≡ (name, m) = get_or_default index there.0 no_entry (name, m) there.1 ∙ there.2 in (
         there.0,
         there.1,
@@ -103,7 +112,8 @@ module _ (index : List (List ℕ × ℕ)) (ds : List Definition) (x : IsIndexOf 
 
   pub miss : (p < length index → (get_or index p no_entry).0 ≡ name → ⊥) → find (λ (d : Definition). bytes_eq d.full_name name) ds ≡ None
   miss free = none_found 0 name ds (λ m c.
-      let k = at_or_later m c in
+      let f = entry_before index ds x name m c in
+      let k = at_or_later f.0 f.2 in
       let k_within = k.1 in
       let up = k.3 in
       let within : p < length index = omega arith in
@@ -120,7 +130,7 @@ module _ (index : List (List ℕ × ℕ)) (ds : List Definition) (x : IsIndexOf 
       let e = get_or index p no_entry in
       let e_is : e ≡ (name, e.1) = ap (λ (n : List ℕ). (n, e.1)) is in
       let at_p : Contains index (name, e.1) = (p, within, get_or_default index p (name, e.1) no_entry within ∙ e_is) in
-      Contains-permutation index (entries 0 ds) (name, e.1) (IsPermutation-sym (entries 0 ds) index x.same) at_p
+      x.are.sound (name, e.1) at_p
 
   pub hit_within : p < length index → (get_or index p no_entry).0 ≡ name → (get_or index p no_entry).1 < length ds
   hit_within within is =
@@ -131,16 +141,18 @@ module _ (index : List (List ℕ × ℕ)) (ds : List Definition) (x : IsIndexOf 
       → Contains (entries 0 ds) (name, j) → ⊥
   none_before within is j below c =
       let e = get_or index p no_entry in
-      let k = at_or_later j c in
+      let f = entry_before index ds x name j c in
+      let k = at_or_later f.0 f.2 in
+      let low : f.0 < e.1 = let up_to = f.1 in omega arith in
       let up : is_lt (entry_order (get_or index k.0 no_entry) e) ≡ false =
       sorted_far (λ (x y : List ℕ × ℕ). is_lt (entry_order x y)) (ranks_by (by_name_total code_order codes_total) (λ (f : List ℕ × ℕ). f)) index x.sorted p k.0 no_entry k.3 k.1 in
-      let up_names : is_lt (ordering_then (code_order name name) (nat_cmp j e.1)) ≡ false =
-      subst (λ (n : List ℕ). is_lt (ordering_then (code_order name n) (nat_cmp j e.1)) ≡ false) is
+      let up_names : is_lt (ordering_then (code_order name name) (nat_cmp f.0 e.1)) ≡ false =
+      subst (λ (n : List ℕ). is_lt (ordering_then (code_order name n) (nat_cmp f.0 e.1)) ≡ false) is
       (subst (λ (f : List ℕ × ℕ). is_lt (entry_order f e) ≡ false) k.2 up) in
-      let up_places : is_lt (nat_cmp j e.1) ≡ false =
-      subst (λ (o : Ordering). is_lt (ordering_then o (nat_cmp j e.1)) ≡ false) (tied_itself codes_total name) up_names in
-      let test : nat_lt j e.1 ≡ true = grind (arith, nat_tests) in
-      let j_less : is_lt (nat_cmp j e.1) ≡ true = ap (λ b. is_lt (cond b Less (cond (nat_eq j e.1) Equal Greater))) test in
+      let up_places : is_lt (nat_cmp f.0 e.1) ≡ false =
+      subst (λ (o : Ordering). is_lt (ordering_then o (nat_cmp f.0 e.1)) ≡ false) (tied_itself codes_total name) up_names in
+      let test : nat_lt f.0 e.1 ≡ true = grind (arith, nat_tests) in
+      let j_less : is_lt (nat_cmp f.0 e.1) ≡ true = ap (λ b. is_lt (cond b Less (cond (nat_eq f.0 e.1) Equal Greater))) test in
       true≢false (sym j_less ∙ up_places)
 
   pub hit : (d : Definition) → p < length index → (get_or index p no_entry).0 ≡ name
@@ -151,19 +163,111 @@ module _ (index : List (List ℕ × ℕ)) (ds : List Definition) (x : IsIndexOf 
       (first_found 0 e.1 name ds d (subst (λ (m : ℕ). Contains (entries 0 ds) (name, m)) plus (hit_there within is))
       (λ j below c. none_before within is j (omega arith) c)).1
 
+-- ---- entries and names, by place
+
+pub name_there : (ds : List Definition) (k : ℕ) (d : Definition) → k < length ds → At (full_names ds) k (get_or ds k d).full_name
+name_there [] k d within = absurd (omega arith)
+name_there (x ∷ ds) zero d within = refl
+name_there (x ∷ ds) (suc k) d within = name_there ds k d (omega arith)
+
+entry_from : (n k : ℕ) (ds : List Definition) (name : List ℕ) → At (full_names ds) k name → Contains (entries n ds) (name, n + k)
+unfolding entries
+entry_from n k [] name at = let within = slice_get_within (full_names []) k name at in absurd (omega arith)
+entry_from n zero (x ∷ ds) name at =
+    let plus : n ≡ n + 0 = omega arith in
+    subst (λ (m : ℕ). Contains (entries n (x ∷ ds)) (name, m)) plus
+    (here n name x ds (get_or_from_slice_get (full_names (x ∷ ds)) 0 name name at))
+entry_from n (suc k) (x ∷ ds) name at =
+    let plus : suc n + k ≡ n + suc k = omega arith in
+    subst (λ (m : ℕ). Contains (entries n (x ∷ ds)) (name, m)) plus (later n (suc n + k) name x ds (entry_from (suc n) k ds name at))
+
+name_from : (n k : ℕ) (ds : List Definition) (name : List ℕ) → Contains (entries n ds) (name, n + k) → At (full_names ds) k name
+unfolding entries
+name_from n k [] name (i, within, is) = absurd (omega arith)
+name_from n zero (x ∷ ds) name (zero, within, is) = ap (λ (e : List ℕ × ℕ). Some e.0) is
+name_from n zero (x ∷ ds) name (suc i, within, is) =
+    let more = place_from (suc n) (n + zero) name ds (i, (omega arith), is) in absurd (omega arith)
+name_from n (suc k) (x ∷ ds) name (zero, within, is) =
+    let same : n ≡ n + suc k = ap (λ (e : List ℕ × ℕ). e.1) is in absurd (omega arith)
+name_from n (suc k) (x ∷ ds) name (suc i, within, is) =
+    let plus : n + suc k ≡ suc n + k = omega arith in
+    name_from (suc n) k ds name (subst (λ (m : ℕ). Contains (entries (suc n) ds) (name, m)) plus (i, (omega arith), is))
+
+zero_plus : (k : ℕ) → 0 + k ≡ k
+zero_plus k = omega arith
+
+-- a name has an entry at its place
+pub entry_of_name : (ds : List Definition) (k : ℕ) (name : List ℕ) → At (full_names ds) k name → Contains (entries 0 ds) (name, k)
+entry_of_name ds k name at = subst (λ (m : ℕ). Contains (entries 0 ds) (name, m)) (zero_plus k) (entry_from 0 k ds name at)
+
+-- and an entry its name
+pub name_of_entry : (ds : List Definition) (k : ℕ) (name : List ℕ) → Contains (entries 0 ds) (name, k) → At (full_names ds) k name
+name_of_entry ds k name c = name_from 0 k ds name (subst (λ (m : ℕ). Contains (entries 0 ds) (name, m)) (sym (zero_plus k)) c)
+
 -- ---- the loop that builds the entries
 
-pub entries_more : (ds : List Definition) (n : ℕ) (es more : List (List ℕ × ℕ)) (d : Definition) → n < length ds
-    → more ≡ es ++ ((get_or ds n d).full_name, n) ∷ [] → es ++ entries n (drop n ds) ≡ entries 0 ds
-    → more ++ entries (n + 1) (drop (n + 1) ds) ≡ entries 0 ds
-unfolding entries
-entries_more ds n es more d within is so_far =
-    ap (λ (xs : List (List ℕ × ℕ)). xs ++ entries (n + 1) (drop (n + 1) ds)) is
-    ∙ append_assoc es (((get_or ds n d).full_name, n) ∷ []) (entries (n + 1) (drop (n + 1) ds))
-    ∙ ap (λ (m : ℕ). es ++ ((get_or ds n d).full_name, n) ∷ entries m (drop (n + 1) ds)) (add-one n)
-    ∙ ap (λ (xs : List Definition). es ++ entries n xs) (sym (drop_more ds n d within))
-    ∙ so_far
+pub entries_none : (index : List (List ℕ × ℕ)) (ds : List Definition) → index ≡ [] → AreEntries index ds 0
+entries_none index ds is = record {
+  sound = λ e c. let none : length index ≡ 0 = ap length is in let within = c.1 in absurd (omega arith);
+  first = λ name m below c. absurd (omega (arith, below));
+}
 
-pub entries_all : (ds : List Definition) (n : ℕ) (es : List (List ℕ × ℕ)) → length ds ≤ n → es ++ entries n (drop n ds) ≡ entries 0 ds → es ≡ entries 0 ds
-unfolding entries
-entries_all ds n es past so_far = sym (append-nil es) ∙ ap (λ xs. es ++ xs) (sym (at_drop_all (entries n) ds n past)) ∙ so_far
+-- one more entry
+pub entries_more : (ds : List Definition) (n : ℕ) (old more : List (List ℕ × ℕ)) (name : List ℕ) → At (full_names ds) n name
+    → more ≡ old ++ (name, n) ∷ [] → AreEntries old ds n → AreEntries more ds (n + 1)
+entries_more ds n old more name at is are = subst (λ (es : List (List ℕ × ℕ)). AreEntries es ds (n + 1)) (sym is) (record {
+  sound = λ e c. elim (Contains-append_cases old ((name, n) ∷ []) e c) [
+    | inl before ↦ are.sound e before
+    | inr last ↦ subst (Contains (entries 0 ds)) (only e last) (entry_of_name ds n name at)
+  ];
+  first = λ other m below c. elim (cases_lt m n) [
+    | inl before ↦ let f = are.first other m before c in (f.0, f.1, Contains-append_left old ((name, n) ∷ []) (other, f.0) f.2)
+    | inr past ↦ own other m (omega (arith, below, past)) c
+  ];
+})
+  where
+    only : (e : List ℕ × ℕ) → Contains ((name, n) ∷ []) e → (name, n) ≡ e
+    only e (zero, within, same) = same
+    only e (suc k, within, same) = absurd (omega arith)
+
+    own : (other : List ℕ) (m : ℕ) → m ≡ n → Contains (entries 0 ds) (other, m) → (j : ℕ) × (j ≤ m) × Contains (old ++ (name, n) ∷ []) (other, j)
+    own other m same c =
+        let there : At (full_names ds) n other = subst (λ (k : ℕ). At (full_names ds) k other) same (name_of_entry ds m other c) in (
+          n,
+          omega arith,
+          subst (λ (b : List ℕ). Contains (old ++ (name, n) ∷ []) (b, n)) (one_at (full_names ds) n name other at there)
+              (Contains-append_right old ((name, n) ∷ []) (name, n) (0, (omega arith), refl)),
+        )
+
+-- a copy needs no entry
+pub entries_copy : (ds : List Definition) (n : ℕ) (index : List (List ℕ × ℕ)) → IsCopy (full_names ds) n → AreEntries index ds n → AreEntries index ds (n + 1)
+entries_copy ds n index copy are = record {
+  sound = are.sound;
+  first = λ other m below c. elim (cases_lt m n) [
+    | inl before ↦ are.first other m before c
+    | inr past ↦ earlier other m (omega (arith, below, past)) c
+  ];
+}
+  where
+    earlier : (other : List ℕ) (m : ℕ) → m ≡ n → Contains (entries 0 ds) (other, m) → (j : ℕ) × (j ≤ m) × Contains index (other, j)
+    earlier other m same c =
+        let there : At (full_names ds) n other = subst (λ (k : ℕ). At (full_names ds) k other) same (name_of_entry ds m other c) in
+        let f = are.first copy.2 copy.0 copy.1 (entry_of_name ds copy.0 copy.2 copy.3) in
+        let low = f.1 in
+        let before = copy.1 in (
+          f.0,
+          omega arith,
+          subst (λ (b : List ℕ). Contains index (b, f.0)) (one_at (full_names ds) n copy.2 other copy.4 there) f.2,
+        )
+
+-- all definitions were seen
+pub entries_all : (ds : List Definition) (n : ℕ) (index : List (List ℕ × ℕ)) → length ds ≤ n → AreEntries index ds n → AreEntries index ds (length ds)
+entries_all ds n index past are = record { sound = are.sound; first = λ name m below c. are.first name m (omega (arith, past, below)) c }
+
+-- in another order
+pub entries_moved : (ds : List Definition) (n : ℕ) (old new : List (List ℕ × ℕ)) → IsPermutation old new → AreEntries old ds n → AreEntries new ds n
+entries_moved ds n old new moved are = record {
+  sound = λ e c. are.sound e (Contains-permutation new old e (IsPermutation-sym old new moved) c);
+  first = λ name m below c.
+      let f = are.first name m below c in (f.0, f.1, Contains-permutation old new (name, f.0) moved f.2);
+}

@@ -4,6 +4,7 @@ pub mod InPackage
 pub mod FullNames
 pub mod Codes
 pub mod Rising
+pub mod NumberedNames
 pub mod IndexLemmas
 pub mod Repeats
 pub mod Packages

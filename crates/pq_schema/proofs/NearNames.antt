@@ -24,7 +24,7 @@ use Rattle.pq_schema.specs.aux.Index.{IsIndexOf, entries}
 use Rattle.pq_schema.specs.aux.NameCodes.{code_order}
 use Rattle.pq_schema.specs.aux.NearNames.{Adds, AddsEntries, AreSound, HasEntry, IsFirst, IsNamesOf, Rises, has, named_order}
 use Rattle.pq_schema.proofs.FirstNear.{near_cases}
-use Rattle.pq_schema.proofs.IndexLemmas.{tied_same}
+use Rattle.pq_schema.proofs.IndexLemmas.{entry_before, tied_same}
 use Rattle.pq_schema.proofs.Rising.{tied, names_up, below_before, not_below_itself}
 
 -- `Entry` is an entry of the index
@@ -71,16 +71,15 @@ adds_file old new files k f index at x added = record {
         | inl before ↦ s e before
         | inr n ↦
             let found = entry_found 0 n.1 f.defs.definitions e.0.now
-            (contains_in (e.0.now, n.1) (entries 0 f.defs.definitions)
-            (Contains-permutation index (entries 0 f.defs.definitions) (e.0.now, n.1) (IsPermutation-sym (entries 0 f.defs.definitions) index x.same) (in_contains (e.0.now, n.1) index n.2))) in (
+            (contains_in (e.0.now, n.1) (entries 0 f.defs.definitions) (x.are.sound (e.0.now, n.1) (in_contains (e.0.now, n.1) index n.2))) in (
               subst (λ (i : ℕ). In i places) (sym n.0) there,
               subst (λ (i : ℕ). has files i e.0.now ≡ true) (sym n.0) (has_at files k f e.0.now at ∙ found),
             )
       ];
   there = λ name h.
       let m = found_entry 0 f.defs.definitions name (sym (has_at files k f name at) ∙ h) in
-      added.there name m.0
-      (contains_in (name, m.0) index (Contains-permutation (entries 0 f.defs.definitions) index (name, m.0) x.same (in_contains (name, m.0) (entries 0 f.defs.definitions) m.1)));
+      let first = entry_before index f.defs.definitions x name m.0 (in_contains (name, m.0) (entries 0 f.defs.definitions) m.1) in
+      added.there name first.0 (contains_in (name, first.0) index first.2);
 }
 
 pub adds_none : (old : List Entry) (files : List FileDefs) (k : ℕ) → slice_get files k ≡ None → Adds old old files k

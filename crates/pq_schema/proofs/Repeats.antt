@@ -1,51 +1,32 @@
 -- A walk over the index finds which names are repeated: entries of one name are neighbours, and the
 -- first of them has the first place.
-use Rattle.std.proofs.Common.{◌≡◌, ℕ, zero, suc, ◌+◌, ◌<◌, ◌≤◌, Bool, true, false, cond, nat_lt, length, get_or, take, set, List, [], ◌∷◌, refl, sym, ap, subst, ◌∙◌, inl, inr, arith, true≢false}
+use Rattle.std.proofs.Common.{◌≡◌, ℕ, ◌+◌, ◌<◌, ◌≤◌, Bool, true, false, cond, nat_lt, length, get_or, take, set, replicate, List, refl, sym, ap, subst, ◌∙◌, inl, inr, arith, true≢false}
 use Rattle.std.specs.Prelude.{Contains, bytes_eq}
 use Rattle.std.specs.List.{list_any}
 use Rattle.std.specs.Cmp.Lexicographic.{bytes_decides}
 use Rattle.std.specs.Ordering.{is_lt, ordering_reverse}
 use Rattle.std.proofs.lemmas.Bool.{cases_lt, cases_eq}
 use Rattle.std.proofs.lemmas.Bool.Decides.{nat_tests}
-use Rattle.std.proofs.lemmas.List.{get_or_default, get_or-take, length-take-le, length-set, get_or-set_same, get_or-set_other}
+use Rattle.std.proofs.lemmas.List.{get_or_default, get_or-take, length-take-le, length-set, get_or-set_same, get_or-set_other, get_or-replicate, length-replicate}
 use Rattle.std.proofs.lemmas.List.Elements.{All-from_get_or}
 use Rattle.std.proofs.lemmas.List.Folds.{list_any_at, list_any_none}
-use Rattle.std.proofs.lemmas.List.Sorted.{Contains-permutation, IsPermutation-sym}
 use Rattle.pq_schema.proofs.Cases.{either}
 use Rattle.pq_schema.proofs.Rising.{by_order, below_before, rises}
-use Rattle.pq_schema.proofs.IndexLemmas.{no_entry, tied_same, place_below, none_before}
+use Rattle.pq_schema.proofs.IndexLemmas.{entry_before, entry_of_name, name_of_entry, name_there, no_entry, tied_same, place_below, none_before}
+use Rattle.pq_schema.proofs.NumberedNames.{one_at}
 use Rattle.pq_schema.specs.Repeated.{is_repeated, AreRepeated}
 use Rattle.pq_schema.specs.declared.definitions.Definition.{Definition}
 use Rattle.pq_schema.specs.aux.NameCodes.{code_order}
 use Rattle.pq_schema.specs.aux.CodeOrder.{codes_total}
+use Rattle.pq_schema.specs.aux.Copies.{full_names}
 use Rattle.pq_schema.specs.aux.Index.{entries, IsIndexOf, name_at, place_at, group_start, IsStart, AreMarked}
 
--- ---- the entries of a list, by index
-
-entries_length : (n : ℕ) (ds : List Definition) → length (entries n ds) ≡ length ds
-unfolding entries
-entries_length n [] = refl
-entries_length n (d ∷ ds) = ap suc (entries_length (suc n) ds)
-
-entry_at : (n k : ℕ) (ds : List Definition) (d : Definition) (e : List ℕ × ℕ) → k < length ds
-    → get_or (entries n ds) k e ≡ ((get_or ds k d).full_name, n + k)
-unfolding entries
-entry_at n k [] d e within = absurd (omega arith)
-entry_at n zero (x ∷ ds) d e within = let plus : n ≡ n + 0 = omega arith in ap (λ (m : ℕ). (x.full_name, m)) plus
-entry_at n (suc k) (x ∷ ds) d e within =
-    let plus : suc n + k ≡ n + suc k = omega arith in
-    entry_at (suc n) k ds d e (omega arith) ∙ ap (λ (m : ℕ). ((get_or ds k d).full_name, m)) plus
-
-first_entry : (k : ℕ) (ds : List Definition) (d : Definition) (e : List ℕ × ℕ) → k < length ds
-    → get_or (entries 0 ds) k e ≡ ((get_or ds k d).full_name, k)
-first_entry k ds d e within =
-    let plus : 0 + k ≡ k = omega arith in entry_at 0 k ds d e within ∙ ap (λ (m : ℕ). ((get_or ds k d).full_name, m)) plus
+-- ---- the entries of a list, by place
 
 has_entry : (j : ℕ) (ds : List Definition) (d : Definition) (name : List ℕ) → j < length ds → (get_or ds j d).full_name ≡ name
     → Contains (entries 0 ds) (name, j)
 has_entry j ds d name within is =
-    let long = entries_length 0 ds in
-    (j, omega (arith, long), first_entry j ds d (name, j) within ∙ ap (λ (n : List ℕ). (n, j)) is)
+    subst (λ (n : List ℕ). Contains (entries 0 ds) (n, j)) is (entry_of_name ds j (get_or ds j d).full_name (name_there ds j d within))
 
 -- ---- which names are repeated
 
@@ -76,37 +57,23 @@ module _ (ds : List Definition) (name : List ℕ) (f : ℕ) (d : Definition) (th
           (λ _. refl)
 
 module _ (index : List (List ℕ × ℕ)) (ds : List Definition) (x : IsIndexOf index ds) where
+  -- an entry is that of a definition
+  pub placed : (k : ℕ) → k < length index → place_at index k < length ds
+  placed k within =
+      let e = get_or index k no_entry in
+      let at : Contains index e = (k, within, get_or_default index k e no_entry within) in
+      let below = place_below 0 e.1 e.0 ds (x.are.sound e at) in
+      omega arith
+
   -- what an entry says of the definition at its place
   pub named : (k : ℕ) (d : Definition) → k < length index
       → (place_at index k < length ds) × ((get_or ds (place_at index k) d).full_name ≡ name_at index k)
   named k d within =
       let e = get_or index k no_entry in
       let at : Contains index e = (k, within, get_or_default index k e no_entry within) in
-      let there = Contains-permutation index (entries 0 ds) e (IsPermutation-sym (entries 0 ds) index x.same) at in
-      let long = entries_length 0 ds in
-      let low : there.0 < length ds = omega (arith, there.1) in
-      let is : e ≡ ((get_or ds there.0 d).full_name, there.0) = sym there.2 ∙ first_entry there.0 ds d e low in
-      let place : e.1 ≡ there.0 = ap (λ (y : List ℕ × ℕ). y.1) is in (
-        omega arith,
-        ap (λ (m : ℕ). (get_or ds m d).full_name) place ∙ sym (ap (λ (y : List ℕ × ℕ). y.0) is),
-      )
-
-  pub placed : (k : ℕ) → k < length index → place_at index k < length ds
-  placed k within =
-      let e = get_or index k no_entry in
-      let at : Contains index e = (k, within, get_or_default index k e no_entry within) in
-      let there = Contains-permutation index (entries 0 ds) e (IsPermutation-sym (entries 0 ds) index x.same) at in
-      let below = place_below 0 e.1 e.0 ds there in
-      omega arith
-
-  -- each definition has an entry
-  entry_of : (n : ℕ) (d : Definition) → n < length ds → (k : ℕ) × (k < length index) × (place_at index k ≡ n)
-  entry_of n d within =
-      let e : List ℕ × ℕ = ((get_or ds n d).full_name, n) in
-      let long = entries_length 0 ds in
-      let at : Contains (entries 0 ds) e = has_entry n ds d (get_or ds n d).full_name within refl in
-      let there = Contains-permutation (entries 0 ds) index e x.same at in
-      (there.0, there.1, ap (λ (y : List ℕ × ℕ). y.1) (get_or_default index there.0 no_entry e there.1 ∙ there.2))
+      let there = name_of_entry ds e.1 e.0 (x.are.sound e at) in
+      let low = placed k within in
+      (low, one_at (full_names ds) e.1 (get_or ds e.1 d).full_name e.0 (name_there ds e.1 d low) there)
 
   -- the first entry of the next name
   pub next_start : (first i : ℕ) → i < length index → IsStart index first i
@@ -167,6 +134,14 @@ module _ (index : List (List ℕ × ℕ)) (ds : List Definition) (x : IsIndexOf 
       (place_at index i) (let low = there.0 in omega arith))
       ∙ ap (λ (n : List ℕ). list_any (λ (e : Definition). bytes_eq n e.full_name) (take (place_at index i) ds)) (sym full)
 
+  -- no entry yet
+  pub marked_none : (flags : List Bool) → flags ≡ replicate (length ds) true → AreMarked index ds flags 0
+  marked_none flags is = record {
+    count = ap length is ∙ length-replicate (length ds) true;
+    marked = λ k d below. absurd (omega (arith, below));
+    copies = λ n d within repeated. ap (λ (fs : List Bool). get_or fs n false) is ∙ get_or-replicate (length ds) n true false within;
+  }
+
   -- one more entry
   pub marked_more : (flags : List Bool) (first i : ℕ) → first ≤ i → i < length index → IsStart index first (i + 1) → AreMarked index ds flags i
       → AreMarked index ds (set flags (place_at index i) (nat_lt (place_at index first) (place_at index i))) (i + 1)
@@ -175,6 +150,16 @@ module _ (index : List (List ℕ × ℕ)) (ds : List Definition) (x : IsIndexOf 
       let v = nat_lt (place_at index first) p in
       record {
         count = length-set flags p v ∙ m.count;
+        copies = λ n d within' repeated. elim (cases_eq n p) [
+          | inl is ↦
+              let inside : p < length flags = let low = (named i d within).0 in let count = m.count in omega arith in
+              ap (λ (k : ℕ). get_or (set flags p v) k false) is
+              ∙ get_or-set_same flags p v false inside
+              ∙ mark first i d up within s
+              ∙ ap (λ (k : ℕ). is_repeated (get_or ds k d) (take k ds)) (sym is)
+              ∙ repeated
+          | inr other ↦ get_or-set_other flags p n v false other ∙ m.copies n d within' repeated
+        ];
         marked = λ k d below. elim (cases_eq (place_at index k) p) [
           | inl is ↦
               let inside : p < length flags = let low = (named i d within).0 in let count = m.count in omega arith in
@@ -194,9 +179,30 @@ module _ (index : List (List ℕ × ℕ)) (ds : List Definition) (x : IsIndexOf 
   marked_all flags i past m = record {
     count = m.count;
     each = λ n d within.
-        let e = entry_of n d within in
-        let lt : e.0 < i = let high = e.1 in omega arith in
-        ap (λ (k : ℕ). get_or flags k false) (sym e.2)
-        ∙ m.marked e.0 d lt
-        ∙ ap (λ (k : ℕ). is_repeated (get_or ds k d) (take k ds)) e.2;
+        let name = (get_or ds n d).full_name in
+        let f = entry_before index ds x name n (has_entry n ds d name within refl) in
+        elim (cases_lt f.0 n) [
+          | inl before ↦
+              let low : f.0 < length ds = omega (arith, before, within) in
+              let same : (get_or ds f.0 d).full_name ≡ name =
+              one_at (full_names ds) f.0 (get_or ds f.0 d).full_name name (name_there ds f.0 d low) (name_of_entry ds f.0 name (x.are.sound (name, f.0) f.2)) in
+              let repeated = is_repeated_after f.0 n d before within same in
+              m.copies n d within repeated ∙ sym repeated
+          | inr up ↦
+              let is : f.0 ≡ n = let most = f.1 in omega (arith, up) in
+              let at : place_at index f.2.0 ≡ n = ap (λ (y : List ℕ × ℕ). y.1) (get_or_default index f.2.0 no_entry (name, f.0) f.2.1 ∙ f.2.2) ∙ is in
+              let lt : f.2.0 < i = let high = f.2.1 in omega (arith, high, past) in
+              ap (λ (k : ℕ). get_or flags k false) (sym at)
+              ∙ m.marked f.2.0 d lt
+              ∙ ap (λ (k : ℕ). is_repeated (get_or ds k d) (take k ds)) at
+        ];
   }
+    where
+      is_repeated_after : (j n : ℕ) (d : Definition) → j < n → n < length ds → (get_or ds j d).full_name ≡ (get_or ds n d).full_name
+          → is_repeated (get_or ds n d) (take n ds) ≡ true
+      is_repeated_after j n d before within same =
+          let name = (get_or ds n d).full_name in
+          let here : (get_or (take n ds) j d).full_name ≡ name = ap (λ (e : Definition). e.full_name) (get_or-take n ds j d before) ∙ same in
+          let long : length (take n ds) ≡ n = length-take-le n ds (omega (arith, within)) in
+          list_any_at (λ (e : Definition). bytes_eq name e.full_name) (take n ds) j d (omega (arith, before, long))
+          ((bytes_decides name (get_or (take n ds) j d).full_name).1 (sym here))

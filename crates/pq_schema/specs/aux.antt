@@ -5,6 +5,7 @@ pub mod NameOrder
 pub mod NameCodes
 pub mod CodeOrder
 pub mod Index
+pub mod Copies
 pub mod Digests
 pub mod SameContents
 pub mod Equal

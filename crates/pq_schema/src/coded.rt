@@ -15,6 +15,9 @@ use crate::spelled::Spelled;
 use std::cmp::Ordering;
 use std::marker::Model;
 
+/// The most bytes of a name that is compared with each of its copies.
+const LONG: usize = 256;
+
 /// A full name with its code. Contracts see the name.
 #[derive(Drop)]
 pub(crate) struct Coded {
@@ -45,6 +48,11 @@ impl Coded {
     /// The code.
     pub(crate) fn code(&self) -> u64 {
         self.code
+    }
+
+    /// Whether the name has so many bytes that it is dear to compare.
+    pub(crate) fn is_long(&self) -> bool {
+        self.name.spelled().is_longer(LONG)
     }
 
     /// Compares the name with `name`, whose code is `code`.

@@ -97,7 +97,7 @@ impl Defs {
         let root = with_dot(alloc, package_name.as_str())?;
         let package = Enclosing::package(alloc, &package_name, &root)?;
         let definitions = definitions_in(alloc, &package, nodes)?;
-        let index = index_of(alloc, &definitions)?;
+        let index = index_of(alloc, nodes, &definitions)?;
         let digest = digest_of(&definitions);
         Ok(Defs {
             package_name,

@@ -9,36 +9,99 @@
 //!
 //! Equal names are the dearest to compare, since all their bytes are read. So the entries are sorted
 //! by code alone before: copies of a name are then side by side, in order, and the sort by name,
-//! which begins with what is in order, compares each with its neighbour alone.
-ghost use Rattle.std.specs.Prelude.{◌≡◌, ℕ, ◌<◌, ◌≤◌, true, false, length, get_or, [], cond, find, bytes_eq, take, IfOk};
+//! which begins with what is in order, compares each with its neighbour alone. Where long names are
+//! side by side with one code, copies are found first by their scopes (`copies`). These have no
+//! entries, so no such name is compared with another of the same name.
+ghost use Rattle.std.specs.Prelude.{◌≡◌, ℕ, ◌<◌, ◌≤◌, true, false, length, get_or, [], cond, find, bytes_eq, IfOk};
 ghost use Rattle.std.specs.Option.{option_copied};
 ghost use Rattle.std.specs.Ordering.{is_eq, is_lt};
 ghost use Rattle.std.specs.List.Sorted.{IsSorted};
+ghost use Rattle.pq_schema.specs.aux.Copies.{AreCopies, AreDefined, full_names};
 ghost use Rattle.pq_schema.specs.aux.Fronts.{AreAlike, IsMet, IsSeen};
-ghost use Rattle.pq_schema.specs.aux.Index.{IsIndexOf, entry_order, group_start};
+ghost use Rattle.pq_schema.specs.aux.Index.{AreEntries, IsIndexOf, entry_order, group_start};
 ghost use Rattle.pq_schema.specs.aux.NameCodes.{code_order};
 ghost use Rattle.pq_schema.specs.Repeated.{AreRepeated};
 
 use crate::Memory;
 use crate::coded::Coded;
+use crate::copies::copies_in;
 use crate::definitions::Definition;
 use crate::spelled::Spelled;
+use pq_syntax::Node;
 use std::alloc::Global;
 use std::cmp::Ordering;
 
-/// The index of `definitions`.
-pub(crate) fn index_of(
+/// Whether `flags` has `true` at `n`.
+fn flag_at(flags: &[bool], n: usize) -> bool
+    ensures flag { result ≡ get_or flags.now n false }
+{
+    match flags.get(n) {
+        Some(flag) => *flag,
+        None => false,
+    }
+}
+
+/// The entries of `definitions` by their codes, without those that `copies` tells of. It counts the
+/// definitions from 1.
+fn entries_without(
     alloc: Global,
     definitions: &[Definition],
+    copies: &[bool],
 ) -> Result<Vec<(Coded, usize)>, Memory>
-    ensures { IfOk result (λ v. IsIndexOf v.items definitions.now) }
+    requires copies { AreCopies copies.now (full_names definitions.now) }
+    ensures entries { IfOk result (λ v. AreEntries v.items definitions.now (length definitions.now)) }
 {
     let mut index = Vec::with_capacity(alloc, definitions.len())?;
     'places: for place in 0..definitions.len() {
+        if flag_at(copies, place + 1) {
+            continue;
+        }
         let name = definitions[place].full_name.copy()?;
         index.push((Coded::new(name), place))?;
     }
     index.sort_by_key(|entry: &(Coded, usize)| -> u64 { entry.0.code() })?;
+    Ok(index)
+}
+
+/// Whether two neighbours of `index` have one code and long names, so that they are dear to compare.
+fn is_dear(index: &[(Coded, usize)]) -> bool {
+    'entries: for i in 1..index.len() {
+        if index[i - 1].0.code() == index[i].0.code() && index[i].0.is_long() {
+            return true;
+        }
+    }
+    false
+}
+
+/// Entries of `definitions`, which have the statements `nodes`, by their codes. Each name has that of
+/// its first definition.
+fn entries_of(
+    alloc: Global,
+    nodes: &[Node],
+    definitions: &[Definition],
+) -> Result<Vec<(Coded, usize)>, Memory>
+    requires defined { AreDefined definitions.now nodes.now }
+    ensures entries { IfOk result (λ v. AreEntries v.items definitions.now (length definitions.now)) }
+{
+    let none = Vec::new(alloc);
+    let index = entries_without(alloc, definitions, &none)?;
+    if !is_dear(&index) {
+        return Ok(index);
+    }
+    let copies = copies_in(alloc, nodes)?;
+    entries_without(alloc, definitions, &copies)
+}
+
+/// The index of `definitions`, which have the statements `nodes`.
+pub(crate) fn index_of(
+    alloc: Global,
+    nodes: &[Node],
+    definitions: &[Definition],
+) -> Result<Vec<(Coded, usize)>, Memory>
+    requires defined { AreDefined definitions.now nodes.now }
+    ensures { IfOk result (λ v. IsIndexOf v.items definitions.now) }
+{
+    let mut index = entries_of(alloc, nodes, definitions)?;
     index.sort()?;
     Ok(index)
 }
@@ -119,8 +182,8 @@ fn first_of(index: &[(Coded, usize)], first: usize, i: usize) -> usize
     }
 }
 
-/// Of each of `definitions`, whether one before it has its full name. Entries of one name are
-/// neighbours, so one walk over `index` finds this.
+/// Of each of `definitions`, whether one before it has its full name. One that has no entry is such a
+/// copy. Entries of one name are neighbours, so one walk over `index` finds the others.
 pub(crate) fn repeated(
     alloc: Global,
     index: &[(Coded, usize)],
@@ -129,7 +192,7 @@ pub(crate) fn repeated(
     requires { IsIndexOf index.now definitions.now }
     ensures repeated { IfOk result (λ v. AreRepeated v.items definitions.now) }
 {
-    let mut repeated = vec![in alloc; false; definitions.len()]?;
+    let mut repeated = vec![in alloc; true; definitions.len()]?;
     let mut first = 0;
     'entries: for i in 0..index.len() {
         first = first_of(index, first, i);

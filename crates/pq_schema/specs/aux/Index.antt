@@ -1,6 +1,6 @@
 -- Auxiliary: the index of the definitions of a file by full name.
-use Rattle.std.specs.Prelude.{◌≡◌, ℕ, ◌<◌, ◌≤◌, suc, Bool, true, false, cond, bytes_eq, get_or, length, take, List, [], ◌∷◌}
-use Rattle.std.specs.List.Sorted.{IsPermutation, IsSorted}
+use Rattle.std.specs.Prelude.{◌≡◌, ℕ, ◌<◌, ◌≤◌, suc, Bool, true, false, cond, bytes_eq, get_or, length, take, Contains, List, [], ◌∷◌}
+use Rattle.std.specs.List.Sorted.{IsSorted}
 use Rattle.std.specs.declared.cmp.Ordering.{Ordering}
 use Rattle.std.specs.Ordering.{is_lt, nat_cmp, ordering_then}
 use Rattle.pq_schema.specs.aux.NameCodes.{code_order}
@@ -17,9 +17,16 @@ unfoldable pub entries : ℕ → List Definition → List (List ℕ × ℕ)
 entries n [] = []
 entries n (d ∷ ds) = (d.full_name, n) ∷ entries (suc n) ds
 
--- `IsIndexOf index ds` says that `index` has the entries of the definitions `ds`, sorted
+-- `AreEntries index ds n` says that each entry of `index` is one of the definitions `ds`, and that each
+-- of the first `n` of `ds` has an entry of its name at its place or before. A definition whose name an
+-- earlier one has needs no entry of its own.
+pub record AreEntries (index : List (List ℕ × ℕ)) (ds : List Definition) (n : ℕ) : Type 0 where
+  pub sound : (e : List ℕ × ℕ) → Contains index e → Contains (entries 0 ds) e
+  pub first : (name : List ℕ) (m : ℕ) → m < n → Contains (entries 0 ds) (name, m) → (j : ℕ) × (j ≤ m) × Contains index (name, j)
+
+-- `IsIndexOf index ds` says that `index` has entries of the definitions `ds`, sorted
 pub record IsIndexOf (index : List (List ℕ × ℕ)) (ds : List Definition) : Type 0 where
-  pub same : IsPermutation (entries 0 ds) index
+  pub are : AreEntries index ds (length ds)
   pub sorted : IsSorted entry_order index
 
 -- `name_at index k` is the name of the entry `k` of `index`
@@ -43,8 +50,9 @@ pub record IsStart (index : List (List ℕ × ℕ)) (first i : ℕ) : Type 0 whe
   pub same : (k : ℕ) → first ≤ k → k < i → name_at index k ≡ name_at index first
 
 -- `AreMarked index ds flags i` says that `flags` tells of each definition of `ds` with an entry of
--- `index` before `i` whether its name is repeated
+-- `index` before `i` whether its name is repeated, and of each whose name is repeated that it is
 pub record AreMarked (index : List (List ℕ × ℕ)) (ds : List Definition) (flags : List Bool) (i : ℕ) : Type 0 where
   pub count : length flags ≡ length ds
   pub marked : (k : ℕ) (d : Definition) → k < i
       → get_or flags (place_at index k) false ≡ is_repeated (get_or ds (place_at index k) d) (take (place_at index k) ds)
+  pub copies : (n : ℕ) (d : Definition) → n < length ds → is_repeated (get_or ds n d) (take n ds) ≡ true → get_or flags n false ≡ true
