@@ -182,7 +182,7 @@ fn sees_another(file: &str, scope: &Scope) -> bool
     ensures sees { result ≡ list_any (is_other file.now) scope.now.visible }
 {
     'files: for visible in scope.visible() {
-        if visible.file.as_str() != file {
+        if visible.file.get().as_str() != file {
             return true;
         }
     }

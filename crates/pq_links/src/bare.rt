@@ -1,6 +1,6 @@
 //! Copies of a tree's parts without their spans, in time linear in the tree.
 //!
-//! Names of up to 24 bytes are copied, and longer ones shared; the bytes of strings are copied.
+//! Names of up to 22 bytes are copied, and longer ones shared; the bytes of strings are copied.
 ghost use Rattle.std.specs.Prelude.{◌≡◌, ◌<◌, [], ◌∷◌, ◌++◌, IfOk, OnOk, map, vec_len, vec_capacity};
 ghost use Rattle.pq_links.specs.Bare.{bare, bare_constant, bare_end, bare_name, bare_number, bare_part, bare_range, bare_setting, bare_statement, bare_strings, bare_type, node_at, nowhere};
 ghost use Rattle.pq_syntax.specs.declared.tree.Statement.TheVariants.{Field, MapField, Method, Value};

@@ -31,7 +31,7 @@ fn definition_alike<'a>(
     let f = files.get(place)?;
     let definition = f.defs.get().find_alike(name, count)?;
     Some(Place {
-        file: &f.file,
+        file: f.file.get(),
         definition,
     })
 }

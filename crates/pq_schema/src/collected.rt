@@ -31,7 +31,7 @@ impl Model for Collected {
     ghost view = { λ c. collected_view c.links c.files.items };
 }
 
-/// A copy of `file`, which shares the definitions.
+/// A copy of `file`, which shares the name and the definitions.
 fn copy_file(file: &FileDefs) -> Result<FileDefs, Memory>
     ensures copy { IfOk result (λ f. f ≡ file.now) }
 {
@@ -44,7 +44,7 @@ fn copy_file(file: &FileDefs) -> Result<FileDefs, Memory>
 /// The most visible files that are found by a walk each.
 const FEW: usize = 8;
 
-/// A copy of `files`, which shares the definitions, with room for one more.
+/// A copy of `files`, which shares the names and the definitions, with room for one more.
 pub(crate) fn copy_files(alloc: Global, files: &[FileDefs]) -> Result<Vec<FileDefs>, Memory>
     ensures copy { IfOk result (λ fs. fs.items ≡ files.now) }
 {
@@ -56,7 +56,7 @@ pub(crate) fn copy_files(alloc: Global, files: &[FileDefs]) -> Result<Vec<FileDe
 }
 
 /// Adds the definitions of `file` to `index`, which has none of that name.
-fn add_new(index: &mut BTreeMap<Text, Shared<Defs>>, file: &FileDefs) -> Result<(), Memory>
+fn add_new(index: &mut BTreeMap<Shared<Text>, Shared<Defs>>, file: &FileDefs) -> Result<(), Memory>
     ensures added { IfOk result (λ _. (n : List ℕ) → get (slice_cmp nat_cmp) index.new n ≡ cond (is_at (slice_cmp nat_cmp file.now.file) n) (Some file.now.defs) (get (slice_cmp nat_cmp) index.old n)) }
 {
     index.insert(file.file.copy()?, file.defs.copy()?)?;
@@ -64,7 +64,7 @@ fn add_new(index: &mut BTreeMap<Text, Shared<Defs>>, file: &FileDefs) -> Result<
 }
 
 /// Adds the definitions of `file` to `index`, unless it has definitions of that name.
-fn add_file(index: &mut BTreeMap<Text, Shared<Defs>>, file: &FileDefs) -> Result<(), Memory>
+fn add_file(index: &mut BTreeMap<Shared<Text>, Shared<Defs>>, file: &FileDefs) -> Result<(), Memory>
     ensures first { IfOk result (λ _. (n : List ℕ) → get (slice_cmp nat_cmp) index.new n ≡ first_of (get (slice_cmp nat_cmp) index.old n) (defs_if file.now n)) }
 {
     match index.get(&file.file) {
@@ -74,7 +74,10 @@ fn add_file(index: &mut BTreeMap<Text, Shared<Defs>>, file: &FileDefs) -> Result
 }
 
 /// The definitions of `files` by the names of the files. The first of two files of one name counts.
-fn index_of(alloc: Global, files: &[FileDefs]) -> Result<BTreeMap<Text, Shared<Defs>>, Memory>
+fn index_of(
+    alloc: Global,
+    files: &[FileDefs],
+) -> Result<BTreeMap<Shared<Text>, Shared<Defs>>, Memory>
     ensures first { IfOk result (λ m. (n : List ℕ) → get (slice_cmp nat_cmp) m n ≡ defs_named files.now n) }
 {
     let mut index = BTreeMap::new(alloc);
@@ -87,8 +90,8 @@ fn index_of(alloc: Global, files: &[FileDefs]) -> Result<BTreeMap<Text, Shared<D
 /// Adds the file `name` with its definitions in `index`, if it has them.
 fn push_named(
     found: &mut Vec<FileDefs>,
-    index: &BTreeMap<Text, Shared<Defs>>,
-    name: &Text,
+    index: &BTreeMap<Shared<Text>, Shared<Defs>>,
+    name: &Shared<Text>,
 ) -> Result<(), Memory>
     ensures added { IfOk result (λ _. found.new.items ≡ found.old.items ++ option_to_list (option_map (named name.now) (get (slice_cmp nat_cmp) index.now name.now))) }
 {
@@ -103,7 +106,7 @@ fn push_named(
 }
 
 /// The first of `files` with the name `name`.
-fn file_named<'a>(files: &'a [FileDefs], name: &Text) -> Option<&'a FileDefs>
+fn file_named<'a>(files: &'a [FileDefs], name: &Shared<Text>) -> Option<&'a FileDefs>
     ensures first { option_copied result ≡ find (λ (f : FileDefs). bytes_eq f.file name.now) files.now }
 {
     'files: for file in files {
@@ -115,7 +118,11 @@ fn file_named<'a>(files: &'a [FileDefs], name: &Text) -> Option<&'a FileDefs>
 }
 
 /// Adds the first of `files` with the name `name`, if there is one.
-fn push_first(found: &mut Vec<FileDefs>, files: &[FileDefs], name: &Text) -> Result<(), Memory>
+fn push_first(
+    found: &mut Vec<FileDefs>,
+    files: &[FileDefs],
+    name: &Shared<Text>,
+) -> Result<(), Memory>
     ensures added { IfOk result (λ _. found.new.items
         ≡ found.old.items ++ option_to_list (find (λ (f : FileDefs). bytes_eq f.file name.now) files.now)) }
 {
@@ -126,7 +133,11 @@ fn push_first(found: &mut Vec<FileDefs>, files: &[FileDefs], name: &Text) -> Res
 }
 
 /// The files of `files` with the names `names`, in the order of these, by a walk for each.
-fn pick_few(alloc: Global, files: &[FileDefs], names: &[Text]) -> Result<Vec<FileDefs>, Memory>
+fn pick_few(
+    alloc: Global,
+    files: &[FileDefs],
+    names: &[Shared<Text>],
+) -> Result<Vec<FileDefs>, Memory>
     ensures picked { IfOk result (λ fs. fs.items ≡ picked files.now names.now) }
 {
     let mut found = Vec::with_capacity(alloc, names.len())?;
@@ -137,7 +148,11 @@ fn pick_few(alloc: Global, files: &[FileDefs], names: &[Text]) -> Result<Vec<Fil
 }
 
 /// The files of `files` with the names `names`, in the order of these, in time N log N.
-fn pick_many(alloc: Global, files: &[FileDefs], names: &[Text]) -> Result<Vec<FileDefs>, Memory>
+fn pick_many(
+    alloc: Global,
+    files: &[FileDefs],
+    names: &[Shared<Text>],
+) -> Result<Vec<FileDefs>, Memory>
     ensures picked { IfOk result (λ fs. fs.items ≡ picked files.now names.now) }
 {
     let index = index_of(alloc, files)?;
@@ -149,7 +164,7 @@ fn pick_many(alloc: Global, files: &[FileDefs], names: &[Text]) -> Result<Vec<Fi
 }
 
 /// The files of `files` with the names `names`, in the order of these.
-fn pick(alloc: Global, files: &[FileDefs], names: &[Text]) -> Result<Vec<FileDefs>, Memory>
+fn pick(alloc: Global, files: &[FileDefs], names: &[Shared<Text>]) -> Result<Vec<FileDefs>, Memory>
     ensures picked { IfOk result (λ fs. fs.items ≡ picked files.now names.now) }
 {
     if names.len() <= FEW {
@@ -160,7 +175,7 @@ fn pick(alloc: Global, files: &[FileDefs], names: &[Text]) -> Result<Vec<FileDef
 }
 
 /// Whether `files` is one file, and `visible` its name alone.
-fn is_alone(visible: &[Text], files: &[FileDefs]) -> bool
+fn is_alone(visible: &[Shared<Text>], files: &[FileDefs]) -> bool
     ensures alone { result ≡ true → picked files.now visible.now ≡ files.now }
 {
     match (visible, files) {
@@ -172,7 +187,7 @@ fn is_alone(visible: &[Text], files: &[FileDefs]) -> bool
 /// The scope of a file that reaches `files` and sees those of them with the names `visible`.
 pub(crate) fn scope_of(
     alloc: Global,
-    visible: &[Text],
+    visible: &[Shared<Text>],
     files: Vec<FileDefs>,
 ) -> Result<Shared<Scope>, Memory>
     ensures scope { IfOk result (λ s. s ≡ scope_by visible.now files.items) }
@@ -197,14 +212,14 @@ impl Collected {
     }
 
     /// The first file that is left.
-    pub(crate) fn next(&self) -> Option<&Text>
+    pub(crate) fn next(&self) -> Option<&Shared<Text>>
         ensures next { option_copied result ≡ slice_get self.now.1.0 0 }
     {
         self.links.get().reach.as_slice().get(self.files.len())
     }
 
     /// The file after the first that is left.
-    pub(crate) fn second(&self) -> Option<&Text>
+    pub(crate) fn second(&self) -> Option<&Shared<Text>>
         ensures second { option_copied result ≡ slice_get self.now.1.0 1 }
     {
         self.links.get().reach.as_slice().get(self.files.len() + 1)
@@ -248,7 +263,7 @@ impl Collected {
     pub(crate) fn scope_with(
         &self,
         alloc: Global,
-        name: &Text,
+        name: &Shared<Text>,
         defs: &Shared<Defs>,
     ) -> Result<Shared<Scope>, Memory>
         ensures scope { IfOk result (λ s. s ≡ scope_by self.now.0 (self.now.1.1 ++ record { file = name.now; defs = defs.now } ∷ [])) }

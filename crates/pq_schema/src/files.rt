@@ -30,7 +30,7 @@ fn is_other(files: &[FileDefs], place: usize, file: &str) -> bool
     ensures is { result ≡ is_other_at file.now files.now place }
 {
     match files.get(place) {
-        Some(f) => f.file.as_str() != file,
+        Some(f) => f.file.get().as_str() != file,
         None => false,
     }
 }

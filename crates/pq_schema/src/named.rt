@@ -28,7 +28,7 @@ fn definition_at<'a>(files: &'a [FileDefs], place: usize, name: &Spelled<'_>) ->
     let f = files.get(place)?;
     let definition = f.defs.get().find_spelled(name)?;
     Some(Place {
-        file: &f.file,
+        file: f.file.get(),
         definition,
     })
 }

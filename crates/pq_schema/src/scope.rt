@@ -12,11 +12,11 @@ use pq_rules::Shared;
 use std::alloc::Global;
 use std::marker::Model;
 
-/// A file with its definitions.
+/// A file with its definitions. Scopes share both.
 #[derive(Drop, PartialEq, Eq)]
 pub struct FileDefs {
     /// The name of the file.
-    pub file: Text,
+    pub file: Shared<Text>,
     /// Its package and its definitions.
     pub defs: Shared<Defs>,
 }

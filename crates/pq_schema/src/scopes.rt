@@ -71,7 +71,7 @@ fn first<S: SchemaKeys>(
 {
     match links.get().reach.as_slice().first() {
         Some(file) => Ok(Turn::Ask(
-            S::defs_key(file)?,
+            S::defs_key(file.get())?,
             ScopePart::Collect(Collected::new(alloc, links.copy()?)),
         )),
         None => Ok(Turn::Done(scope_of(alloc, links.get().visible.as_slice(), Vec::new(alloc))?)),
@@ -101,7 +101,7 @@ fn follow<S: SchemaKeys>(
 {
     match collected.next() {
         Some(file) => match collected.second() {
-            Some(second) => Ok(Turn::Ask(S::defs_key(second)?, ())),
+            Some(second) => Ok(Turn::Ask(S::defs_key(second.get())?, ())),
             None => Ok(Turn::Done(collected.scope_with(alloc, file, defs)?)),
         },
         None => Ok(Turn::Done(collected.scope(alloc)?)),

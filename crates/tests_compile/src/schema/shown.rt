@@ -1,6 +1,6 @@
 //! Answers as text.
 use pq_links::{FileItems, Import, Links, ParsedFile, TypePart};
-use pq_rules::{Answer, Ring, Text};
+use pq_rules::{Answer, Ring, Shared, Text};
 use pq_schema::{
     Definition, DefinitionKind, Defs, FileDefs, FullName, Resolution, ResolveFault,
     ResolvedReference, SchemaKey, SchemaValue, Scope, Target,
@@ -26,9 +26,9 @@ fn add_ring(page: &mut Page, ring: &Ring<SchemaKey>) {
 }
 
 /// Writes names, each with a blank after it.
-fn add_names(page: &mut Page, names: &[Text]) {
+fn add_names(page: &mut Page, names: &[Shared<Text>]) {
     for name in names {
-        page.add(name.as_str());
+        page.add(name.get().as_str());
         page.add(" ");
     }
 }
@@ -36,7 +36,7 @@ fn add_names(page: &mut Page, names: &[Text]) {
 /// Writes the names of files, each with a blank after it.
 fn add_files(page: &mut Page, files: &[FileDefs]) {
     for file in files {
-        page.add(file.file.as_str());
+        page.add(file.file.get().as_str());
         page.add(" ");
     }
 }
