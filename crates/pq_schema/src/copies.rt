@@ -31,6 +31,7 @@ pub(crate) struct Numbered {
 /// The definitions so far, with their numbers.
 #[derive(Drop)]
 pub(crate) struct Numbering {
+    /// The names so far, each once.
     pub(crate) names: Vec<Numbered>,
     /// By number, whether a definition before this one has its full name.
     pub(crate) copies: Vec<bool>,

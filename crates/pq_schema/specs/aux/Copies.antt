@@ -45,7 +45,7 @@ pub record IsNumbering (root : List ℕ) (names : List (List ℕ)) (numbering : 
   pub known : Each (λ (k : Numbered). IsKnown root names k.scope k.name k.number) numbering.names.items
   pub copies : AreCopies numbering.copies.items names
 
--- `Adds root names outer old new more number name` is that `new` has the numbers of `names` and `more`
+-- `Adds root names old new more number name` is that `new` has the numbers of `names` and `more`
 -- where `old` has those of `names`, and that `number` is that of `name`
 abbrev pub Adds : List ℕ → List (List ℕ) → Numbering → Numbering → List (List ℕ) → ℕ → List ℕ → Type 0
 Adds root names old new more number name =
