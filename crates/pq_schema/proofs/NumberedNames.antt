@@ -175,8 +175,8 @@ keep i outer = scope_of i.node.statement outer
 abbrev emit : List ℕ → Item → List Definition
 emit scope i = defined_by scope i.number i.node.statement
 
--- `IsWalk root nodes stack item numbering` is that the walk over `nodes` in the package `root` has come
--- to the statement `item`, with the numbers `stack` of the open scopes
+-- `IsWalk root nodes stack item numbering` is that the walk over `nodes` in the package `root` has
+-- come to the statement `item`, with the numbers `stack` of the open scopes
 pub record IsWalk (root : List ℕ) (nodes : List Node) (stack : List (ℕ × ℕ)) (item : ℕ) (numbering : Numbering) : Type 0 where
   pub out : List Definition
   pub scopes : List (ℕ × List ℕ)

@@ -51,8 +51,8 @@ impl Numbering {
         })
     }
 
-    /// The number of the first definition of `name` in the scope of the number `scope`, if there was
-    /// one.
+    /// The number of the first definition of `name` in the scope of the number `scope`, if there
+    /// was one.
     fn known(&self, scope: usize, name: &Text) -> Result<Option<usize>, Memory>
         ensures known { IfOk result (λ o. IfSome o (λ n. (root : List ℕ) (names : List (List ℕ))
             → IsNumbering root names self.now → IsKnown root names scope name.now n)) }

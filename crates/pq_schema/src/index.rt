@@ -63,7 +63,7 @@ fn entries_without(
     Ok(index)
 }
 
-/// Whether two neighbours of `index` have one code and long names, so that they are dear to compare.
+/// Whether two neighbours of `index` have one code and long names, which are dear to compare.
 fn is_dear(index: &[(Coded, usize)]) -> bool {
     'entries: for i in 1..index.len() {
         if index[i - 1].0.code() == index[i].0.code() && index[i].0.is_long() {
@@ -73,8 +73,8 @@ fn is_dear(index: &[(Coded, usize)]) -> bool {
     false
 }
 
-/// Entries of `definitions`, which have the statements `nodes`, by their codes. Each name has that of
-/// its first definition.
+/// Entries of `definitions`, which have the statements `nodes`, by their codes. Each name has that
+/// of its first definition.
 fn entries_of(
     alloc: Global,
     nodes: &[Node],
@@ -182,8 +182,8 @@ fn first_of(index: &[(Coded, usize)], first: usize, i: usize) -> usize
     }
 }
 
-/// Of each of `definitions`, whether one before it has its full name. One that has no entry is such a
-/// copy. Entries of one name are neighbours, so one walk over `index` finds the others.
+/// Of each of `definitions`, whether one before it has its full name. One that has no entry is such
+/// a copy. Entries of one name are neighbours, so one walk over `index` finds the others.
 pub(crate) fn repeated(
     alloc: Global,
     index: &[(Coded, usize)],

@@ -17,9 +17,9 @@ unfoldable pub entries : ℕ → List Definition → List (List ℕ × ℕ)
 entries n [] = []
 entries n (d ∷ ds) = (d.full_name, n) ∷ entries (suc n) ds
 
--- `AreEntries index ds n` says that each entry of `index` is one of the definitions `ds`, and that each
--- of the first `n` of `ds` has an entry of its name at its place or before. A definition whose name an
--- earlier one has needs no entry of its own.
+-- `AreEntries index ds n` says that each entry of `index` is one of the definitions `ds`, and that
+-- each of the first `n` of `ds` has an entry of its name at its place or before. A definition whose
+-- name an earlier one has needs no entry of its own.
 pub record AreEntries (index : List (List ℕ × ℕ)) (ds : List Definition) (n : ℕ) : Type 0 where
   pub sound : (e : List ℕ × ℕ) → Contains index e → Contains (entries 0 ds) e
   pub first : (name : List ℕ) (m : ℕ) → m < n → Contains (entries 0 ds) (name, m) → (j : ℕ) × (j ≤ m) × Contains index (name, j)
