@@ -16,12 +16,12 @@
 //! `specs/Looks` (what `look` answers), `specs/Cause`, `specs/Table` and `specs/Writes` (what calls
 //! write), `specs/Frames` and `specs/Steps`, `specs/Demand` and `specs/EngineView` (what a demand
 //! answers and leaves). Modules: `entry` (what is kept of a key), `look`, `state` (private tests),
-//! `slots` (keys by number), `memos` (the table, reading), `writes` (marking and publishing),
-//! `ring` (publishing a ring), `compared` (old answers and a ring), `member` and `unpublished` (what
-//! goes in, and what comes back), `frame` and `restored` (a step), `round` (frames in a round),
-//! `engine` and `demanded` (what a demand answers), `demand` (bringing a key up to date), `confirm`
-//! and `trail` (marking valid memos without frames), `stack` (its frames), `turned` and `usable`
-//! (for callers that keep frames), `laws`.
+//! `slots` (keys by number), `recorded` (a read), `memos` (the table, reading), `writes` (marking
+//! and publishing), `ring` and `placed` (publishing a ring), `compared` (old answers and a ring),
+//! `member` and `unpublished` (what goes in, and what comes back), `frame` and `restored` (a step),
+//! `round` (frames in a round), `engine` and `demanded` (what a demand answers), `demand` (bringing
+//! a key up to date), `confirm` and `trail` (marking valid memos without frames), `stack` (its
+//! frames), `turned` and `usable` (for callers that keep frames), `laws`.
 #![tactic(auto)]
 
 mod compared;

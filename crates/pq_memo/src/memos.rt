@@ -149,13 +149,7 @@ impl<R: Rules> Memos<R> {
 
     /// Goes over `reads` from the place `from` on; those before it are up to date and did not
     /// change after `since`.
-    fn pass(
-        &self,
-        reads: &[Recorded<R::Key>],
-        from: usize,
-        since: u64,
-        inputs: &Inputs,
-    ) -> Passed
+    fn pass(&self, reads: &[Recorded<R::Key>], from: usize, since: u64, inputs: &Inputs) -> Passed
         requires within { from ≤ length reads.now }
         requires still { Each (IsStill (R.machine self.now.rules) inputs.now.history inputs.now.revision (HasIn (memo_at R.Key.cmp self.now.places)) since) (take from reads.now) }
         ensures { IsPass (R.machine self.now.rules) inputs.now.history inputs.now.revision (HasIn (memo_at R.Key.cmp self.now.places)) since reads.now result }

@@ -51,21 +51,14 @@ impl<R: Rules> Memos<R> {
     }
 
     /// The least durability of `reads`.
-    pub(crate) fn least_of(
-        &self,
-        reads: &[Recorded<R::Key>],
-        inputs: &Inputs,
-    ) -> Durability
+    pub(crate) fn least_of(&self, reads: &[Recorded<R::Key>], inputs: &Inputs) -> Durability
         requires { Each (IsKnown (R.machine self.now.rules) (HasIn (memo_at R.Key.cmp self.now.places))) reads.now }
         ensures { IsLeastRead (R.machine self.now.rules) inputs.now.files (HasIn (memo_at R.Key.cmp self.now.places)) (λ q. In q reads.now) result }
     {
         let mut least = Durability::High;
         for i in 0..reads.len() {
             let read = &reads[i];
-            least = lower(
-                least,
-                self.durability_of(read.key(), read.number(), inputs),
-            );
+            least = lower(least, self.durability_of(read.key(), read.number(), inputs));
         }
         least
     }

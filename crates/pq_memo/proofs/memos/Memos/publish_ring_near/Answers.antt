@@ -50,8 +50,8 @@ returns-in-Ok-prepare_ring-clause-published g c =
           (subst (λ (l : List (g.row.R-Key.Denot × List g.row.R-Key.Denot)). ArePrepared c.number-now.result (HasIn (memo_at g.R.Key.Ord.cmp c.args.self.now.places)) (Cycle (ring_keys l)) l c.in-Ok-prepare_ring.prepared.items)
           (c.deref-3.ensures.value ∙ same) c.in-Ok-prepare_ring.ensures.prepared)
           c.prepare_ring.ensures.same
-    (subst (λ (l : List (g.row.R-Key.Denot × List g.row.R-Key.Denot)). (q : g.row.R-Key.Denot) → memo_at g.R.Key.Ord.cmp c.put_all.new.self.places q ≡ put_back g.R.Key.Ord.cmp (memos_of c.number-now.result c.ring_durability-durability.result l c.in-Ok-prepare_ring.prepared.items) (memo_at g.R.Key.Ord.cmp c.prepare_ring.new.self.places) q) same c.put_all.ensures.put)
-    c.requires.some c.requires.ruled c.requires.reads c.requires.up_to_date
+          (subst (λ (l : List (g.row.R-Key.Denot × List g.row.R-Key.Denot)). (q : g.row.R-Key.Denot) → memo_at g.R.Key.Ord.cmp c.put_all.new.self.places q ≡ put_back g.R.Key.Ord.cmp (memos_of c.number-now.result c.ring_durability-durability.result l c.in-Ok-prepare_ring.prepared.items) (memo_at g.R.Key.Ord.cmp c.prepare_ring.new.self.places) q) same c.put_all.ensures.put)
+          c.requires.some c.requires.ruled c.requires.reads c.requires.up_to_date
           (subst (λ (l : List (g.row.R-Key.Denot × List g.row.R-Key.Denot)). IsLeastRead (g.R.Rules.machine c.args.self.now.rules) c.args.inputs.now.files (HasIn (memo_at g.R.Key.Ord.cmp c.args.self.now.places)) (IsFrontRead l) c.ring_durability-durability.result)
           (c.deref-2.ensures.value ∙ same) c.ring_durability-durability.ensures)).written,
     )

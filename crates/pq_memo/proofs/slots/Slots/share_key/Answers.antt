@@ -11,6 +11,6 @@ offset_bounds-as_slice-number g c = let b : c.args.number < length c.as_slice.re
 pub returns : goal.returns
 returns g c =
     key_is c.args.self.now c.self.inside.slots.items c.as_slice.result.now c.args.number c.index-as_slice-number.result c.in_ok-shared.shared c.args._key.now
-    c.self.view_is c.as_slice.ensures.value 
+    c.self.view_is c.as_slice.ensures.value
     (slot_within c.args.self.now c.as_slice.result.now c.args.number c.args._key.now (c.as_slice.ensures.value ∙ c.self.view_is) c.requires)
     c.index-as_slice-number.is c.in_ok-shared.ensures c.requires

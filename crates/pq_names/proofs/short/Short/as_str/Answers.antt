@@ -1,4 +1,4 @@
-use Rattle.std.proofs.Common.{◌≡◌, ℕ, take, subst, sym}
+use Rattle.std.proofs.Common.{ℕ, take, subst, sym}
 use Rattle.std.specs.Prelude.{IsUtf8}
 use Rattle.std.proofs.lemmas.Str.{IsUtf8-had}
 use Rattle.pq_names.proofs.short.Short.as_str.Goals as goal
