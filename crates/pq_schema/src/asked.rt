@@ -124,11 +124,17 @@ impl<'a> Asked<'a> {
             → meaning_at place.entry ≡ meaning files (lead ++ name.now) → IsAsked files lead self.new) }
     {
         let name = Text::new(alloc, name)?;
-        self.numbers.insert(name.copy()?, self.answers.len())?;
+        note(&mut self.numbers, &name, self.answers.len())?;
         self.answers.push(Answer { name, place })?;
         self.is_dear |= is_dear;
         Ok(())
     }
+}
+
+/// Notes in `numbers` that `name` has the answer of the number `number`.
+fn note(numbers: &mut BTreeMap<Text, usize>, name: &Text, number: usize) -> Result<(), Memory> {
+    numbers.insert(name.copy()?, number)?;
+    Ok(())
 }
 
 /// The first definition of `name` in the scope `level` of `asked`, if it was looked up.
