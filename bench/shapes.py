@@ -89,6 +89,20 @@ def half_package(part, name, apart=False, longer=False):
     return text
 
 
+def parts_apart(at, name="N", leaves=False):
+    """Texts of n bytes: half is a package of parts that differ, the rest references to a name in the part of them at this place,
+    from 0 to 1. The part can be one of another file's package instead, which goes another way from there."""
+    def text(n):
+        parts = ["p%d" % i for i in range(n // 14)]
+        before = int(at * (len(parts) - 1))
+        first = "q" if leaves else parts[before]
+        start = HEAD + "package " + ".".join(parts) + ";message M{"
+        field = first + "." + name + " x%(n)d=%(field)d;"
+        fields = itertools.takewhile(lambda at: at[0] < n, accumulated(field, len(start)))
+        return beside(".".join(parts[:before] + ["q"]) if leaves else None, start + "".join(more for _, more in fields) + "}")
+    return text
+
+
 def nested_in_half(n):
     """A text of n bytes: half is a package of short parts, the rest references in messages nested 60 deep, each with a field of
     the reference's name."""
@@ -402,6 +416,10 @@ TEXTS = [of_compile(*case) for case in compile.CASES] + [
     Shape("n bytes: half a package, dotted names whose first part is found, beside a longer package",
           half_package(lambda n: "a", "M.N", longer=True), 25_000),
     Shape("n bytes: half a package, dotted names whose first part is a package", half_package(lambda n: "a", "a.N"), 25_000),
+    Shape("n bytes: half a package, dotted names whose first part is a package, found", half_package(lambda n: "a", "a.M"), 25_000),
+    Shape("n bytes: half a package of parts that differ, dotted names whose first part is a package, its last", parts_apart(1), 25_000),
+    Shape("n bytes: half a package of parts that differ, dotted names whose first part is a package, its last, found",
+          parts_apart(1, "M"), 25_000),
     Shape("n bytes: half a message's name, copies of two messages in it: a definition", copies_in_long("message A{message A{}}"), 25_000),
     Shape("n bytes: half a message's name, copies of messages nested 60 deep in it: a definition",
           copies_in_long("message A{" * 60 + "}" * 60), 25_000),

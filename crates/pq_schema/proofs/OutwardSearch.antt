@@ -1,9 +1,11 @@
 -- A search from a package outwards, by the scopes that have definitions and by the packages.
-use Rattle.std.proofs.Common.{◌≡◌, ◌⊎◌, ℕ, ◌<◌, ◌≤◌, Bool, true, false, cond, true≢false, ◌||◌, List, [], ◌∷◌, ◌++◌, length, map, Option, Some, None, inl, inr, refl, sym, ap, subst, ◌∙◌, arith, append-nil, nat_eq, take, drop, get_or, ◌+◌}
+use Rattle.std.proofs.Common.{◌≡◌, ◌≢◌, ◌⊎◌, ℕ, zero, suc, ◌<◌, ◌≤◌, Bool, true, false, cond, true≢false, ◌||◌, List, [], ◌∷◌, ◌++◌, length, map, Option, Some, None, inl, inr, refl, sym, ap, subst, ◌∙◌, arith, append-nil, append_assoc, nat_eq, take, drop, get_or, ◌+◌}
 use Rattle.std.specs.Prelude.{IfSome, bytes_eq, codes, filter, find, is_some, option_map, nat_lt}
+use Rattle.std.specs.Borrow.{Bor}
+use Rattle.std.specs.Option.{MatchOption}
 use Rattle.std.specs.Str.{IsCharBoundary, IsUtf8}
 use Rattle.std.specs.List.{list_any}
-use Rattle.std.proofs.lemmas.List.{at_drop_all, at_drop_more, length-append}
+use Rattle.std.proofs.lemmas.List.{at_drop_all, at_drop_more, length-append, take-append-drop, take-append-le}
 use Rattle.pq_schema.proofs.Walks.{grouped, nothing_further}
 use Rattle.std.proofs.lemmas.Bool.{ltb-false, ltb-true, lt-ltb}
 use Rattle.std.proofs.lemmas.Slice.Eq.{bytes_eq-Decides}
@@ -435,3 +437,37 @@ single_nothing files along root spots n hit place b is_outward plain is there at
     sym (single_spots files root spots n place is_outward.are_spots plain (place_in along files root n place is_outward.of_files is_outward.of_root at)
     ∙ ap (λ (f : Found). unless_type f (of_package (is_some place))) (sym is ∙ there)
     ∙ ap of_package (sym is_b))
+
+-- ---- a name that goes on along the package
+
+-- what comes after a scope and its dot
+pub after_dot : (n : ℕ) (lead back rest : List ℕ) → 0 < n → back ≡ drop n lead → back ≡ 46 ∷ rest → lead ≡ leading (take n lead) ++ rest
+after_dot zero lead back rest some is dot = absurd (omega arith)
+after_dot (suc n) [] back rest some is dot = cc
+after_dot (suc n) (c ∷ cs) back rest some is dot =
+    sym (ap (λ (xs : List ℕ). c ∷ xs) (append_assoc (take n cs) (codes ".") rest ∙ ap (λ (ys : List ℕ). take n cs ++ ys) (sym dot ∙ is) ∙ take-append-drop n cs))
+
+pub after_some : (n : ℕ) (lead back : List ℕ) (r : Option (Bor (List ℕ))) → 0 < n → back ≡ drop n lead
+    → MatchOption r ((rest : List ℕ) → back ≢ 46 ∷ rest) (λ x. back ≡ 46 ∷ x.now) → IfSome r (λ t. lead ≡ leading (take n lead) ++ t.now)
+after_some n lead back None some is m = tt
+after_some n lead back (Some x) some is m = after_dot n lead back x.now some is m
+
+-- what comes after both in a name
+pub after_both : (front lead others name : List ℕ) (r : Option (Bor (List ℕ))) → lead ≡ front ++ others → IfSome r (λ t. name ≡ others ++ t.now) → IfSome r (λ t. front ++ name ≡ lead ++ t.now)
+after_both front lead others name None is h = tt
+after_both front lead others name (Some t) is h =
+    ap (λ (n : List ℕ). front ++ n) h ∙ sym (append_assoc front others t.now) ∙ ap (λ (l : List ℕ). l ++ t.now) (sym is)
+
+take_lead : (n : ℕ) (root : List ℕ) → n ≤ length root → take n (leading root) ≡ take n root
+take_lead n [] within = refl
+take_lead n (c ∷ cs) within = take-append-le n (c ∷ cs) (codes ".") within
+
+-- a full name that goes on along the package is a name in it
+pub along_lead : (files : List FileDefs) (root lead name rest : List ℕ) (n : ℕ) → n ≤ length root → lead ≡ leading root
+    → leading (take n lead) ++ name ≡ lead ++ rest → found files (leading root ++ rest) ≡ found files (qualified (take n root) name)
+along_lead files root lead name rest n within is after =
+    ap (λ (x : List ℕ). found files x)
+    (ap (λ (l : List ℕ). l ++ rest) (sym is)
+    ∙ sym after
+    ∙ ap (λ (s : List ℕ). leading s ++ name) (ap (take n) is ∙ take_lead n root within)
+    ∙ spelled (take n root) name)

@@ -28,9 +28,10 @@ ghost use Rattle.pq_schema.specs.aux.PackageRange.{IsRange};
 
 use crate::by_package::Entry;
 use crate::files::Files;
+use crate::lead::lead_text;
 use crate::package_range::PackageRange;
 use crate::scope::FileDefs;
-use pq_names::Memory;
+use pq_names::{Memory, Text};
 use std::alloc::Global;
 use std::cmp::Ordering;
 use std::marker::Model;
@@ -283,16 +284,6 @@ fn roots_of(alloc: Global, files: &[FileDefs], root: &str) -> Result<Vec<bool>, 
     Ok(roots)
 }
 
-/// The number of bytes before a simple name in the package `root`.
-fn lead_count(root: &str) -> usize
-    ensures count { result ≡ length (leading root.now) }
-{
-    if root.is_empty() {
-        return 0;
-    }
-    root.len() + 1
-}
-
 /// The packages that a search from the package `root` outwards meets. Contracts see the files and
 /// the package.
 #[derive(Drop)]
@@ -303,7 +294,9 @@ pub(crate) struct Along<'a> {
     parts: Vec<Met<'a>>,
     /// Of each file, whether its package is `root`.
     roots: Vec<bool>,
-    /// The number of bytes before a simple name in `root`.
+    /// What is before a simple name in `root`.
+    lead: Text,
+    /// The number of bytes of `lead`.
     count: usize,
     /// The packages inside `root`.
     packages: PackageRange<'a>,
@@ -322,6 +315,7 @@ impl<'a> Model for Along<'a> {
 
     ghost invariant = { λ a. IsAlong a.parts.items a.files.now a.root.now
         × AreRoots a.roots.items a.files.now a.root.now
+        × (a.lead ≡ leading a.root.now)
         × (a.count ≡ length (leading a.root.now))
         × IsRange a.files.now (leading a.root.now) a.packages };
 }
@@ -333,14 +327,24 @@ impl<'a> Along<'a> {
     {
         let parts = table(alloc, files, root)?;
         let roots = roots_of(alloc, files.as_slice(), root)?;
+        let lead = lead_text(alloc, root)?;
+        let count = lead.as_str().len();
         Ok(Along {
             files,
             root,
             parts,
             roots,
-            count: lead_count(root),
+            lead,
+            count,
             packages: files.packages_in(root),
         })
+    }
+
+    /// What is before a simple name in `root`.
+    pub(crate) fn lead(&self) -> &Text
+        ensures lead { result.now ≡ leading self.now.root }
+    {
+        &self.lead
     }
 
     /// The packages inside `root`.

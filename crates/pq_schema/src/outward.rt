@@ -11,6 +11,7 @@ ghost use Rattle.pq_schema.specs.Resolution.{dotted, found, found_by, meaning, s
 ghost use Rattle.pq_schema.specs.aux.Fronts.{IsSpotOf};
 ghost use Rattle.pq_schema.specs.aux.Grouping.{AreNear, around};
 ghost use Rattle.pq_schema.specs.aux.Hits.{found_at, meaning_at};
+ghost use Rattle.pq_schema.specs.aux.NameParts.{leading};
 ghost use Rattle.pq_schema.specs.aux.Outward.{IsOutward, beyond, found_from, in_spots, opens};
 ghost use Rattle.pq_schema.specs.aux.Spots.{IsPlain};
 
@@ -27,8 +28,6 @@ use std::slice;
 #[derive(Clone, Copy)]
 pub(crate) struct Outward<'a> {
     pub(crate) root: &'a str,
-    /// What is before a name in the package.
-    pub(crate) lead: &'a Text,
     /// In which scopes a name is a package.
     pub(crate) along: &'a Along<'a>,
     /// The scopes in which a definition can be, each with its dot, the innermost first.
@@ -56,6 +55,22 @@ fn look_in_spot<'a>(
     files.definition(near, &full)
 }
 
+/// What the name `name`, which is in the package of `along`, is found as in `files`.
+fn find_in_package<'a>(
+    alloc: Global,
+    buffer: &mut String,
+    files: &Lookup<'a>,
+    along: &Along<'_>,
+    name: &str,
+) -> Result<Hit<'a>, Memory>
+    requires files { along.now.files ≡ files.now }
+    ensures is { IfOk result (λ hit. found_at hit ≡ found files.now (leading along.now.root ++ name.now)) }
+{
+    let lead = slice::from_ref(along.lead());
+    let packages = Some(along.packages());
+    find_below(alloc, buffer, files, along, packages, lead, name)
+}
+
 /// What the name `name`, which is in the scope `spot`, is found as in `files`.
 fn find_in_spot<'a>(
     alloc: Global,
@@ -69,12 +84,10 @@ fn find_in_spot<'a>(
     requires spot { IsSpotOf along.now.root spot.now }
     ensures is { IfOk result (λ hit. found_at hit ≡ found files.now (spot.now ++ name.now)) }
 {
-    let lead = slice::from_ref(spot);
     if spot.as_str().len() == along.count() {
-        let packages = Some(along.packages());
-        return find_below(alloc, buffer, files, along, packages, lead, name);
+        return find_in_package(alloc, buffer, files, along, name);
     }
-    find_any(alloc, buffer, files, None, lead, name)
+    find_any(alloc, buffer, files, None, slice::from_ref(spot), name)
 }
 
 /// What a name whose first definition is at `place` is found as, where packages do not count.
@@ -189,22 +202,56 @@ fn beyond<'b>(spot: Option<&'b Text>, place: Option<usize>) -> Option<&'b Text>
     }
 }
 
+/// What is after `front` in `text`, if `text` begins with it.
+fn after<'a>(text: &'a str, front: &str) -> Option<&'a str>
+    ensures after { IfSome result (λ t. text.now ≡ front.now ++ t.now) }
+{
+    let (start, rest) = text.split_at_checked(front.len())?;
+    if start == front { Some(rest) } else { None }
+}
+
+/// What comes after the scope of the first `count` bytes of `lead`, and after its dot, in `lead`.
+fn after_scope(lead: &str, count: usize) -> Option<&str>
+    ensures after { IfSome result (λ t. lead.now ≡ leading (take count lead.now) ++ t.now) }
+{
+    if count == 0 {
+        return Some(lead);
+    }
+    let (_, rest) = lead.split_at_checked(count)?;
+    rest.strip_prefix('.')
+}
+
+/// What comes after `lead` in the full name of `name`, which is in the scope of the first `count`
+/// bytes of `lead`, if the full name begins with `lead`.
+fn after_lead<'a>(lead: &str, count: usize, name: &'a str) -> Option<&'a str>
+    ensures after { IfSome result (λ t. leading (take count lead.now) ++ name.now ≡ lead.now ++ t.now) }
+{
+    after(name, after_scope(lead, count)?)
+}
+
 /// What `name` is found as in the scope of the first `count` bytes of `root`. Without a number it is
-/// found as nothing.
+/// found as nothing. A name that goes on along `root` is looked up by what follows it there, so it
+/// costs its own length, and not that of the scope.
 fn find_from<'a>(
     alloc: Global,
     buffer: &mut String,
     files: &Lookup<'a>,
+    along: &Along<'_>,
     root: &str,
     count: Option<usize>,
     name: &str,
 ) -> Result<Hit<'a>, Memory>
+    requires files { along.now.files ≡ files.now }
+    requires root { along.now.root ≡ root.now }
     requires boundary { IfSome count (λ n. IsCharBoundary root.now n) }
     ensures is { IfOk result (λ hit. found_at hit
         ≡ found_from files.now name.now (option_map (λ n. take n root.now) count)) }
 {
     match count {
         Some(count) => {
+            if let Some(rest) = after_lead(along.lead().as_str(), count, name) {
+                return find_in_package(alloc, buffer, files, along, rest);
+            }
             let lead = lead_text(alloc, &root[..count])?;
             find_any(alloc, buffer, files, None, slice::from_ref(&lead), name)
         }
@@ -234,6 +281,9 @@ pub(crate) fn dotted_outward<'a>(
     let spot = open_spot(files, near, outward.along, outward.spots, first);
     match beyond(spot, package) {
         Some(spot) => find_in_spot(alloc, buffer, files, outward.along, spot, name),
-        None => find_from(alloc, buffer, files, outward.root, package, name),
+        None => {
+            let along = outward.along;
+            find_from(alloc, buffer, files, along, outward.root, package, name)
+        }
     }
 }

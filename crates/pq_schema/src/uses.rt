@@ -21,7 +21,6 @@ use crate::closed::{Closed, close_scopes, open_scopes};
 use crate::files::Files;
 use crate::full_name::FullName;
 use crate::inner::{Inner, depth_of, inner_of};
-use crate::lead::lead_text;
 use crate::lookup::{Lookup, most_of_one};
 use crate::nesting::innermost as innermost_of;
 use crate::outline::innermost;
@@ -451,10 +450,8 @@ pub(crate) fn find_each<'a>(
     let lookup = lookup_for(alloc, files, root, nodes)?;
     let along = Along::new(alloc, files, root)?;
     let spots = spots_of(alloc, files, root)?;
-    let lead = lead_text(alloc, root)?;
     let outward = Outward {
         root,
-        lead: &lead,
         along: &along,
         spots: &spots,
     };

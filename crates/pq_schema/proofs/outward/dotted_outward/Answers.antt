@@ -37,7 +37,11 @@ pub find_from-requires : goal.find_from-requires
 find_from-requires c =
     let root = c.args.outward.root.now in
     let place = place_in c.args.outward.along.now c.args.files.now root c.args.first.now c.innermost-package.result c.requires.outward.of_files c.requires.outward.of_root c.innermost-package.ensures in
-    record { boundary = place_boundary root c.requires.outward.of_text _ c.innermost-package.result place }
+    record {
+      files = c.requires.outward.of_files;
+      root = c.requires.outward.of_root;
+      boundary = place_boundary root c.requires.outward.of_text _ c.innermost-package.result place;
+    }
 
 pub returns-in-Some : goal.returns-in-Some
 returns-in-Some c =

@@ -1,19 +1,12 @@
-use Rattle.std.proofs.Common.{ℕ, List, ◌++◌, sym, ap, subst, ◌∙◌, append-nil, length}
-use Rattle.std.specs.List.{concat}
-use Rattle.pq_schema.specs.declared.scope.FileDefs.{FileDefs}
-use Rattle.pq_schema.specs.aux.NameParts.{leading}
-use Rattle.pq_schema.specs.aux.PackageRange.{IsRange}
+use Rattle.std.proofs.Common.{ℕ, List, ◌++◌, sym, ap, ◌∙◌, length}
+use Rattle.std.proofs.lemmas.Result.{IfOk-weaker}
+use Rattle.pq_schema.specs.Resolution.{found}
 use Rattle.pq_schema.proofs.outward.find_in_spot.Goals as goal
 
-pub find_below-requires : goal.find_below-requires
-find_below-requires c =
-    let root = c.args.along.now.root in
-    let name = c.args.name.now in
+pub returns-then-as_str-count : goal.returns-then-as_str-count
+returns-then-as_str-count c =
     let spot = c.requires.spot (sym (ap length c.as_str.ensures.same) ∙ c.if-as_str-count.true ∙ c.count.ensures.count) in
-    let parts = ap (λ (ps : List (List ℕ)). concat ps) c.from_ref-lead.ensures.value ∙ append-nil c.args.spot.now ∙ spot in
     record {
-      files = c.requires.files;
-      front = (name, ap (λ (l : List ℕ). l ++ name) parts);
-      packages = subst (λ (l : List ℕ). IsRange c.args.files.now l c.packages.result) (sym parts)
-          (subst (λ (fs : List FileDefs). IsRange fs (leading root) c.packages.result) c.requires.files c.packages.ensures.range);
+      is = IfOk-weaker c.find_in_package.result _ _ (λ hit h. h ∙ ap (λ (l : List ℕ). found c.args.files.now (l ++ c.args.name.now)) (sym spot))
+          c.find_in_package.ensures.is;
     }
