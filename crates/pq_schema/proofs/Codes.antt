@@ -1,9 +1,9 @@
 -- The loop that makes the code of a name from its last bytes.
-use Rattle.std.proofs.Common.{◌≡◌, ◌⊎◌, inl, inr, ℕ, zero, suc, ◌+◌, ◌-◌, ◌<◌, ◌≤◌, List, [], ◌∷◌, ◌++◌, get_or, length, take, reverse, refl, sym, ap, ◌∙◌, arith}
+use Rattle.std.proofs.Common.{◌≡◌, ◌⊎◌, inl, inr, ℕ, zero, suc, ◌+◌, ◌-◌, ◌<◌, ◌≤◌, ◌%◌, ◌^◌, List, [], ◌∷◌, ◌++◌, get_or, length, take, reverse, refl, sym, ap, ◌∙◌, arith}
 use Rattle.std.proofs.Math.Seq.{take-suc}
 use Rattle.std.proofs.lemmas.List.{length-reverse, reverse-append, take_all}
 use Rattle.std.specs.List.{concat}
-use Rattle.pq_schema.specs.aux.NameCodes.{coded, code_from}
+use Rattle.pq_schema.specs.aux.NameCodes.{coded, code_from, code_of, tail_code}
 
 -- one more byte from the end
 pub code_more : (c b n i total : ℕ) (old new : List ℕ) → i < n → old ≡ new ++ b ∷ [] → code_from c (take (n - i) (reverse old)) ≡ total
@@ -79,3 +79,16 @@ code_piece c new left total before text is so_far =
 pub none_joined : (parts : List (List ℕ)) → length parts ≡ 0 → concat parts ≡ []
 none_joined [] none = refl
 none_joined (p ∷ ps) none = absurd (omega (arith, none))
+
+-- the code of two texts, the last bytes first
+pub code_both : (head text tail front : List ℕ) (last left code count : ℕ) → tail ≡ text → front ≡ head → last ≡ code_from 0 (take 128 (reverse tail)) → left ≡ 128 - length text
+    → code ≡ code_from last (take left (reverse front)) → count ≡ length (head ++ text) % 2 ^ 64 → coded code count ≡ code_of (head ++ text)
+unfolding code_of tail_code
+code_both head text tail front last left code count of_text of_head is_last is_left is_code is_count =
+    let first : last ≡ code_from 0 (take 128 (reverse text)) = is_last ∙ ap (λ (t : List ℕ). code_from 0 (take 128 (reverse t))) of_text in
+    let whole : code ≡ code_from 0 (take 128 (reverse (head ++ text))) =
+    is_code
+    ∙ ap (λ (n : ℕ). code_from last (take n (reverse front))) is_left
+    ∙ ap (λ (h : List ℕ). code_from last (take (128 - length text) (reverse h))) of_head
+    ∙ code_piece 0 last 128 (code_from 0 (take 128 (reverse (head ++ text)))) head text first refl in
+    ap (λ (c : ℕ). coded c count) whole ∙ ap (λ (n : ℕ). coded (code_from 0 (take 128 (reverse (head ++ text)))) n) is_count

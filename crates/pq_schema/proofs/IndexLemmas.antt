@@ -51,7 +51,7 @@ unfolding entries
 here n name d ds e = (zero, (omega arith), ap (λ (x : List ℕ). (x, n)) e)
 
 -- a name without an entry is not found
-none_found : (n : ℕ) (name : List ℕ) (ds : List Definition) → ((m : ℕ) → Contains (entries n ds) (name, m) → ⊥)
+pub none_found : (n : ℕ) (name : List ℕ) (ds : List Definition) → ((m : ℕ) → Contains (entries n ds) (name, m) → ⊥)
     → find (λ (d : Definition). bytes_eq d.full_name name) ds ≡ None
 none_found n name [] h = refl
 none_found n name (d ∷ ds) h = either (bytes_eq d.full_name name) (λ b. cond b (Some d) (find (λ (x : Definition). bytes_eq x.full_name name) ds) ≡ None)

@@ -16,6 +16,7 @@ pub mod Among
 pub mod Dotted
 pub mod Near
 pub mod PackageRanges
+pub mod ScopeRanges
 pub mod PartsAlong
 pub mod AlongScopes
 pub mod PartSearch
@@ -34,6 +35,7 @@ pub mod Searches
 pub mod Grouping
 pub mod FirstNear
 pub mod NearNames
+pub mod ByCode
 pub mod RightIn
 pub mod ResolutionRows
 pub mod ScopeMeaning

@@ -205,10 +205,10 @@ all_names names sorted files places i past same up so = record {
 named_total : IsTotalOrder named_order
 named_total = then_total (on_total (λ (e : Entry). e.0.now) codes_total) (on_total (λ (e : Entry). e.1) nat_cmp_total)
 
-far : (names : List Entry) → IsSorted named_order names → (i j : ℕ) (d : Entry) → i ≤ j → j < length names → is_lt (named_order (get_or names j d) (get_or names i d)) ≡ false
+pub far : (names : List Entry) → IsSorted named_order names → (i j : ℕ) (d : Entry) → i ≤ j → j < length names → is_lt (named_order (get_or names j d) (get_or names i d)) ≡ false
 far names up i j d le within = sorted_far (λ (x y : Entry). is_lt (named_order x y)) (ranks_by named_total (λ (e : Entry). e)) names up i j d le within
 
-names_rise : (a b : Entry) → is_lt (named_order a b) ≡ false → is_lt (code_order a.0.now b.0.now) ≡ false
+pub names_rise : (a b : Entry) → is_lt (named_order a b) ≡ false → is_lt (code_order a.0.now b.0.now) ≡ false
 names_rise a b h = names_up code_order codes_total (a.0.now, a.1) (b.0.now, b.1) h
 
 pub names_parted : (names : List Entry) → IsSorted named_order names → (t : List ℕ) → IsPartitionedBy (λ (e : Entry). is_lt (code_order e.0.now t)) names

@@ -1,11 +1,11 @@
 -- A search from a package outwards, by the scopes that have definitions and by the packages.
-use Rattle.std.proofs.Common.{◌≡◌, ◌≢◌, ◌⊎◌, ℕ, zero, suc, ◌<◌, ◌≤◌, Bool, true, false, cond, true≢false, ◌||◌, List, [], ◌∷◌, ◌++◌, length, map, Option, Some, None, inl, inr, refl, sym, ap, subst, ◌∙◌, arith, append-nil, append_assoc, nat_eq, take, drop, get_or, ◌+◌}
+use Rattle.std.proofs.Common.{◌≡◌, ◌≢◌, ◌⊎◌, ℕ, zero, suc, ◌<◌, ◌≤◌, Bool, true, false, cond, true≢false, ◌||◌, List, [], ◌∷◌, ◌++◌, length, map, Option, Some, None, inl, inr, refl, sym, ap, subst, ◌∙◌, arith, append-nil, append_assoc, nat_eq, take, drop, get_or, ◌+◌, ◌-◌}
 use Rattle.std.specs.Prelude.{IfSome, bytes_eq, codes, filter, find, is_some, option_map, nat_lt}
 use Rattle.std.specs.Borrow.{Bor}
 use Rattle.std.specs.Option.{MatchOption}
 use Rattle.std.specs.Str.{IsCharBoundary, IsUtf8}
 use Rattle.std.specs.List.{list_any}
-use Rattle.std.proofs.lemmas.List.{at_drop_all, at_drop_more, length-append, take-append-drop, take-append-le}
+use Rattle.std.proofs.lemmas.List.{at_drop_all, at_drop_more, length-append, take-append-drop, take-append-le, take_at}
 use Rattle.pq_schema.proofs.Walks.{grouped, nothing_further}
 use Rattle.std.proofs.lemmas.Bool.{ltb-false, ltb-true, lt-ltb}
 use Rattle.std.proofs.lemmas.Slice.Eq.{bytes_eq-Decides}
@@ -20,7 +20,10 @@ use Rattle.pq_schema.specs.Resolution.{Found, Meaning, decides, dotted, found, f
 use Rattle.pq_schema.specs.Resolution.Found.{FoundType, FoundOther, FoundNothing}
 use Rattle.pq_schema.specs.Resolution.Meaning.{Defined, Undefined}
 use Rattle.pq_schema.specs.aux.Along.{Contents}
+use Rattle.pq_schema.specs.aux.NameCodes.{code_of}
 use Rattle.pq_schema.specs.aux.NameParts.{leading}
+use Rattle.pq_schema.specs.aux.PackageRange.{IsRange}
+use Rattle.pq_schema.specs.declared.package_range.PackageRange.{PackageRange}
 use Rattle.pq_schema.specs.aux.Outward.{IsOutward, beyond, defined, found_from, in_spots, of_package, opens}
 use Rattle.pq_schema.specs.aux.Scopes.{is_among}
 use Rattle.pq_schema.specs.aux.Spots.{AreSpots, IsPlain}
@@ -471,3 +474,28 @@ along_lead files root lead name rest n within is after =
     ∙ sym after
     ∙ ap (λ (s : List ℕ). leading s ++ name) (ap (take n) is ∙ take_lead n root within)
     ∙ spelled (take n root) name)
+
+-- ---- a name without a definition
+
+-- what is before a name in a scope of the package, by its length
+scope_head : (lead head others : List ℕ) (n start : ℕ) → lead ≡ leading (take n lead) ++ others → start ≡ length lead - length others
+    → head ≡ take start lead → head ≡ leading (take n lead)
+scope_head lead head others n start is count at =
+    let front = leading (take n lead) in
+    at ∙ ap (take start) is ∙ take_at front others start (omega (arith, ap length is, length-append front others, count))
+
+not_defined : (files : List FileDefs) (x : List ℕ) (there : Bool) → meaning files x ≡ Undefined → there ≡ is_package files x → of_package there ≡ found files x
+not_defined files x there none is = ap of_package is ∙ sym (ap (λ (m : Meaning). found_by (is_package files x) m) none)
+
+pub undefined_in : (files own : List FileDefs) (root lead head others name : List ℕ) (n start code : ℕ) (r : PackageRange) (there : Bool)
+    → own ≡ files → lead ≡ leading root → lead ≡ leading (take n lead) ++ others → start ≡ length lead - length others → head ≡ take start lead
+    → IsRange own (take start (leading root)) r
+    → ((l : List ℕ) → IsRange files l r → 0 < length (l ++ name) → there ≡ is_package files (l ++ name))
+    → 0 < length name → code ≡ code_of (head ++ name) → ((x : List ℕ) → code_of x ≡ code → meaning files x ≡ Undefined)
+    → of_package there ≡ found files (leading (take n (leading root)) ++ name)
+undefined_in files own root lead head others name n start code r there same is parted count at range has some coded none =
+    let here : IsRange files head r =
+    subst (λ (l : List ℕ). IsRange files l r) (sym (at ∙ ap (take start) is))
+    (subst (λ (fs : List FileDefs). IsRange fs (take start (leading root)) r) same range) in
+    not_defined files (head ++ name) there (none (head ++ name) (sym coded)) (has head here (omega (arith, some, length-append head name)))
+    ∙ ap (λ (h : List ℕ). found files (h ++ name)) (scope_head lead head others n start parted count at ∙ ap (λ (l : List ℕ). leading (take n l)) is)

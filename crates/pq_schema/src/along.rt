@@ -10,7 +10,7 @@
 //! The table takes one walk over the bytes of each package, up to the part after the last scope
 //! that it shares, and a sort of as many parts as there are packages and parts of the searching
 //! package. Packages of one name are looked at once.
-ghost use Rattle.std.specs.Prelude.{◌≡◌, ◌≢◌, ℕ, ◌<◌, ◌≤◌, ◌++◌, ◌∷◌, ◌+◌, ◌-◌, [], IfOk, OnOk, List, false, true, find, get_or, length, option_map, bytes_eq, not};
+ghost use Rattle.std.specs.Prelude.{◌≡◌, ◌≢◌, ℕ, ◌<◌, ◌≤◌, ◌++◌, ◌∷◌, ◌+◌, ◌-◌, [], IfOk, IfSome, OnOk, List, false, true, find, get_or, length, option_map, bytes_eq, not, take};
 ghost use Rattle.std.specs.Cmp.Lexicographic.{slice_cmp};
 ghost use Rattle.std.specs.Cmp.Rules.{comparing};
 ghost use Rattle.std.specs.Cmp.{partial_order_from_own_ties};
@@ -31,6 +31,7 @@ use crate::files::Files;
 use crate::lead::lead_text;
 use crate::package_range::PackageRange;
 use crate::scope::FileDefs;
+use crate::scope_ranges::{ScopeRange, range_at, ranges_of};
 use pq_names::{Memory, Text};
 use std::alloc::Global;
 use std::cmp::Ordering;
@@ -300,6 +301,8 @@ pub(crate) struct Along<'a> {
     count: usize,
     /// The packages inside `root`.
     packages: PackageRange<'a>,
+    /// The packages inside each scope of `root`.
+    ranges: Vec<ScopeRange<'a>>,
 }
 
 impl<'a> Model for Along<'a> {
@@ -307,7 +310,7 @@ impl<'a> Model for Along<'a> {
     ghost use Rattle.pq_schema.specs.aux.Along.{Contents, IsAlong};
     ghost use Rattle.pq_schema.specs.aux.Fronts.{AreRoots};
     ghost use Rattle.pq_schema.specs.aux.NameParts.{leading};
-    ghost use Rattle.pq_schema.specs.aux.PackageRange.{IsRange};
+    ghost use Rattle.pq_schema.specs.aux.PackageRange.{AreRanges, IsRange};
 
     ghost Value = { Contents };
 
@@ -317,7 +320,8 @@ impl<'a> Model for Along<'a> {
         × AreRoots a.roots.items a.files.now a.root.now
         × (a.lead ≡ leading a.root.now)
         × (a.count ≡ length (leading a.root.now))
-        × IsRange a.files.now (leading a.root.now) a.packages };
+        × IsRange a.files.now (leading a.root.now) a.packages
+        × AreRanges a.files.now (leading a.root.now) a.ranges.items };
 }
 
 impl<'a> Along<'a> {
@@ -329,6 +333,7 @@ impl<'a> Along<'a> {
         let roots = roots_of(alloc, files.as_slice(), root)?;
         let lead = lead_text(alloc, root)?;
         let count = lead.as_str().len();
+        let ranges = ranges_of(alloc, files, lead.as_str())?;
         Ok(Along {
             files,
             root,
@@ -337,6 +342,7 @@ impl<'a> Along<'a> {
             lead,
             count,
             packages: files.packages_in(root),
+            ranges,
         })
     }
 
@@ -352,6 +358,14 @@ impl<'a> Along<'a> {
         ensures range { IsRange self.now.files (leading self.now.root) result }
     {
         self.packages
+    }
+
+    /// The packages that begin with the first `start` bytes of what is before a name in `root`, if they
+    /// were looked for.
+    pub(crate) fn packages_at(&self, start: usize) -> Option<PackageRange<'a>>
+        ensures range { IfSome result (λ r. IsRange self.now.files (take start (leading self.now.root)) r) }
+    {
+        range_at(&self.ranges, start)
     }
 
     /// The number of bytes before a simple name in `root`.

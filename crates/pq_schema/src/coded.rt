@@ -46,7 +46,9 @@ impl Coded {
     }
 
     /// The code.
-    pub(crate) fn code(&self) -> u64 {
+    pub(crate) fn code(&self) -> u64
+        ensures code { result ≡ code_of self.now }
+    {
         self.code
     }
 

@@ -57,6 +57,7 @@ mod resolved;
 mod rules;
 mod scope;
 mod scope_laws;
+mod scope_ranges;
 mod scopes;
 mod search;
 mod spelled;

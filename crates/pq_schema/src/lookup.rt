@@ -3,13 +3,15 @@
 //! A look-up asks the files whose package the name can be in, one after the other. Where many come
 //! and many files would be asked, one index of the names of all files is made, and each look-up is
 //! one binary search in it. So n names that n files of one package define cost n log n.
-ghost use Rattle.std.specs.Prelude.{◌≡◌, ℕ, List, length, IfOk, IfSome};
+ghost use Rattle.std.specs.Prelude.{◌≡◌, ℕ, List, false, length, IfOk, IfSome};
 ghost use Rattle.std.specs.Option.{option_copied};
 ghost use Rattle.pq_schema.specs.declared.scope.FileDefs.{FileDefs};
 ghost use Rattle.pq_schema.specs.Resolution.{is_package, meaning};
+ghost use Rattle.pq_schema.specs.Resolution.Meaning.{Undefined};
 ghost use Rattle.pq_schema.specs.aux.Fronts.{Begins};
 ghost use Rattle.pq_schema.specs.aux.Grouping.{AreNear, around};
 ghost use Rattle.pq_schema.specs.aux.Hits.{meaning_at};
+ghost use Rattle.pq_schema.specs.aux.NameCodes.{code_of};
 ghost use Rattle.pq_schema.specs.aux.NameParts.{leading};
 ghost use Rattle.pq_schema.specs.aux.PackageRange.{IsRange};
 ghost use Rattle.pq_schema.specs.aux.Scopes.{chain};
@@ -19,7 +21,7 @@ use crate::below::first_below;
 use crate::by_package::Entry;
 use crate::files::Files;
 use crate::named::{Place, first_listed};
-use crate::near_names::{Named, count_of, has_code, has_code_at, names_of};
+use crate::near_names::{Named, count_of, has_code, has_code_near, names_of};
 use crate::package_range::PackageRange;
 use crate::spelled::Spelled;
 use pq_names::Memory;
@@ -194,16 +196,31 @@ impl<'a> Lookup<'a> {
     /// Whether a definition in the files, of which `near` has those that can have the name `name`, has
     /// its code. Only these are compared with it.
     pub(crate) fn may_have(&self, near: &[usize], name: &Spelled<'_>) -> bool {
-        let code = name.code();
-        if let Some(names) = &self.names {
-            return has_code(names, code);
+        self.may_have_code(near, name.code())
+    }
+
+    /// Whether a definition in the files, of which `near` has those that can have the name, may have a
+    /// name of the code `code`.
+    fn may_have_code(&self, near: &[usize], code: u64) -> bool
+        ensures none { result ≡ false → (name : List ℕ) → code_of name ≡ code
+            → AreNear near.now self.now (around name) → meaning self.now name ≡ Undefined }
+    {
+        let files = self.files.files();
+        match &self.names {
+            Some(names) => has_code(names, code),
+            None => has_code_near(files, near, code),
         }
-        'places: for place in near {
-            if has_code_at(self.files.files(), *place, code) {
-                return true;
-            }
+    }
+
+    /// Whether a definition of the files may have a name of the code `code`. It is not looked up where
+    /// that would cost more than a search of an index or two.
+    pub(crate) fn may_define(&self, code: u64) -> bool
+        ensures none { result ≡ false → (name : List ℕ) → code_of name ≡ code → meaning self.now name ≡ Undefined }
+    {
+        match self.all() {
+            Some(all) => self.may_have_code(all, code),
+            None => true,
         }
-        false
     }
 
     /// The packages of the files inside the package `root`.

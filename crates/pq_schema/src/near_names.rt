@@ -4,11 +4,14 @@
 //! are sorted by name, as those of one file are (`index`), then by place. So the first entry of a
 //! name is that of the first file which defines it, and one binary search finds that file. For N
 //! definitions the index takes N log N comparisons of names, and 16 bytes an entry.
-ghost use Rattle.std.specs.Prelude.{◌≡◌, ℕ, List, ◌<◌, ◌≤◌, true, false, length, get_or, IfOk, OnOk};
+ghost use Rattle.std.specs.Prelude.{◌≡◌, ℕ, List, ◌<◌, ◌≤◌, true, false, bytes_eq, find, length, get_or, nat_lt, IfOk, None, OnOk};
 ghost use Rattle.std.specs.Borrow.{Bor};
 ghost use Rattle.std.specs.List.Sorted.{IsSorted};
 ghost use Rattle.std.specs.Ordering.{is_lt, nat_cmp, ordering_then};
 ghost use Rattle.pq_schema.specs.declared.scope.FileDefs.{FileDefs};
+ghost use Rattle.pq_schema.specs.declared.definitions.Definition.{Definition};
+ghost use Rattle.pq_schema.specs.aux.FirstOf.{answer_at, definition_in, first_near};
+ghost use Rattle.pq_schema.specs.aux.Index.{IsIndexOf};
 ghost use Rattle.pq_schema.specs.aux.NameCodes.{code_of, code_order};
 ghost use Rattle.pq_schema.specs.aux.NameParts.{name_order};
 ghost use Rattle.pq_schema.specs.aux.NearNames.{Adds, AddsEntries, AreNames, IsFirst, IsNamesOf, named_order};
@@ -143,23 +146,57 @@ pub(crate) fn first_place(names: &[Named<'_>], name: &Spelled<'_>) -> Option<usi
 }
 
 /// Whether a name of the index has the code `code`.
-pub(crate) fn has_code(names: &[Named<'_>], code: u64) -> bool {
-    let first = names.partition_point(|entry: &Named<'_>| -> bool { entry.0.code() < code });
+pub(crate) fn has_code(names: &[Named<'_>], code: u64) -> bool
+    ensures none { result ≡ false → (files : List FileDefs) (places name : List ℕ) → IsNamesOf names.now files places
+        → code_of name ≡ code → IsFirst None files places name }
+{
+    let first = names.partition_point(
+        |entry: &Named<'_>| -> bool
+            ensures { result ≡ nat_lt (code_of entry.now.0.now) code }
+        { entry.0.code() < code },
+    );
     match names.get(first) {
         Some(entry) => entry.0.code() == code,
         None => false,
     }
 }
 
-/// Whether a name that the file at `place` defines has the code `code`.
-pub(crate) fn has_code_at(files: &[FileDefs], place: usize, code: u64) -> bool {
-    let index = match files.get(place) {
-        Some(file) => file.defs.get().index(),
-        None => return false,
-    };
-    let first = index.partition_point(|entry: &(Coded, usize)| -> bool { entry.0.code() < code });
+/// Whether a name of the index of a file has the code `code`.
+fn index_has_code(index: &[(Coded, usize)], code: u64) -> bool
+    ensures none { result ≡ false → (ds : List Definition) (name : List ℕ) → IsIndexOf index.now ds
+        → code_of name ≡ code → find (λ d. bytes_eq d.full_name name) ds ≡ None }
+{
+    let first = index.partition_point(
+        |entry: &(Coded, usize)| -> bool
+            ensures { result ≡ nat_lt (code_of entry.now.0) code }
+        { entry.0.code() < code },
+    );
     match index.get(first) {
         Some(entry) => entry.0.code() == code,
         None => false,
     }
+}
+
+/// Whether a name that the file at `place` defines has the code `code`.
+fn has_code_at(files: &[FileDefs], place: usize, code: u64) -> bool
+    ensures none { result ≡ false → (name : List ℕ) → code_of name ≡ code
+        → answer_at (definition_in name) files.now place ≡ None }
+{
+    match files.get(place) {
+        Some(file) => index_has_code(file.defs.get().index(), code),
+        None => false,
+    }
+}
+
+/// Whether a name that one of the files at `places` defines has the code `code`.
+pub(crate) fn has_code_near(files: &[FileDefs], places: &[usize], code: u64) -> bool
+    ensures none { result ≡ false → (name : List ℕ) → code_of name ≡ code
+        → first_near (definition_in name) files.now places.now ≡ None }
+{
+    'places: for place in places {
+        if has_code_at(files, *place, code) {
+            return true;
+        }
+    }
+    false
 }

@@ -20,6 +20,7 @@ use crate::lead::{lead_text, spell};
 use crate::lookup::Lookup;
 use crate::named::Place;
 use crate::search::{Hit, find_any, find_below, has_names, hit_at, unless_type};
+use crate::spelled::code_of_both;
 use pq_names::{Memory, Text};
 use std::alloc::Global;
 use std::slice;
@@ -229,6 +230,33 @@ fn after_lead<'a>(lead: &str, count: usize, name: &'a str) -> Option<&'a str>
     after(name, after_scope(lead, count)?)
 }
 
+/// What the name `name`, which is in the scope of the first `count` bytes of the package of `along`, is
+/// found as in `files`, if no definition has the code of the full name. The full name is not spelled.
+fn find_undefined<'a>(
+    files: &Lookup<'_>,
+    along: &Along<'_>,
+    count: usize,
+    name: &str,
+) -> Option<Hit<'a>>
+    requires files { along.now.files ≡ files.now }
+    ensures is { IfSome result (λ hit. found_at hit
+        ≡ found files.now (leading (take count (leading along.now.root)) ++ name.now)) }
+{
+    let lead = along.lead().as_str();
+    let others = after_scope(lead, count)?;
+    let start = lead.len().saturating_sub(others.len());
+    let packages = along.packages_at(start)?;
+    let (head, _) = lead.split_at_checked(start)?;
+    if name.is_empty() || files.may_define(code_of_both(head, name)) {
+        return None;
+    }
+    if packages.has(name) {
+        Some(Hit::Other)
+    } else {
+        Some(Hit::Nothing)
+    }
+}
+
 /// What `name` is found as in the scope of the first `count` bytes of `root`. Without a number it is
 /// found as nothing. A name that goes on along `root` is looked up by what follows it there, so it
 /// costs its own length, and not that of the scope.
@@ -251,6 +279,9 @@ fn find_from<'a>(
         Some(count) => {
             if let Some(rest) = after_lead(along.lead().as_str(), count, name) {
                 return find_in_package(alloc, buffer, files, along, rest);
+            }
+            if let Some(hit) = find_undefined(files, along, count, name) {
+                return Ok(hit);
             }
             let lead = lead_text(alloc, &root[..count])?;
             find_any(alloc, buffer, files, None, slice::from_ref(&lead), name)

@@ -469,6 +469,17 @@ fn code_after(code: u64, text: &[u8], most: usize) -> u64
     code
 }
 
+/// The code of the name of `head` and then `text`.
+pub(crate) fn code_of_both(head: &str, text: &str) -> u64
+    ensures code { result ≡ code_of (head.now ++ text.now) }
+{
+    let last = code_after(0, text.as_bytes(), CODED);
+    let left = CODED.saturating_sub(text.len());
+    let code = code_after(last, head.as_bytes(), left);
+    let count = (head.len() as u64).wrapping_add(text.len() as u64);
+    coded(code, count)
+}
+
 /// The code of the last bytes of `bytes`, piece by piece.
 fn code_of_rest(bytes: Rest<'_>) -> u64
     ensures code { result ≡ tail_code bytes.entry }

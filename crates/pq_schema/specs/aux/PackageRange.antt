@@ -1,10 +1,11 @@
 -- Auxiliary: the packages inside a scope (used by proofs, invariants and contracts of private
 -- functions only).
-use Rattle.std.specs.Prelude.{◌≡◌, ℕ, ◌<◌, ◌≤◌, Bool, true, false, drop, get_or, length, nat_eq, List, [], ◌++◌, Option, Some, None}
+use Rattle.std.specs.Prelude.{◌≡◌, ℕ, ◌<◌, ◌≤◌, Bool, true, false, drop, get_or, length, nat_eq, take, List, [], ◌++◌, Option, Some, None}
 use Rattle.std.specs.Cmp.Lexicographic.{slice_cmp}
 use Rattle.std.specs.List.{list_any, starts_with}
 use Rattle.std.specs.List.Sorted.{IsSorted}
 use Rattle.std.specs.Ordering.{is_lt, nat_cmp}
+use Rattle.pq_rules.specs.Relations.{Each}
 use Rattle.pq_schema.specs.declared.package_range.PackageRange.{PackageRange}
 use Rattle.pq_schema.specs.declared.scope.FileDefs.{FileDefs}
 use Rattle.pq_schema.specs.Resolution.{is_package}
@@ -25,6 +26,11 @@ pub record IsRange (files : List FileDefs) (lead : List ℕ) (r : PackageRange) 
   pub begin : (k : ℕ) → k < length r.entries.now → Begins lead (get_or r.entries.now k ([], 0)).0
   pub is : (n : List ℕ) → 0 < length (lead ++ n)
       → list_any (λ (e : List ℕ × ℕ). starts_with nat_eq e.0 (dotted (lead ++ n))) r.entries.now ≡ is_package files (lead ++ n)
+
+-- `AreRanges files lead rs` is that each of `rs` has a number of bytes, and the packages of `files` that
+-- begin with so many bytes of `lead`
+abbrev pub AreRanges : List FileDefs → List ℕ → List (ℕ × PackageRange) → Type 0
+AreRanges files lead rs = Each (λ (r : ℕ × PackageRange). IsRange files (take r.0 lead) r.1) rs
 
 -- `IsFirstFrom entries name first` is that the entries before `first` come before `name`, and that the
 -- others do not
