@@ -305,18 +305,21 @@ GRAPHS = [("a chain", of_links(links.chain), PAIRS, 64),
 
 # Edits.
 
-def workspace(case):
-    """Ten rounds of a case of bench/workspaces.py among n files."""
+def workspace(case, rounds):
+    """So many rounds of a case of bench/workspaces.py among n files."""
     def session(n):
         side = workspaces.Side(None, "", case, n)
-        return side.opens[len(FIRST):], b"".join(map(side.round, range(EDITS)))
+        return side.opens[len(FIRST):], b"".join(map(side.round, range(rounds)))
     return session
 
 
 def of_workspaces(title, case):
-    """The root reaches all files, and a leaf the hub alone."""
-    flat = title.startswith("a leaf") or "nothing changed" in title
-    return Shape("%s, %d rounds" % (title, EDITS), workspace(case), 100, *((NOTHING, WORKSPACE, 1.3) if flat else (COUNT, WORKSPACE)))
+    """The root reaches all files, and a leaf the hub alone. A round where nothing changed costs so little that one copy of a
+    buffer, which comes at some sizes and not at others, costs as much as ten of them: there are a hundred."""
+    quiet = "nothing changed" in title
+    rounds = 10 * EDITS if quiet else EDITS
+    flat = quiet or title.startswith("a leaf")
+    return Shape("%s, %d rounds" % (title, rounds), workspace(case, rounds), 100, *((NOTHING, WORKSPACE, 1.3) if flat else (COUNT, WORKSPACE)))
 
 
 def bottom_comment(n):
