@@ -1,5 +1,5 @@
 -- The index of some files finds the first file that defines a name.
-use Rattle.std.proofs.Common.{◌≡◌, ◌⊎◌, ℕ, suc, ◌+◌, ◌<◌, ◌≤◌, Bool, true, false, cond, nat_lt, nat_eq, true≢false, List, [], ◌∷◌, ◌++◌, length, get_or, Option, Some, None, inl, inr, refl, sym, ap, subst, ◌∙◌, arith}
+use Rattle.std.proofs.Common.{◌≡◌, ◌⊎◌, ℕ, suc, ◌+◌, ◌<◌, ◌≤◌, Bool, true, false, cond, nat_lt, nat_eq, true≢false, List, [], ◌∷◌, ◌++◌, length, get_or, take, Option, Some, None, inl, inr, refl, sym, ap, subst, ◌∙◌, arith}
 use Rattle.std.specs.Prelude.{bytes_eq, find, is_some, slice_get, option_map}
 use Rattle.std.specs.Borrow.{Bor}
 use Rattle.std.specs.Cmp.{IsTotalOrder}
@@ -19,10 +19,11 @@ use Rattle.pq_schema.specs.declared.definitions.Definition.{Definition}
 use Rattle.pq_schema.specs.declared.scope.FileDefs.{FileDefs}
 use Rattle.pq_schema.specs.aux.CodeOrder.{codes_total}
 use Rattle.pq_schema.specs.aux.FirstOf.{answer_by, answer_at, definition_in, first_near}
+use Rattle.pq_schema.specs.aux.Fronts.{BeginAlike}
 use Rattle.pq_schema.specs.aux.Grouping.{find_in}
 use Rattle.pq_schema.specs.aux.Index.{IsIndexOf, entries}
 use Rattle.pq_schema.specs.aux.NameCodes.{code_order}
-use Rattle.pq_schema.specs.aux.NearNames.{Adds, AddsEntries, AreSound, HasEntry, IsFirst, IsNamesOf, Rises, has, named_order}
+use Rattle.pq_schema.specs.aux.NearNames.{Adds, AddsEntries, AreAlikeBy, ArePart, AreSound, HasEntry, IsFirst, IsNamesOf, Rises, has, named_order}
 use Rattle.pq_schema.proofs.FirstNear.{near_cases}
 use Rattle.pq_schema.proofs.IndexLemmas.{entry_before, tied_same}
 use Rattle.pq_schema.proofs.Rising.{tied, names_up, below_before, not_below_itself}
@@ -215,6 +216,70 @@ pub names_parted : (names : List Entry) → IsSorted named_order names → (t : 
 names_parted names up t i j d le within less =
     below_before code_order codes_total (get_or names i d).0.now (get_or names j d).0.now t
     (names_rise (get_or names j d) (get_or names i d) (far names up i j d le within)) less
+
+-- ---- names that begin alike
+
+pub alike_entry : (counts : List ℕ) (names : List Entry) (name : List ℕ) (p n : ℕ) (e : Entry) → AreAlikeBy counts names name → n ≡ get_or counts e.1 0 → p < length names
+    → e ≡ get_or names p e → take n e.0.now ≡ take n name
+alike_entry counts names name p n e alike is within at =
+    subst (λ (m : ℕ). take m e.0.now ≡ take m name) (sym is) (alike e (subst (λ (f : Entry). In f names) (sym at) (in_at names p e within)))
+
+found_has : (ds : List Definition) (name : List ℕ) (n : ℕ) (full : List ℕ) → BeginAlike n full ds → is_some (find (λ (d : Definition). bytes_eq d.full_name name) ds) ≡ true → take n name ≡ take n full
+found_has [] name n full all is = absurd (true≢false (sym is))
+found_has (d ∷ ds) name n full all is = by (bytes_eq d.full_name name) refl is (found_has ds name n full all.1)
+  where
+    by : (b : Bool) → bytes_eq d.full_name name ≡ b → is_some (cond b (Some d) (find (λ (x : Definition). bytes_eq x.full_name name) ds)) ≡ true
+        → (is_some (find (λ (x : Definition). bytes_eq x.full_name name) ds) ≡ true → take n name ≡ take n full) → take n name ≡ take n full
+    by true e there rest = ap (take n) (sym ((bytes_decides d.full_name name).0 e)) ∙ all.0
+    by false e there rest = rest there
+
+-- the names of the files at some places begin alike where their definitions do
+pub names_alike : (counts : List ℕ) (names : List Entry) (files : List FileDefs) (places : List ℕ) (name : List ℕ) → IsNamesOf names files places
+    → ((k : ℕ) (f : FileDefs) → slice_get files k ≡ Some f → BeginAlike (get_or counts k 0) name f.defs.definitions) → AreAlikeBy counts names name
+names_alike counts names files places name are all e there = by (slice_get files e.1) refl (are.sound e there).1
+  where
+    by : (o : Option FileDefs) → slice_get files e.1 ≡ o → is_some (answer_by (λ (f : FileDefs). find_in f e.0.now) o) ≡ true
+        → take (get_or counts e.1 0) e.0.now ≡ take (get_or counts e.1 0) name
+    by None at is = absurd (true≢false (sym is))
+    by (Some f) at is = found_has f.defs.definitions e.0.now (get_or counts e.1 0) name (all e.1 f at) is
+
+-- ---- the halves of a search
+
+pub part_all : (names : List Entry) (name : List ℕ) → ArePart names name 0 (length names)
+part_all names name = record {
+  up = omega arith;
+  within = omega arith;
+  less = λ k d below. absurd (omega (arith, below));
+  others = λ k d from to. absurd (omega (arith, from, to));
+}
+
+module _ (names : List Entry) (name : List ℕ) (low middle high : ℕ) (e : Entry) (sorted : IsSorted named_order names)
+    (parts : ArePart names name low high) (up : low ≤ middle) (within : middle < high) where
+  inside : middle < length names
+  inside = let h = parts.within in omega (arith, h, within)
+
+  there : (b : Bool) (d : Entry) → b ≡ is_lt (code_order (get_or names middle e).0.now name) → is_lt (code_order (get_or names middle d).0.now name) ≡ b
+  there b d test = subst (λ (f : Entry). is_lt (code_order f.0.now name) ≡ b) (get_or_default names middle e d inside) (sym test)
+
+  pub lower_part : true ≡ is_lt (code_order (get_or names middle e).0.now name) → ArePart names name (middle + 1) high
+  lower_part test = record {
+    up = omega (arith, within);
+    within = parts.within;
+    less = λ k d below. names_parted names sorted name k middle d (omega (arith, below)) inside (there true d test);
+    others = parts.others;
+  }
+
+  pub upper_part : false ≡ is_lt (code_order (get_or names middle e).0.now name) → ArePart names name low middle
+  upper_part test = record {
+    up = up;
+    within = let h = parts.within in omega (arith, h, within);
+    less = parts.less;
+    others = λ k d from to. by k d from to (is_lt (code_order (get_or names k d).0.now name)) refl;
+  }
+    where
+      by : (k : ℕ) (d : Entry) → middle ≤ k → k < length names → (b : Bool) → is_lt (code_order (get_or names k d).0.now name) ≡ b → b ≡ false
+      by k d from to false is = refl
+      by k d from to true is = absurd (true≢false (sym (names_parted names sorted name middle k d from to is) ∙ there false d test))
 
 module _ (names : List Entry) (name : List ℕ) (p : ℕ)
     (less : (k : ℕ) (d : Entry) → k < p → is_lt (code_order (get_or names k d).0.now name) ≡ true)

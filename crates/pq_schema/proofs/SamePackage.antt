@@ -1,8 +1,8 @@
 -- Names in files of the very package of the searching file: all begin with it.
-use Rattle.std.proofs.Common.{◌≡◌, ◌⊎◌, ℕ, zero, suc, ◌+◌, ◌<◌, ◌≤◌, get_or, length, take, List, [], ◌∷◌, ◌++◌, Option, Some, None, refl, sym, ap, subst, ◌∙◌, inl, inr, arith, append_assoc}
+use Rattle.std.proofs.Common.{◌≡◌, ℕ, zero, suc, ◌+◌, ◌<◌, ◌≤◌, get_or, length, take, List, [], ◌∷◌, ◌++◌, Option, Some, None, refl, sym, ap, subst, ◌∙◌, inl, inr, arith, append_assoc}
 use Rattle.std.specs.Prelude.{codes, slice_get, find, Bool, cond, nat_lt, true, false}
-use Rattle.std.proofs.Common.{true≢false}
 use Rattle.std.proofs.Math.Seq.{take-append_seam}
+use Rattle.std.proofs.lemmas.Bool.{cases_lt}
 use Rattle.std.proofs.lemmas.List.{length-append}
 use Rattle.std.proofs.lemmas.Option.{slice_get_within, slice_get-get_or}
 use Rattle.pq_rules.specs.Relations.{Each}
@@ -11,7 +11,7 @@ use Rattle.pq_schema.specs.declared.definitions.Definition.{Definition}
 use Rattle.pq_schema.specs.declared.scope.FileDefs.{FileDefs}
 use Rattle.pq_schema.specs.Definitions.{qualified}
 use Rattle.pq_schema.specs.Resolution.{scopes}
-use Rattle.pq_schema.specs.aux.Fronts.{AreRoots, BeginAlike, Begins, CountsAt, IsSpotOf}
+use Rattle.pq_schema.specs.aux.Fronts.{AreCounts, BeginAlike, Begins, CountsAt, IsSpotOf}
 use Rattle.pq_schema.specs.aux.Grouping.{IsBelow}
 use Rattle.pq_schema.specs.aux.InPackage.{AllBelow, Below}
 use Rattle.pq_schema.specs.aux.NameParts.{leading}
@@ -138,32 +138,50 @@ beyond_same (Some s) (Some n) l is = by_test (nat_lt n (length s)) is
 
 -- ---- the loop that tells the files of the very package
 
-get_after : (old : List Bool) (b : Bool) (k : ℕ) → get_or (old ++ b ∷ []) k false ≡ true → (get_or old k false ≡ true) ⊎ ((k ≡ length old) × (b ≡ true))
-get_after [] b zero h = inr (refl, h)
-get_after [] b (suc k) h = absurd (true≢false (sym h))
-get_after (x ∷ xs) b zero h = inl h
-get_after (x ∷ xs) b (suc k) h =
-    elim (get_after xs b k h) [
-      | inl e ↦ inl e
-      | inr t ↦ let is = t.0 in inr (omega arith, t.1)
-    ]
+none_after : (counts : List ℕ) (k : ℕ) → length counts ≤ k → get_or counts k 0 ≡ 0
+none_after [] k past = refl
+none_after (x ∷ xs) zero past = absurd (omega (arith, past))
+none_after (x ∷ xs) (suc k) past = none_after xs k (omega (arith, past))
 
-pub roots_more : (files : List FileDefs) (old new : List Bool) (i : ℕ) (b : Bool) (item : FileDefs) (root : List ℕ) → i < length files → new ≡ old ++ b ∷ []
-    → get_or files i item ≡ item → (b ≡ true → item.defs.package_name ≡ root) → (length old ≡ i) × AreRoots old files root
-    → (length new ≡ i + 1) × AreRoots new files root
-roots_more files old new i b item root within is at same so_far =
-    (omega (arith, ap length is, length-append old (b ∷ []), so_far.0), all)
+get_before : (old : List ℕ) (n k : ℕ) → k < length old → get_or (old ++ n ∷ []) k 0 ≡ get_or old k 0
+get_before [] n k within = absurd (omega (arith, within))
+get_before (x ∷ xs) n zero within = refl
+get_before (x ∷ xs) n (suc k) within = get_before xs n k (omega (arith, within))
+
+get_last : (old : List ℕ) (n k : ℕ) → k ≡ length old → get_or (old ++ n ∷ []) k 0 ≡ n
+get_last [] n zero is = refl
+get_last [] n (suc k) is = absurd (omega (arith, is))
+get_last (x ∷ xs) n zero is = absurd (omega (arith, is))
+get_last (x ∷ xs) n (suc k) is = get_last xs n k (omega (arith, is))
+
+-- without counts
+pub no_counts : (files : List FileDefs) (root : List ℕ) → AreCounts [] files root
+no_counts files root k = inl refl
+
+-- of one file more
+pub counts_more : (files : List FileDefs) (old new : List ℕ) (i n count : ℕ) (b : Bool) (item : FileDefs) (root : List ℕ) → i < length files → new ≡ old ++ n ∷ []
+    → get_or files i item ≡ item → n ≡ cond b count 0 → count ≡ length (leading root) → (b ≡ true → item.defs.package_name ≡ root)
+    → (length old ≡ i) × AreCounts old files root → (length new ≡ i + 1) × AreCounts new files root
+counts_more files old new i n count b item root within is at is_n is_count same so_far =
+    (omega (arith, ap length is, length-append old (n ∷ []), so_far.0), all)
   where
-    last : (k : ℕ) (f : FileDefs) → slice_get files k ≡ Some f → k ≡ length old → b ≡ true → f.defs.package_name ≡ root
-    last k f there e t =
-        let here : k ≡ i = e ∙ so_far.0 in
-        let is_item : get_or files k item ≡ item = ap (λ (n : ℕ). get_or files n item) here ∙ at in
-        let same_file : get_or files k item ≡ f = some_same (get_or files k item) f (sym (slice_get-get_or files k item (slice_get_within files k f there)) ∙ there) in
-        ap (λ (x : FileDefs). x.defs.package_name) (sym same_file ∙ is_item) ∙ same t
+    own : (b : Bool) → n ≡ cond b count 0 → (b ≡ true → item.defs.package_name ≡ root) → CountsAt n files i root
+    own false e same_root = inl e
+    own true e same_root = inr (
+      e ∙ is_count,
+      λ f there.
+          (let same_file : get_or files i item ≡ f = some_same (get_or files i item) f (sym (slice_get-get_or files i item within) ∙ there) in
+          ap (λ (x : FileDefs). x.defs.package_name) (sym same_file ∙ at) ∙ same_root refl),
+    )
 
-    all : AreRoots new files root
-    all k f there marked =
-        elim (get_after old b k (subst (λ (xs : List Bool). get_or xs k false ≡ true) is marked)) [
-          | inl e ↦ so_far.1 k f there e
-          | inr t ↦ last k f there t.0 t.1
-        ]
+    all : AreCounts new files root
+    all k = elim (cases_lt k i) [
+      | inl low ↦ subst (λ (m : ℕ). CountsAt m files k root) (sym (ap (λ (xs : List ℕ). get_or xs k 0) is ∙ get_before old n k (omega (arith, low, so_far.0)))) (so_far.1 k)
+      | inr from ↦ elim (cases_lt i k) [
+        | inl high ↦ inl (none_after new k (omega (arith, high, ap length is, length-append old (n ∷ []), so_far.0)))
+        | inr to ↦
+            let here : i ≡ k = omega (arith, from, to) in
+            subst (λ (m : ℕ). CountsAt m files k root) (sym (ap (λ (xs : List ℕ). get_or xs k 0) is ∙ get_last old n k (omega (arith, sym here, so_far.0))))
+            (subst (λ (j : ℕ). CountsAt n files j root) here (own b is_n same))
+      ]
+    ]

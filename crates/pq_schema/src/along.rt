@@ -10,7 +10,7 @@
 //! The table takes one walk over the bytes of each package, up to the part after the last scope
 //! that it shares, and a sort of as many parts as there are packages and parts of the searching
 //! package. Packages of one name are looked at once.
-ghost use Rattle.std.specs.Prelude.{◌≡◌, ◌≢◌, ℕ, ◌<◌, ◌≤◌, ◌++◌, ◌∷◌, ◌+◌, ◌-◌, [], IfOk, IfSome, OnOk, List, false, true, find, get_or, length, option_map, bytes_eq, not, take};
+ghost use Rattle.std.specs.Prelude.{◌≡◌, ◌≢◌, ℕ, ◌<◌, ◌≤◌, ◌++◌, ◌∷◌, ◌+◌, ◌-◌, [], IfOk, IfSome, OnOk, List, cond, false, true, find, get_or, length, option_map, bytes_eq, not, take};
 ghost use Rattle.std.specs.Cmp.Lexicographic.{slice_cmp};
 ghost use Rattle.std.specs.Cmp.Rules.{comparing};
 ghost use Rattle.std.specs.Cmp.{partial_order_from_own_ties};
@@ -21,7 +21,7 @@ ghost use Rattle.std.specs.List.Sorted.{IsSorted};
 ghost use Rattle.pq_schema.specs.Definitions.{qualified};
 ghost use Rattle.pq_schema.specs.Resolution.{is_package, scopes};
 ghost use Rattle.pq_schema.specs.aux.Along.{AllMeet, AreKept, HasMet, IsAlong, IsCovered, IsLastStart, IsPlain, IsSame, IsStart, MeetBeside, Meets};
-ghost use Rattle.pq_schema.specs.aux.Fronts.{AreRoots, CountsAt};
+ghost use Rattle.pq_schema.specs.aux.Fronts.{AreCounts, CountsAt};
 ghost use Rattle.pq_schema.specs.aux.Grouping.{root_order};
 ghost use Rattle.pq_schema.specs.aux.NameParts.{leading};
 ghost use Rattle.pq_schema.specs.aux.PackageRange.{IsRange};
@@ -274,15 +274,30 @@ fn last_start(parts: &[Met<'_>], name: &[u8]) -> Option<usize>
     Some(last.1)
 }
 
-/// Of each of `files`, whether its package is `root`.
-fn roots_of(alloc: Global, files: &[FileDefs], root: &str) -> Result<Vec<bool>, Memory>
-    ensures roots { IfOk result (λ v. AreRoots v.items files.now root.now) }
+/// `count` if there is a reason to skip bytes, and else 0.
+fn count_if(is_root: bool, count: usize) -> usize
+    ensures is { result ≡ cond is_root count 0 }
 {
-    let mut roots = Vec::with_capacity(alloc, files.len())?;
+    if is_root { count } else { 0 }
+}
+
+/// Of each of `files`, the number `count` of bytes before a simple name in the package `root` if that
+/// is its package, and else 0.
+fn counts_of(
+    alloc: Global,
+    files: &[FileDefs],
+    root: &str,
+    count: usize,
+) -> Result<Vec<usize>, Memory>
+    requires count { count ≡ length (leading root.now) }
+    ensures counts { IfOk result (λ v. AreCounts v.items files.now root.now) }
+{
+    let mut counts = Vec::with_capacity(alloc, files.len())?;
     'files: for i in 0..files.len() {
-        roots.push(files[i].defs.get().package_name() == root)?;
+        let is_root = files[i].defs.get().package_name() == root;
+        counts.push(count_if(is_root, count))?;
     }
-    Ok(roots)
+    Ok(counts)
 }
 
 /// The packages that a search from the package `root` outwards meets. Contracts see the files and
@@ -293,8 +308,9 @@ pub(crate) struct Along<'a> {
     root: &'a str,
     /// The parts that the packages of the files meet, sorted.
     parts: Vec<Met<'a>>,
-    /// Of each file, whether its package is `root`.
-    roots: Vec<bool>,
+    /// Of each file, the number of bytes before a simple name in `root` if that is its package, and
+    /// else 0.
+    counts: Vec<usize>,
     /// What is before a simple name in `root`.
     lead: Text,
     /// The number of bytes of `lead`.
@@ -308,7 +324,7 @@ pub(crate) struct Along<'a> {
 impl<'a> Model for Along<'a> {
     ghost use Rattle.std.specs.Prelude.{◌≡◌, length};
     ghost use Rattle.pq_schema.specs.aux.Along.{Contents, IsAlong};
-    ghost use Rattle.pq_schema.specs.aux.Fronts.{AreRoots};
+    ghost use Rattle.pq_schema.specs.aux.Fronts.{AreCounts};
     ghost use Rattle.pq_schema.specs.aux.NameParts.{leading};
     ghost use Rattle.pq_schema.specs.aux.PackageRange.{AreRanges, IsRange};
 
@@ -317,7 +333,7 @@ impl<'a> Model for Along<'a> {
     ghost view = { λ a. record { files = a.files.now; root = a.root.now } };
 
     ghost invariant = { λ a. IsAlong a.parts.items a.files.now a.root.now
-        × AreRoots a.roots.items a.files.now a.root.now
+        × AreCounts a.counts.items a.files.now a.root.now
         × (a.lead ≡ leading a.root.now)
         × (a.count ≡ length (leading a.root.now))
         × IsRange a.files.now (leading a.root.now) a.packages
@@ -330,15 +346,15 @@ impl<'a> Along<'a> {
         ensures { IfOk result (λ a. a ≡ record { files = files.now; root = root.now }) }
     {
         let parts = table(alloc, files, root)?;
-        let roots = roots_of(alloc, files.as_slice(), root)?;
         let lead = lead_text(alloc, root)?;
         let count = lead.as_str().len();
+        let counts = counts_of(alloc, files.as_slice(), root, count)?;
         let ranges = ranges_of(alloc, files, lead.as_str())?;
         Ok(Along {
             files,
             root,
             parts,
-            roots,
+            counts,
             lead,
             count,
             packages: files.packages_in(root),
@@ -380,10 +396,18 @@ impl<'a> Along<'a> {
     pub(crate) fn count_at(&self, place: usize) -> usize
         ensures count { CountsAt result self.now.files place self.now.root }
     {
-        match self.roots.get(place) {
-            Some(true) => self.count,
-            _ => 0,
+        match self.counts.get(place) {
+            Some(count) => *count,
+            None => 0,
         }
+    }
+
+    /// Of each file, the number of bytes before a simple name in `root` if that is its package, and
+    /// else 0.
+    pub(crate) fn counts(&self) -> &[usize]
+        ensures counts { AreCounts result.now self.now.files self.now.root }
+    {
+        &self.counts
     }
 
     /// The length of the innermost of the scopes from `root` outwards in which `name` is a package.

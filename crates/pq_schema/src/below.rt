@@ -9,10 +9,12 @@ ghost use Rattle.pq_schema.specs.aux.Fronts.{BeginAlike, Begins};
 ghost use Rattle.pq_schema.specs.aux.Grouping.{IsBelow};
 ghost use Rattle.pq_schema.specs.aux.Hits.{placed};
 ghost use Rattle.pq_schema.specs.aux.NameParts.{leading};
+ghost use Rattle.pq_schema.specs.aux.NearNames.{IsNamesOf, Rises};
 ghost use Rattle.pq_schema.specs.declared.scope.FileDefs.{FileDefs};
 
 use crate::along::Along;
 use crate::named::Place;
+use crate::near_names::{Named, first_place};
 use crate::scope::FileDefs;
 use crate::spelled::Spelled;
 
@@ -34,6 +36,28 @@ fn definition_alike<'a>(
         file: f.file.get(),
         definition,
     })
+}
+
+/// The first definition with the full name `name`, as `first_below` finds it, by `names`, the index
+/// of the files at `places`. One file is asked.
+pub(crate) fn listed_below<'a>(
+    files: &'a [FileDefs],
+    along: &Along<'_>,
+    places: &[usize],
+    names: &[Named<'a>],
+    name: &Spelled<'_>,
+) -> Option<Place<'a>>
+    requires files { along.now.files ≡ files.now }
+    requires below { Each IsBelow files.now }
+    requires front { Begins (leading along.now.root) name.now }
+    requires rising { Rises places.now }
+    requires names { IsNamesOf names.now files.now places.now }
+    ensures first { placed result ≡ first_near (definition_in name.now) files.now places.now }
+{
+    match first_place(names, along.counts(), name) {
+        Some(place) => definition_alike(files, place, name, along.count_at(place)),
+        None => None,
+    }
 }
 
 /// The first definition with the full name `name`, which begins with the package of `along`: the

@@ -57,16 +57,6 @@ impl Coded {
         self.name.spelled().is_longer(LONG)
     }
 
-    /// Compares the name with `name`, whose code is `code`.
-    pub(crate) fn compare_to(&self, code: u64, name: Spelled<'_>) -> Ordering
-        ensures order { result ≡ ordering_then (nat_cmp (code_of self.now) code) (name_order self.now name.entry) }
-    {
-        match self.code.cmp(&code) {
-            Ordering::Equal => self.name.compare_to(name),
-            order => order,
-        }
-    }
-
     /// Compares the name with `name`, whose code is `code`, where both begin with the same `count`
     /// bytes.
     pub(crate) fn compare_alike(&self, code: u64, name: &Spelled<'_>, count: usize) -> Ordering
@@ -79,12 +69,13 @@ impl Coded {
         }
     }
 
-    /// Whether this is the name `name`.
+    /// Whether this is the name `name`, where both begin with the same `count` bytes.
     #[tactic(auto, using(crate::specs::aux::NameOrder::names_tie))]
-    pub(crate) fn is(&self, name: Spelled<'_>) -> bool
-        ensures is { result ≡ bytes_eq self.now name.entry }
+    pub(crate) fn is_alike(&self, name: &Spelled<'_>, count: usize) -> bool
+        requires alike { take count self.now ≡ take count name.now }
+        ensures is { result ≡ bytes_eq self.now name.now }
     {
-        self.name.compare_to(name).is_eq()
+        self.name.compare_alike(name, count).is_eq()
     }
 }
 

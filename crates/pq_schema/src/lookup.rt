@@ -17,7 +17,7 @@ ghost use Rattle.pq_schema.specs.aux.PackageRange.{IsRange};
 ghost use Rattle.pq_schema.specs.aux.Scopes.{chain};
 
 use crate::along::Along;
-use crate::below::first_below;
+use crate::below::{first_below, listed_below};
 use crate::by_package::Entry;
 use crate::files::Files;
 use crate::named::{Place, first_listed};
@@ -188,7 +188,7 @@ impl<'a> Lookup<'a> {
         ensures first { meaning_at result ≡ meaning self.now name.now }
     {
         match &self.names {
-            Some(_) => first_listed(self.files.files(), &self.all, &self.names, name),
+            Some(names) => listed_below(self.files.files(), along, &self.all, names, name),
             None => first_below(self.files.files(), along, near, name),
         }
     }

@@ -64,7 +64,7 @@ pub(crate) fn first_listed<'a>(
     ensures first { placed result ≡ first_near (definition_in name.now) files.now places.now }
 {
     match names {
-        Some(names) => match first_place(names, name) {
+        Some(names) => match first_place(names, &[], name) {
             Some(place) => definition_at(files, place, name),
             None => None,
         },

@@ -7,14 +7,13 @@
 ghost use Rattle.std.specs.Prelude.{◌≡◌, ℕ, List, ◌<◌, ◌≤◌, true, false, bytes_eq, find, length, get_or, nat_lt, IfOk, None, OnOk};
 ghost use Rattle.std.specs.Borrow.{Bor};
 ghost use Rattle.std.specs.List.Sorted.{IsSorted};
-ghost use Rattle.std.specs.Ordering.{is_lt, nat_cmp, ordering_then};
+ghost use Rattle.std.specs.Ordering.{is_lt};
 ghost use Rattle.pq_schema.specs.declared.scope.FileDefs.{FileDefs};
 ghost use Rattle.pq_schema.specs.declared.definitions.Definition.{Definition};
 ghost use Rattle.pq_schema.specs.aux.FirstOf.{answer_at, definition_in, first_near};
 ghost use Rattle.pq_schema.specs.aux.Index.{IsIndexOf};
 ghost use Rattle.pq_schema.specs.aux.NameCodes.{code_of, code_order};
-ghost use Rattle.pq_schema.specs.aux.NameParts.{name_order};
-ghost use Rattle.pq_schema.specs.aux.NearNames.{Adds, AddsEntries, AreNames, IsFirst, IsNamesOf, named_order};
+ghost use Rattle.pq_schema.specs.aux.NearNames.{Adds, AddsEntries, AreAlikeBy, AreNames, IsFirst, IsNamesOf, named_order};
 
 use crate::coded::Coded;
 use crate::scope::FileDefs;
@@ -110,9 +109,21 @@ pub(crate) fn names_for<'a>(
     Ok(Some(names_of(alloc, files, places, count)?))
 }
 
-/// The number of entries whose name comes before `name`.
-fn lower_bound(names: &[Named<'_>], name: &Spelled<'_>) -> usize
-    requires { IsSorted named_order names.now }
+/// The number of bytes that `counts` has for the file at `place`, or 0.
+fn alike_at(counts: &[usize], place: usize) -> usize
+    ensures count { result ≡ get_or counts.now place 0 }
+{
+    match counts.get(place) {
+        Some(count) => *count,
+        None => 0,
+    }
+}
+
+/// The number of entries whose name comes before `name`. The names of each file begin with as many
+/// bytes of `name` as `counts` has for it, which are mostly not read.
+fn lower_bound(names: &[Named<'_>], counts: &[usize], name: &Spelled<'_>) -> usize
+    requires sorted { IsSorted named_order names.now }
+    requires alike { AreAlikeBy counts.now names.now name.now }
     ensures within { result ≤ length names.now }
     ensures less { (k : ℕ) (d : Bor (List ℕ) × ℕ) → k < result →
         is_lt (code_order (get_or names.now k d).0.now name.now) ≡ true }
@@ -120,23 +131,37 @@ fn lower_bound(names: &[Named<'_>], name: &Spelled<'_>) -> usize
         is_lt (code_order (get_or names.now k d).0.now name.now) ≡ false }
 {
     let code = name.code();
-    names.partition_point(
-        |entry: &Named<'_>| -> bool
-            ensures { result ≡ is_lt (ordering_then (nat_cmp (code_of entry.now.0.now) code) (name_order entry.now.0.now name.entry.now)) }
-        { entry.0.compare_to(code, name.copy()).is_lt() },
-    )
+    let mut low = 0;
+    let mut high = names.len();
+    'halves: while low < high {
+        let middle = low + (high - low) / 2;
+        let entry = &names[middle];
+        let count = alike_at(counts, entry.1);
+        if entry.0.compare_alike(code, name, count).is_lt() {
+            low = middle + 1;
+        } else {
+            high = middle;
+        }
+    }
+    low
 }
 
-/// The place of the first of the files that defines `name`.
-pub(crate) fn first_place(names: &[Named<'_>], name: &Spelled<'_>) -> Option<usize>
-    requires { IsSorted named_order names.now }
+/// The place of the first of the files that defines `name`. The names of each file begin with as many
+/// bytes of `name` as `counts` has for it.
+pub(crate) fn first_place(
+    names: &[Named<'_>],
+    counts: &[usize],
+    name: &Spelled<'_>,
+) -> Option<usize>
+    requires sorted { IsSorted named_order names.now }
+    requires alike { AreAlikeBy counts.now names.now name.now }
     ensures first { (files : List FileDefs) (places : List ℕ) → IsNamesOf names.now files places
         → IsFirst result files places name.now }
 {
-    let first = lower_bound(names, name);
+    let first = lower_bound(names, counts, name);
     match names.get(first) {
         Some(entry) => {
-            if entry.0.is(name.copy()) {
+            if entry.0.is_alike(name, alike_at(counts, entry.1)) {
                 return Some(entry.1);
             }
             None

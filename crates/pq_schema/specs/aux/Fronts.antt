@@ -1,6 +1,6 @@
 -- Auxiliary: names that begin with the same bytes (used by proofs, invariants and contracts of
 -- private functions only).
-use Rattle.std.specs.Prelude.{◌≡◌, ◌⊎◌, ℕ, ◌<◌, ◌≤◌, Bool, true, false, get_or, length, slice_get, take, List, [], ◌++◌, Some}
+use Rattle.std.specs.Prelude.{◌≡◌, ◌⊎◌, ℕ, ◌<◌, ◌≤◌, true, false, get_or, length, slice_get, take, List, [], ◌++◌, Some}
 use Rattle.std.specs.Ordering.{is_lt}
 use Rattle.pq_rules.specs.Relations.{Each}
 use Rattle.pq_schema.specs.declared.scope.FileDefs.{FileDefs}
@@ -31,17 +31,16 @@ AreAlike n name entries = (k : ℕ) → k < length entries → take n (get_or en
 abbrev pub BeginAlike : ℕ → List ℕ → List Definition → Type 0
 BeginAlike n name ds = Each (λ (d : Definition). take n d.full_name ≡ take n name) ds
 
--- `AreRoots roots files root` is that the package of the file at each place where `roots` is true
--- is `root`
-abbrev pub AreRoots : List Bool → List FileDefs → List ℕ → Type 0
-AreRoots roots files root =
-    (k : ℕ) (f : FileDefs) → slice_get files k ≡ Some f → get_or roots k false ≡ true → f.defs.package_name ≡ root
-
 -- `CountsAt n files k root` is that `n` is 0, or that the file at the place `k` has the package
 -- `root`, and `n` is the number of bytes before a simple name in it
 abbrev pub CountsAt : ℕ → List FileDefs → ℕ → List ℕ → Type 0
 CountsAt n files k root =
     (n ≡ 0) ⊎ ((n ≡ length (leading root)) × ((f : FileDefs) → slice_get files k ≡ Some f → f.defs.package_name ≡ root))
+
+-- `AreCounts counts files root` is that of the file at each place `counts` has 0, or the number of
+-- bytes before a simple name in its package `root`. Where `counts` has nothing, that counts as 0.
+abbrev pub AreCounts : List ℕ → List FileDefs → List ℕ → Type 0
+AreCounts counts files root = (k : ℕ) → CountsAt (get_or counts k 0) files k root
 
 -- `IsParted entries name low high` is that the names of `entries` before `low` come before `name`,
 -- and those from `high` on do not

@@ -1,11 +1,11 @@
 -- Auxiliary: the index of the files at some places by the full names that they define (used by
 -- proofs and contracts of private functions only).
-use Rattle.std.specs.Prelude.{◌≡◌, ℕ, ◌⊎◌, ◌<◌, ◌≤◌, Bool, true, false, is_some, List, [], ◌∷◌, Option, Some, None, Vec}
+use Rattle.std.specs.Prelude.{◌≡◌, ℕ, ◌⊎◌, ◌<◌, ◌≤◌, Bool, true, false, get_or, length, take, is_some, List, [], ◌∷◌, Option, Some, None, Vec}
 use Rattle.std.specs.declared.alloc.Global.{Global}
 use Rattle.std.specs.Borrow.{Bor}
 use Rattle.std.specs.List.Sorted.{IsSorted}
 use Rattle.std.specs.declared.cmp.Ordering.{Ordering}
-use Rattle.std.specs.Ordering.{nat_cmp, ordering_then}
+use Rattle.std.specs.Ordering.{is_lt, nat_cmp, ordering_then}
 use Rattle.pq_rules.specs.Relations.{Each, In}
 use Rattle.pq_schema.specs.declared.scope.FileDefs.{FileDefs}
 use Rattle.pq_schema.specs.aux.FirstOf.{answer_at}
@@ -34,6 +34,19 @@ HasEntry names name k = (e : Bor (List ℕ) × ℕ) × In e names × (e.0.now �
 -- defines the entry's name
 abbrev pub AreSound : List (Bor (List ℕ) × ℕ) → List FileDefs → List ℕ → Type 0
 AreSound names files places = (e : Bor (List ℕ) × ℕ) → In e names → In e.1 places × (has files e.1 e.0.now ≡ true)
+
+-- `AreAlikeBy counts names name` is that each entry of `names` begins with as many bytes of `name` as
+-- `counts` has for the place of its file. Where `counts` has nothing, that counts as 0.
+abbrev pub AreAlikeBy : List ℕ → List (Bor (List ℕ) × ℕ) → List ℕ → Type 0
+AreAlikeBy counts names name = (e : Bor (List ℕ) × ℕ) → In e names → take (get_or counts e.1 0) e.0.now ≡ take (get_or counts e.1 0) name
+
+-- `ArePart names name low high` is that the names of `names` before `low` come before `name`, and
+-- those from `high` on do not
+pub record ArePart (names : List (Bor (List ℕ) × ℕ)) (name : List ℕ) (low high : ℕ) : Type 0 where
+  pub up : low ≤ high
+  pub within : high ≤ length names
+  pub less : (k : ℕ) (d : Bor (List ℕ) × ℕ) → k < low → is_lt (code_order (get_or names k d).0.now name) ≡ true
+  pub others : (k : ℕ) (d : Bor (List ℕ) × ℕ) → high ≤ k → k < length names → is_lt (code_order (get_or names k d).0.now name) ≡ false
 
 -- `AddsEntries old new index k` is that `new` has the entries of `old`, and the names of `index` with
 -- the place `k`

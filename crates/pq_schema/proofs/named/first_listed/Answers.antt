@@ -1,4 +1,4 @@
-use Rattle.std.proofs.Common.{List, Option, sym, subst, ◌∙◌}
+use Rattle.std.proofs.Common.{List, Option, refl, sym, subst, ◌∙◌}
 use Rattle.std.specs.Prelude.{Vec}
 use Rattle.std.specs.declared.alloc.Global.{Global}
 use Rattle.pq_schema.specs.aux.NearNames.{AreNames, IsNamesOf}
@@ -27,3 +27,6 @@ returns-in-None-first_place c =
     record {
       first = sym (without files places c.args.name.now c.requires.rising (c.in-None-first_place.ensures.first files places x));
     }
+
+pub first_place-requires-clause-alike : goal.first_place-requires-clause-alike
+first_place-requires-clause-alike c e there = refl

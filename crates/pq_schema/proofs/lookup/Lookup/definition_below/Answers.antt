@@ -6,23 +6,17 @@ use Rattle.pq_schema.specs.Resolution.{meaning}
 use Rattle.pq_schema.specs.aux.FirstOf.{definition_in, first_near}
 use Rattle.pq_rules.specs.Relations.{Each}
 use Rattle.pq_schema.specs.aux.Grouping.{AreNear, IsBelow, around}
-use Rattle.pq_schema.specs.aux.NearNames.{AreNames, HasAll, Rises}
+use Rattle.pq_schema.specs.aux.NearNames.{HasAll, Rises}
 use Rattle.pq_schema.proofs.FirstNear.{near_meaning, rises_from}
 use Rattle.pq_schema.proofs.NearNames.{Entry}
 use Rattle.pq_schema.proofs.lookup.Lookup.definition_below.Goals as goal
 
-pub first_listed-requires : goal.first_listed-requires
-first_listed-requires c =
-    let files = c.self.inside.files.now in
+pub listed_below-requires-clause-rising : goal.listed_below-requires-clause-rising
+listed_below-requires-clause-rising c =
     let all = c.self.inside.all.items in
-    let names = c.self.inside.names in
-    let near : (roots : List (List ℕ)) → AreNear all files roots =
-    subst (λ (o : Option (Vec Entry Global)). HasAll o all files) c.in-Some.is c.self.invariant.1 in
-    record {
-      rising = subst Rises (sym c.deref.ensures.value) (rises_from all (near (around c.args.name.now)).rising);
-      names = subst (λ (ks : List ℕ). AreNames names c.files.result.now ks) (sym c.deref.ensures.value)
-          (subst (λ (fs : List FileDefs). AreNames names fs all) (sym c.files.ensures.value) c.self.invariant.0);
-    }
+    let near : (roots : List (List ℕ)) → AreNear all c.self.inside.files.now roots =
+    subst (λ (o : Option (Vec Entry Global)). HasAll o all c.self.inside.files.now) c.in-Some.is c.self.invariant.1 in
+    subst Rises (sym c.deref.ensures.value) (rises_from all (near (around c.args.name.now)).rising)
 
 pub returns-in-Some : goal.returns-in-Some
 returns-in-Some c =
@@ -32,8 +26,8 @@ returns-in-Some c =
     let near : (roots : List (List ℕ)) → AreNear all files roots =
     subst (λ (o : Option (Vec Entry Global)). HasAll o all files) c.in-Some.is c.self.invariant.1 in
     record {
-      first = near_meaning files all name c.first_listed.result (near (around name)) c.files.ensures.below
-          (c.first_listed.ensures.first
+      first = near_meaning files all name c.listed_below.result (near (around name)) c.files.ensures.below
+          (c.listed_below.ensures.first
           ∙ ap (λ (fs : List FileDefs). first_near (definition_in name) fs c.deref.result.now) c.files.ensures.value
           ∙ ap (first_near (definition_in name) files) c.deref.ensures.value)
           ∙ ap (λ (fs : List FileDefs). meaning fs name) c.self.view_is;
