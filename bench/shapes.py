@@ -103,6 +103,17 @@ def parts_apart(at, name="N", leaves=False):
     return text
 
 
+def in_an_index(name):
+    """Texts of n bytes: half is a package of short parts, the rest references to a name. Five small files are visible too, so an
+    index of the names of all files is made."""
+    def text(n):
+        start = HEAD + "".join('import "f%d";' % i for i in range(5)) + "package " + ".".join("a" * (n // 4)) + ";message M{"
+        fields = itertools.takewhile(lambda at: at[0] < n, accumulated(name + " x%(n)d=%(field)d;", len(start)))
+        before, measured = one_file(start + "".join(more for _, more in fields) + "}")
+        return before, files_opened(("f%d" % i, HEAD + "message F%d{}" % i) for i in range(5)) + measured
+    return text
+
+
 def nested_in_half(n):
     """A text of n bytes: half is a package of short parts, the rest references in messages nested 60 deep, each with a field of
     the reference's name."""
@@ -427,6 +438,10 @@ TEXTS = [of_compile(*case) for case in compile.CASES] + [
           parts_apart(0.5), 25_000),
     Shape("n bytes: half a package of parts that differ, dotted names whose first part is a package, another file's",
           parts_apart(0.9, leaves=True), 25_000),
+    Shape("n bytes: half a package, beside five files, references found", in_an_index("M"), 25_000),
+    Shape("n bytes: half a package, beside five files, references to nothing", in_an_index("N"), 25_000),
+    Shape("n bytes: half a package, beside five files, dotted names whose first part is found", in_an_index("M.N"), 25_000),
+    Shape("n bytes: half a package, beside five files, dotted names whose first part is a package, found", in_an_index("a.M"), 25_000),
     Shape("n bytes: half a message's name, copies of two messages in it: a definition", copies_in_long("message A{message A{}}"), 25_000),
     Shape("n bytes: half a message's name, copies of messages nested 60 deep in it: a definition",
           copies_in_long("message A{" * 60 + "}" * 60), 25_000),

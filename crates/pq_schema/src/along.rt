@@ -274,7 +274,7 @@ fn last_start(parts: &[Met<'_>], name: &[u8]) -> Option<usize>
     Some(last.1)
 }
 
-/// `count` if there is a reason to skip bytes, and else 0.
+/// `count` for a file of the package, and else 0.
 fn count_if(is_root: bool, count: usize) -> usize
     ensures is { result ≡ cond is_root count 0 }
 {
