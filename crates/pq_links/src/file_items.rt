@@ -9,7 +9,7 @@ ghost use Rattle.pq_links.specs.Files.{items_of, nodes_in, parsed_items};
 use crate::Memory;
 use crate::bare::bare_nodes;
 use crate::files::ParsedFile;
-use pq_syntax::{File, Node, Parsed};
+use pq_syntax::{File, Items, Node, Parsed};
 use std::alloc::Global;
 use std::marker::Model;
 
@@ -18,7 +18,7 @@ use std::marker::Model;
 /// compares exactly that list.
 #[derive(Drop)]
 pub struct BareFile {
-    nodes: File,
+    nodes: Items<Node>,
 }
 
 impl Model for BareFile {

@@ -36,3 +36,4 @@ pub mod PartSpans
 pub mod NodeSpans
 pub mod StackSteps
 pub mod Walk
+pub mod TypesInOrder

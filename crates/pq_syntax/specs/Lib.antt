@@ -8,4 +8,5 @@ pub mod FaultPlace
 pub mod Spans
 pub mod Places
 pub mod Stacks
+pub mod TypeSpans
 pub mod aux

@@ -8,3 +8,5 @@ pub mod Takes
 pub mod Loop
 pub mod Steps
 pub mod Openings
+pub mod TypesRise
+pub mod SameNodes

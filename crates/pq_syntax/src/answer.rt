@@ -15,9 +15,9 @@ ghost use Rattle.pq_syntax.specs.aux.Reading.{passes, reading};
 use crate::Memory;
 use crate::failure::Failure;
 use crate::fault::{Code, Parsed};
+use crate::file::File;
 use crate::laws::{each_parse, spans_within};
 use crate::parser::parse_file;
-use crate::parts::Items;
 use pq_lex::{Kind, Span, Token, lex};
 use std::alloc::Global;
 
@@ -126,7 +126,7 @@ fn parse_exactly(alloc: Global, text: &str) -> Result<Parsed, Memory>
                 span,
                 code: Code::Lexical(code),
             }),
-            None => Ok(Parsed::Tree(Items::new(nodes))),
+            None => Ok(Parsed::Tree(File::new(nodes))),
         },
         Err(Failure::Memory) => Err(Memory),
         Err(Failure::Fault(left)) => fault_at(alloc, text, tokens, left, lexed.fault),

@@ -1,6 +1,6 @@
 //! The outcome of parsing a text, and the codes of errors.
 
-use crate::tree::File;
+use crate::file::File;
 use pq_lex::Span;
 
 /// The code of a text's first error.

@@ -12,6 +12,7 @@
 mod answer;
 mod failure;
 mod fault;
+mod file;
 mod laws;
 mod parser;
 mod parts;
@@ -21,6 +22,7 @@ mod tree;
 
 pub use answer::parse;
 pub use fault::{Code, Parsed};
+pub use file::File;
 pub use laws::{each_parse, equal_parses, equal_trees, one_fault, one_tree, spans_within};
 pub use parts::{
     Constant, ConstantKind, Items, MethodType, Name, NamePart, Number, Range, RangeEnd, Setting,
@@ -29,4 +31,4 @@ pub use parts::{
 pub use pq_names::Text;
 pub use stack::Stack;
 pub use std::alloc::AllocError as Memory;
-pub use tree::{File, ImportKind, Label, Node, Statement};
+pub use tree::{ImportKind, Label, Node, Statement};

@@ -104,10 +104,3 @@ pub struct Node {
     /// What the statement says.
     pub statement: Statement,
 }
-
-/// The tree of a file: its statements in text order, each before the statements that it contains.
-/// An empty statement has no node.
-///
-/// The tree keeps names and spans but not the text, so an edit of a comment that moves no token
-/// leaves it equal. Contracts see the list of statements, and `==` compares exactly that list.
-pub type File = Items<Node>;

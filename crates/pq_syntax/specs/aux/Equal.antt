@@ -4,14 +4,12 @@ use Rattle.std.specs.Prelude.{Bool, List}
 use Rattle.pq_syntax.specs.declared.fault.Parsed.{Parsed}
 use Rattle.pq_syntax.specs.declared.tree.Node.{Node}
 use Rattle.pq_syntax.specs.contracts.fault.ParsedPartialEq.TheImpl as of_outcomes
-use Rattle.pq_syntax.specs.contracts.tree.Node as node
-use Rattle.pq_syntax.specs.contracts.tree.NodePartialEq.TheImpl as of_nodes
-use Rattle.pq_syntax.specs.contracts.parts.ItemsPartialEq.TheImpl as of_items
+use Rattle.pq_syntax.specs.contracts.file.FilePartialEq.TheImpl as of_files
 
--- `same_trees a b` is `a == b` of two lists of nodes, as a bound `T: PartialEq` of a generic
+-- `same_trees a b` is `a == b` of two trees with these nodes, as a bound `T: PartialEq` of a generic
 -- function sees it.
 abbrev pub same_trees : List Node → List Node → Bool
-same_trees = (of_items.ghosts node.the_row of_nodes.ghosts of_items.no_dict).eq
+same_trees = of_files.ghosts.eq
 
 -- `same_parses a b` is `a == b` of two outcomes.
 abbrev pub same_parses : Parsed → Parsed → Bool
