@@ -10,7 +10,7 @@ use crate::keys::CheckKeys;
 use crate::surroundings::{FileState, state_of};
 use pq_links::{FileItems, Import, ParsedFile};
 use pq_rules::{Memory, Shared};
-use pq_schema::{Defs, ResolvedReference, Scope};
+use pq_schema::{Defs, ResolvedReferences, Scope};
 use pq_syntax::Items;
 use std::alloc::Global;
 
@@ -91,12 +91,12 @@ pub(crate) fn scope_in<S: CheckKeys>(
 pub(crate) fn references_in<S: CheckKeys>(
     alloc: Global,
     answer: &S::Answer,
-) -> Result<Shared<Items<ResolvedReference>>, Memory>
+) -> Result<Shared<ResolvedReferences>, Memory>
     ensures references { IfOk result (λ rs. rs ≡ S.referred answer.now) }
 {
     match S::read_resolved(answer) {
         Some(references) => references.copy(),
-        None => Shared::new(alloc, Items::new(Vec::new(alloc))),
+        None => Shared::new(alloc, ResolvedReferences::new(Vec::new(alloc))),
     }
 }
 

@@ -23,7 +23,7 @@ use crate::keys::CheckKeys;
 use crate::surroundings::{FileState, Imported};
 use pq_links::{FileItems, Import};
 use pq_rules::{Memory, Query, Shared, Text, Turn};
-use pq_schema::{Defs, ResolvedReference, Scope};
+use pq_schema::{Defs, Scope};
 use pq_syntax::Items;
 use std::alloc::Global;
 use std::marker::PhantomData;

@@ -19,7 +19,7 @@ use crate::surroundings::Imported;
 use crate::unread_lines::{push_package_faults, push_unread_faults};
 use pq_links::{FileItems, Import};
 use pq_rules::{Shared, Text};
-use pq_schema::{Defs, ResolvedReference, Scope};
+use pq_schema::{Defs, ResolvedReferences, Scope};
 use pq_syntax::{Items, Node};
 use std::alloc::Global;
 use std::marker::Model;
@@ -47,7 +47,7 @@ pub struct Known {
     /// Its scope.
     pub scope: Shared<Scope>,
     /// Its type references, with what they resolve to.
-    pub references: Shared<Items<ResolvedReference>>,
+    pub references: Shared<ResolvedReferences>,
 }
 
 /// The files that a file imports, as far as their states were read. Contracts see the list.

@@ -5,7 +5,7 @@ ghost use Rattle.pq_checks.specs.declared.fault.Fault.{Fault as FaultContents};
 
 use crate::fault::Fault;
 use pq_rules::{Memory, Shared, Text};
-use pq_schema::{ResolvedReference, SchemaKeys};
+use pq_schema::{ResolvedReferences, SchemaKeys};
 use pq_syntax::Items;
 use std::alloc::Global;
 
@@ -36,7 +36,7 @@ pub trait CheckKeys: SchemaKeys {
         ensures key { IfOk result (λ k. k ≡ checks file.now) };
 
     /// Reads the resolved references of a file, `None` only where it has none.
-    fn read_resolved<'a>(answer: &'a Self::Answer) -> Option<&'a Shared<Items<ResolvedReference>>>
+    fn read_resolved<'a>(answer: &'a Self::Answer) -> Option<&'a Shared<ResolvedReferences>>
         ensures references { unwrap_or (option_copied result) [] ≡ referred answer.now };
 
     /// Reads the files of a cycle, `None` for a value.

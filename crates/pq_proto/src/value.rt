@@ -5,7 +5,7 @@ use pq_checks::{Diagnosed, Fault};
 use pq_links::{FileItems, Import, Links, ParsedFile};
 use pq_names::Text;
 use pq_rules::Shared;
-use pq_schema::{Defs, ResolvedReference, Scope};
+use pq_schema::{Defs, ResolvedReferences, Scope};
 use pq_syntax::Items;
 
 /// A range in a file (Language Server Protocol 3.17, "Location").
@@ -37,7 +37,7 @@ pub enum ProtoValue {
     /// The scope of a file.
     Scope(Shared<Scope>),
     /// The resolved references of a file.
-    Resolved(Shared<Items<ResolvedReference>>),
+    Resolved(Shared<ResolvedReferences>),
     /// The errors of a file by the table.
     Checks(Shared<Items<Fault>>),
     /// The diagnostics of a file, with what it is read as.

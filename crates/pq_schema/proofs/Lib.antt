@@ -50,3 +50,4 @@ pub mod RuleSetMeaning
 pub mod Gathering
 pub mod ResolvedKinds
 pub mod BadFiles
+pub mod ItemRanges

@@ -9,4 +9,5 @@ pub mod Missing
 pub mod Compile
 pub mod Answers
 pub mod SchemaSum
+pub mod OfItem
 pub mod aux

@@ -32,3 +32,4 @@ pub mod NameKinds
 pub mod RuleSet
 pub mod SchemaLaws
 pub mod Exact
+pub mod SameReferences

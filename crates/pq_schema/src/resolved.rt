@@ -15,12 +15,13 @@ use crate::defined::statements;
 use crate::keys::SchemaKeys;
 use crate::outline::package_of;
 use crate::resolution::{Resolution, resolution_at};
+use crate::resolved_references::ResolvedReferences;
 use crate::scope::Scope;
 use crate::search::{Hit, outcome_of};
 use crate::uses::{Use, find_each, hit_or_nothing};
 use pq_links::{FileItems, TypePart};
 use pq_rules::{Memory, Query, Shared, Text, Turn};
-use pq_syntax::{Items, Node};
+use pq_syntax::Node;
 use std::alloc::Global;
 use std::marker::PhantomData;
 
@@ -95,7 +96,7 @@ fn resolve_uses(
     alloc: Global,
     visible: &[Use<'_>],
     reached: &[Use<'_>],
-) -> Result<Items<ResolvedReference>, Memory>
+) -> Result<ResolvedReferences, Memory>
     ensures resolved { IfOk result (λ rs. rs ≡ resolved_uses visible.now reached.now 0) }
 {
     let mut resolved = Vec::new(alloc);
@@ -103,7 +104,7 @@ fn resolve_uses(
         let further = hit_or_nothing(reached, i);
         resolved.push(resolve_at(visible[i], further)?)?;
     }
-    Ok(Items::new(resolved))
+    Ok(ResolvedReferences::new(resolved))
 }
 
 /// The resolved references of a file of the package `root` with the statements `nodes` and the scope
@@ -114,7 +115,7 @@ fn resolve_nodes(
     scope: &Scope,
     root: &str,
     nodes: &[Node],
-) -> Result<Items<ResolvedReference>, Memory>
+) -> Result<ResolvedReferences, Memory>
     requires root { root.now ≡ package_of nodes.now }
     ensures resolved { IfOk result (λ rs. rs ≡ resolved_by scope.now nodes.now) }
 {
@@ -135,7 +136,7 @@ fn resolve_file(
     alloc: Global,
     scope: &Scope,
     items: Option<&Shared<FileItems>>,
-) -> Result<Shared<Items<ResolvedReference>>, Memory>
+) -> Result<Shared<ResolvedReferences>, Memory>
     ensures resolved { IfOk result (λ rs. rs ≡ resolved_by scope.now (nodes_in (unwrap_or (option_copied items.entry) Absent))) }
 {
     let nodes = statements(items);
@@ -159,7 +160,7 @@ fn ask_tree<S: SchemaKeys>(
     alloc: Global,
     file: &Text,
     answer: &S::Answer,
-) -> Result<Turn<S::Key, ResolvedPart, Shared<Items<ResolvedReference>>>, Memory>
+) -> Result<Turn<S::Key, ResolvedPart, Shared<ResolvedReferences>>, Memory>
     ensures turn { IfOk result (λ t. t ≡ Ask (S.items file.now) (ReadTree (S.scoped answer.now))) }
 {
     let scope = scope_in::<S>(alloc, answer)?;
@@ -169,7 +170,7 @@ fn ask_tree<S: SchemaKeys>(
 impl<S: SchemaKeys> Query for ResolvedQuery<S> {
     type Key = Text;
 
-    type Value = Shared<Items<ResolvedReference>>;
+    type Value = Shared<ResolvedReferences>;
 
     type Part = ResolvedPart;
 
@@ -193,7 +194,7 @@ impl<S: SchemaKeys> Query for ResolvedQuery<S> {
         &self,
         _alloc: Global,
         key: &Text,
-    ) -> Result<Turn<S::Key, ResolvedPart, Shared<Items<ResolvedReference>>>, Memory> {
+    ) -> Result<Turn<S::Key, ResolvedPart, Shared<ResolvedReferences>>, Memory> {
         Ok(Turn::Ask(S::scope_key(key)?, ResolvedPart::ReadScope(key.copy()?)))
     }
 
@@ -202,7 +203,7 @@ impl<S: SchemaKeys> Query for ResolvedQuery<S> {
         alloc: Global,
         part: ResolvedPart,
         answer: &S::Answer,
-    ) -> Result<Turn<S::Key, ResolvedPart, Shared<Items<ResolvedReference>>>, ResolvedPart> {
+    ) -> Result<Turn<S::Key, ResolvedPart, Shared<ResolvedReferences>>, ResolvedPart> {
         match part {
             ResolvedPart::ReadScope(file) => match ask_tree::<S>(alloc, &file, answer) {
                 Ok(turn) => Ok(turn),

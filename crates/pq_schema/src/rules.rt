@@ -9,7 +9,8 @@ mod embedded;
 use crate::defined::DefsQuery;
 use crate::definitions::Defs;
 use crate::keys::SchemaKeys;
-use crate::resolved::{ResolvedPart, ResolvedQuery, ResolvedReference};
+use crate::resolved::{ResolvedPart, ResolvedQuery};
+use crate::resolved_references::ResolvedReferences;
 use crate::scope::Scope;
 use crate::scopes::{ScopePart, ScopeQuery};
 use pq_links::{
@@ -59,7 +60,7 @@ pub enum SchemaValue {
     /// The scope of a file.
     Scope(Shared<Scope>),
     /// The resolved references of a file.
-    Resolved(Shared<Items<ResolvedReference>>),
+    Resolved(Shared<ResolvedReferences>),
 }
 
 /// What a key's rule does with the next answer.

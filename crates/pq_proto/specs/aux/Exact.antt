@@ -5,8 +5,8 @@ use Rattle.std.specs.Cmp.{unsigned_Decides}
 use Rattle.std.specs.Cmp.Lexicographic.{pointwise_decides, bytes_decides}
 use Rattle.pq_syntax.proofs.Equality.{Told, one_field, fields, of_struct, no_variant, variants, of_enum, option}
 use Rattle.pq_links.proofs.Equality.{parsed_file, file_items, file_imports, file_links}
-use Rattle.pq_schema.specs.aux.Exact.{resolved_reference}
 use Rattle.pq_schema.specs.aux.SameContents.{contents}
+use Rattle.pq_schema.specs.aux.SameReferences.{references}
 use Rattle.pq_schema.specs.aux.SameScopes.{lists}
 use Rattle.pq_checks.specs.aux.Exact.{one_fault, diagnosed}
 use Rattle.pq_proto.specs.contracts.key.Place as place_type
@@ -35,7 +35,7 @@ values =
     (variants (one_field file_links)
     (variants (one_field contents)
     (variants (one_field lists)
-    (variants (one_field (pointwise_decides resolved_reference))
+    (variants (one_field references)
     (variants (one_field (pointwise_decides one_fault))
     (variants (one_field diagnosed)
     (variants (one_field bytes_decides)

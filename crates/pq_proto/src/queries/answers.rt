@@ -10,7 +10,7 @@ use crate::value::ProtoValue;
 use pq_checks::Fault;
 use pq_links::{FileItems, ParsedFile};
 use pq_rules::{Answer, Shared};
-use pq_schema::ResolvedReference;
+use pq_schema::{ResolvedReference, ResolvedReferences};
 use pq_syntax::Items;
 
 /// What `answer` says that a file is read as.
@@ -40,7 +40,7 @@ pub(crate) fn items_in<'a>(
 /// The resolved references that `answer` holds.
 pub(crate) fn resolved_in<'a>(
     answer: &'a Answer<ProtoKey, ProtoValue>,
-) -> Option<&'a Shared<Items<ResolvedReference>>>
+) -> Option<&'a Shared<ResolvedReferences>>
     ensures references { unwrap_or (option_copied result) [] ≡ resolved_read answer.now }
 {
     match answer {

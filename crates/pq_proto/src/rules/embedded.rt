@@ -18,7 +18,7 @@ use pq_links::{
 use pq_names::Text;
 use pq_rules::{Answer, EmbeddedIn, Shared};
 use pq_schema::{
-    Defs, DefsQuery, ResolvedPart, ResolvedQuery, ResolvedReference, SchemaKeys, Scope, ScopePart,
+    Defs, DefsQuery, ResolvedPart, ResolvedQuery, ResolvedReferences, SchemaKeys, Scope, ScopePart,
     ScopeQuery,
 };
 use pq_syntax::Items;
@@ -123,7 +123,7 @@ impl<S: SchemaKeys<Key = ProtoKey, Answer = Answer<ProtoKey, ProtoValue>>> Embed
         ProtoPart::Resolving(part)
     }
 
-    fn value(value: Shared<Items<ResolvedReference>>) -> ProtoValue {
+    fn value(value: Shared<ResolvedReferences>) -> ProtoValue {
         ProtoValue::Resolved(value)
     }
 }

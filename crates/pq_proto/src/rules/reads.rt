@@ -12,7 +12,7 @@ use pq_checks::{CheckKeys, Fault};
 use pq_links::{FileItems, Import, LinkKeys, Links, ParsedFile};
 use pq_names::Text;
 use pq_rules::{Answer, Shared};
-use pq_schema::{Defs, ResolvedReference, SchemaKeys, Scope};
+use pq_schema::{Defs, ResolvedReferences, SchemaKeys, Scope};
 use pq_syntax::Items;
 use std::alloc::Global;
 
@@ -189,7 +189,7 @@ impl CheckKeys for ProtoRules {
 
     fn read_resolved<'a>(
         answer: &'a Answer<ProtoKey, ProtoValue>,
-    ) -> Option<&'a Shared<Items<ResolvedReference>>> {
+    ) -> Option<&'a Shared<ResolvedReferences>> {
         resolved_in(answer)
     }
 

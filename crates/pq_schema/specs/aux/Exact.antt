@@ -1,39 +1,18 @@
 -- Auxiliary: keys and values of the rule set that compare as equal are equal, by the shape of their
 -- types (used by proofs and invariants only).
 use Rattle.std.proofs.Common.{◌≡◌, ap, IsTrue}
-use Rattle.std.specs.Cmp.{unsigned_Decides, booleans_Decides}
-use Rattle.std.specs.Cmp.Lexicographic.{pointwise_decides, bytes_decides}
+use Rattle.std.specs.Cmp.Lexicographic.{bytes_decides}
 use Rattle.std.specs.declared.cmp.Ordering.TheVariants.{Equal}
 use Rattle.pq_rules.proofs.ExactOrders.{exact_bytes}
-use Rattle.pq_syntax.proofs.Equality.{Told, no_field, one_field, fields, of_struct, no_variant, variants, of_enum, option}
-use Rattle.pq_links.proofs.Equality.{parsed_file, file_items, file_imports, file_links, type_part}
+use Rattle.pq_syntax.proofs.Equality.{Told, one_field, no_variant, variants, of_enum, option}
+use Rattle.pq_links.proofs.Equality.{parsed_file, file_items, file_imports, file_links}
 use Rattle.pq_schema.specs.aux.SameContents.{contents}
+use Rattle.pq_schema.specs.aux.SameReferences.{references}
 use Rattle.pq_schema.specs.aux.SameScopes.{lists}
-use Rattle.pq_schema.specs.contracts.resolution as resolution
-use Rattle.pq_schema.specs.contracts.resolved as resolved
 use Rattle.pq_schema.specs.contracts.rules as rules
 use Rattle.pq_schema.specs.declared.rules.SchemaKey.{SchemaKey}
 use Rattle.pq_schema.specs.declared.rules.SchemaKey.TheVariants.{Input, Parse, Items, Imports, Linked, Defs, Scope, Resolved}
 use Rattle.pq_schema.specs.declared.rules.SchemaValue.{SchemaValue}
-
-one_target : Told resolution.TargetPartialEq.TheImpl.ghosts.eq
-one_target =
-    of_struct resolution.Target.struct resolution.Target.the_propositions
-    (fields bytes_decides (fields bytes_decides (fields booleans_Decides (one_field unsigned_Decides))))
-
-one_resolution : Told resolution.ResolutionPartialEq.TheImpl.ghosts.eq
-one_resolution =
-    of_enum resolution.Resolution.enum
-    (variants (one_field one_target)
-    (variants no_field
-    (variants (one_field bytes_decides)
-    (variants no_field no_variant))))
-
--- a resolved reference
-pub resolved_reference : Told resolved.ResolvedReferencePartialEq.TheImpl.ghosts.eq
-resolved_reference =
-    of_struct resolved.ResolvedReference.struct resolved.ResolvedReference.the_propositions
-    (fields unsigned_Decides (fields type_part (one_field one_resolution)))
 
 value : Told rules.SchemaValuePartialEq.TheImpl.ghosts.eq
 value =
@@ -45,7 +24,7 @@ value =
     (variants (one_field file_links)
     (variants (one_field contents)
     (variants (one_field lists)
-    (variants (one_field (pointwise_decides resolved_reference)) no_variant))))))))
+    (variants (one_field references) no_variant))))))))
 
 pub value_exact : (a b : SchemaValue) → IsTrue (rules.SchemaValuePartialEq.TheImpl.ghosts.eq a b) → a ≡ b
 value_exact a b e = (value a b).0 e

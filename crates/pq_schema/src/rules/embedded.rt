@@ -5,7 +5,8 @@ ghost use Rattle.pq_schema.specs.declared.rules.SchemaValue.TheVariants as value
 use crate::defined::DefsQuery;
 use crate::definitions::Defs;
 use crate::keys::SchemaKeys;
-use crate::resolved::{ResolvedPart, ResolvedQuery, ResolvedReference};
+use crate::resolved::{ResolvedPart, ResolvedQuery};
+use crate::resolved_references::ResolvedReferences;
 use crate::rules::{SchemaKey, SchemaPart, SchemaRules, SchemaValue};
 use crate::scope::Scope;
 use crate::scopes::{ScopePart, ScopeQuery};
@@ -119,7 +120,7 @@ impl<S: SchemaKeys<Key = SchemaKey, Answer = Answer<SchemaKey, SchemaValue>>> Em
         SchemaPart::Resolving(part)
     }
 
-    fn value(value: Shared<Items<ResolvedReference>>) -> SchemaValue {
+    fn value(value: Shared<ResolvedReferences>) -> SchemaValue {
         SchemaValue::Resolved(value)
     }
 }
