@@ -5,6 +5,7 @@ pub mod PlacedBodies
 pub mod SizeSteps
 pub mod ListSteps
 pub mod ReferenceSteps
+pub mod NearReferences
 pub mod FirstSteps
 pub mod NumberTexts
 pub mod ProtoMeaning

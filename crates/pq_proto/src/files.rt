@@ -1,6 +1,7 @@
 //! What a file that is read as its tree or first error has: its statements, and the positions of its
 //! offsets.
-ghost use Rattle.std.specs.Prelude.{◌≡◌};
+ghost use Rattle.std.specs.Prelude.{◌≡◌, IfSome};
+ghost use Rattle.pq_syntax.specs.TypeSpans.{IsOnlyAt};
 ghost use Rattle.pq_links.specs.Place.{place};
 ghost use Rattle.pq_links.specs.Files.{nodes_of};
 ghost use Rattle.pq_proto.specs.Compile.{offset_at, place_at, position_in};
@@ -34,6 +35,20 @@ pub(crate) fn span_in(file: &ParsedFile, item: usize, part: Part) -> Option<Span
             parsed: Parsed::Tree(nodes),
             ..
         } => place(nodes, item, part),
+        _ => None,
+    }
+}
+
+/// The number of the only item that can refer to a type whose span holds `offset`, both ends
+/// included, in a file that is read as `file`. `None` says nothing.
+pub(crate) fn only_at(file: &ParsedFile, offset: usize) -> Option<usize>
+    ensures only { IfSome result (IsOnlyAt (nodes_of file.now) offset) }
+{
+    match file {
+        ParsedFile::Present {
+            parsed: Parsed::Tree(nodes),
+            ..
+        } => nodes.only_at(offset),
         _ => None,
     }
 }

@@ -9,7 +9,7 @@ use crate::Memory;
 use crate::definition::{TypeItem, definition_at};
 use crate::files::{offset_at, place_at, span_in};
 use crate::key::{Place, ProtoKey};
-use crate::queries::answers::{parsed_in, references_in};
+use crate::queries::answers::{parsed_in, resolved_in};
 use crate::value::{Location, ProtoValue};
 use pq_links::{ParsedFile, Part};
 use pq_names::Text;
@@ -78,7 +78,11 @@ fn after_references(
 ) -> Result<Turn<ProtoKey, DefinitionPart, Option<Location>>, Memory>
     ensures turn { IfOk result (λ t. t ≡ target_turn (definition_at (nodes_of file.now) offset (resolved_read answer.now))) }
 {
-    match definition_at(file, references_in(answer), offset)? {
+    let references = match resolved_in(answer) {
+        Some(references) => references.get(),
+        None => return Ok(Turn::Done(None)),
+    };
+    match definition_at(file, references, offset)? {
         Some(target) => Ok(Turn::Ask(
             ProtoKey::Parse(target.file.copy()?),
             DefinitionPart::ReadTarget(target),

@@ -1,7 +1,7 @@
 use Rattle.std.proofs.Common.{◌≡◌, drop}
 use Rattle.pq_links.specs.Files.{nodes_of}
 use Rattle.pq_proto.specs.Definition.{definition_at}
-use Rattle.pq_proto.proofs.definition.definition_at.Given as goal
+use Rattle.pq_proto.proofs.definition.first_at.Given as goal
 
 abbrev pub invariant-references : goal.invariant-references
 invariant-references l =
