@@ -58,7 +58,7 @@ risen_more nodes i low high node within is starts own so_far =
       apart = λ m n d less below. elim (cases_lt n i) [
         | inl within_n ↦ so_far.apart m n d less within_n
         | inr past ↦ subst (λ (x : Node). Precedes (get_or nodes m d) x) (sym (at_i n d (λ l. omega (arith, l, past)) below))
-          (record { high = low; reaches = so_far.reaches m d (omega (arith, less, below)); before = starts (omega (arith, less, below)) })
+            (record { high = low; reaches = so_far.reaches m d (omega (arith, less, below)); before = starts (omega (arith, less, below)) })
       ];
     }
 
