@@ -114,6 +114,15 @@ def in_an_index(name):
     return text
 
 
+def found_around(n):
+    """A text of n bytes: half is a package, the rest references to a message of a visible file of the package around it."""
+    package = ".".join("a" * (n // 4))
+    start = HEAD + 'import "b.proto";package ' + package + ".q;message Z{"
+    fields = itertools.takewhile(lambda at: at[0] < n, accumulated("M x%(n)d=%(field)d;", len(start)))
+    before, measured = one_file(start + "".join(more for _, more in fields) + "}")
+    return before, opened("b.proto", HEAD + "package " + package + ";message M{}") + measured
+
+
 def nested_in_half(n):
     """A text of n bytes: half is a package of short parts, the rest references in messages nested 60 deep, each with a field of
     the reference's name."""
@@ -438,6 +447,7 @@ TEXTS = [of_compile(*case) for case in compile.CASES] + [
           parts_apart(0.5), 25_000),
     Shape("n bytes: half a package of parts that differ, dotted names whose first part is a package, another file's",
           parts_apart(0.9, leaves=True), 25_000),
+    Shape("n bytes: half a package, references found in a file of the package around it", found_around, 25_000),
     Shape("n bytes: half a package, beside five files, references found", in_an_index("M"), 25_000),
     Shape("n bytes: half a package, beside five files, references to nothing", in_an_index("N"), 25_000),
     Shape("n bytes: half a package, beside five files, dotted names whose first part is found", in_an_index("M.N"), 25_000),
