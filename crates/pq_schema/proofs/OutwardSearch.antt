@@ -4,6 +4,7 @@ use Rattle.std.specs.Prelude.{IfSome, bytes_eq, codes, filter, find, is_some, op
 use Rattle.std.specs.Borrow.{Bor}
 use Rattle.std.specs.Option.{MatchOption}
 use Rattle.std.specs.Str.{IsCharBoundary, IsUtf8}
+use Rattle.std.specs.Str.Pattern.{FindsTextPrefix, StripsPrefix}
 use Rattle.std.specs.List.{list_any}
 use Rattle.std.proofs.lemmas.List.{at_drop_all, at_drop_more, length-append, take-append-drop, take-append-le, take_at}
 use Rattle.pq_schema.proofs.Walks.{grouped, nothing_further}
@@ -456,10 +457,12 @@ after_some n lead back None some is m = tt
 after_some n lead back (Some x) some is m = after_dot n lead back x.now some is m
 
 -- what comes after both in a name
-pub after_both : (front lead others name : List ℕ) (r : Option (Bor (List ℕ))) → lead ≡ front ++ others → IfSome r (λ t. name ≡ others ++ t.now) → IfSome r (λ t. front ++ name ≡ lead ++ t.now)
+pub after_both : (front lead others name : List ℕ) (r : Option (Bor (List ℕ))) → lead ≡ front ++ others
+    → MatchOption r (FindsTextPrefix others name None) (λ x. StripsPrefix (FindsTextPrefix others) name x.now) → IfSome r (λ t. front ++ name ≡ lead ++ t.now)
 after_both front lead others name None is h = tt
 after_both front lead others name (Some t) is h =
-    ap (λ (n : List ℕ). front ++ n) h ∙ sym (append_assoc front others t.now) ∙ ap (λ (l : List ℕ). l ++ t.now) (sym is)
+    ap (λ (n : List ℕ). front ++ n) (h.1.1 ∙ ap (λ (rest : List ℕ). others ++ rest) (sym h.2))
+    ∙ sym (append_assoc front others t.now) ∙ ap (λ (l : List ℕ). l ++ t.now) (sym is)
 
 take_lead : (n : ℕ) (root : List ℕ) → n ≤ length root → take n (leading root) ≡ take n root
 take_lead n [] within = refl

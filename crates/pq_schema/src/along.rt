@@ -313,8 +313,6 @@ pub(crate) struct Along<'a> {
     counts: Vec<usize>,
     /// What is before a simple name in `root`.
     lead: Text,
-    /// The number of bytes of `lead`.
-    count: usize,
     /// The packages inside `root`.
     packages: PackageRange<'a>,
     /// The packages inside each scope of `root`.
@@ -335,7 +333,6 @@ impl<'a> Model for Along<'a> {
     ghost invariant = { λ a. IsAlong a.parts.items a.files.now a.root.now
         × AreCounts a.counts.items a.files.now a.root.now
         × (a.lead ≡ leading a.root.now)
-        × (a.count ≡ length (leading a.root.now))
         × IsRange a.files.now (leading a.root.now) a.packages
         × AreRanges a.files.now (leading a.root.now) a.ranges.items };
 }
@@ -347,8 +344,7 @@ impl<'a> Along<'a> {
     {
         let parts = table(alloc, files, root)?;
         let lead = lead_text(alloc, root)?;
-        let count = lead.as_str().len();
-        let counts = counts_of(alloc, files.as_slice(), root, count)?;
+        let counts = counts_of(alloc, files.as_slice(), root, lead.as_str().len())?;
         let ranges = ranges_of(alloc, files, lead.as_str())?;
         Ok(Along {
             files,
@@ -356,7 +352,6 @@ impl<'a> Along<'a> {
             parts,
             counts,
             lead,
-            count,
             packages: files.packages_in(root),
             ranges,
         })
@@ -388,7 +383,7 @@ impl<'a> Along<'a> {
     pub(crate) fn count(&self) -> usize
         ensures count { result ≡ length (leading self.now.root) }
     {
-        self.count
+        self.lead.as_str().len()
     }
 
     /// The number of bytes before a simple name in `root`, if that is the package of the file at

@@ -203,14 +203,6 @@ fn beyond<'b>(spot: Option<&'b Text>, place: Option<usize>) -> Option<&'b Text>
     }
 }
 
-/// What is after `front` in `text`, if `text` begins with it.
-fn after<'a>(text: &'a str, front: &str) -> Option<&'a str>
-    ensures after { IfSome result (λ t. text.now ≡ front.now ++ t.now) }
-{
-    let (start, rest) = text.split_at_checked(front.len())?;
-    if start == front { Some(rest) } else { None }
-}
-
 /// What comes after the scope of the first `count` bytes of `lead`, and after its dot, in `lead`.
 fn after_scope(lead: &str, count: usize) -> Option<&str>
     ensures after { IfSome result (λ t. lead.now ≡ leading (take count lead.now) ++ t.now) }
@@ -227,7 +219,7 @@ fn after_scope(lead: &str, count: usize) -> Option<&str>
 fn after_lead<'a>(lead: &str, count: usize, name: &'a str) -> Option<&'a str>
     ensures after { IfSome result (λ t. leading (take count lead.now) ++ name.now ≡ lead.now ++ t.now) }
 {
-    after(name, after_scope(lead, count)?)
+    name.strip_prefix(after_scope(lead, count)?)
 }
 
 /// What the name `name`, which is in the scope of the first `count` bytes of the package of `along`, is

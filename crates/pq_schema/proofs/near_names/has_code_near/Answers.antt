@@ -1,4 +1,4 @@
-use Rattle.std.proofs.Common.{◌+◌, List, ℕ, Option, None, get_or, drop, sym, ap, ◌∙◌}
+use Rattle.std.proofs.Common.{◌+◌, List, ℕ, Option, drop, ap, ◌∙◌}
 use Rattle.std.proofs.lemmas.List.{at_drop_more, at_drop_all}
 use Rattle.pq_schema.specs.aux.FirstOf.{definition_in, either, first_near}
 use Rattle.pq_schema.specs.declared.definitions.Definition.{Definition}

@@ -6,6 +6,6 @@ use Rattle.pq_schema.proofs.outward.after_lead.Goals as goal
 pub returns : goal.returns
 returns c =
     record {
-      after = after_both (leading (take c.args.count c.args.lead.now)) c.args.lead.now c.in_ok-after_scope.field-0.now c.args.name.now c.after.result
-          c.in_ok-after_scope.ensures.after c.after.ensures.after;
+      after = after_both (leading (take c.args.count c.args.lead.now)) c.args.lead.now c.in_ok-after_scope.field-0.now c.args.name.now c.strip_prefix.result
+          c.in_ok-after_scope.ensures.after c.strip_prefix.ensures.cases;
     }

@@ -1,4 +1,4 @@
-use Rattle.std.proofs.Common.{◌≡◌, ◌≤◌, ◌+◌, ℕ, List, length, get_or, take, refl, sym, ap, subst, ◌∙◌, arith}
+use Rattle.std.proofs.Common.{◌+◌, ℕ, List, length, get_or, take, sym, ap, arith}
 use Rattle.pq_schema.proofs.ScopeRanges.{range_more, ranges_more}
 use Rattle.pq_schema.proofs.scope_ranges.ranges_of.Goals as goal
 

@@ -1,4 +1,4 @@
-use Rattle.std.proofs.Common.{ℕ, ◌≤◌, take}
+use Rattle.std.proofs.Common.{◌≤◌, take}
 use Rattle.pq_schema.specs.aux.PackageRange.{AreRanges, IsRange}
 use Rattle.pq_schema.proofs.scope_ranges.ranges_of.Given as goal
 

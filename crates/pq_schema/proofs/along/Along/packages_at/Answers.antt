@@ -11,7 +11,7 @@ pub returns : goal.returns
 returns c =
     let files = c.self.inside.files.now in
     let lead = leading c.self.inside.root.now in
-    let ranges = subst (λ (rs : List (ℕ × PackageRange)). AreRanges files lead rs) (sym c.deref.ensures.value) c.self.invariant.5 in
+    let ranges = subst (λ (rs : List (ℕ × PackageRange)). AreRanges files lead rs) (sym c.deref.ensures.value) c.self.invariant.4 in
     record {
       range = subst (λ (a : Contents). IfSome c.range_at.result (λ r. IsRange a.files (take c.args.start (leading a.root)) r)) c.self.view_is
           (packages_some files lead c.deref.result.now c.args.start c.range_at.result ranges c.range_at.ensures.range);

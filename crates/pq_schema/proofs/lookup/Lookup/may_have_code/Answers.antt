@@ -1,4 +1,4 @@
-use Rattle.std.proofs.Common.{ℕ, List, Option, None, refl, sym, ap, subst, ◌∙◌}
+use Rattle.std.proofs.Common.{ℕ, List, Option, None, sym, ap, subst, ◌∙◌}
 use Rattle.std.specs.Prelude.{Vec}
 use Rattle.std.specs.declared.alloc.Global.{Global}
 use Rattle.pq_schema.specs.declared.scope.FileDefs.{FileDefs}
