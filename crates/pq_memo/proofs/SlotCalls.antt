@@ -166,3 +166,35 @@ module _ {K V : Type 0} (order : K → K → Ordering) (exact : Exact order) (be
 
     pub rooms_added : (q : K) → HasRoom order before q → HasRoom order after q
     rooms_added q h = subst (λ (o : Option (Option (Memo K V))). IsSome o) (sym (added q)) (some_cond (is_eq (order k q)) None (lookup (is_at (order q)) before) h)
+
+-- a slot without a memo, which was added for a key that had none
+module _ {K V : Type 0} (order : K → K → Ordering) (exact : Exact order) (index after : List (K × ℕ)) (slots now new kept slice : List (K × Option (Memo K V)))
+    (is : IsNumbered order index slots) (view : slots ≡ now) (key copy shared : K) (copied : copy ≡ key) (shares : shared ≡ key)
+    (had : None ≡ place_in order index copy) (same : kept ≡ slots) (made : new ≡ kept ++ (shared, None) ∷ []) where
+  absent : lookup (is_at (order key)) now ≡ None
+  absent = none_here order exact index slots now is view key None (had ∙ ap (λ (k : K). place_in order index k) copied) refl
+
+  made_so : new ≡ kept ++ (key, None) ∷ []
+  made_so = made ∙ ap (λ (k : K). kept ++ (k, None) ∷ []) shares
+
+  added : (q : K) → lookup (is_at (order q)) new ≡ cond (is_eq (order key q)) (Some None) (lookup (is_at (order q)) now)
+  added = lookup_new order exact index slots now is view key absent None new kept same made_so
+
+  pub fresh_numbered : slice ≡ slots → ((q : K) → place_in order after q ≡ cond (is_eq (order copy q)) (Some (length slice)) (place_in order index q)) → IsNumbered order after new
+  fresh_numbered value puts = numbered_added order exact index slots now is view key absent after None new kept slice copy copied same value made_so puts
+
+  pub fresh_same : IsSameTable (memo_at order now) (memo_at order new)
+  fresh_same = same_added order exact now new key added absent
+
+  pub fresh_room : HasRoom order new key
+  fresh_room = room_added order exact now new key added key refl
+
+  pub fresh_rooms : (q : K) → HasRoom order now q → HasRoom order new q
+  fresh_rooms = rooms_added order exact now new key added
+
+-- a key whose number was found in the index
+pub known_room : {K V : Type 0} (order : K → K → Ordering) → Exact order → (index : List (K × ℕ)) (slots kept : List (K × Option (Memo K V))) → IsNumbered order index slots
+    → (key copy : K) (n : ℕ) → copy ≡ key → Some n ≡ place_in order index copy → kept ≡ slots → HasRoom order kept key
+known_room {K} {V} order exact index slots kept is key copy n copied had same =
+    subst (λ (l : List (K × Option (Memo K V))). HasRoom order l key) (sym same)
+    (has_slot order exact index slots is key n (is.found key n (sym (had ∙ ap (λ (k : K). place_in order index k) copied))))

@@ -210,7 +210,7 @@ impl<R: Rules> Memos<R> {
                 Ok(())
             }
             None => {
-                let number = self.make_room(alloc, &next, near.next, near.read)?;
+                let number = self.make_room(&next, near.next, near.read)?;
                 let stage = Stage::Walking(0);
                 let near = Near::new(number);
                 stack.push(alloc, self.rules(), Frame { key: next, stage }, near)?;
@@ -282,7 +282,7 @@ impl<R: Rules> Memos<R> {
         if self.is_up_to_date_near(key, near, inputs) {
             return Ok(carried);
         }
-        let number = self.make_room(alloc, key, near, NOWHERE)?;
+        let number = self.make_room(key, near, NOWHERE)?;
         let mut stack = Stack::new(alloc);
         let copy = self.rules().copy_key(alloc, key)?;
         let stage = Stage::Walking(0);

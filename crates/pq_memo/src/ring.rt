@@ -123,7 +123,7 @@ impl<R: Rules> Memos<R> {
                 answer.get(),
                 now,
             );
-            self.make_room(alloc, key, near, NOWHERE)?;
+            self.make_room(key, near, NOWHERE)?;
             let share = answer.copy()?;
             push(&mut prepared, (share, changed))?;
             previous = key;

@@ -18,7 +18,7 @@ ghost use Rattle.pq_memo.specs.aux.Written.{HasRoom};
 
 use crate::entry::{Entry, mark_in, number_at};
 use crate::recorded::Recorded;
-use crate::stack::{noted, put_place};
+use crate::stack::{claim_place, noted, put_place};
 use pq_inputs::Durability;
 use pq_rules::{Memory, Rules, Shared, is_same_key, push};
 use std::alloc::Global;
@@ -144,32 +144,25 @@ fn set_at<K: Drop, V: Drop>(slots: &mut Vec<Slot<K, V>>, number: usize, entry: E
     slots[number].set(entry);
 }
 
-/// Makes a place in `next` for the slot `number`, if it is the first without one. Notes that it was
-/// read after the slot `before`.
-fn make_place(next: &mut Vec<usize>, number: usize, before: usize) -> Result<(), Memory> {
+/// Makes a place in `next` for the slot `number`, if it is the first without one.
+fn make_place(next: &mut Vec<usize>, number: usize) -> Result<(), Memory> {
     if next.as_slice().len() <= number {
         push(next, NOWHERE)?;
     }
+    Ok(())
+}
+
+/// Notes in `next` that the slot `number` was read after the slot `before`.
+fn note_after(next: &mut Vec<usize>, before: usize, number: usize) {
     if before < next.as_slice().len() {
         next[before] = number;
     }
-    Ok(())
 }
 
 /// Notes in `next` that `reads` were made in this order.
 fn note_order<K>(next: &mut Vec<usize>, reads: &[Recorded<K>]) {
     for i in 1..reads.len() {
-        let before = reads[i - 1].number();
-        if before < next.as_slice().len() {
-            next[before] = reads[i].number();
-        }
-    }
-}
-
-/// Notes in `next` in which order the reads of `entry` were made, if there is one.
-fn note_order_of<K, V>(next: &mut Vec<usize>, entry: &Option<Entry<K, V>>) {
-    if let Some(entry) = entry {
-        note_order(next, entry.reads());
+        note_after(next, reads[i - 1].number(), reads[i].number());
     }
 }
 
@@ -394,17 +387,15 @@ impl<R: Rules> Slots<R> {
         self.last = number;
     }
 
-    /// Makes a slot of `key`, which has none and was read after the slot `before`, with `entry`. If
-    /// an allocation fails, both come back.
+    /// Makes a slot of `key`, which has none, with `entry`. If an allocation fails, both come back.
     fn add(
         &mut self,
         rules: &R,
         key: R::Key,
-        before: usize,
-        entry: Option<Entry<R::Key, R::Value>>,
-    ) -> Result<(), (R::Key, Option<Entry<R::Key, R::Value>>)>
+        entry: Entry<R::Key, R::Value>,
+    ) -> Result<(), (R::Key, Entry<R::Key, R::Value>)>
         requires { lookup (is_at (R.Key.cmp key)) self.old ≡ None }
-        ensures added { OnOk result ((q : R.Key) → lookup (is_at (R.Key.cmp q)) self.new ≡ (if is_eq (R.Key.cmp key q) then Some entry else lookup (is_at (R.Key.cmp q)) self.old)) }
+        ensures added { OnOk result ((q : R.Key) → lookup (is_at (R.Key.cmp q)) self.new ≡ (if is_eq (R.Key.cmp key q) then Some (Some entry) else lookup (is_at (R.Key.cmp q)) self.old)) }
         ensures refused { OnErr result (self.new ≡ self.old) }
         ensures returned { IfErr result (λ e. (e.0 ≡ key) × (e.1 ≡ entry)) }
     {
@@ -417,14 +408,15 @@ impl<R: Rules> Slots<R> {
             Err(_) => return Err((key, entry)),
         };
         let number = self.slots.as_slice().len();
-        if self.slots.reserve(1).is_err() || make_place(&mut self.next, number, before).is_err() {
+        if self.slots.reserve(1).is_err() || make_place(&mut self.next, number).is_err() {
             return Err((key, entry));
         }
         match put_place(rules, &mut self.index, copy, number) {
             Ok(()) => {}
             Err(_) => return Err((key, entry)),
         }
-        note_order_of(&mut self.next, &entry);
+        note_order(&mut self.next, entry.reads());
+        let entry = Some(entry);
         self.slots.push_reserved(Slot { key: shared, entry });
         self.last = number;
         Ok(())
@@ -447,15 +439,9 @@ impl<R: Rules> Slots<R> {
                 self.set(rules, &key, number, entry);
                 Ok(())
             }
-            None => match self.add(rules, key, NOWHERE, Some(entry)) {
+            None => match self.add(rules, key, entry) {
                 Ok(()) => Ok(()),
-                Err(back) => {
-                    let (key, entry) = back;
-                    match entry {
-                        Some(entry) => Err((key, entry)),
-                        None => unreachable!(),
-                    }
-                }
+                Err(back) => Err(back),
             },
         }
     }
@@ -479,10 +465,9 @@ impl<R: Rules> Slots<R> {
     }
 
     /// Makes a slot of `key`, if it has none, and returns its number. The key was read after the slot
-    /// `before`.
+    /// `before`. It is looked for first at `near`, and else takes one search.
     pub(crate) fn make_room(
         &mut self,
-        alloc: Global,
         rules: &R,
         key: &R::Key,
         near: usize,
@@ -492,16 +477,27 @@ impl<R: Rules> Slots<R> {
         ensures room { OnOk result (HasRoom R.Key.cmp self.new key.now) }
         ensures kept { (q : R.Key) → HasRoom R.Key.cmp self.old q → HasRoom R.Key.cmp self.new q }
     {
-        match self.find(rules, key, near) {
-            Some(number) => Ok(number),
-            None => {
-                let copy = rules.copy_key(alloc, key)?;
-                let number = self.slots.as_slice().len();
-                match self.add(rules, copy, before, None) {
-                    Ok(()) => Ok(number),
-                    Err(_) => Err(Memory),
-                }
+        if self.is_slot_of(rules, key, near) {
+            return Ok(near);
+        }
+        let copy = rules.copy_key(self.alloc, key)?;
+        let shared = share_copy(self.alloc, rules, key)?;
+        let number = self.slots.as_slice().len();
+        if self.slots.reserve(1).is_err() || make_place(&mut self.next, number).is_err() {
+            return Err(Memory);
+        }
+        match claim_place(rules, &mut self.index, copy, number) {
+            Ok(Some(known)) => Ok(known),
+            Ok(None) => {
+                note_after(&mut self.next, before, number);
+                self.slots.push_reserved(Slot {
+                    key: shared,
+                    entry: None,
+                });
+                self.last = number;
+                Ok(number)
             }
+            Err(_) => Err(Memory),
         }
     }
 }

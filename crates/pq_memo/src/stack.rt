@@ -14,6 +14,7 @@ use crate::slots::{NOWHERE, Near};
 use pq_rules::{Memory, Rules, is_same_key, push};
 use std::alloc::Global;
 use std::collections::BTreeMap;
+use std::collections::btree_map::Entry;
 use std::marker::Model;
 
 /// How many frames at the end of the stack the map may lack.
@@ -71,6 +72,28 @@ pub(crate) fn put_place<R: Rules>(
 {
     places.insert(key, place)?;
     Ok(())
+}
+
+/// Gives `key` the place `place`, if `places` has none of it. Returns the place that it had. It takes
+/// one search.
+pub(crate) fn claim_place<R: Rules>(
+    _rules: &R,
+    places: &mut BTreeMap<R::Key, usize>,
+    key: R::Key,
+    place: usize,
+) -> Result<Option<usize>, Memory>
+    ensures had { IfOk result (λ o. o ≡ place_in R.Key.cmp places.old.entries key) }
+    ensures same { IfOk result (λ o. IfSome o (λ n. (q : R.Key) → place_in R.Key.cmp places.new.entries q ≡ place_in R.Key.cmp places.old.entries q)) }
+    ensures put { IfOk result (λ o. IfNone o ((q : R.Key) → place_in R.Key.cmp places.new.entries q ≡ (if is_eq (R.Key.cmp key q) then Some place else place_in R.Key.cmp places.old.entries q))) }
+    ensures refused { OnErr result ((q : R.Key) → place_in R.Key.cmp places.new.entries q ≡ place_in R.Key.cmp places.old.entries q) }
+{
+    match places.entry(key)? {
+        Entry::Occupied(there) => Ok(Some(*there.get())),
+        Entry::Vacant(free) => {
+            free.insert(place);
+            Ok(None)
+        }
+    }
 }
 
 /// Notes that the place of `key` is `place`.

@@ -24,7 +24,6 @@ use crate::slots::{NOWHERE, file_number, input_number, share_copy};
 use crate::unpublished::Unpublished;
 use pq_inputs::{Durability, Inputs};
 use pq_rules::{Answer, Memory, Rules, Shared, push, same_answer};
-use std::alloc::Global;
 
 /// The lower of `a` and `b`.
 pub(crate) fn lower(a: Durability, b: Durability) -> Durability
@@ -270,7 +269,6 @@ impl<R: Rules> Memos<R> {
     /// `before`.
     pub(crate) fn make_room(
         &mut self,
-        alloc: Global,
         key: &R::Key,
         near: usize,
         before: usize,
@@ -280,8 +278,7 @@ impl<R: Rules> Memos<R> {
         ensures room { OnOk result (HasRoom R.Key.cmp self.new.places key.now) }
         ensures kept { (q : R.Key) → HasRoom R.Key.cmp self.old.places q → HasRoom R.Key.cmp self.new.places q }
     {
-        self.entries
-            .make_room(alloc, &self.rules, key, near, before)
+        self.entries.make_room(&self.rules, key, near, before)
     }
 
     /// Gives `key`, which has a place, the memo `entry`. It takes no memory.
