@@ -5,6 +5,7 @@ use Rattle.std.specs.declared.cmp.Ordering.{Ordering}
 use Rattle.pq_inputs.specs.Sources.{Sources, Table}
 use Rattle.pq_rules.specs.declared.turn.Turn.{Turn}
 use Rattle.pq_rules.specs.declared.turn.Turn.TheVariants.{Ask}
+use Rattle.pq_rules.specs.declared.turn.Answer.{Answer}
 use Rattle.pq_rules.specs.Turns.{Machine, IsLower}
 use Rattle.pq_rules.specs.Laws.{Laws}
 use Rattle.pq_rules.specs.Relations.{In}
@@ -26,13 +27,26 @@ use Rattle.pq_memo.specs.Frames.{IsFrame, Awaits, Came, frame_keys}
 use Rattle.pq_memo.specs.Steps.{IsWhy, HasPart, IsWalking, StaysAt}
 use Rattle.pq_memo.specs.Demand.{IsVerified, carried_keys}
 use Rattle.pq_memo.specs.aux.Frames.{WaitsAt}
-use Rattle.pq_memo.specs.aux.Demand.{Fits, Linked, Stands, Tells, IsHandedOn, Asked, Enters, Starts, GoesOn, Advances, Wrote, Popped, waiting_key, waiting_keys, rank, weight}
+use Rattle.pq_memo.specs.aux.Demand.{Fits, Linked, Stands, Tells, IsHandedOn, IsLater, Asked, Enters, Starts, GoesOn, Advances, Wrote, Popped, waiting_key, waiting_keys, rank, weight}
 use Rattle.pq_memo.proofs.Looks as looks
-use Rattle.pq_memo.proofs.Frames.{starts as first_turn}
 use Rattle.pq_memo.proofs.Wrote.{wrote_none}
 use Rattle.pq_memo.proofs.Stacked as stacked
 use Rattle.pq_memo.proofs.Stacked.{keys_append, in_keys_right, waiting_in, waiting_either, waiting_right, walking_none, waits_frame, waits_fits, waits_waiting}
 use Rattle.pq_memo.proofs.Going as going
+
+-- what is left at a question, and at one after it
+pub lower_still : (a b c : ℕ × ℕ) → IsLower a b → IsLower b c → IsLower a c
+lower_still a b c (inl l) (inl m) = inl (let x : a.0 < b.0 = l in let y : b.0 < c.0 = m in omega arith)
+lower_still a b c (inl l) (inr m) = inl (let x : a.0 < b.0 = l in let y : b.0 ≡ c.0 = m.0 in omega arith)
+lower_still a b c (inr l) (inl m) = inl (let x : a.0 ≡ b.0 = l.0 in let y : b.0 < c.0 = m in omega arith)
+lower_still a b c (inr l) (inr m) = inr (l.0 ∙ m.0, let x : a.1 < b.1 = l.1 in let y : b.1 < c.1 = m.1 in omega arith)
+
+-- a turn after a question is later
+pub later_on : {K P V : Type 0} (m : Machine K P V) (falls : (p : P) (a : Answer K V) (q : K) (r : P) → m.advance p a ≡ Ask q r → IsLower (m.left r) (m.left p))
+    → (first turn next : Turn K P V) (q : K) (p : P) (a : Answer K V) → turn ≡ Ask q p → next ≡ m.advance p a → IsLater m first turn → IsLater m first next
+later_on m falls first turn next q p a asks goes (inl same) = inr (q, p, sym same ∙ asks, λ r o e. falls p a r o (sym goes ∙ e))
+later_on m falls first turn next q p a asks goes (inr (asked, part, is, lower)) =
+    inr (asked, part, is, λ r o e. lower_still (m.left o) (m.left p) (m.left part) (falls p a r o (sym goes ∙ e)) (lower q p asks))
 
 lower_number : (a b : ℕ × ℕ) → IsLower a b → a.1 < 2 ^ 64 → a.0 * (2 ^ 64) + a.1 < b.0 * (2 ^ 64) + b.1
 lower_number a b (inl l) h = let low : a.0 < b.0 = l in omega arith
@@ -158,21 +172,26 @@ module _ {K P V : Type 0} (order : K → K → Ordering) (exact : Exact order) (
 
     -- a rule goes on
     goes_further : GoesOn order m inputs before after f stack rest → Goes before after (stack ++ f ∷ []) rest carried
-    goes_further on = elim on.taken [
-      | inl asked ↦ goes_asked (m.advance on.part on.answer) on.front on.came asked (lower asked) (waits asked)
+    goes_further on = elim on.gone.taken [
+      | inl asked ↦ goes_asked on.gone.last on.gone.front on.gone.came asked (lower asked) (waits asked)
       | inr ended ↦ goes_one ended.0 ended.1
     ]
       where
-        lower : (asked : Asked m before after f.key (m.advance on.part on.answer) on.front stack rest) → left_number (m.left asked.part) < rank m f.stage
+        falls : (q : K) (p : P) → IsLater m (m.advance on.part on.answer) on.gone.last → on.gone.last ≡ Ask q p → IsLower (m.left p) (m.left on.part)
+        falls q p (inl same) asks = laws.falls on.part on.answer q p (sym same ∙ asks)
+        falls q p (inr (asked, part, first, lower)) asks =
+            lower_still (m.left p) (m.left part) (m.left on.part) (lower q p asks) (laws.falls on.part on.answer asked part first)
+
+        lower : (asked : Asked m before after f.key on.gone.last on.gone.front stack rest) → left_number (m.left asked.part) < rank m f.stage
         lower asked =
             subst (λ (n : ℕ). left_number (m.left asked.part) < n) (sym (part_rank m f.stage on.part on.waited))
-            (lower_number (m.left asked.part) (m.left on.part) (laws.falls on.part on.answer asked.asked asked.part asked.asks) asked.fits.1)
+            (lower_number (m.left asked.part) (m.left on.part) (falls asked.asked asked.part on.gone.later asked.asks) asked.fits.1)
 
-        waits : (asked : Asked m before after f.key (m.advance on.part on.answer) on.front stack rest) → (k : K) → In k (waiting_keys (f ∷ []))
+        waits : (asked : Asked m before after f.key on.gone.last on.gone.front stack rest) → (k : K) → In k (waiting_keys (f ∷ []))
             → In k (waiting_keys (asked.frame ∷ []))
         waits asked k i =
             subst (λ (j : K). In k (waiting_key {P = P} j asked.frame.stage ++ [])) (sym asked.key_is)
-            (part_key k f.key f.stage asked.frame.stage on.part asked.part asked.asked on.front on.waited asked.waits i)
+            (part_key k f.key f.stage asked.frame.stage on.part asked.part asked.asked on.gone.front on.waited asked.waits i)
 
     -- a frame comes to wait for a key
     goes_entered : Enters order m inputs before after f stack rest → Goes before after (stack ++ f ∷ []) rest carried
@@ -220,26 +239,23 @@ module _ {K P V : Type 0} (order : K → K → Ordering) (exact : Exact order) (
     goes_started : (entry : Carried K) → Starts order m inputs before after f stack rest entry → Goes before after (stack ++ f ∷ []) rest (carried ++ entry ∷ [])
     goes_started entry starts =
         subst (λ (e : Carried K). Goes before after (stack ++ f ∷ []) rest (carried ++ e ∷ [])) (sym starts.entry_is)
-        (elim starts.taken [
-          | inl asked ↦ recorded (goes_asked (m.start f.key) [] came asked (lower asked) (λ k i. absurd (walking_none k f starts.walked i))) (inr (there asked))
+        (elim starts.gone.taken [
+          | inl asked ↦ recorded (goes_asked starts.gone.last starts.gone.front starts.gone.came asked (lower asked) (λ k i. absurd (walking_none k f starts.walked i))) (inr (there asked))
           | inr ended ↦ recorded (goes_one ended.0 ended.1) (inl (let n = ended.0.news f.key (inl refl) in (n.0, n.1, n.2)))
         ])
       where
-        came : Came order m inputs.history inputs.revision (HasIn before) f.key (m.start f.key) []
-        came = first_turn order m inputs.history inputs.revision before kept f.key starts.why starts.because
-
-        lower : (asked : Asked m before after f.key (m.start f.key) [] stack rest) → left_number (m.left asked.part) < rank m f.stage
+        lower : (asked : Asked m before after f.key starts.gone.last starts.gone.front stack rest) → left_number (m.left asked.part) < rank m f.stage
         lower asked =
             subst (λ (n : ℕ). left_number (m.left asked.part) < n) (sym (walking_rank m f.stage starts.walked))
             (small_number (m.left asked.part) asked.fits.0 asked.fits.1)
 
-        there : (asked : Asked m before after f.key (m.start f.key) [] stack rest) → In f.key (waiting_keys rest)
+        there : (asked : Asked m before after f.key starts.gone.last starts.gone.front stack rest) → In f.key (waiting_keys rest)
         there asked =
             subst (λ (l : List (Frame K P)). In f.key (waiting_keys l)) (sym asked.pushed)
             (waiting_right f.key stack (asked.frame ∷ [])
             (subst (λ (k : K). In k (waiting_key asked.frame.key asked.frame.stage ++ [])) asked.key_is
             (in_append_left asked.frame.key (waiting_key asked.frame.key asked.frame.stage) []
-            (waits_waiting asked.frame.key asked.frame.stage asked.part asked.asked [] asked.waits))))
+            (waits_waiting asked.frame.key asked.frame.stage asked.part asked.asked starts.gone.front asked.waits))))
 
         new : In f.key (carried_keys carried) → ⊥
         new i = elim (tells.begun f.key i) [

@@ -72,14 +72,14 @@ module _ {K P V : Type 0} (order : K → K → Ordering) (exact : Exact order) (
         popped_causes before after (stack ++ f ∷ []) rest stands (going.one_popped order exact m inputs reach root before after stack rest f written left) caused
 
     started_causes : (entry : Carried K) → Starts order m inputs before after f stack rest entry → Caused m inputs after rest
-    started_causes entry starts = elim starts.taken [
-      | inl asked ↦ asked_causes (m.start f.key) [] asked (starts.why, starts.because)
+    started_causes entry starts = elim starts.gone.taken [
+      | inl asked ↦ asked_causes starts.gone.last starts.gone.front asked (starts.why, starts.because)
       | inr ended ↦ written_causes ended.0 ended.1
     ]
 
     further_causes : GoesOn order m inputs before after f stack rest → Caused m inputs after rest
-    further_causes on = elim on.taken [
-      | inl asked ↦ asked_causes (m.advance on.part on.answer) on.front asked (caused f.key (waiting_right f.key stack (f ∷ []) (part_waits f.key f.stage on.part on.waited)))
+    further_causes on = elim on.gone.taken [
+      | inl asked ↦ asked_causes on.gone.last on.gone.front asked (caused f.key (waiting_right f.key stack (f ∷ []) (part_waits f.key f.stage on.part on.waited)))
       | inr ended ↦ written_causes ended.0 ended.1
     ]
 

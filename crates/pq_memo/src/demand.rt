@@ -3,7 +3,8 @@
 //! It goes depth first. Before a frame walks, the valid memos below it are marked: see `confirm`. A
 //! step takes the last frame: its key is up to date, or its rule starts or goes on, or it waits for
 //! a key. If that key is on the stack, the frames from it on are a ring, which is published.
-//! Otherwise the key's own frame is pushed. Each rule is started once at most.
+//! Otherwise the key's own frame is pushed. Each rule is started once at most. It goes on without
+//! its frame while the answers that it asks for are at hand: see `hand`.
 ghost use Rattle.std.specs.Prelude.{◌≡◌, ◌<◌, ◌++◌, ◌∷◌, [], length, HoldsAt, IfOk, OnOk, OnErr};
 ghost use Rattle.pq_rules.specs.Relations.{Each, In};
 ghost use Rattle.pq_rules.specs.aux.Evaluator.{Distinct};
@@ -12,7 +13,7 @@ ghost use Rattle.pq_memo.specs.Table.{memo_at, HasIn, IsSameTable, KeptOver};
 ghost use Rattle.pq_memo.specs.Frames.{Came, Awaits, frame_keys};
 ghost use Rattle.pq_memo.specs.Steps.{IsWhy};
 ghost use Rattle.pq_memo.specs.Demand.{IsCarried, IsVerified, carried_keys};
-ghost use Rattle.pq_memo.specs.aux.Demand.{IsLeastKey, LastAwaits, Linked, IsHandedOn, HasTaken, HasEntered, Popped, Advances};
+ghost use Rattle.pq_memo.specs.aux.Demand.{IsLeastKey, LastAwaits, Linked, IsHandedOn, HasTaken, HasGone, HasEntered, Popped, Advances};
 
 use crate::demanded::Carried;
 use crate::frame::{Frame, Stage, Step};
@@ -89,6 +90,33 @@ impl<R: Rules> Memos<R> {
         }
     }
 
+    /// Goes on with the rule of `key` from `turn`, before which it made these reads, while the
+    /// answers that it asks for are at hand. Then pushes its frame, or publishes its value.
+    fn run(
+        &mut self,
+        alloc: Global,
+        stack: &mut Stack<R>,
+        key: R::Key,
+        near: Near,
+        turn: Turn<R::Key, R::Part, R::Value>,
+        reads: Vec<R::Key>,
+        inputs: &Inputs,
+    ) -> Result<(), Memory>
+        requires kept { KeptOver R.Key.cmp (R.machine self.old.rules) inputs.now self.old.places }
+        requires came { Came R.Key.cmp (R.machine self.old.rules) inputs.now.history inputs.now.revision (HasIn (memo_at R.Key.cmp self.old.places)) key turn reads.items }
+        requires off { In key (frame_keys stack.old) → ⊥ }
+        ensures rules { self.new.rules ≡ self.old.rules }
+        ensures kept { KeptOver R.Key.cmp (R.machine self.old.rules) inputs.now self.new.places }
+        ensures gone { IfOk result (λ _. HasGone R.Key.cmp (R.machine self.old.rules) inputs.now (memo_at R.Key.cmp self.old.places) (memo_at R.Key.cmp self.new.places) key turn stack.old stack.new) }
+        ensures refused { OnErr result (IsSameTable (memo_at R.Key.cmp self.old.places) (memo_at R.Key.cmp self.new.places)) }
+    {
+        let mut near = near;
+        let mut reads = reads;
+        let last = self.read_on(alloc, &key, &mut near, turn, &mut reads, inputs)?;
+        self.take_turn(alloc, stack, key, near, last, reads, inputs)?;
+        Ok(())
+    }
+
     /// Starts the rule of `key` because of `why`, and records that in `carried`.
     fn start(
         &mut self,
@@ -105,7 +133,7 @@ impl<R: Rules> Memos<R> {
         requires off { In key (frame_keys stack.old) → ⊥ }
         ensures rules { self.new.rules ≡ self.old.rules }
         ensures kept { KeptOver R.Key.cmp (R.machine self.old.rules) inputs.now self.new.places }
-        ensures taken { IfOk result (λ _. HasTaken (R.machine self.old.rules) inputs.now.revision (memo_at R.Key.cmp self.old.places) (memo_at R.Key.cmp self.new.places) key ((R.machine self.old.rules).start key) [] stack.old stack.new) }
+        ensures gone { IfOk result (λ _. HasGone R.Key.cmp (R.machine self.old.rules) inputs.now (memo_at R.Key.cmp self.old.places) (memo_at R.Key.cmp self.new.places) key ((R.machine self.old.rules).start key) stack.old stack.new) }
         ensures carried { IfOk result (λ _. carried.new.items ≡ carried.old.items ++ record { key = key; revision = inputs.now.revision; why = why } ∷ []) }
         ensures refused { OnErr result (IsSameTable (memo_at R.Key.cmp self.old.places) (memo_at R.Key.cmp self.new.places)) }
     {
@@ -120,7 +148,7 @@ impl<R: Rules> Memos<R> {
             },
         )?;
         let turn = self.rules().start(alloc, &key)?;
-        self.take_turn(alloc, stack, key, near, turn, Vec::new(alloc), inputs)?;
+        self.run(alloc, stack, key, near, turn, Vec::new(alloc), inputs)?;
         Ok(())
     }
 
@@ -141,12 +169,12 @@ impl<R: Rules> Memos<R> {
         requires off { In key (frame_keys stack.old) → ⊥ }
         ensures rules { self.new.rules ≡ self.old.rules }
         ensures kept { KeptOver R.Key.cmp (R.machine self.old.rules) inputs.now self.new.places }
-        ensures taken { IfOk result (λ _. HasTaken (R.machine self.old.rules) inputs.now.revision (memo_at R.Key.cmp self.old.places) (memo_at R.Key.cmp self.new.places) key ((R.machine self.old.rules).advance part answer.now) reads.items stack.old stack.new) }
+        ensures gone { IfOk result (λ _. HasGone R.Key.cmp (R.machine self.old.rules) inputs.now (memo_at R.Key.cmp self.old.places) (memo_at R.Key.cmp self.new.places) key ((R.machine self.old.rules).advance part answer.now) stack.old stack.new) }
         ensures refused { OnErr result (IsSameTable (memo_at R.Key.cmp self.old.places) (memo_at R.Key.cmp self.new.places)) }
     {
         match self.rules().advance(alloc, part, answer) {
             Ok(turn) => {
-                self.take_turn(alloc, stack, key, near, turn, reads, inputs)?;
+                self.run(alloc, stack, key, near, turn, reads, inputs)?;
                 Ok(())
             }
             Err(_) => Err(Memory),

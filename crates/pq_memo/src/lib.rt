@@ -20,7 +20,7 @@
 //! and publishing), `ring` and `placed` (publishing a ring), `compared` (old answers and a ring),
 //! `member` and `unpublished` (what goes in, and what comes back), `frame` and `restored` (a step),
 //! `round` (frames in a round), `engine` and `demanded` (what a demand answers), `demand` (bringing
-//! a key up to date), `confirm` and `trail` (marking valid memos without frames), `stack` (its
+//! a key up to date), `hand` (reads of a rule without a frame), `confirm` and `trail` (marking valid memos without frames), `stack` (its
 //! frames), `turned` and `usable` (for callers that keep frames), `laws`.
 #![tactic(auto)]
 
@@ -31,6 +31,7 @@ mod demanded;
 mod engine;
 mod entry;
 mod frame;
+mod hand;
 mod laws;
 mod look;
 mod member;

@@ -221,7 +221,7 @@ impl<R: Rules> Slots<R> {
     }
 
     /// Whether the slot `number` has `key`.
-    fn is_slot_of(&self, rules: &R, key: &R::Key, number: usize) -> bool
+    pub(crate) fn is_slot_of(&self, rules: &R, key: &R::Key, number: usize) -> bool
         ensures { IsTrue result → key_at self.now number ≡ Some key.now }
     {
         let slots = self.slots.as_slice();

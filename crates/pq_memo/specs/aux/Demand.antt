@@ -11,7 +11,7 @@ use Rattle.pq_inputs.specs.Sources.{Table}
 use Rattle.pq_rules.specs.declared.turn.Turn.{Turn}
 use Rattle.pq_rules.specs.declared.turn.Turn.TheVariants.{Ask}
 use Rattle.pq_rules.specs.declared.turn.Answer.{Answer}
-use Rattle.pq_rules.specs.Turns.{Machine}
+use Rattle.pq_rules.specs.Turns.{Machine, IsLower}
 use Rattle.pq_rules.specs.Relations.{Each, In}
 use Rattle.pq_rules.specs.aux.Evaluator.{Distinct, has, left_number}
 use Rattle.pq_memo.specs.declared.frame.Frame.{Frame}
@@ -162,6 +162,23 @@ abbrev pub HasTaken : {K P V : Type 0} → Machine K P V → ℕ → (K → Opti
 HasTaken m now before after key turn front stack rest =
     Asked m before after key turn front stack rest ⊎ (Wrote now before after (key ∷ []) × (rest ≡ stack))
 
+-- `IsLater m first last` is that `last` is the turn `first`, or that `first` is a question and less
+-- is left at each question that `last` is
+abbrev pub IsLater : {K P V : Type 0} → Machine K P V → Turn K P V → Turn K P V → Type 0
+IsLater {K} {P} {V} m first last =
+    (last ≡ first)
+    ⊎ ((asked : K) × (part : P) × (first ≡ Ask asked part) × ((q : K) (p : P) → last ≡ Ask q p → IsLower (m.left p) (m.left part)))
+
+-- `HasGone order m inputs before after key turn stack rest` is that the rule of `key` went on from
+-- `turn` by right reads to a later turn, which was taken
+pub record HasGone {K P V : Type 0} (order : K → K → Ordering) (m : Machine K P V) (inputs : Table) (before after : K → Option (Memo K V))
+    (key : K) (turn : Turn K P V) (stack rest : List (Frame K P)) : Type 0 where
+  pub last : Turn K P V
+  pub front : List K
+  pub later : IsLater m turn last
+  pub came : Came order m inputs.history inputs.revision (HasIn before) key last front
+  pub taken : HasTaken m inputs.revision before after key last front stack rest
+
 -- `walks k` is the frame of `k` that walks from its memo's first read on
 abbrev pub walks : {K P : Type 0} → K → Frame K P
 walks k = record { key = k; stage = Walking 0 }
@@ -207,17 +224,15 @@ pub record Starts {K P V : Type 0} (order : K → K → Ordering) (m : Machine K
   pub walked : IsWalking f.stage
   pub because : IsWhy m inputs.history inputs.revision (HasIn before) f.key why
   pub entry_is : entry ≡ record { key = f.key; revision = inputs.revision; why = why }
-  pub taken : HasTaken m inputs.revision before after f.key (m.start f.key) [] stack rest
+  pub gone : HasGone order m inputs before after f.key (m.start f.key) stack rest
 
 -- `GoesOn order m inputs before after f stack rest` is that the rule of the frame `f` went on
 pub record GoesOn {K P V : Type 0} (order : K → K → Ordering) (m : Machine K P V) (inputs : Table) (before after : K → Option (Memo K V))
     (f : Frame K P) (stack rest : List (Frame K P)) : Type 0 where
   pub part : P
   pub answer : Answer K V
-  pub front : List K
   pub waited : HasPart f.stage part
-  pub came : Came order m inputs.history inputs.revision (HasIn before) f.key (m.advance part answer) front
-  pub taken : HasTaken m inputs.revision before after f.key (m.advance part answer) front stack rest
+  pub gone : HasGone order m inputs before after f.key (m.advance part answer) stack rest
 
 -- `Advances order m inputs before after f stack carried rest entries` is that a step of the frame
 -- `f`, the last above `stack`, led to `rest` and to the list `entries` of the rules started

@@ -14,8 +14,7 @@ use Rattle.pq_memo.specs.declared.frame.Found.{Found}
 use Rattle.pq_memo.specs.declared.frame.Found.TheVariants.{Verified, Valid, Behind, Outdated, Cyclic}
 use Rattle.pq_memo.specs.Sound.{Memo}
 use Rattle.pq_memo.specs.Look.{IsUpToDate, IsGreen, IsByReads, HasChangedRead, IsLapsedRing}
-use Rattle.pq_memo.specs.Table.{HasIn}
-use Rattle.pq_memo.specs.Frames.{Sits, Awaits, front_of}
+use Rattle.pq_memo.specs.Frames.{Sits, front_of}
 use Rattle.pq_memo.specs.aux.Tests.{IsReachedAt}
 
 -- `RingSits order m history now Has first es` is that each key of `es`, each with what it read,
@@ -60,6 +59,16 @@ abbrev pub IsReadAnswer : {K P V : Type 0} → (K → K → Ordering) → Machin
 IsReadAnswer {K} {P} {V} order m files now Has q answer =
     ((m.level q ≡ 0) × Means (over order m files) q answer)
     ⊎ ((memo : Memo K V) × Has q memo × (memo.verified ≡ now) × (memo.answer ≡ answer))
+
+-- `IsAtHand now Has q answer` is that the memo of `q` was verified now, and that its answer is
+-- `answer`, a value
+pub record IsAtHand {K V : Type 0} (now : ℕ) (Has : K → Memo K V → Type 0) (q : K) (answer : Answer K V) : Type 0 where
+  pub memo : Memo K V
+  pub has : Has q memo
+  pub verified : memo.verified ≡ now
+  pub answer_is : memo.answer ≡ answer
+  pub value : V
+  pub value_is : answer ≡ Value value
 
 -- `Passes test m k q answer` is that `test` is whether `k` has `answer`, that of its read `q`, as
 -- its own answer: a cycle of its level

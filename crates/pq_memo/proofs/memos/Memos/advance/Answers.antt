@@ -5,7 +5,7 @@ use Rattle.pq_rules.proofs.Weight.{Exact}
 use Rattle.pq_memo.specs.Sound.{Memo}
 use Rattle.pq_memo.specs.Table.{memo_at, HasIn}
 use Rattle.pq_memo.specs.Frames.{Came, Awaits, frame_keys}
-use Rattle.pq_memo.specs.aux.Demand.{Linked, HasTaken, HasEntered}
+use Rattle.pq_memo.specs.aux.Demand.{Linked, HasGone, HasEntered}
 use Rattle.pq_memo.proofs.Wrote.{wrote_finished}
 use Rattle.pq_memo.proofs.Stacked.{linked_last}
 use Rattle.pq_memo.proofs.RoundTurned.{last_apart}
@@ -108,15 +108,15 @@ returns-in-Ok-Starts-clause-advanced g c =
         walked = s.2;
         because = s.3;
         entry_is = ap (λ (k : g.row.R-Key.Denot). record { key = k; revision = c.args.inputs.now.revision; why = c.in-Ok-Starts.why }) s.1;
-        taken = subst (λ (k : g.row.R-Key.Denot).
-            HasTaken (g.R.Rules.machine c.args.self.now.rules) c.args.inputs.now.revision (memo_at g.R.Key.Ord.cmp c.args.self.now.places) (memo_at g.R.Key.Ord.cmp c.start.new.self.places)
-            k ((g.R.Rules.machine c.args.self.now.rules).start k) [] c.args.stack.now c.start.new.stack) s.1
+        gone = subst (λ (k : g.row.R-Key.Denot).
+            HasGone g.R.Key.Ord.cmp (g.R.Rules.machine c.args.self.now.rules) c.args.inputs.now (memo_at g.R.Key.Ord.cmp c.args.self.now.places) (memo_at g.R.Key.Ord.cmp c.start.new.self.places)
+            k ((g.R.Rules.machine c.args.self.now.rules).start k) c.args.stack.now c.start.new.stack) s.1
             (moved_to (λ (r : g.row.R.Denot) (t : g.row.R-Key.Denot → Option (Memo g.row.R-Key.Denot g.row.R-Value.Denot)).
-            HasTaken (g.R.Rules.machine r) c.args.inputs.now.revision t (memo_at g.R.Key.Ord.cmp c.start.new.self.places)
-            c.in-Ok-Starts.key ((g.R.Rules.machine r).start c.in-Ok-Starts.key) [] c.args.stack.now c.start.new.stack)
+            HasGone g.R.Key.Ord.cmp (g.R.Rules.machine r) c.args.inputs.now t (memo_at g.R.Key.Ord.cmp c.start.new.self.places)
+            c.in-Ok-Starts.key ((g.R.Rules.machine r).start c.in-Ok-Starts.key) c.args.stack.now c.start.new.stack)
             c.step_near.new.self.rules c.args.self.now.rules (memo_at g.R.Key.Ord.cmp c.step_near.new.self.places) (memo_at g.R.Key.Ord.cmp c.args.self.now.places)
             (sym c.step_near.ensures.rules) (sym (one_table (memo_at g.R.Key.Ord.cmp c.args.self.now.places) (memo_at g.R.Key.Ord.cmp c.step_near.new.self.places) s.0))
-            c.in_ok-start-in-Ok-Starts.ensures.taken);
+            c.in_ok-start-in-Ok-Starts.ensures.gone);
       },
       c.in_ok-start-in-Ok-Starts.ensures.carried,
     )
@@ -129,18 +129,16 @@ returns-in-Ok-GoesOn-clause-advanced g c =
       inr (inr (record {
         part = c.in-Ok-GoesOn.part;
         answer = c.in-Ok-GoesOn.answer;
-        front = c.in-Ok-GoesOn.reads.items;
         waited = s.2;
-        came = s.3;
-        taken = moved_to (λ (k : g.row.R-Key.Denot) (a : Answer g.row.R-Key.Denot g.row.R-Value.Denot).
-            HasTaken (g.R.Rules.machine c.args.self.now.rules) c.args.inputs.now.revision (memo_at g.R.Key.Ord.cmp c.args.self.now.places) (memo_at g.R.Key.Ord.cmp c.resume.new.self.places)
-            k ((g.R.Rules.machine c.args.self.now.rules).advance c.in-Ok-GoesOn.part a) c.in-Ok-GoesOn.reads.items c.args.stack.now c.resume.new.stack)
+        gone = moved_to (λ (k : g.row.R-Key.Denot) (a : Answer g.row.R-Key.Denot g.row.R-Value.Denot).
+            HasGone g.R.Key.Ord.cmp (g.R.Rules.machine c.args.self.now.rules) c.args.inputs.now (memo_at g.R.Key.Ord.cmp c.args.self.now.places) (memo_at g.R.Key.Ord.cmp c.resume.new.self.places)
+            k ((g.R.Rules.machine c.args.self.now.rules).advance c.in-Ok-GoesOn.part a) c.args.stack.now c.resume.new.stack)
             c.in-Ok-GoesOn.key c.args.frame.key c.get.result.now c.in-Ok-GoesOn.answer (sym s.1) (sym c.get.ensures.value)
             (moved_to (λ (r : g.row.R.Denot) (t : g.row.R-Key.Denot → Option (Memo g.row.R-Key.Denot g.row.R-Value.Denot)).
-            HasTaken (g.R.Rules.machine r) c.args.inputs.now.revision t (memo_at g.R.Key.Ord.cmp c.resume.new.self.places)
-            c.in-Ok-GoesOn.key ((g.R.Rules.machine r).advance c.in-Ok-GoesOn.part c.get.result.now) c.in-Ok-GoesOn.reads.items c.args.stack.now c.resume.new.stack)
+            HasGone g.R.Key.Ord.cmp (g.R.Rules.machine r) c.args.inputs.now t (memo_at g.R.Key.Ord.cmp c.resume.new.self.places)
+            c.in-Ok-GoesOn.key ((g.R.Rules.machine r).advance c.in-Ok-GoesOn.part c.get.result.now) c.args.stack.now c.resume.new.stack)
             c.step_near.new.self.rules c.args.self.now.rules (memo_at g.R.Key.Ord.cmp c.step_near.new.self.places) (memo_at g.R.Key.Ord.cmp c.args.self.now.places)
             (sym c.step_near.ensures.rules) (sym (one_table (memo_at g.R.Key.Ord.cmp c.args.self.now.places) (memo_at g.R.Key.Ord.cmp c.step_near.new.self.places) s.0))
-            c.in_ok-resume-in-Ok-GoesOn.ensures.taken);
+            c.in_ok-resume-in-Ok-GoesOn.ensures.gone);
       })),
     )
