@@ -1,44 +1,82 @@
-//! Recorded reads, as the table keeps them.
-ghost use Rattle.std.specs.Prelude.{◌≡◌};
+//! Keys as the table keeps them: slots and recorded reads share them.
+ghost use Rattle.std.specs.Prelude.{◌≡◌, IfOk};
 
-use pq_rules::Shared;
+use pq_rules::{Memory, Shared};
+use std::alloc::Global;
 use std::marker::Model;
 
-/// A recorded read of a memo. Contracts see its key.
+/// A key, and where to look first for it among the slots of the table. Contracts see the key. It
+/// need not be there: no contract speaks of the number.
+#[derive(Drop)]
+struct Numbered<K> {
+    key: K,
+    number: usize,
+}
+
+impl<K> Model for Numbered<K> {
+    ghost Value = { K };
+
+    ghost view = { λ n. n.key };
+}
+
+impl<K> Numbered<K> {
+    /// The key.
+    fn key(&self) -> &K
+        ensures { result.now ≡ self.now }
+    {
+        &self.key
+    }
+
+    /// Where to look first for the key.
+    fn number(&self) -> usize {
+        self.number
+    }
+}
+
+/// A recorded read of a memo, or the key of a slot. Contracts see the key.
 ///
-/// The key is shared with its slot and with the other memos that read it, so a read takes 16 bytes,
-/// however long its key is.
+/// The key and its number are shared by the slot of the key and by the memos that read it. So a read
+/// takes 8 bytes, however long its key is.
 #[derive(Drop)]
 pub(crate) struct Recorded<K> {
-    key: Shared<K>,
-    // Where to look first for the key among the slots of the table. It need not be there: no
-    // contract speaks of it.
-    number: usize,
+    shared: Shared<Numbered<K>>,
 }
 
 impl<K> Model for Recorded<K> {
     ghost Value = { K };
 
-    ghost view = { λ r. r.key };
+    ghost view = { λ r. r.shared };
 }
 
 impl<K> Recorded<K> {
-    /// The read of `key`, which is looked for first at `number`.
-    pub(crate) fn new(key: Shared<K>, number: usize) -> Self
-        ensures { result ≡ key }
-    {
-        Recorded { key, number }
-    }
-
     /// The key.
     pub(crate) fn key(&self) -> &K
         ensures { result.now ≡ self.now }
     {
-        self.key.get()
+        self.shared.get().key()
     }
 
     /// Where to look first for the key.
     pub(crate) fn number(&self) -> usize {
-        self.number
+        self.shared.get().number()
+    }
+}
+
+impl<K: Drop> Recorded<K> {
+    /// `key`, which is looked for first at `number`. If the allocation fails, `key` is dropped.
+    pub(crate) fn new(alloc: Global, key: K, number: usize) -> Result<Self, Memory>
+        ensures { IfOk result (λ r. r ≡ key) }
+    {
+        let shared = Shared::new(alloc, Numbered { key, number })?;
+        Ok(Recorded { shared })
+    }
+
+    /// The same key once more. It takes no memory: `Memory` says that the count of copies is used
+    /// up.
+    pub(crate) fn copy(&self) -> Result<Self, Memory>
+        ensures { IfOk result (λ r. r ≡ self.now) }
+    {
+        let shared = self.shared.copy()?;
+        Ok(Recorded { shared })
     }
 }

@@ -20,7 +20,7 @@ use crate::entry::{Entry, mark_in, number_at};
 use crate::recorded::Recorded;
 use crate::stack::{claim_place, noted, put_place};
 use pq_inputs::Durability;
-use pq_rules::{Memory, Rules, Shared, is_same_key, push};
+use pq_rules::{Memory, Rules, is_same_key, push};
 use std::alloc::Global;
 use std::collections::BTreeMap;
 use std::marker::Model;
@@ -76,7 +76,7 @@ impl Near {
 /// A key, which recorded reads share, and what the table keeps of it. Contracts see the pair.
 #[derive(Drop)]
 pub(crate) struct Slot<K, V> {
-    key: Shared<K>,
+    key: Recorded<K>,
     entry: Option<Entry<K, V>>,
 }
 
@@ -94,7 +94,7 @@ impl<K, V> Slot<K, V> {
     fn key(&self) -> &K
         ensures { result.now ≡ self.now.0 }
     {
-        self.key.get()
+        self.key.key()
     }
 
     /// The entry, if the key has a memo.
@@ -114,7 +114,7 @@ impl<K, V> Slot<K, V> {
 
 impl<K: Drop, V: Drop> Slot<K, V> {
     /// The key once more.
-    fn share(&self) -> Result<Shared<K>, Memory>
+    fn share(&self) -> Result<Recorded<K>, Memory>
         ensures { IfOk result (λ k. k ≡ self.now.0) }
     {
         self.key.copy()
@@ -166,15 +166,16 @@ fn note_order<K>(next: &mut Vec<usize>, reads: &[Recorded<K>]) {
     }
 }
 
-/// A copy of `key`, to be shared.
+/// A copy of `key`, to be shared. It is looked for first at `number`.
 pub(crate) fn share_copy<R: Rules>(
     alloc: Global,
     rules: &R,
     key: &R::Key,
-) -> Result<Shared<R::Key>, Memory>
+    number: usize,
+) -> Result<Recorded<R::Key>, Memory>
     ensures { IfOk result (λ k. k ≡ key.now) }
 {
-    Shared::new(alloc, rules.copy_key(alloc, key)?)
+    Recorded::new(alloc, rules.copy_key(alloc, key)?, number)
 }
 
 /// Slots with distinct keys. Contracts see their list, in the order of their numbers.
@@ -274,7 +275,7 @@ impl<R: Rules> Slots<R> {
         _rules: &R,
         _key: &R::Key,
         number: usize,
-    ) -> Result<Shared<R::Key>, Memory>
+    ) -> Result<Recorded<R::Key>, Memory>
         requires { key_at self.now number ≡ Some _key.now }
         ensures { IfOk result (λ k. k ≡ _key.now) }
     {
@@ -399,15 +400,15 @@ impl<R: Rules> Slots<R> {
         ensures refused { OnErr result (self.new ≡ self.old) }
         ensures returned { IfErr result (λ e. (e.0 ≡ key) × (e.1 ≡ entry)) }
     {
+        let number = self.slots.as_slice().len();
         let copy = match rules.copy_key(self.alloc, &key) {
             Ok(copy) => copy,
             Err(_) => return Err((key, entry)),
         };
-        let shared = match share_copy(self.alloc, rules, &key) {
+        let shared = match share_copy(self.alloc, rules, &key, number) {
             Ok(shared) => shared,
             Err(_) => return Err((key, entry)),
         };
-        let number = self.slots.as_slice().len();
         if self.slots.reserve(1).is_err() || make_place(&mut self.next, number).is_err() {
             return Err((key, entry));
         }
@@ -480,9 +481,9 @@ impl<R: Rules> Slots<R> {
         if self.is_slot_of(rules, key, near) {
             return Ok(near);
         }
-        let copy = rules.copy_key(self.alloc, key)?;
-        let shared = share_copy(self.alloc, rules, key)?;
         let number = self.slots.as_slice().len();
+        let copy = rules.copy_key(self.alloc, key)?;
+        let shared = share_copy(self.alloc, rules, key, number)?;
         if self.slots.reserve(1).is_err() || make_place(&mut self.next, number).is_err() {
             return Err(Memory);
         }

@@ -180,8 +180,8 @@ impl<R: Rules> Memos<R> {
     fn recorded_alone(&self, key: &R::Key, number: usize) -> Result<Recorded<R::Key>, Memory>
         ensures { IfOk result (λ r. r ≡ key.now) }
     {
-        let shared = share_copy(self.entries.alloc(), &self.rules, key)?;
-        Ok(Recorded::new(shared, number))
+        let read = share_copy(self.entries.alloc(), &self.rules, key, number)?;
+        Ok(read)
     }
 
     /// The recorded read of `key`, which is looked for first at `near`. It shares the key with its
@@ -201,8 +201,8 @@ impl<R: Rules> Memos<R> {
             },
             None => match self.entries.find(&self.rules, key, near) {
                 Some(number) => {
-                    let shared = self.entries.share_key(&self.rules, key, number)?;
-                    Ok(Recorded::new(shared, number))
+                    let read = self.entries.share_key(&self.rules, key, number)?;
+                    Ok(read)
                 }
                 None => self.recorded_alone(key, NOWHERE),
             },
