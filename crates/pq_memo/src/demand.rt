@@ -286,13 +286,14 @@ impl<R: Rules> Memos<R> {
         }
     }
 
-    /// Brings `key` up to date. Returns the rules that were started, in order. If an allocation
-    /// fails, the memos published so far stay.
+    /// Brings `key` up to date. The key is looked for first at `near`, which becomes its number if it
+    /// has a rule. Returns the rules that were started, in order. If an allocation fails, the memos
+    /// published so far stay.
     pub(crate) fn bring_up_to_date(
         &mut self,
         alloc: Global,
         key: &R::Key,
-        near: usize,
+        near: &mut usize,
         inputs: &Inputs,
     ) -> Result<Vec<Carried<R::Key>>, Memory>
         requires { KeptOver R.Key.cmp (R.machine self.old.rules) inputs.now self.old.places }
@@ -310,7 +311,8 @@ impl<R: Rules> Memos<R> {
         if self.is_up_to_date_near(key, near, inputs) {
             return Ok(carried);
         }
-        let number = self.make_room(key, near, NOWHERE)?;
+        let number = self.make_room(key, *near, NOWHERE)?;
+        *near = number;
         let mut stack = Stack::new(alloc);
         let copy = self.rules().copy_key(alloc, key)?;
         let stage = Stage::Walking(0);

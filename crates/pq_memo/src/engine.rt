@@ -117,8 +117,10 @@ impl<R: Rules> Engine<R> {
         ensures verified { (k : R.Key) → IsSameOrVerified self.old.inputs.revision (memo_at R.Key.cmp self.old.places) (memo_at R.Key.cmp self.new.places) k }
     {
         let _latest = self.inputs.now();
-        let mut near = self.memos.number(key, NOWHERE, &self.inputs);
-        let carried = self.memos.bring_up_to_date(alloc, key, near, &self.inputs)?;
+        let mut near = NOWHERE;
+        let carried = self
+            .memos
+            .bring_up_to_date(alloc, key, &mut near, &self.inputs)?;
         match self.memos.read_answer(alloc, key, &self.inputs, &mut near)? {
             Some(answer) => Ok(Demanded { answer, carried }),
             None => unreachable!(),

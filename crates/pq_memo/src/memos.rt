@@ -117,18 +117,19 @@ impl<R: Rules> Memos<R> {
         }
     }
 
-    /// The revision at which `key` last changed, if it is up to date.
-    fn fresh_change(&self, key: &R::Key, near: usize, inputs: &Inputs) -> Option<u64>
+    /// The revision at which `key` last changed, if it is up to date. It is looked for first at
+    /// `near`, which becomes its number if it has a rule.
+    fn fresh_change(&self, key: &R::Key, near: &mut usize, inputs: &Inputs) -> Option<u64>
         ensures fresh { IfSome result (λ c. IsUpToDate (R.machine self.now.rules) inputs.now.revision (HasIn (memo_at R.Key.cmp self.now.places)) key.now) }
         ensures changed { IfSome result (λ c. HasChanged (R.machine self.now.rules) inputs.now.history (HasIn (memo_at R.Key.cmp self.now.places)) key.now c) }
         ensures stale { IfNone result (IsUpToDate (R.machine self.now.rules) inputs.now.revision (HasIn (memo_at R.Key.cmp self.now.places)) key.now → ⊥) }
     {
         match self.rules.file(key) {
             Some(name) => {
-                let change = inputs.change_of(name, file_number(near));
+                let change = inputs.change_of(name, file_number(*near));
                 Some(change.revision.number())
             }
-            None => match self.entry(key, near) {
+            None => match self.entry_noting(key, near) {
                 Some(entry) => {
                     if entry.verified() == inputs.now().number() {
                         return Some(entry.changed());
@@ -140,8 +141,9 @@ impl<R: Rules> Memos<R> {
         }
     }
 
-    /// Whether `key` is an input, or its memo was verified now.
-    pub(crate) fn is_up_to_date_near(&self, key: &R::Key, near: usize, inputs: &Inputs) -> bool
+    /// Whether `key` is an input, or its memo was verified now. It is looked for first at `near`,
+    /// which becomes its number if it has a rule.
+    pub(crate) fn is_up_to_date_near(&self, key: &R::Key, near: &mut usize, inputs: &Inputs) -> bool
         ensures { IsTrue result ↔ IsUpToDate (R.machine self.now.rules) inputs.now.revision (HasIn (memo_at R.Key.cmp self.now.places)) key.now }
     {
         self.fresh_change(key, near, inputs).is_some()
@@ -156,7 +158,8 @@ impl<R: Rules> Memos<R> {
     {
         for i in from..reads.len() {
             let read = &reads[i];
-            match self.fresh_change(read.key(), read.number(), inputs) {
+            let mut near = read.number();
+            match self.fresh_change(read.key(), &mut near, inputs) {
                 Some(changed) => {
                     if changed > since {
                         return Passed::Newer(i);

@@ -16,7 +16,8 @@ impl<R: Rules> Memos<R> {
     pub fn is_up_to_date(&self, key: &R::Key, inputs: &Inputs) -> bool
         ensures { IsTrue result ↔ IsUpToDate (R.machine self.now.rules) inputs.now.revision (HasIn (memo_at R.Key.cmp self.now.places)) key.now }
     {
-        self.is_up_to_date_near(key, NOWHERE, inputs)
+        let mut near = NOWHERE;
+        self.is_up_to_date_near(key, &mut near, inputs)
     }
 
     /// The answer of `key` at the sources now, if the key is up to date. For a key with a rule it
