@@ -81,7 +81,7 @@ impl<R: Rules> Memos<R> {
             }
             Turn::Done(value) => {
                 let answer = Shared::new(alloc, Answer::Value(value))?;
-                match self.publish_near(key, near.own, answer, reads, inputs) {
+                match self.publish_near(key, near, answer, reads, inputs) {
                     Ok(()) => return Ok(()),
                     Err(_) => {}
                 }
@@ -152,7 +152,8 @@ impl<R: Rules> Memos<R> {
         Ok(())
     }
 
-    /// Goes on with the rule of `key` from `part`, with `answer`. It has made these reads.
+    /// Goes on with the rule of `key` from `part`, with `answer`, which was found at `near.next`. It has
+    /// made these reads.
     fn resume(
         &mut self,
         alloc: Global,
@@ -172,6 +173,8 @@ impl<R: Rules> Memos<R> {
         ensures gone { IfOk result (λ _. HasGone R.Key.cmp (R.machine self.old.rules) inputs.now (memo_at R.Key.cmp self.old.places) (memo_at R.Key.cmp self.new.places) key ((R.machine self.old.rules).advance part answer.now) stack.old stack.new) }
         ensures refused { OnErr result (IsSameTable (memo_at R.Key.cmp self.old.places) (memo_at R.Key.cmp self.new.places)) }
     {
+        self.note_read(near.read, near.next);
+        let near = near.after_read(near.next);
         match self.rules().advance(alloc, part, answer) {
             Ok(turn) => {
                 self.run(alloc, stack, key, near, turn, reads, inputs)?;
@@ -278,7 +281,6 @@ impl<R: Rules> Memos<R> {
                 Ok(())
             }
             Ok(Step::GoesOn(key, part, answer, reads)) => {
-                let near = near.after_read();
                 self.resume(alloc, stack, key, near, part, answer.get(), reads, inputs)?;
                 Ok(())
             }

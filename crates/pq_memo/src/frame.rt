@@ -183,7 +183,7 @@ impl<R: Rules> Memos<R> {
     fn pass_on(
         &mut self,
         key: R::Key,
-        own: usize,
+        near: Near,
         part: R::Part,
         asked: R::Key,
         reads: Vec<R::Key>,
@@ -202,7 +202,7 @@ impl<R: Rules> Memos<R> {
         let _latest = inputs.now();
         let mut reads = reads;
         match reads.push(asked) {
-            Ok(()) => match self.publish_near(key, own, answer, reads, inputs) {
+            Ok(()) => match self.publish_near(key, near, answer, reads, inputs) {
                 Ok(()) => Ok(Step::Finished),
                 Err(back) => Err(restored(back, part)),
             },
@@ -217,7 +217,7 @@ impl<R: Rules> Memos<R> {
     fn go_on(
         &mut self,
         key: R::Key,
-        own: usize,
+        near: Near,
         part: R::Part,
         asked: R::Key,
         reads: Vec<R::Key>,
@@ -235,7 +235,7 @@ impl<R: Rules> Memos<R> {
     {
         let _latest = inputs.now();
         if self.passes(&key, &asked, answer.get()) {
-            return self.pass_on(key, own, part, asked, reads, answer, inputs);
+            return self.pass_on(key, near, part, asked, reads, answer, inputs);
         }
         let mut reads = reads;
         match reads.push(asked) {
@@ -268,7 +268,7 @@ impl<R: Rules> Memos<R> {
     {
         near.next = self.read_number(near.own, reads.len(), near.read);
         match self.read_answer(alloc, &asked, inputs, &mut near.next) {
-            Ok(Some(answer)) => self.go_on(key, near.own, part, asked, reads, answer, inputs),
+            Ok(Some(answer)) => self.go_on(key, *near, part, asked, reads, answer, inputs),
             Ok(None) => match self.rules().copy_key(alloc, &asked) {
                 Ok(next) => {
                     let stage = Stage::Waiting(part, asked, reads);

@@ -71,7 +71,7 @@ impl<R: Rules> Memos<R> {
                     match self.at_hand(&asked, number, inputs) {
                         Some(answer) => {
                             push(reads, asked)?;
-                            near.read = number;
+                            *near = near.after_read(number);
                             match self.rules.advance(alloc, part, answer) {
                                 Ok(next) => turn = next,
                                 Err(_) => return Err(Memory),

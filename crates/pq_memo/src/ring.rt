@@ -23,7 +23,7 @@ use crate::member::Member;
 use crate::memos::Memos;
 use crate::placed::Placed;
 use crate::recorded::Recorded;
-use crate::slots::NOWHERE;
+use crate::slots::{NOWHERE, Near};
 use crate::unpublished::UnpublishedRing;
 use crate::writes::lower;
 use pq_inputs::{Durability, Inputs};
@@ -85,7 +85,7 @@ impl<R: Rules> Memos<R> {
         for i in 0..members.len() {
             let key = self.rules().copy_key(alloc, members[i].key())?;
             let number = self.number(&key, number_at(numbers, i), inputs);
-            let reads = self.recorded_reads(number, members[i].reads(), inputs)?;
+            let reads = self.recorded_reads(Near::new(number), members[i].reads(), inputs)?;
             push(&mut placed, Placed::new(key, number, reads))?;
         }
         Ok(placed)

@@ -45,11 +45,12 @@ pub(crate) fn file_number(number: usize) -> usize {
 }
 
 /// Where to look first for the key of a frame, and for the key that it waits for, and where its rule
-/// found its last read. No contract speaks of it.
+/// found its first read and its last. No contract speaks of it.
 #[derive(Clone, Copy)]
 pub(crate) struct Near {
     pub(crate) own: usize,
     pub(crate) next: usize,
+    pub(crate) first: usize,
     pub(crate) read: usize,
 }
 
@@ -59,16 +60,23 @@ impl Near {
         Near {
             own,
             next: NOWHERE,
+            first: NOWHERE,
             read: NOWHERE,
         }
     }
 
-    /// The same frame, when its rule has read the key that it waited for.
-    pub(crate) fn after_read(self) -> Self {
+    /// The same frame, when its rule has read the key in the slot `number`.
+    pub(crate) fn after_read(self, number: usize) -> Self {
+        let first = if self.first == NOWHERE {
+            number
+        } else {
+            self.first
+        };
         Near {
             own: self.own,
             next: NOWHERE,
-            read: self.next,
+            first,
+            read: number,
         }
     }
 }
@@ -251,6 +259,15 @@ impl<R: Rules> Slots<R> {
     /// The slot that was read after the slot `number` last, or `NOWHERE`.
     pub(crate) fn after(&self, number: usize) -> usize {
         number_at(&self.next, number)
+    }
+
+    /// Notes that the slot `number` was read after the slot `before`.
+    pub(crate) fn note_read(&mut self, before: usize, number: usize)
+        ensures { self.new ≡ self.old }
+    {
+        if number != NOWHERE {
+            note_after(&mut self.next, before, number);
+        }
     }
 
     /// How many slots there are.

@@ -20,7 +20,7 @@ ghost use Rattle.pq_memo.specs.aux.Written.{HasRoom};
 use crate::entry::Entry;
 use crate::memos::Memos;
 use crate::recorded::Recorded;
-use crate::slots::{NOWHERE, file_number, input_number, share_copy};
+use crate::slots::{NOWHERE, Near, file_number, input_number, share_copy};
 use crate::unpublished::Unpublished;
 use pq_inputs::{Durability, Inputs};
 use pq_rules::{Answer, Memory, Rules, Shared, push, same_answer};
@@ -172,7 +172,7 @@ impl<R: Rules> Memos<R> {
         ensures refused { OnErr result (IsSameTable (memo_at R.Key.cmp self.old.places) (memo_at R.Key.cmp self.new.places)) }
         ensures returned { IfErr result (λ u. (u.key ≡ key) × (u.answer ≡ answer) × (u.reads.items ≡ reads.items)) }
     {
-        let near = self.number(&key, NOWHERE, inputs);
+        let near = Near::new(self.number(&key, NOWHERE, inputs));
         self.publish_near(key, near, answer, reads, inputs)
     }
 
@@ -209,11 +209,12 @@ impl<R: Rules> Memos<R> {
         }
     }
 
-    /// `reads`, which the rule of the key in the slot `own` made, as recorded reads. They are looked
-    /// for where the reads of its memo are, or where others read them in this order.
+    /// `reads`, which the rule of the key in the slot `near.own` made, as recorded reads. They are
+    /// looked for where the reads of its memo are, the first at `near.first`, or where others read
+    /// them in this order.
     pub(crate) fn recorded_reads(
         &self,
-        own: usize,
+        near: Near,
         reads: &[R::Key],
         inputs: &Inputs,
     ) -> Result<Vec<Recorded<R::Key>>, Memory>
@@ -223,19 +224,23 @@ impl<R: Rules> Memos<R> {
         recorded.reserve_exact(reads.len())?;
         let mut number = NOWHERE;
         for i in 0..reads.len() {
-            let near = self.read_number(own, i, number);
-            let read = self.recorded(&reads[i], near, inputs)?;
+            let place = if i == 0 && near.first != NOWHERE {
+                near.first
+            } else {
+                self.read_number(near.own, i, number)
+            };
+            let read = self.recorded(&reads[i], place, inputs)?;
             number = read.number();
             push(&mut recorded, read)?;
         }
         Ok(recorded)
     }
 
-    /// Publishes `answer` as that of `key`, which is looked for first at `near`: see `publish`.
+    /// Publishes `answer` as that of `key`, which is looked for first at `near.own`: see `publish`.
     pub(crate) fn publish_near(
         &mut self,
         key: R::Key,
-        near: usize,
+        near: Near,
         answer: Shared<Answer<R::Key, R::Value>>,
         reads: Vec<R::Key>,
         inputs: &Inputs,
@@ -257,9 +262,9 @@ impl<R: Rules> Memos<R> {
         };
         let durability = self.least_of(&recorded, inputs);
         let now = inputs.now().number();
-        let changed = self.changed_by(&key, near, answer.get(), now);
+        let changed = self.changed_by(&key, near.own, answer.get(), now);
         let entry = Entry::new(answer, now, changed, recorded, durability, 0);
-        match self.store(key, near, entry) {
+        match self.store(key, near.own, entry) {
             Ok(()) => Ok(()),
             Err((key, entry)) => Err(entry.unpublished(key, reads)),
         }
