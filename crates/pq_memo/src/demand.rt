@@ -152,8 +152,8 @@ impl<R: Rules> Memos<R> {
         Ok(())
     }
 
-    /// Goes on with the rule of `key` from `part`, with `answer`, which was found at `near.next`. It has
-    /// made these reads.
+    /// Goes on with the rule of `key` from `part`, with `answer`, which was found at `near.next`. It
+    /// has made these reads.
     fn resume(
         &mut self,
         alloc: Global,
@@ -288,9 +288,9 @@ impl<R: Rules> Memos<R> {
         }
     }
 
-    /// Brings `key` up to date. The key is looked for first at `near`, which becomes its number if it
-    /// has a rule. Returns the rules that were started, in order. If an allocation fails, the memos
-    /// published so far stay.
+    /// Brings `key` up to date. The key is looked for first at `near`, which becomes its number if
+    /// it has a rule. Returns the rules that were started, in order. If an allocation fails, the
+    /// memos published so far stay.
     pub(crate) fn bring_up_to_date(
         &mut self,
         alloc: Global,

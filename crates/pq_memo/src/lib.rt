@@ -20,8 +20,9 @@
 //! and publishing), `ring` and `placed` (publishing a ring), `compared` (old answers and a ring),
 //! `member` and `unpublished` (what goes in, and what comes back), `frame` and `restored` (a step),
 //! `round` (frames in a round), `engine` and `demanded` (what a demand answers), `demand` (bringing
-//! a key up to date), `hand` (reads of a rule without a frame), `confirm` and `trail` (marking valid memos without frames), `stack` (its
-//! frames), `turned` and `usable` (for callers that keep frames), `laws`.
+//! a key up to date), `hand` (reads of a rule without a frame), `confirm` and `trail` (marking valid
+//! memos without frames), `stack` (its frames), `turned` and `usable` (for callers that keep
+//! frames), `laws`.
 #![tactic(auto)]
 
 mod compared;

@@ -35,8 +35,8 @@ impl<K> Numbered<K> {
 
 /// A recorded read of a memo, or the key of a slot. Contracts see the key.
 ///
-/// The key and its number are shared by the slot of the key and by the memos that read it. So a read
-/// takes 8 bytes, however long its key is.
+/// The key and its number are shared by the slot of the key and by the memos that read it. So a
+/// read takes 8 bytes, however long its key is.
 #[derive(Drop)]
 pub(crate) struct Recorded<K> {
     shared: Shared<Numbered<K>>,

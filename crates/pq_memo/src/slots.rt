@@ -44,8 +44,8 @@ pub(crate) fn file_number(number: usize) -> usize {
     }
 }
 
-/// Where to look first for the key of a frame, and for the key that it waits for, and where its rule
-/// found its first read and its last. No contract speaks of it.
+/// Where to look first for the key of a frame, and for the key that it waits for, and where its
+/// rule found its first read and its last. No contract speaks of it.
 #[derive(Clone, Copy)]
 pub(crate) struct Near {
     pub(crate) own: usize,
@@ -482,8 +482,8 @@ impl<R: Rules> Slots<R> {
         }
     }
 
-    /// Makes a slot of `key`, if it has none, and returns its number. The key was read after the slot
-    /// `before`. It is looked for first at `near`, and else takes one search.
+    /// Makes a slot of `key`, if it has none, and returns its number. The key was read after the
+    /// slot `before`. It is looked for first at `near`, and else by one search of the index.
     pub(crate) fn make_room(
         &mut self,
         rules: &R,

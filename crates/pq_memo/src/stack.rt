@@ -74,8 +74,8 @@ pub(crate) fn put_place<R: Rules>(
     Ok(())
 }
 
-/// Gives `key` the place `place`, if `places` has none of it. Returns the place that it had. It takes
-/// one search.
+/// Gives `key` the place `place`, if `places` has none of it. Returns the place that it had. It
+/// takes one search.
 pub(crate) fn claim_place<R: Rules>(
     _rules: &R,
     places: &mut BTreeMap<R::Key, usize>,
