@@ -1,17 +1,16 @@
--- Names that begin with the same bytes: they are equal where what comes after these is.
-use Rattle.std.proofs.Common.{◌≡◌, ℕ, zero, suc, ◌+◌, ◌-◌, ◌<◌, ◌≤◌, Bool, true, false, cond, true≢false, get_or, length, take, List, [], ◌∷◌, ◌++◌, refl, sym, ap, subst, ◌∙◌, arith, append_assoc}
+-- Names that begin with the same bytes, and a search among such names.
+use Rattle.std.proofs.Common.{◌≡◌, ℕ, zero, suc, ◌+◌, ◌<◌, ◌≤◌, Bool, true, false, cond, true≢false, get_or, length, take, List, [], ◌∷◌, refl, sym, ap, subst, ◌∙◌, arith}
 use Rattle.std.specs.Prelude.{Contains}
 use Rattle.std.specs.List.Sorted.{IsSorted}
 use Rattle.std.specs.Cmp.Lexicographic.{bytes_decides}
 use Rattle.std.specs.Ordering.{is_eq, is_lt}
 use Rattle.std.specs.declared.cmp.Ordering.{Ordering}
 use Rattle.std.specs.declared.cmp.Ordering.TheVariants.{Equal}
-use Rattle.std.proofs.Math.Seq.{take-append_seam}
 use Rattle.std.proofs.lemmas.Cmp.{tied_itself}
-use Rattle.std.proofs.lemmas.List.{length-append, get_or_default}
+use Rattle.std.proofs.lemmas.List.{get_or_default}
 use Rattle.pq_schema.specs.declared.definitions.Definition.{Definition}
 use Rattle.pq_schema.specs.aux.CodeOrder.{codes_tie, codes_total}
-use Rattle.pq_schema.specs.aux.Fronts.{AreAlike, BeginAlike, IsBehind, IsMet, IsParted, IsSeen}
+use Rattle.pq_schema.specs.aux.Fronts.{AreAlike, BeginAlike, IsMet, IsParted, IsSeen}
 use Rattle.pq_schema.specs.aux.Index.{IsIndexOf, entries, entry_order}
 use Rattle.pq_schema.specs.aux.NameCodes.{code_order}
 use Rattle.pq_schema.specs.aux.NameOrder.{names_total}
@@ -19,33 +18,8 @@ use Rattle.pq_schema.specs.aux.NameParts.{name_order}
 use Rattle.pq_schema.proofs.IndexLemmas.{no_entry}
 use Rattle.pq_schema.proofs.Rising.{parted}
 
-front_of : (n : ℕ) (a x : List ℕ) (h : IsBehind n a x) → take n a ≡ h.front
-front_of n a x h =
-    ap (λ (b : List ℕ). take n b) h.is
-    ∙ ap (λ (k : ℕ). take k (h.front ++ x)) (sym h.count)
-    ∙ take-append_seam h.front x
-
--- equal fronts and equal rests
-pub behind_same : (n : ℕ) (a b x y : List ℕ) → IsBehind n a x → IsBehind n b y → take n a ≡ take n b → x ≡ y → a ≡ b
-behind_same n a b x y h k alike same =
-    let fronts : h.front ≡ k.front = sym (front_of n a x h) ∙ alike ∙ front_of n b y k in
-    h.is ∙ ap (λ (f : List ℕ). f ++ x) fronts ∙ ap (λ (r : List ℕ). k.front ++ r) same ∙ sym k.is
-
 pub order_same : (a b : List ℕ) → a ≡ b → Equal ≡ name_order a b
 order_same a b same = sym (ap (λ (n : List ℕ). name_order a n) (sym same) ∙ tied_itself names_total a)
-
--- one more part
-pub front_more : (part rest : List ℕ) (others whole : List ℕ) (left count : ℕ) → length part ≤ left
-    → others ≡ part ++ rest
-    → (front : List ℕ) × (length front + left ≡ count) × (whole ≡ front ++ others)
-    → (front : List ℕ) × (length front + (left - length part) ≡ count) × (whole ≡ front ++ rest)
-front_more part rest others whole left count fits is f =
-    let sum = length-append f.0 part in
-    let before = f.1 in (
-      f.0 ++ part,
-      omega arith,
-      f.2 ∙ ap (λ (b : List ℕ). f.0 ++ b) is ∙ sym (append_assoc f.0 part rest),
-    )
 
 -- ---- the halves of a search
 

@@ -15,12 +15,6 @@ code_more c b n i total old new within is so_far =
     sym (ap (λ (xs : List ℕ). code_from c (take (n - i) xs)) last ∙ ap (λ (k : ℕ). code_from c (take k (b ∷ reverse new))) left)
     ∙ so_far
 
--- no byte is left
-pub code_end : (c n total : ℕ) (old : List ℕ) → old ≡ [] → code_from c (take n (reverse old)) ≡ total → c ≡ total
-unfolding code_from
-code_end c zero total old is so_far = so_far
-code_end c (suc n) total old is so_far = sym (ap (λ (xs : List ℕ). code_from c (take (suc n) (reverse xs))) is) ∙ so_far
-
 -- enough bytes were taken
 pub code_full : (c n i total : ℕ) (bytes : List ℕ) → n ≤ i → code_from c (take (n - i) bytes) ≡ total → c ≡ total
 unfolding code_from
@@ -79,16 +73,3 @@ code_piece c new left total before text is so_far =
 pub none_joined : (parts : List (List ℕ)) → length parts ≡ 0 → concat parts ≡ []
 none_joined [] none = refl
 none_joined (p ∷ ps) none = absurd (omega (arith, none))
-
--- the code of two texts, the last bytes first
-pub code_both : (head text tail front : List ℕ) (last left code count : ℕ) → tail ≡ text → front ≡ head → last ≡ code_from 0 (take 128 (reverse tail)) → left ≡ 128 - length text
-    → code ≡ code_from last (take left (reverse front)) → count ≡ length (head ++ text) % 2 ^ 64 → coded code count ≡ code_of (head ++ text)
-unfolding code_of tail_code
-code_both head text tail front last left code count of_text of_head is_last is_left is_code is_count =
-    let first : last ≡ code_from 0 (take 128 (reverse text)) = is_last ∙ ap (λ (t : List ℕ). code_from 0 (take 128 (reverse t))) of_text in
-    let whole : code ≡ code_from 0 (take 128 (reverse (head ++ text))) =
-    is_code
-    ∙ ap (λ (n : ℕ). code_from last (take n (reverse front))) is_left
-    ∙ ap (λ (h : List ℕ). code_from last (take (128 - length text) (reverse h))) of_head
-    ∙ code_piece 0 last 128 (code_from 0 (take 128 (reverse (head ++ text)))) head text first refl in
-    ap (λ (c : ℕ). coded c count) whole ∙ ap (λ (n : ℕ). coded (code_from 0 (take 128 (reverse (head ++ text)))) n) is_count

@@ -9,20 +9,6 @@ use Rattle.std.proofs.lemmas.Bool.Decides.{nat_tests}
 use Rattle.std.proofs.lemmas.List.{length-append}
 use Rattle.std.proofs.lemmas.List.Folds.{concat-append}
 
--- once nothing of a part is left, the part before it is read
-pub part_more : (parts before : List (List ℕ)) (part text bytes : List ℕ)
-    → length text ≡ 0
-    → parts ≡ before ++ part ∷ []
-    → bytes ≡ part
-    → concat before ++ bytes ≡ concat parts ++ text
-part_more parts before part [] bytes none is same =
-    ap (λ (b : List ℕ). concat before ++ b) same
-    ∙ sym (ap (λ (b : List ℕ). concat before ++ b) (append-nil part))
-    ∙ sym (concat-append before (part ∷ []))
-    ∙ sym (ap concat is)
-    ∙ sym (append-nil (concat parts))
-part_more parts before part (c ∷ cs) bytes none is same = cc
-
 leading_some : (whole : List ℕ) → (length whole == 0) ≡ false → whole ++ codes "." ≡ leading whole
 leading_some [] some = cc
 leading_some (c ∷ cs) some = refl

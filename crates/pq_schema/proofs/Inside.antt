@@ -26,7 +26,7 @@ use Rattle.pq_schema.specs.aux.Spots.{IsPlain}
 use Rattle.pq_schema.proofs.Among.{among_append}
 use Rattle.pq_schema.proofs.Marks.{each_more, each_weaker, near_scope}
 use Rattle.pq_schema.proofs.Cases.{either}
-use Rattle.pq_schema.proofs.SamePackage.{lead_begins}
+use Rattle.pq_schema.proofs.CommonFronts.{lead_begins}
 use Rattle.pq_schema.proofs.ScopesWithin.{or_left, or_right, starts_split}
 use Rattle.pq_schema.proofs.Walks.{grouped}
 

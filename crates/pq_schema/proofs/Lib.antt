@@ -35,7 +35,6 @@ pub mod Searches
 pub mod Grouping
 pub mod FirstNear
 pub mod NearNames
-pub mod ByCode
 pub mod RightIn
 pub mod ResolutionRows
 pub mod ScopeMeaning
@@ -43,7 +42,8 @@ pub mod ResolvedMeaning
 pub mod Picked
 pub mod Pieces
 pub mod Alike
-pub mod SamePackage
+pub mod CommonFronts
+pub mod SameEnds
 pub mod SchemaMeaning
 pub mod ByAnswers
 pub mod RuleSetMeaning

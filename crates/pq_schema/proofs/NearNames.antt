@@ -1,36 +1,32 @@
 -- The index of some files finds the first file that defines a name.
-use Rattle.std.proofs.Common.{◌≡◌, ◌⊎◌, ℕ, suc, ◌+◌, ◌<◌, ◌≤◌, Bool, true, false, cond, nat_lt, nat_eq, true≢false, List, [], ◌∷◌, ◌++◌, length, get_or, take, Option, Some, None, inl, inr, refl, sym, ap, subst, ◌∙◌, arith}
+use Rattle.std.proofs.Common.{◌≡◌, ◌⊎◌, ℕ, suc, ◌+◌, ◌-◌, ◌<◌, ◌≤◌, Bool, true, false, cond, nat_lt, nat_eq, true≢false, List, [], ◌∷◌, ◌++◌, length, get_or, Option, Some, None, inl, inr, refl, sym, ap, subst, ◌∙◌, arith}
 use Rattle.std.specs.Prelude.{bytes_eq, find, is_some, slice_get, option_map}
-use Rattle.std.specs.Borrow.{Bor}
 use Rattle.std.specs.Cmp.{IsTotalOrder}
 use Rattle.std.specs.Cmp.Lexicographic.{bytes_decides}
-use Rattle.std.specs.List.Sorted.{IsPermutation, IsSorted, IsPartitionedBy}
+use Rattle.std.specs.List.Sorted.{IsPermutation, IsSorted, IsPartitionedBy, IsPartitionPoint}
 use Rattle.std.specs.Ordering.{nat_cmp, is_lt, ordering_then}
 use Rattle.std.specs.declared.cmp.Ordering.{Ordering}
 use Rattle.std.specs.declared.cmp.Ordering.TheVariants.{Less, Equal, Greater}
-use Rattle.std.proofs.lemmas.Bool.{cases_lt}
+use Rattle.std.proofs.lemmas.Bool.{cases_lt, ltb-false, ltb-true, lt-ltb}
 use Rattle.std.proofs.lemmas.Bool.Decides.{nat_tests}
-use Rattle.std.proofs.lemmas.Cmp.{tied_itself, on_total, then_total, nat_cmp_total}
+use Rattle.std.proofs.lemmas.Cmp.{on_total, then_total, nat_cmp_total}
 use Rattle.std.proofs.lemmas.List.{get_or_default}
 use Rattle.std.proofs.lemmas.List.Sorted.{sorted_far, ranks_by, Contains-permutation, IsPermutation-sym}
 use Rattle.pq_rules.specs.Relations.{In}
 use Rattle.pq_rules.proofs.ListLemmas.{in_at, in_index, in_contains, contains_in}
 use Rattle.pq_schema.specs.declared.definitions.Definition.{Definition}
 use Rattle.pq_schema.specs.declared.scope.FileDefs.{FileDefs}
-use Rattle.pq_schema.specs.aux.CodeOrder.{codes_total}
 use Rattle.pq_schema.specs.aux.FirstOf.{answer_by, answer_at, definition_in, first_near}
-use Rattle.pq_schema.specs.aux.Fronts.{BeginAlike}
 use Rattle.pq_schema.specs.aux.Grouping.{find_in}
 use Rattle.pq_schema.specs.aux.Index.{IsIndexOf, entries}
-use Rattle.pq_schema.specs.aux.NameCodes.{code_order}
-use Rattle.pq_schema.specs.aux.NearNames.{Adds, AddsEntries, AreAlikeBy, ArePart, AreSound, HasEntry, IsFirst, IsNamesOf, Rises, has, named_order}
+use Rattle.pq_schema.specs.aux.NameCodes.{code_of}
+use Rattle.pq_schema.specs.aux.NearNames.{Adds, AddsEntries, IsFirst, IsFrom, IsNamesOf, Rises, has, named_order}
 use Rattle.pq_schema.proofs.FirstNear.{near_cases}
-use Rattle.pq_schema.proofs.IndexLemmas.{entry_before, tied_same}
-use Rattle.pq_schema.proofs.Rising.{tied, names_up, below_before, not_below_itself}
+use Rattle.pq_schema.proofs.IndexLemmas.{entry_before}
 
 -- `Entry` is an entry of the index
 abbrev pub Entry : Type 0
-Entry = Bor (List ℕ) × ℕ
+Entry = ℕ × ℕ
 
 -- ---- the names of a file
 
@@ -46,19 +42,6 @@ found_entry n (d ∷ ds) name h = by (bytes_eq d.full_name name) refl h (found_e
     by true e is rest = (n, inl (ap (λ (x : List ℕ). (x, n)) (sym ((bytes_decides d.full_name name).0 e))))
     by false e is rest = let r = rest is in (r.0, inr r.1)
 
-entry_found : (n m : ℕ) (ds : List Definition) (name : List ℕ) → In (name, m) (entries n ds) → is_some (find (λ (d : Definition). bytes_eq d.full_name name) ds) ≡ true
-unfolding entries
-entry_found n m [] name there = absurd there
-entry_found n m (d ∷ ds) name (inl same) =
-    let is : d.full_name ≡ name = sym (ap (λ (x : List ℕ × ℕ). x.0) same) in
-    ap (λ (b : Bool). is_some (cond b (Some d) (find (λ (x : Definition). bytes_eq x.full_name name) ds))) ((bytes_decides d.full_name name).1 is)
-entry_found n m (d ∷ ds) name (inr more) = by (bytes_eq d.full_name name) (entry_found (suc n) m ds name more)
-  where
-    by : (b : Bool) → is_some (find (λ (x : Definition). bytes_eq x.full_name name) ds) ≡ true
-        → is_some (cond b (Some d) (find (λ (x : Definition). bytes_eq x.full_name name) ds)) ≡ true
-    by true rest = refl
-    by false rest = rest
-
 -- the file at a place
 has_at : (files : List FileDefs) (k : ℕ) (f : FileDefs) (name : List ℕ) → slice_get files k ≡ Some f → has files k name ≡ is_some (find_in f name)
 has_at files k f name at = ap (λ (o : Option FileDefs). is_some (answer_by (λ (g : FileDefs). find_in g name) o)) at
@@ -67,16 +50,7 @@ pub adds_file : (old new : List Entry) (files : List FileDefs) (k : ℕ) (f : Fi
     → slice_get files k ≡ Some f → IsIndexOf index f.defs.definitions → AddsEntries old new index k → Adds old new files k
 adds_file old new files k f index at x added = record {
   kept = added.kept;
-  sound = λ places s there e is_in.
-      elim (added.sound e is_in) [
-        | inl before ↦ s e before
-        | inr n ↦
-            let found = entry_found 0 n.1 f.defs.definitions e.0.now
-            (contains_in (e.0.now, n.1) (entries 0 f.defs.definitions) (x.are.sound (e.0.now, n.1) (in_contains (e.0.now, n.1) index n.2))) in (
-              subst (λ (i : ℕ). In i places) (sym n.0) there,
-              subst (λ (i : ℕ). has files i e.0.now ≡ true) (sym n.0) (has_at files k f e.0.now at ∙ found),
-            )
-      ];
+  sound = added.sound;
   there = λ name h.
       let m = found_entry 0 f.defs.definitions name (sym (has_at files k f name at) ∙ h) in
       let first = entry_before index f.defs.definitions x name m.0 (in_contains (name, m.0) (entries 0 f.defs.definitions) m.1) in
@@ -86,7 +60,7 @@ adds_file old new files k f index at x added = record {
 pub adds_none : (old : List Entry) (files : List FileDefs) (k : ℕ) → slice_get files k ≡ None → Adds old old files k
 adds_none old files k at = record {
   kept = λ e there. there;
-  sound = λ places s there. s;
+  sound = λ e there. inl there;
   there = λ name h.
       absurd (true≢false (sym h ∙ ap (λ (o : Option FileDefs). is_some (answer_by (λ (g : FileDefs). find_in g name) o)) at));
 }
@@ -108,49 +82,53 @@ in_either e [] y (inr more) = absurd more
 in_either e (x ∷ xs) y (inl same) = inl (inl same)
 in_either e (x ∷ xs) y (inr more) = elim (in_either e xs y more) [ inl there ↦ inl (inr there) | inr same ↦ inr same ]
 
--- `SoFar old new index k i` is that `new` has the entries of `old`, and the names of the first `i`
--- of `index` with the place `k`
+-- `SoFar old new index k i` is that `new` has the entries of `old`, and the codes of the names of the
+-- first `i` of `index` with the place `k`
 pub record SoFar (old new : List Entry) (index : List (List ℕ × ℕ)) (k i : ℕ) : Type 0 where
   pub kept : (e : Entry) → In e old → In e new
-  pub sound : (e : Entry) → In e new → In e old ⊎ ((e.1 ≡ k) × (m : ℕ) × In (e.0.now, m) index)
-  pub there : (j : ℕ) → j < i → HasEntry new (get_or index j ([], 0)).0 k
+  pub sound : (e : Entry) → In e new → In e old ⊎ (e.1 ≡ k)
+  pub there : (j : ℕ) → j < i → In (code_of (get_or index j ([], 0)).0, k) new
 
 pub none_yet : (old : List Entry) (index : List (List ℕ × ℕ)) (k : ℕ) → SoFar old old index k 0
 none_yet old index k = record {
   kept = λ e there. there;
   sound = λ e there. inl there;
-  there = λ j less. absurd (omega arith);
+  there = λ j less. absurd (omega (arith, less));
 }
 
-pub one_more : (old new more : List Entry) (index : List (List ℕ × ℕ)) (k i : ℕ) (item : List ℕ × ℕ) (entry : Entry)
-    → i < length index → item ≡ get_or index i ([], 0) → entry.0.now ≡ item.0 → entry.1 ≡ k → more ≡ new ++ entry ∷ []
-    → SoFar old new index k i → SoFar old more index k (i + 1)
-one_more old new more index k i item entry within at name place is so = record {
-  kept = λ e there. subst (λ (es : List Entry). In e es) (sym is) (in_more e new entry (so.kept e there));
+pub one_more : (old new more : List Entry) (index : List (List ℕ × ℕ)) (k i code : ℕ)
+    → code ≡ code_of (get_or index i ([], 0)).0 → more ≡ new ++ (code, k) ∷ [] → SoFar old new index k i → SoFar old more index k (i + 1)
+one_more old new more index k i code at is so = record {
+  kept = λ e there. subst (λ (es : List Entry). In e es) (sym is) (in_more e new (code, k) (so.kept e there));
   sound = λ e there.
-      elim (in_either e new entry (subst (λ (es : List Entry). In e es) is there)) [
+      elim (in_either e new (code, k) (subst (λ (es : List Entry). In e es) is there)) [
         | inl before ↦ so.sound e before
-        | inr same ↦
-            let name_is : e.0.now ≡ item.0 = ap (λ (x : Entry). x.0.now) same ∙ name in
-            let item_is : item ≡ (e.0.now, item.1) = ap (λ (n : List ℕ). (n, item.1)) (sym name_is) in
-            inr (
-              ap (λ (x : Entry). x.1) same ∙ place,
-              item.1,
-              subst (λ (x : List ℕ × ℕ). In x index) (sym at ∙ item_is) (in_at index i ([], 0) within),
-            )
+        | inr same ↦ inr (ap (λ (x : Entry). x.1) same)
       ];
   there = λ j less.
       elim (cases_lt j i) [
-        | inl below ↦
-            let h = so.there j below in
-            (h.0, subst (λ (es : List Entry). In h.0 es) (sym is) (in_more h.0 new entry h.1), h.2, h.3)
+        | inl below ↦ subst (λ (es : List Entry). In (code_of (get_or index j ([], 0)).0, k) es) (sym is) (in_more (code_of (get_or index j ([], 0)).0, k) new (code, k) (so.there j below))
         | inr up ↦
-            let same : i ≡ j = omega arith in (
-              entry,
-              subst (λ (es : List Entry). In entry es) (sym is) (in_last new entry),
-              name ∙ ap (λ (x : List ℕ × ℕ). x.0) (at ∙ ap (λ (n : ℕ). get_or index n ([], 0)) same),
-              place,
-            )
+            let same : i ≡ j = omega (arith, less, up) in
+            let code_is : code ≡ code_of (get_or index j ([], 0)).0 = at ∙ ap (λ (n : ℕ). code_of (get_or index n ([], 0)).0) same in
+            subst (λ (es : List Entry). In (code_of (get_or index j ([], 0)).0, k) es) (sym is)
+            (subst (λ (c : ℕ). In (c, k) (new ++ (code, k) ∷ [])) code_is (in_last new (code, k)))
+      ];
+}
+
+-- a name of the code of the one before it
+pub same_code : (old new : List Entry) (index : List (List ℕ × ℕ)) (k i : ℕ) → 0 < i → code_of (get_or index i ([], 0)).0 ≡ code_of (get_or index (i - 1) ([], 0)).0
+    → SoFar old new index k i → SoFar old new index k (i + 1)
+same_code old new index k i some at so = record {
+  kept = so.kept;
+  sound = so.sound;
+  there = λ j less.
+      elim (cases_lt j i) [
+        | inl below ↦ so.there j below
+        | inr up ↦
+            let same : i ≡ j = omega (arith, less, up) in
+            subst (λ (n : ℕ). In (code_of (get_or index n ([], 0)).0, k) new) same
+            (subst (λ (c : ℕ). In (c, k) new) (sym at) (so.there (i - 1) (omega (arith, some))))
       ];
 }
 
@@ -161,31 +139,34 @@ all_added old new index k i past so = record {
   there = λ name m there.
       let j = in_index (name, m) ([], 0) index there in
       let within = j.1 in
-      let h = so.there j.0 (omega arith) in
-      (h.0, h.1, h.2 ∙ ap (λ (x : List ℕ × ℕ). x.0) j.2, h.3);
+      subst (λ (x : List ℕ). In (code_of x, k) new) (ap (λ (x : List ℕ × ℕ). x.0) j.2) (so.there j.0 (omega (arith, within, past)));
 }
 
 -- ---- the names of all files
 
--- `AreAll names files places i` is that `names` has the names of the files at the first `i` of
--- `places`, and no more than those of the files at `places`
+-- `AreAll names files places i` is that `names` has the codes of the names of the files at the first
+-- `i` of `places`, and no places but these
 pub record AreAll (names : List Entry) (files : List FileDefs) (places : List ℕ) (i : ℕ) : Type 0 where
-  pub sound : AreSound names files places
-  pub there : (j : ℕ) (name : List ℕ) → j < i → has files (get_or places j 0) name ≡ true → HasEntry names name (get_or places j 0)
+  pub sound : (e : Entry) → In e names → In e.1 places
+  pub there : (j : ℕ) (name : List ℕ) → j < i → has files (get_or places j 0) name ≡ true → In (code_of name, get_or places j 0) names
 
 pub no_names : (files : List FileDefs) (places : List ℕ) → AreAll [] files places 0
-no_names files places = record { sound = λ e there. absurd there; there = λ j name less h. absurd (omega arith) }
+no_names files places = record { sound = λ e there. absurd there; there = λ j name less h. absurd (omega (arith, less)) }
 
 pub next_file : (old new : List Entry) (files : List FileDefs) (places : List ℕ) (i k : ℕ) → i < length places → k ≡ get_or places i 0
     → Adds old new files k → AreAll old files places i → AreAll new files places (i + 1)
 next_file old new files places i k within is added so = record {
-  sound = added.sound places so.sound (subst (λ (n : ℕ). In n places) (sym is) (in_at places i 0 within));
+  sound = λ e there.
+      elim (added.sound e there) [
+        | inl before ↦ so.sound e before
+        | inr same ↦ subst (λ (n : ℕ). In n places) (sym is ∙ sym same) (in_at places i 0 within)
+      ];
   there = λ j name less h.
       elim (cases_lt j i) [
-        | inl below ↦ let e = so.there j name below h in (e.0, added.kept e.0 e.1, e.2, e.3)
+        | inl below ↦ added.kept (code_of name, get_or places j 0) (so.there j name below h)
         | inr up ↦
-            let same : k ≡ get_or places j 0 = is ∙ ap (λ (n : ℕ). get_or places n 0) (omega arith) in
-            subst (λ (n : ℕ). HasEntry new name n) same (added.there name (subst (λ (n : ℕ). has files n name ≡ true) (sym same) h))
+            let same : k ≡ get_or places j 0 = is ∙ ap (λ (n : ℕ). get_or places n 0) (omega (arith, less, up)) in
+            subst (λ (n : ℕ). In (code_of name, n) new) same (added.there name (subst (λ (n : ℕ). has files n name ≡ true) (sym same) h))
       ];
 }
 
@@ -196,153 +177,54 @@ all_names names sorted files places i past same up so = record {
   all = λ k name there h.
       let j = in_index k 0 places there in
       let within = j.1 in
-      let e = so.there j.0 name (omega arith) (subst (λ (n : ℕ). has files n name ≡ true) (sym j.2) h) in
-      (e.0, contains_in e.0 sorted (Contains-permutation names sorted e.0 same (in_contains e.0 names e.1)), e.2, e.3 ∙ j.2);
+      let e = so.there j.0 name (omega (arith, within, past)) (subst (λ (n : ℕ). has files n name ≡ true) (sym j.2) h) in
+      subst (λ (n : ℕ). In (code_of name, n) sorted) j.2
+      (contains_in (code_of name, get_or places j.0 0) sorted (Contains-permutation names sorted (code_of name, get_or places j.0 0) same (in_contains (code_of name, get_or places j.0 0) names e)));
   sorted = up;
 }
 
--- ---- the first entry of a name
+-- ---- the entries of a code
 
 named_total : IsTotalOrder named_order
-named_total = then_total (on_total (λ (e : Entry). e.0.now) codes_total) (on_total (λ (e : Entry). e.1) nat_cmp_total)
+named_total = then_total (on_total (λ (e : Entry). e.0) nat_cmp_total) (on_total (λ (e : Entry). e.1) nat_cmp_total)
 
-pub far : (names : List Entry) → IsSorted named_order names → (i j : ℕ) (d : Entry) → i ≤ j → j < length names → is_lt (named_order (get_or names j d) (get_or names i d)) ≡ false
+far : (names : List Entry) → IsSorted named_order names → (i j : ℕ) (d : Entry) → i ≤ j → j < length names → is_lt (named_order (get_or names j d) (get_or names i d)) ≡ false
 far names up i j d le within = sorted_far (λ (x y : Entry). is_lt (named_order x y)) (ranks_by named_total (λ (e : Entry). e)) names up i j d le within
 
-pub names_rise : (a b : Entry) → is_lt (named_order a b) ≡ false → is_lt (code_order a.0.now b.0.now) ≡ false
-names_rise a b h = names_up code_order codes_total (a.0.now, a.1) (b.0.now, b.1) h
-
-pub names_parted : (names : List Entry) → IsSorted named_order names → (t : List ℕ) → IsPartitionedBy (λ (e : Entry). is_lt (code_order e.0.now t)) names
-names_parted names up t i j d le within less =
-    below_before code_order codes_total (get_or names i d).0.now (get_or names j d).0.now t
-    (names_rise (get_or names j d) (get_or names i d) (far names up i j d le within)) less
-
--- ---- names that begin alike
-
-pub alike_entry : (counts : List ℕ) (names : List Entry) (name : List ℕ) (p n : ℕ) (e : Entry) → AreAlikeBy counts names name → n ≡ get_or counts e.1 0 → p < length names
-    → e ≡ get_or names p e → take n e.0.now ≡ take n name
-alike_entry counts names name p n e alike is within at =
-    subst (λ (m : ℕ). take m e.0.now ≡ take m name) (sym is) (alike e (subst (λ (f : Entry). In f names) (sym at) (in_at names p e within)))
-
-found_has : (ds : List Definition) (name : List ℕ) (n : ℕ) (full : List ℕ) → BeginAlike n full ds → is_some (find (λ (d : Definition). bytes_eq d.full_name name) ds) ≡ true → take n name ≡ take n full
-found_has [] name n full all is = absurd (true≢false (sym is))
-found_has (d ∷ ds) name n full all is = by (bytes_eq d.full_name name) refl is (found_has ds name n full all.1)
+-- of two entries in order, the codes are in order, and with one code the places are
+in_order : (a b : Entry) → is_lt (named_order b a) ≡ false → (a.0 ≤ b.0) × (a.0 ≡ b.0 → a.1 ≤ b.1)
+in_order a b h = (codes (cases_lt b.0 a.0), λ same. places same (cases_lt b.1 a.1))
   where
-    by : (b : Bool) → bytes_eq d.full_name name ≡ b → is_some (cond b (Some d) (find (λ (x : Definition). bytes_eq x.full_name name) ds)) ≡ true
-        → (is_some (find (λ (x : Definition). bytes_eq x.full_name name) ds) ≡ true → take n name ≡ take n full) → take n name ≡ take n full
-    by true e there rest = ap (take n) (sym ((bytes_decides d.full_name name).0 e)) ∙ all.0
-    by false e there rest = rest there
+    codes : (b.0 < a.0) ⊎ (a.0 ≤ b.0) → a.0 ≤ b.0
+    codes (inr up) = up
+    codes (inl less) = absurd (true≢false (sym (ap (λ (t : Bool). is_lt (ordering_then (cond t Less (cond (nat_eq b.0 a.0) Equal Greater)) (nat_cmp b.1 a.1))) (lt-ltb b.0 a.0 less)) ∙ h))
 
--- the names of the files at some places begin alike where their definitions do
-pub names_alike : (counts : List ℕ) (names : List Entry) (files : List FileDefs) (places : List ℕ) (name : List ℕ) → IsNamesOf names files places
-    → ((k : ℕ) (f : FileDefs) → slice_get files k ≡ Some f → BeginAlike (get_or counts k 0) name f.defs.definitions) → AreAlikeBy counts names name
-names_alike counts names files places name are all e there = by (slice_get files e.1) refl (are.sound e there).1
-  where
-    by : (o : Option FileDefs) → slice_get files e.1 ≡ o → is_some (answer_by (λ (f : FileDefs). find_in f e.0.now) o) ≡ true
-        → take (get_or counts e.1 0) e.0.now ≡ take (get_or counts e.1 0) name
-    by None at is = absurd (true≢false (sym is))
-    by (Some f) at is = found_has f.defs.definitions e.0.now (get_or counts e.1 0) name (all e.1 f at) is
+    places : a.0 ≡ b.0 → (b.1 < a.1) ⊎ (a.1 ≤ b.1) → a.1 ≤ b.1
+    places same (inr up) = up
+    places same (inl less) =
+        let not_less : nat_lt b.0 a.0 ≡ false = grind (arith, nat_tests) in
+        let is_same : nat_eq b.0 a.0 ≡ true = grind (arith, nat_tests) in
+        let place_less : nat_lt b.1 a.1 ≡ true = lt-ltb b.1 a.1 less in
+        absurd (true≢false
+        (sym (ap (λ (t : Bool). is_lt (ordering_then (cond t Less (cond (nat_eq b.0 a.0) Equal Greater)) (nat_cmp b.1 a.1))) not_less
+        ∙ ap (λ (t : Bool). is_lt (ordering_then (cond t Equal Greater) (nat_cmp b.1 a.1))) is_same
+        ∙ ap (λ (t : Bool). is_lt (cond t Less (cond (nat_eq b.1 a.1) Equal Greater))) place_less) ∙ h))
 
--- ---- the halves of a search
+pub codes_parted : (names : List Entry) (code : ℕ) → IsSorted named_order names → IsPartitionedBy (λ (e : Entry). nat_lt e.0 code) names
+codes_parted names code up i j d le within less =
+    let order = in_order (get_or names i d) (get_or names j d) (far names up i j d le within) in
+    let low = order.0 in
+    lt-ltb (get_or names i d).0 code (omega (arith, low, ltb-true (get_or names j d).0 code less))
 
-pub part_all : (names : List Entry) (name : List ℕ) → ArePart names name 0 (length names)
-part_all names name = record {
-  up = omega arith;
-  within = omega arith;
-  less = λ k d below. absurd (omega (arith, below));
-  others = λ k d from to. absurd (omega (arith, from, to));
+pub is_from : (names : List Entry) (code p : ℕ) → IsPartitionPoint (λ (e : Entry). nat_lt e.0 code ≡ true) (λ (e : Entry). nat_lt e.0 code ≡ false) names p → IsFrom names code p
+is_from names code p point = record {
+  less = λ m low. ltb-true (get_or names m (0, 0)).0 code (point.0 m (0, 0) (omega arith) low);
+  others = λ m up within. ltb-false (get_or names m (0, 0)).0 code (point.1 m (0, 0) up within);
 }
 
-module _ (names : List Entry) (name : List ℕ) (low middle high : ℕ) (e : Entry) (sorted : IsSorted named_order names)
-    (parts : ArePart names name low high) (up : low ≤ middle) (within : middle < high) where
-  inside : middle < length names
-  inside = let h = parts.within in omega (arith, h, within)
-
-  there : (b : Bool) (d : Entry) → b ≡ is_lt (code_order (get_or names middle e).0.now name) → is_lt (code_order (get_or names middle d).0.now name) ≡ b
-  there b d test = subst (λ (f : Entry). is_lt (code_order f.0.now name) ≡ b) (get_or_default names middle e d inside) (sym test)
-
-  pub lower_part : true ≡ is_lt (code_order (get_or names middle e).0.now name) → ArePart names name (middle + 1) high
-  lower_part test = record {
-    up = omega (arith, within);
-    within = parts.within;
-    less = λ k d below. names_parted names sorted name k middle d (omega (arith, below)) inside (there true d test);
-    others = parts.others;
-  }
-
-  pub upper_part : false ≡ is_lt (code_order (get_or names middle e).0.now name) → ArePart names name low middle
-  upper_part test = record {
-    up = up;
-    within = let h = parts.within in omega (arith, h, within);
-    less = parts.less;
-    others = λ k d from to. by k d from to (is_lt (code_order (get_or names k d).0.now name)) refl;
-  }
-    where
-      by : (k : ℕ) (d : Entry) → middle ≤ k → k < length names → (b : Bool) → is_lt (code_order (get_or names k d).0.now name) ≡ b → b ≡ false
-      by k d from to false is = refl
-      by k d from to true is = absurd (true≢false (sym (names_parted names sorted name middle k d from to is) ∙ there false d test))
-
-module _ (names : List Entry) (name : List ℕ) (p : ℕ)
-    (less : (k : ℕ) (d : Entry) → k < p → is_lt (code_order (get_or names k d).0.now name) ≡ true)
-    (others : (k : ℕ) (d : Entry) → p ≤ k → k < length names → is_lt (code_order (get_or names k d).0.now name) ≡ false) where
-  -- an entry of the name is at `p` or later
-  from : (e : Entry) → In e names → e.0.now ≡ name → (i : ℕ) × (i < length names) × (get_or names i e ≡ e) × (p ≤ i)
-  from e there is =
-      let i = in_index e e names there in (
-        i.0,
-        i.1,
-        i.2,
-        elim (cases_lt i.0 p) [
-          | inl below ↦ absurd (not_below_itself code_order codes_total name (subst (λ (n : List ℕ). is_lt (code_order n name) ≡ true) (ap (λ (x : Entry). x.0.now) i.2 ∙ is) (less i.0 e below)))
-          | inr up ↦ up
-        ],
-      )
-
-  module _ (files : List FileDefs) (places : List ℕ) (x : IsNamesOf names files places) where
-    -- without the name at `p` no file defines it
-    pub missing : ((d : Entry) → p < length names → (get_or names p d).0.now ≡ name → ⊥) → (j : ℕ) → In j places → has files j name ≡ false
-    missing free j there = by (has files j name) refl
-      where
-        by : (b : Bool) → has files j name ≡ b → b ≡ false
-        by false e = refl
-        by true e =
-            let h = x.all j name there e in
-            let i = from h.0 h.1 h.2 in
-            let i_within = i.1 in
-            let up = i.3 in
-            let within : p < length names = omega arith in
-            let q = get_or names p h.0 in
-            let not_above : is_lt (code_order name q.0.now) ≡ false =
-            subst (λ (n : List ℕ). is_lt (code_order n q.0.now) ≡ false) (ap (λ (y : Entry). y.0.now) i.2 ∙ h.2)
-            (names_rise (get_or names i.0 h.0) q (far names x.sorted p i.0 h.0 i.3 i.1)) in
-            absurd (free h.0 within (tied_same q.0.now name (tied code_order codes_total q.0.now name (others p h.0 (omega arith) within) not_above)))
-
-    -- with it the file of the entry at `p` is the first that does
-    pub present : (q : Entry) → p < length names → q ≡ get_or names p q → q.0.now ≡ name → IsFirst (Some q.1) files places name
-    present q within at is =
-        let s = x.sound q (subst (λ (y : Entry). In y names) (sym at) (in_at names p q within)) in (
-          s.0,
-          subst (λ (n : List ℕ). has files q.1 n ≡ true) is s.1,
-          λ j there low. by j there low (has files j name) refl,
-        )
-      where
-        by : (j : ℕ) → In j places → j < q.1 → (b : Bool) → has files j name ≡ b → has files j name ≡ false
-        by j there low false e = e
-        by j there low true e =
-            let h = x.all j name there e in
-            let i = from h.0 h.1 h.2 in
-            let at_p : get_or names p h.0 ≡ q = get_or_default names p h.0 q within ∙ sym at in
-            let up : is_lt (named_order h.0 q) ≡ false =
-            subst (λ (y : Entry). is_lt (named_order h.0 y) ≡ false) at_p
-            (subst (λ (y : Entry). is_lt (named_order y (get_or names p h.0)) ≡ false) i.2 (far names x.sorted p i.0 h.0 i.3 i.1)) in
-            let up_names : is_lt (ordering_then (code_order name name) (nat_cmp j q.1)) ≡ false =
-            subst (λ (n : List ℕ). is_lt (ordering_then (code_order name n) (nat_cmp j q.1)) ≡ false) is
-            (subst (λ (n : List ℕ). is_lt (ordering_then (code_order n q.0.now) (nat_cmp j q.1)) ≡ false) h.2
-            (subst (λ (m : ℕ). is_lt (ordering_then (code_order h.0.0.now q.0.now) (nat_cmp m q.1)) ≡ false) h.3 up)) in
-            let up_places : is_lt (nat_cmp j q.1) ≡ false =
-            subst (λ (o : Ordering). is_lt (ordering_then o (nat_cmp j q.1)) ≡ false) (tied_itself codes_total name) up_names in
-            let test : nat_lt j q.1 ≡ true = grind (arith, nat_tests) in
-            let j_less : is_lt (nat_cmp j q.1) ≡ true = ap (λ b. is_lt (cond b Less (cond (nat_eq j q.1) Equal Greater))) test in
-            absurd (true≢false (sym j_less ∙ up_places))
+-- the entries of the code before `i` are of files that do not define the name
+abbrev pub Asked : List Entry → List FileDefs → List ℕ → ℕ → ℕ → Type 0
+Asked names files name p i = (m : ℕ) → p ≤ m → m < i → answer_at (definition_in name) files (get_or names m (0, 0)).1 ≡ None
 
 -- ---- the first definition by the index
 
@@ -385,3 +267,90 @@ with_first files places name k r first = elim (near_cases (definition_in name) f
     ]
   ]
 ]
+
+-- ---- the walk over the entries of a code
+
+module _ (names : List Entry) (files : List FileDefs) (places : List ℕ) (name : List ℕ) (p : ℕ) (x : IsNamesOf names files places) (from : IsFrom names (code_of name) p) where
+  -- where a file that defines the name has its entry
+  entry_at : (j : ℕ) → In j places → has files j name ≡ true → (m : ℕ) × (m < length names) × (p ≤ m) × (get_or names m (0, 0) ≡ (code_of name, j))
+  entry_at j there h =
+      let m = in_index (code_of name, j) (0, 0) names (x.all j name there h) in (
+        m.0,
+        m.1,
+        elim (cases_lt m.0 p) [
+          | inl below ↦
+              let low = from.less m.0 below in
+              let code_is = ap (λ (e : Entry). e.0) m.2 in
+              absurd (omega (arith, low, code_is))
+          | inr up ↦ up
+        ],
+        m.2,
+      )
+
+  clear : (i j : ℕ) → Asked names files name p i → (m : ℕ) → p ≤ m → m < i → get_or names m (0, 0) ≡ (code_of name, j) → has files j name ≡ true → ⊥
+  clear i j asked m up low is h =
+      let none = ap (λ (n : ℕ). answer_at (definition_in name) files n) (sym (ap (λ (e : Entry). e.1) is)) ∙ asked m up low in
+      true≢false (sym h ∙ has_answer files j name ∙ ap (λ o. is_some o) none)
+
+  -- no file defines the name if the entries before `i` were asked and that at `i` has another code
+  pub none_first : (i : ℕ) → Asked names files name p i → p ≤ i → (i < length names → (get_or names i (0, 0)).0 ≡ code_of name → ⊥) → IsFirst None files places name
+  none_first i asked up other j there = by (has files j name) refl
+    where
+      by : (b : Bool) → has files j name ≡ b → has files j name ≡ false
+      by false e = e
+      by true e =
+          let m = entry_at j there e in
+          let m_within = m.1 in
+          elim (cases_lt m.0 i) [
+            | inl low ↦ absurd (clear i j asked m.0 m.2 low m.3 e)
+            | inr high ↦
+                let within : i < length names = omega (arith, m_within, high) in
+                let order = in_order (get_or names i (0, 0)) (get_or names m.0 (0, 0)) (far names x.sorted i m.0 (0, 0) high m.1) in
+                let below = order.0 in
+                let above = from.others i up within in
+                let code_is = ap (λ (e : Entry). e.0) m.3 in
+                let same : (get_or names i (0, 0)).0 ≡ code_of name = omega (arith, below, above, code_is) in
+                absurd (other within same)
+          ]
+
+  -- the file of the entry at `i` is the first that defines the name if those before were asked
+  pub some_first : (i : ℕ) → Asked names files name p i → i < length names → (get_or names i (0, 0)).0 ≡ code_of name → has files (get_or names i (0, 0)).1 name ≡ true
+      → IsFirst (Some (get_or names i (0, 0)).1) files places name
+  some_first i asked within is h = (
+    x.sound (get_or names i (0, 0)) (in_at names i (0, 0) within),
+    h,
+    λ j there low. by j there low (has files j name) refl,
+  )
+    where
+      by : (j : ℕ) → In j places → j < (get_or names i (0, 0)).1 → (b : Bool) → has files j name ≡ b → has files j name ≡ false
+      by j there low false e = e
+      by j there low true e =
+          let m = entry_at j there e in
+          elim (cases_lt m.0 i) [
+            | inl before ↦ absurd (clear i j asked m.0 m.2 before m.3 e)
+            | inr high ↦
+                let order = in_order (get_or names i (0, 0)) (get_or names m.0 (0, 0)) (far names x.sorted i m.0 (0, 0) high m.1) in
+                let up = order.1 (is ∙ sym (ap (λ (e : Entry). e.0) m.3)) in
+                let place_is = ap (λ (e : Entry). e.1) m.3 in
+                absurd (omega (arith, low, up, place_is))
+          ]
+
+-- of one entry more
+pub asked_more : (names : List Entry) (files : List FileDefs) (name : List ℕ) (p i k : ℕ) → k ≡ (get_or names i (0, 0)).1 → answer_at (definition_in name) files k ≡ None
+    → Asked names files name p i → Asked names files name p (i + 1)
+asked_more names files name p i k at none asked m up less = elim (cases_lt m i) [
+  | inl below ↦ asked m up below
+  | inr high ↦
+      let same : i ≡ m = omega (arith, less, high) in
+      ap (λ (n : ℕ). answer_at (definition_in name) files n) (ap (λ (n : ℕ). (get_or names n (0, 0)).1) (sym same) ∙ sym at) ∙ none
+]
+
+pub none_asked : (names : List Entry) (files : List FileDefs) (name : List ℕ) (p : ℕ) → Asked names files name p p
+none_asked names files name p m up less = absurd (omega (arith, up, less))
+
+pub has_some : (files : List FileDefs) (k : ℕ) (name : List ℕ) (o : Option (List ℕ × Definition)) → o ≡ answer_at (definition_in name) files k → is_some o ≡ true → has files k name ≡ true
+has_some files k name o is some = has_answer files k name ∙ ap (λ o. is_some o) (sym is) ∙ some
+
+pub none_of : {X : Type 0} (o : Option X) → is_some o ≡ false → o ≡ None
+none_of None none = refl
+none_of (Some x) none = absurd (true≢false none)

@@ -6,7 +6,7 @@ use Rattle.std.specs.Option.{MatchOption}
 use Rattle.std.specs.Str.{IsCharBoundary, IsUtf8}
 use Rattle.std.specs.Str.Pattern.{FindsTextPrefix, StripsPrefix}
 use Rattle.std.specs.List.{list_any}
-use Rattle.std.proofs.lemmas.List.{at_drop_all, at_drop_more, length-append, take-append-drop, take-append-le, take_at}
+use Rattle.std.proofs.lemmas.List.{at_drop_all, at_drop_more, length-append, length-take-le, take-append-drop, take-append-le, take_at}
 use Rattle.pq_schema.proofs.Walks.{grouped, nothing_further}
 use Rattle.std.proofs.lemmas.Bool.{ltb-false, ltb-true, lt-ltb}
 use Rattle.std.proofs.lemmas.Slice.Eq.{bytes_eq-Decides}
@@ -21,7 +21,7 @@ use Rattle.pq_schema.specs.Resolution.{Found, Meaning, decides, dotted, found, f
 use Rattle.pq_schema.specs.Resolution.Found.{FoundType, FoundOther, FoundNothing}
 use Rattle.pq_schema.specs.Resolution.Meaning.{Defined, Undefined}
 use Rattle.pq_schema.specs.aux.Along.{Contents}
-use Rattle.pq_schema.specs.aux.NameCodes.{code_of}
+use Rattle.pq_schema.specs.aux.Fronts.{BothBegin}
 use Rattle.pq_schema.specs.aux.NameParts.{leading}
 use Rattle.pq_schema.specs.aux.PackageRange.{IsRange}
 use Rattle.pq_schema.specs.declared.package_range.PackageRange.{PackageRange}
@@ -490,15 +490,32 @@ scope_head lead head others n start is count at =
 not_defined : (files : List FileDefs) (x : List ℕ) (there : Bool) → meaning files x ≡ Undefined → there ≡ is_package files x → of_package there ≡ found files x
 not_defined files x there none is = ap of_package is ∙ sym (ap (λ (m : Meaning). found_by (is_package files x) m) none)
 
-pub undefined_in : (files own : List FileDefs) (root lead head others name : List ℕ) (n start code : ℕ) (r : PackageRange) (there : Bool)
-    → own ≡ files → lead ≡ leading root → lead ≡ leading (take n lead) ++ others → start ≡ length lead - length others → head ≡ take start lead
-    → IsRange own (take start (leading root)) r
+pub head_found : (files : List FileDefs) (root lead head others name : List ℕ) (n start : ℕ) → lead ≡ leading root → lead ≡ leading (take n lead) ++ others
+    → start ≡ length lead - length others → head ≡ take start lead → found files (head ++ name) ≡ found files (leading (take n (leading root)) ++ name)
+head_found files root lead head others name n start is parted count at =
+    ap (λ (h : List ℕ). found files (h ++ name)) (scope_head lead head others n start parted count at ∙ ap (λ (l : List ℕ). leading (take n l)) is)
+
+pub head_both : (root lead head others name full : List ℕ) (start : ℕ) → lead ≡ leading root → start ≡ length lead - length others → head ≡ take start lead
+    → full ≡ head ++ name → BothBegin start (leading root) full
+head_both root lead head others name full start is count at spelled = (
+  head,
+  ap length at ∙ length-take-le start lead (omega (arith, count)),
+  (drop start lead, sym is ∙ sym (take-append-drop start lead) ∙ ap (λ (h : List ℕ). h ++ drop start lead) (sym at)),
+  (name, spelled),
+)
+
+pub undefined_in : (files own : List FileDefs) (root lead head name full : List ℕ) (start : ℕ) (r : PackageRange) (there : Bool)
+    → own ≡ files → lead ≡ leading root → head ≡ take start lead → IsRange own (take start (leading root)) r
     → ((l : List ℕ) → IsRange files l r → 0 < length (l ++ name) → there ≡ is_package files (l ++ name))
-    → 0 < length name → code ≡ code_of (head ++ name) → ((x : List ℕ) → code_of x ≡ code → meaning files x ≡ Undefined)
-    → of_package there ≡ found files (leading (take n (leading root)) ++ name)
-undefined_in files own root lead head others name n start code r there same is parted count at range has some coded none =
+    → 0 < length name → full ≡ head ++ name → Undefined ≡ meaning files full
+    → of_package there ≡ found files (head ++ name)
+undefined_in files own root lead head name full start r there same is at range has some spelled none =
     let here : IsRange files head r =
     subst (λ (l : List ℕ). IsRange files l r) (sym (at ∙ ap (take start) is))
     (subst (λ (fs : List FileDefs). IsRange fs (take start (leading root)) r) same range) in
-    not_defined files (head ++ name) there (none (head ++ name) (sym coded)) (has head here (omega (arith, some, length-append head name)))
-    ∙ ap (λ (h : List ℕ). found files (h ++ name)) (scope_head lead head others n start parted count at ∙ ap (λ (l : List ℕ). leading (take n l)) is)
+    not_defined files (head ++ name) there (ap (meaning files) (sym spelled) ∙ sym none) (has head here (omega (arith, some, length-append head name)))
+
+pub defined_in : (files : List FileDefs) (file : List ℕ) (d : Definition) (head name full : List ℕ) → full ≡ head ++ name → Defined file d ≡ meaning files full
+    → found_as file d d.kind ≡ found files (head ++ name)
+defined_in files file d head name full spelled is =
+    ap (λ (m : Meaning). found_by (is_package files (head ++ name)) m) (is ∙ ap (meaning files) spelled)

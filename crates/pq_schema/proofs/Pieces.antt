@@ -90,16 +90,18 @@ whole_text parts text self is none =
     let empty : length text ≡ 0 = grind (arith, nat_tests) in
     no_text parts text self is empty
 
-pub piece_found : (parts before : List (List ℕ)) (part text self : List ℕ) → parts ≡ before ++ part ∷ [] → text ≡ part → concat parts ≡ self → self ≡ concat before ++ text
-piece_found parts before part text self is same whole =
-    sym whole
-    ∙ ap concat is
-    ∙ concat-append before (part ∷ [])
-    ∙ ap (λ (b : List ℕ). concat before ++ b) (append-nil part ∙ sym same)
+-- the last piece of a front of `head` and `parts`
+pub piece_found : (head : List ℕ) (parts before : List (List ℕ)) (part text self : List ℕ) → parts ≡ before ++ part ∷ [] → text ≡ part → self ≡ head ++ concat parts
+    → self ≡ (head ++ concat before) ++ text
+piece_found head parts before part text self is same spelled =
+    let last : concat parts ≡ concat before ++ text =
+    ap concat is ∙ concat-append before (part ∷ []) ∙ ap (λ (b : List ℕ). concat before ++ b) (append-nil part ∙ sym same) in
+    spelled ∙ ap (λ (b : List ℕ). head ++ b) last ∙ sym (append_assoc head (concat before) text)
 
-pub piece_empty : (parts before : List (List ℕ)) (part text self : List ℕ) → parts ≡ before ++ part ∷ [] → text ≡ part → (length text == 0) ≡ true → concat parts ≡ self → concat before ≡ self
-piece_empty parts before part text self is same none whole =
-    whole_text (concat before) text self (sym (piece_found parts before part text self is same whole)) none
+pub piece_empty : (head : List ℕ) (parts before : List (List ℕ)) (part text self : List ℕ) → parts ≡ before ++ part ∷ [] → text ≡ part → (length text == 0) ≡ true
+    → self ≡ head ++ concat parts → self ≡ head ++ concat before
+piece_empty head parts before part text self is same none spelled =
+    sym (whole_text (head ++ concat before) text self (sym (piece_found head parts before part text self is same spelled)) none)
 
 -- a text in two parts, of which the second is known
 pub parted : (n : ℕ) (text before after end : List ℕ) → before ≡ take n text → after ≡ drop n text → after ≡ end → text ≡ before ++ end

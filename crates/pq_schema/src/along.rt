@@ -10,7 +10,7 @@
 //! The table takes one walk over the bytes of each package, up to the part after the last scope
 //! that it shares, and a sort of as many parts as there are packages and parts of the searching
 //! package. Packages of one name are looked at once.
-ghost use Rattle.std.specs.Prelude.{◌≡◌, ◌≢◌, ℕ, ◌<◌, ◌≤◌, ◌++◌, ◌∷◌, ◌+◌, ◌-◌, [], IfOk, IfSome, OnOk, List, cond, false, true, find, get_or, length, option_map, bytes_eq, not, take};
+ghost use Rattle.std.specs.Prelude.{◌≡◌, ◌≢◌, ℕ, ◌<◌, ◌≤◌, ◌++◌, ◌∷◌, ◌+◌, ◌-◌, [], IfOk, IfSome, OnOk, List, false, true, find, get_or, length, option_map, bytes_eq, not, take};
 ghost use Rattle.std.specs.Cmp.Lexicographic.{slice_cmp};
 ghost use Rattle.std.specs.Cmp.Rules.{comparing};
 ghost use Rattle.std.specs.Cmp.{partial_order_from_own_ties};
@@ -21,16 +21,16 @@ ghost use Rattle.std.specs.List.Sorted.{IsSorted};
 ghost use Rattle.pq_schema.specs.Definitions.{qualified};
 ghost use Rattle.pq_schema.specs.Resolution.{is_package, scopes};
 ghost use Rattle.pq_schema.specs.aux.Along.{AllMeet, AreKept, HasMet, IsAlong, IsCovered, IsLastStart, IsPlain, IsSame, IsStart, MeetBeside, Meets};
-ghost use Rattle.pq_schema.specs.aux.Fronts.{AreCounts, CountsAt};
+ghost use Rattle.pq_schema.specs.aux.Fronts.{AreFronts};
 ghost use Rattle.pq_schema.specs.aux.Grouping.{root_order};
 ghost use Rattle.pq_schema.specs.aux.NameParts.{leading};
 ghost use Rattle.pq_schema.specs.aux.PackageRange.{IsRange};
 
 use crate::by_package::Entry;
 use crate::files::Files;
+use crate::fronts::{Common, fronts_of};
 use crate::lead::lead_text;
 use crate::package_range::PackageRange;
-use crate::scope::FileDefs;
 use crate::scope_ranges::{ScopeRange, range_at, ranges_of};
 use pq_names::{Memory, Text};
 use std::alloc::Global;
@@ -274,32 +274,6 @@ fn last_start(parts: &[Met<'_>], name: &[u8]) -> Option<usize>
     Some(last.1)
 }
 
-/// `count` for a file of the package, and else 0.
-fn count_if(is_root: bool, count: usize) -> usize
-    ensures is { result ≡ cond is_root count 0 }
-{
-    if is_root { count } else { 0 }
-}
-
-/// Of each of `files`, the number `count` of bytes before a simple name in the package `root` if that
-/// is its package, and else 0.
-fn counts_of(
-    alloc: Global,
-    files: &[FileDefs],
-    root: &str,
-    count: usize,
-) -> Result<Vec<usize>, Memory>
-    requires count { count ≡ length (leading root.now) }
-    ensures counts { IfOk result (λ v. AreCounts v.items files.now root.now) }
-{
-    let mut counts = Vec::with_capacity(alloc, files.len())?;
-    'files: for i in 0..files.len() {
-        let is_root = files[i].defs.get().package_name() == root;
-        counts.push(count_if(is_root, count))?;
-    }
-    Ok(counts)
-}
-
 /// The packages that a search from the package `root` outwards meets. Contracts see the files and
 /// the package.
 #[derive(Drop)]
@@ -308,9 +282,8 @@ pub(crate) struct Along<'a> {
     root: &'a str,
     /// The parts that the packages of the files meet, sorted.
     parts: Vec<Met<'a>>,
-    /// Of each file, the number of bytes before a simple name in `root` if that is its package, and
-    /// else 0.
-    counts: Vec<usize>,
+    /// How far the package of each file goes along `lead`.
+    fronts: Vec<Common>,
     /// What is before a simple name in `root`.
     lead: Text,
     /// The packages inside `root`.
@@ -322,7 +295,7 @@ pub(crate) struct Along<'a> {
 impl<'a> Model for Along<'a> {
     ghost use Rattle.std.specs.Prelude.{◌≡◌, length};
     ghost use Rattle.pq_schema.specs.aux.Along.{Contents, IsAlong};
-    ghost use Rattle.pq_schema.specs.aux.Fronts.{AreCounts};
+    ghost use Rattle.pq_schema.specs.aux.Fronts.{AreFronts};
     ghost use Rattle.pq_schema.specs.aux.NameParts.{leading};
     ghost use Rattle.pq_schema.specs.aux.PackageRange.{AreRanges, IsRange};
 
@@ -331,7 +304,7 @@ impl<'a> Model for Along<'a> {
     ghost view = { λ a. record { files = a.files.now; root = a.root.now } };
 
     ghost invariant = { λ a. IsAlong a.parts.items a.files.now a.root.now
-        × AreCounts a.counts.items a.files.now a.root.now
+        × AreFronts a.fronts.items a.files.now a.root.now
         × (a.lead ≡ leading a.root.now)
         × IsRange a.files.now (leading a.root.now) a.packages
         × AreRanges a.files.now (leading a.root.now) a.ranges.items };
@@ -344,13 +317,13 @@ impl<'a> Along<'a> {
     {
         let parts = table(alloc, files, root)?;
         let lead = lead_text(alloc, root)?;
-        let counts = counts_of(alloc, files.as_slice(), root, lead.as_str().len())?;
+        let fronts = fronts_of(alloc, files.as_slice(), lead.as_str(), root)?;
         let ranges = ranges_of(alloc, files, lead.as_str())?;
         Ok(Along {
             files,
             root,
             parts,
-            counts,
+            fronts,
             lead,
             packages: files.packages_in(root),
             ranges,
@@ -386,23 +359,11 @@ impl<'a> Along<'a> {
         self.lead.as_str().len()
     }
 
-    /// The number of bytes before a simple name in `root`, if that is the package of the file at
-    /// `place`, and 0 for another file.
-    pub(crate) fn count_at(&self, place: usize) -> usize
-        ensures count { CountsAt result self.now.files place self.now.root }
+    /// How far the package of each file goes along what is before a simple name in `root`.
+    pub(crate) fn fronts(&self) -> &[Common]
+        ensures fronts { AreFronts result.now self.now.files self.now.root }
     {
-        match self.counts.get(place) {
-            Some(count) => *count,
-            None => 0,
-        }
-    }
-
-    /// Of each file, the number of bytes before a simple name in `root` if that is its package, and
-    /// else 0.
-    pub(crate) fn counts(&self) -> &[usize]
-        ensures counts { AreCounts result.now self.now.files self.now.root }
-    {
-        &self.counts
+        &self.fronts
     }
 
     /// The length of the innermost of the scopes from `root` outwards in which `name` is a package.

@@ -68,15 +68,6 @@ impl Coded {
             order => order,
         }
     }
-
-    /// Whether this is the name `name`, where both begin with the same `count` bytes.
-    #[tactic(auto, using(crate::specs::aux::NameOrder::names_tie))]
-    pub(crate) fn is_alike(&self, name: &Spelled<'_>, count: usize) -> bool
-        requires alike { take count self.now ≡ take count name.now }
-        ensures is { result ≡ bytes_eq self.now name.now }
-    {
-        self.name.compare_alike(name, count).is_eq()
-    }
 }
 
 /// Names with two codes are not compared.

@@ -68,7 +68,7 @@ fn others_of(
 }
 
 /// The larger one of `a` and `b`.
-fn larger(a: usize, b: usize) -> usize
+pub(crate) fn larger(a: usize, b: usize) -> usize
     ensures first { a ≤ result }
     ensures second { b ≤ result }
 {
@@ -150,15 +150,6 @@ impl Files {
         &self.files
     }
 
-    /// The first definition with the full name `name`: the files in order, then each in text order.
-    /// `near` has the places of the files that can have the name.
-    pub(crate) fn definition(&self, near: &[usize], name: &Spelled<'_>) -> Option<Place<'_>>
-        requires near { AreNear near.now self.now (around name.now) }
-        ensures first { meaning_at result ≡ meaning self.now name.now }
-    {
-        first_definition(&self.files, near, name)
-    }
-
     /// The places of the files but of the file `file`, whose package is `within`, a prefix of it
     /// before a dot, or empty, in order.
     pub(crate) fn others_near(
@@ -184,7 +175,7 @@ impl Files {
         ensures first { IfOk result (λ o. option_copied o ≡ first_of (other_with file.now name.now) self.now) }
     {
         let others = self.others_near(alloc, file, outer(name))?;
-        let found = first_definition(&self.files, &others, &Spelled::new(&[], name));
+        let found = first_definition(&self.files, &[], 0, &others, &Spelled::new(&[], name));
         Ok(file_of(found))
     }
 

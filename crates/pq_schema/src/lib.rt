@@ -14,17 +14,17 @@
 //! all definitions), `references`, `outline` (the package and the scopes of a file), `full_name`
 //! and `enclosing` (names that share their scopes), `spelled` (names in pieces), `map_entries`;
 //! `scope` (the files that a file sees and reaches), `files` over `by_package` and `named` (the
-//! look-up of a full name, which files it asks, and the first that has it), `other_files` over
-//! `near_names` (many look-ups in the same files), `nesting` (the scopes around a scope), `search`
-//! (the search from scope to scope), `uses` over `inner` (the references of a file and its open
-//! scopes), `asked` and `closed` (what was looked up in these), `resolution` (their answers);
-//! `keys` (what a sum offers), `defined`, `scopes` over `collected`, and `resolved` (the queries),
-//! `rules` (the rule set); `laws`, `scope_laws`.
+//! look-up of a full name, which files it asks, and the first that has it), `fronts` (how far the
+//! packages of files go together), `other_files` over `near_names` (many look-ups in the same
+//! files), `nesting` (the scopes around a scope), `search` (the search from scope to scope), `uses`
+//! over `inner` (the references of a file and its open scopes), `asked` and `closed` (what was
+//! looked up in these), `resolution` (their answers); `keys` (what a sum offers), `defined`,
+//! `scopes` over `collected`, and `resolved` (the queries), `rules` (the rule set); `laws`,
+//! `scope_laws`.
 #![tactic(auto)]
 
 mod along;
 mod asked;
-mod below;
 mod by_package;
 mod closed;
 mod coded;
@@ -36,6 +36,7 @@ mod definitions;
 mod digests;
 mod enclosing;
 mod files;
+mod fronts;
 mod full_name;
 mod index;
 mod inner;

@@ -8,8 +8,9 @@ ghost use Rattle.std.specs.Option.{option_copied};
 ghost use Rattle.pq_schema.specs.declared.scope.FileDefs.{FileDefs};
 ghost use Rattle.pq_schema.specs.Resolution.{is_package, meaning};
 ghost use Rattle.pq_schema.specs.Resolution.Meaning.{Undefined};
-ghost use Rattle.pq_schema.specs.aux.Fronts.{Begins};
-ghost use Rattle.pq_schema.specs.aux.Grouping.{AreNear, around};
+ghost use Rattle.pq_schema.specs.aux.Fronts.{Begins, BothBegin, Guides};
+ghost use Rattle.pq_rules.specs.Relations.{Each};
+ghost use Rattle.pq_schema.specs.aux.Grouping.{AreNear, IsBelow, around};
 ghost use Rattle.pq_schema.specs.aux.Hits.{meaning_at};
 ghost use Rattle.pq_schema.specs.aux.NameCodes.{code_of};
 ghost use Rattle.pq_schema.specs.aux.NameParts.{leading};
@@ -17,12 +18,13 @@ ghost use Rattle.pq_schema.specs.aux.PackageRange.{IsRange};
 ghost use Rattle.pq_schema.specs.aux.Scopes.{chain};
 
 use crate::along::Along;
-use crate::below::{first_below, listed_below};
 use crate::by_package::Entry;
 use crate::files::Files;
-use crate::named::{Place, first_listed};
+use crate::fronts::Common;
+use crate::named::{Place, first_definition, first_indexed};
 use crate::near_names::{Named, count_of, has_code, has_code_near, names_of};
 use crate::package_range::PackageRange;
+use crate::scope::FileDefs;
 use crate::spelled::Spelled;
 use pq_names::Memory;
 use std::alloc::Global;
@@ -37,7 +39,7 @@ pub(crate) struct Lookup<'a> {
     /// The places of all files, where all are asked or there is an index.
     all: Vec<usize>,
     /// The index of all files, where it was worth making.
-    names: Option<Vec<Named<'a>>>,
+    names: Option<Vec<Named>>,
 }
 
 impl<'a> Model for Lookup<'a> {
@@ -162,16 +164,53 @@ impl<'a> Lookup<'a> {
         self.files.near(alloc, within)
     }
 
+    /// The first definition with the full name `name`: the files `files`, which are all, in order, then
+    /// each in text order. `near` has the places of the files that can have the name. It goes `start`
+    /// bytes along the way of `fronts`.
+    fn definition_guided(
+        &self,
+        files: &'a [FileDefs],
+        fronts: &[Common],
+        start: usize,
+        near: &[usize],
+        name: &Spelled<'_>,
+    ) -> Option<Place<'a>>
+        requires files { files.now ≡ self.now }
+        requires below { Each IsBelow files.now }
+        requires near { AreNear near.now self.now (around name.now) }
+        requires guides { Guides fronts.now start files.now name.now }
+        ensures first { meaning_at result ≡ meaning self.now name.now }
+    {
+        match &self.names {
+            Some(names) => first_indexed(files, fronts, start, &self.all, names, name),
+            None => first_definition(files, fronts, start, near, name),
+        }
+    }
+
     /// The first definition with the full name `name`: the files in order, then each in text order.
     /// `near` has the places of the files that can have the name.
     pub(crate) fn definition(&self, near: &[usize], name: &Spelled<'_>) -> Option<Place<'a>>
         requires near { AreNear near.now self.now (around name.now) }
         ensures first { meaning_at result ≡ meaning self.now name.now }
     {
-        match &self.names {
-            Some(_) => first_listed(self.files.files(), &self.all, &self.names, name),
-            None => self.files.definition(near, name),
-        }
+        self.definition_guided(self.files.files(), &[], 0, near, name)
+    }
+
+    /// The first definition with the full name `name`, as `definition` finds it. The name begins with
+    /// the same `start` bytes as the names in the package of `along`, which are mostly not read.
+    pub(crate) fn definition_along(
+        &self,
+        along: &Along<'_>,
+        start: usize,
+        near: &[usize],
+        name: &Spelled<'_>,
+    ) -> Option<Place<'a>>
+        requires near { AreNear near.now self.now (around name.now) }
+        requires files { along.now.files ≡ self.now }
+        requires front { BothBegin start (leading along.now.root) name.now }
+        ensures first { meaning_at result ≡ meaning self.now name.now }
+    {
+        self.definition_guided(self.files.files(), along.fronts(), start, near, name)
     }
 
     /// The first definition with the full name `name`, as `definition` finds it. The name begins with
@@ -187,39 +226,16 @@ impl<'a> Lookup<'a> {
         requires front { Begins (leading along.now.root) name.now }
         ensures first { meaning_at result ≡ meaning self.now name.now }
     {
-        match &self.names {
-            Some(names) => listed_below(self.files.files(), along, &self.all, names, name),
-            None => first_below(self.files.files(), along, near, name),
-        }
+        self.definition_along(along, along.count(), near, name)
     }
 
     /// Whether a definition in the files, of which `near` has those that can have the name `name`, has
     /// its code. Only these are compared with it.
     pub(crate) fn may_have(&self, near: &[usize], name: &Spelled<'_>) -> bool {
-        self.may_have_code(near, name.code())
-    }
-
-    /// Whether a definition in the files, of which `near` has those that can have the name, may have a
-    /// name of the code `code`.
-    fn may_have_code(&self, near: &[usize], code: u64) -> bool
-        ensures none { result ≡ false → (name : List ℕ) → code_of name ≡ code
-            → AreNear near.now self.now (around name) → meaning self.now name ≡ Undefined }
-    {
-        let files = self.files.files();
+        let code = name.code();
         match &self.names {
             Some(names) => has_code(names, code),
-            None => has_code_near(files, near, code),
-        }
-    }
-
-    /// Whether a definition of the files may have a name of the code `code`. It is not looked up where
-    /// that would cost more than a search of an index or two.
-    pub(crate) fn may_define(&self, code: u64) -> bool
-        ensures none { result ≡ false → (name : List ℕ) → code_of name ≡ code → meaning self.now name ≡ Undefined }
-    {
-        match self.all() {
-            Some(all) => self.may_have_code(all, code),
-            None => true,
+            None => has_code_near(self.files.files(), near, code),
         }
     }
 

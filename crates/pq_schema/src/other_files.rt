@@ -28,7 +28,7 @@ pub struct OtherFiles<'a> {
     /// The places of the other files that can define a name of the package of `defs`.
     near: Vec<usize>,
     /// The index of these files, where it was worth making.
-    names: Option<Vec<Named<'a>>>,
+    names: Option<Vec<Named>>,
 }
 
 impl<'a> Model for OtherFiles<'a> {
@@ -87,7 +87,7 @@ impl<'a> OtherFiles<'a> {
             return self.files.first_other(alloc, self.file, text.as_str());
         }
         let name = full_name.spelled();
-        let found = first_listed(self.files.files(), &self.near, &self.names, &name);
+        let found = first_listed(self.files.files(), &[], 0, &self.near, &self.names, &name);
         Ok(file_of(found))
     }
 }

@@ -19,8 +19,8 @@ use crate::along::Along;
 use crate::lead::{lead_text, spell};
 use crate::lookup::Lookup;
 use crate::named::Place;
-use crate::search::{Hit, find_any, find_below, has_names, hit_at, unless_type};
-use crate::spelled::code_of_both;
+use crate::search::{Hit, find_along, find_any, find_below, has_names, hit_at, unless_type};
+use crate::spelled::Spelled;
 use pq_names::{Memory, Text};
 use std::alloc::Global;
 use std::slice;
@@ -50,10 +50,7 @@ fn look_in_spot<'a>(
     ensures first { meaning_at result ≡ meaning files.now (spot.now ++ name.now) }
 {
     let full = spell(spot, name);
-    if spot.as_str().len() == along.count() {
-        return files.definition_below(along, near, &full);
-    }
-    files.definition(near, &full)
+    files.definition_along(along, spot.as_str().len(), near, &full)
 }
 
 /// What the name `name`, which is in the package of `along`, is found as in `files`.
@@ -85,10 +82,13 @@ fn find_in_spot<'a>(
     requires spot { IsSpotOf along.now.root spot.now }
     ensures is { IfOk result (λ hit. found_at hit ≡ found files.now (spot.now ++ name.now)) }
 {
-    if spot.as_str().len() == along.count() {
+    let start = spot.as_str().len();
+    if start == along.count() {
         return find_in_package(alloc, buffer, files, along, name);
     }
-    find_any(alloc, buffer, files, None, slice::from_ref(spot), name)
+    let packages = along.packages_at(start);
+    let lead = slice::from_ref(spot);
+    find_along(alloc, buffer, files, along, start, packages, lead, name)
 }
 
 /// What a name whose first definition is at `place` is found as, where packages do not count.
@@ -223,9 +223,10 @@ fn after_lead<'a>(lead: &str, count: usize, name: &'a str) -> Option<&'a str>
 }
 
 /// What the name `name`, which is in the scope of the first `count` bytes of the package of `along`, is
-/// found as in `files`, if no definition has the code of the full name. The full name is not spelled.
-fn find_undefined<'a>(
-    files: &Lookup<'_>,
+/// found as in `files`, if the packages in that scope are known and all files are asked. The name of the
+/// scope is not copied, and is mostly not read.
+fn find_after<'a>(
+    files: &Lookup<'a>,
     along: &Along<'_>,
     count: usize,
     name: &str,
@@ -238,14 +239,21 @@ fn find_undefined<'a>(
     let others = after_scope(lead, count)?;
     let start = lead.len().saturating_sub(others.len());
     let packages = along.packages_at(start)?;
+    let all = files.all()?;
     let (head, _) = lead.split_at_checked(start)?;
-    if name.is_empty() || files.may_define(code_of_both(head, name)) {
+    if name.is_empty() {
         return None;
     }
-    if packages.has(name) {
-        Some(Hit::Other)
-    } else {
-        Some(Hit::Nothing)
+    let full = Spelled::after(head, name);
+    match files.definition_along(along, start, all, &full) {
+        Some(place) => Some(hit_at(place)),
+        None => {
+            if packages.has(name) {
+                Some(Hit::Other)
+            } else {
+                Some(Hit::Nothing)
+            }
+        }
     }
 }
 
@@ -272,7 +280,7 @@ fn find_from<'a>(
             if let Some(rest) = after_lead(along.lead().as_str(), count, name) {
                 return find_in_package(alloc, buffer, files, along, rest);
             }
-            if let Some(hit) = find_undefined(files, along, count, name) {
+            if let Some(hit) = find_after(files, along, count, name) {
                 return Ok(hit);
             }
             let lead = lead_text(alloc, &root[..count])?;

@@ -9,7 +9,7 @@ ghost use Rattle.std.specs.List.{concat};
 ghost use Rattle.pq_rules.specs.Relations.{Each};
 ghost use Rattle.pq_schema.specs.Resolution.{found, found_as, has_names, decides, is_package, meaning, unless_type, single, dotted, scopes, search, lookup, lookup_by};
 ghost use Rattle.pq_schema.specs.aux.Asked.{AreAsked};
-ghost use Rattle.pq_schema.specs.aux.Fronts.{Begins};
+ghost use Rattle.pq_schema.specs.aux.Fronts.{Begins, BothBegin};
 ghost use Rattle.pq_schema.specs.aux.Grouping.{AreNear, around};
 ghost use Rattle.pq_schema.specs.aux.Hits.{found_at, lookup_at, meaning_at};
 ghost use Rattle.pq_schema.specs.aux.Inside.{IsFirstAt, dotted_from, single_from};
@@ -151,6 +151,34 @@ pub(crate) fn find_any<'a>(
     }
 }
 
+/// What `name` with `lead` before it, which begins with the same `start` bytes as the names in the
+/// package of `along`, is found as in `files`. `packages` has those that begin with `lead`, if they were
+/// looked for.
+pub(crate) fn find_along<'a>(
+    alloc: Global,
+    buffer: &mut String,
+    files: &Lookup<'a>,
+    along: &Along<'_>,
+    start: usize,
+    packages: Option<PackageRange<'_>>,
+    lead: &[Text],
+    name: &str,
+) -> Result<Hit<'a>, Memory>
+    requires files { along.now.files ≡ files.now }
+    requires front { BothBegin start (leading along.now.root) (concat lead.now ++ name.now) }
+    requires packages { IsRangeOf files.now packages (concat lead.now) }
+    ensures is { IfOk result (λ hit. found_at hit ≡ found files.now (concat lead.now ++ name.now)) }
+{
+    match files.all() {
+        Some(all) => {
+            let full = Spelled::new(lead, name);
+            let place = files.definition_along(along, start, all, &full);
+            find_full(buffer, files, packages, place, lead, name)
+        }
+        None => find_any(alloc, buffer, files, packages, lead, name),
+    }
+}
+
 /// What `name` with `lead` before it, which begins with the package of `along`, is found as in `files`.
 /// `packages` has those that begin with `lead`, if they were looked for.
 pub(crate) fn find_below<'a>(
@@ -167,14 +195,8 @@ pub(crate) fn find_below<'a>(
     requires packages { IsRangeOf files.now packages (concat lead.now) }
     ensures is { IfOk result (λ hit. found_at hit ≡ found files.now (concat lead.now ++ name.now)) }
 {
-    match files.all() {
-        Some(all) => {
-            let full = Spelled::new(lead, name);
-            let place = files.definition_below(along, all, &full);
-            find_full(buffer, files, packages, place, lead, name)
-        }
-        None => find_any(alloc, buffer, files, packages, lead, name),
-    }
+    let start = along.count();
+    find_along(alloc, buffer, files, along, start, packages, lead, name)
 }
 
 /// Whether `name` with `lead` before it, whose first definition in `files` is at `place`, decides for a

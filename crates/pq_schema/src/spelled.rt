@@ -2,12 +2,12 @@
 //!
 //! Two names are compared from their last bytes to their first. Pieces that end in the same bytes
 //! are compared many bytes at a time, and so are halves of pieces that differ. Only the last few
-//! bytes are read one by one. Names known to begin alike are compared after that first. A code
-//! is made of the last bytes of a name and of their number.
-ghost use Rattle.std.specs.Prelude.{◌≡◌, ◌⊎◌, ◌≤◌, ◌<◌, ◌-◌, ◌%◌, ◌^◌, ℕ, List, [], ◌∷◌, ◌++◌, ◌==◌, IfErr, IfOk, IfSome, None, Some, bytes_eq, length, option_to_list, reverse, string_bytes, take, true};
+//! bytes are read one by one. Names known to begin alike are first compared by the bytes after
+//! that. A code is made of the last bytes of a name and of their number.
+ghost use Rattle.std.specs.Prelude.{◌≡◌, ◌⊎◌, ◌≤◌, ◌<◌, ◌+◌, ◌-◌, ◌%◌, ◌^◌, ℕ, List, [], ◌∷◌, ◌++◌, ◌==◌, IfErr, IfOk, IfSome, None, Some, bytes_eq, length, option_to_list, reverse, string_bytes, take, true};
 ghost use Rattle.std.specs.List.{concat};
 ghost use Rattle.pq_schema.specs.aux.NameParts.{name_order};
-ghost use Rattle.pq_schema.specs.aux.Fronts.{IsBehind, IsCommonEnd};
+ghost use Rattle.pq_schema.specs.aux.Fronts.{AreSameEnds, EndAlike, IsCommonEnd};
 ghost use Rattle.pq_schema.specs.aux.NameCodes.{code_from, coded, code_of, tail_code};
 ghost use Rattle.pq_schema.specs.aux.Spots.{IsPlain};
 
@@ -16,20 +16,99 @@ use pq_names::{Memory, Text};
 use std::cmp::Ordering;
 use std::marker::Model;
 
-/// A name in pieces. Contracts see its bytes.
+/// The pieces of a name before its last: `head`, then each of `parts`. Contracts see their bytes.
 #[derive(Drop)]
-pub(crate) struct Spelled<'a> {
+struct Front<'a> {
+    head: &'a str,
     parts: &'a [Text],
-    text: &'a str,
 }
 
-impl<'a> Model for Spelled<'a> {
+impl<'a> Model for Front<'a> {
     ghost use Rattle.std.specs.Prelude.{List, ℕ, ◌++◌};
     ghost use Rattle.std.specs.List.{concat};
 
     ghost Value = { List ℕ };
 
-    ghost view = { λ s. concat s.parts.now ++ s.text.now };
+    ghost view = { λ f. f.head.now ++ concat f.parts.now };
+}
+
+impl<'a> Front<'a> {
+    /// The same pieces once more.
+    fn copy(&self) -> Front<'a>
+        ensures copy { result ≡ self.now }
+    {
+        Front {
+            head: self.head,
+            parts: self.parts,
+        }
+    }
+
+    /// The last piece with bytes, after the pieces before it.
+    fn split_last(&self) -> Option<(Front<'a>, &'a str)>
+        ensures pieces { IfSome result (λ r. self.now ≡ r.0 ++ r.1.now) }
+        ensures some { IfSome result (λ r. 0 < length r.1.now) }
+        ensures end { result ≡ None → self.now ≡ [] }
+    {
+        let head = self.head;
+        let mut parts = self.parts;
+        'parts: loop {
+            match parts.split_last() {
+                Some((part, before)) => {
+                    let text = part.as_str();
+                    if !text.is_empty() {
+                        let front = Front {
+                            head,
+                            parts: before,
+                        };
+                        return Some((front, text));
+                    }
+                    parts = before;
+                }
+                None => return head_alone(head),
+            }
+        }
+    }
+
+    /// What the pieces leave of `most` bytes, if they have no more.
+    fn left_of(&self, most: usize) -> Option<usize>
+        ensures within { IfSome result (λ n. n ≤ most) }
+        ensures left { length self.now ≤ most → result ≡ Some (most - length self.now) }
+        ensures sum { IfSome result (λ n. n + length self.now ≡ most) }
+    {
+        let left = most.checked_sub(self.head.len())?;
+        left_after(self.parts, left)
+    }
+}
+
+/// The piece `head` after no pieces, if it has bytes.
+fn head_alone(head: &str) -> Option<(Front<'_>, &str)>
+    ensures pieces { IfSome result (λ r. head.now ≡ r.0 ++ r.1.now) }
+    ensures some { IfSome result (λ r. 0 < length r.1.now) }
+    ensures end { result ≡ None → head.now ≡ [] }
+{
+    if head.is_empty() {
+        return None;
+    }
+    let front = Front {
+        head: "",
+        parts: &[],
+    };
+    Some((front, head))
+}
+
+/// A name in pieces: those of `front`, then `text`. Contracts see its bytes.
+#[derive(Drop)]
+pub(crate) struct Spelled<'a> {
+    front: Front<'a>,
+    text: &'a str,
+}
+
+impl<'a> Model for Spelled<'a> {
+    ghost use Rattle.std.specs.Prelude.{List, ℕ, ◌++◌};
+
+    ghost Value = { List ℕ };
+
+    ghost view = { λ s. s.front ++ s.text.now };
 }
 
 impl<'a> Spelled<'a> {
@@ -37,7 +116,16 @@ impl<'a> Spelled<'a> {
     pub(crate) fn new(parts: &'a [Text], text: &'a str) -> Spelled<'a>
         ensures pieces { result ≡ concat parts.now ++ text.now }
     {
-        Spelled { parts, text }
+        let front = Front { head: "", parts };
+        Spelled { front, text }
+    }
+
+    /// The name of `head` and then `text`.
+    pub(crate) fn after(head: &'a str, text: &'a str) -> Spelled<'a>
+        ensures pieces { result ≡ head.now ++ text.now }
+    {
+        let front = Front { head, parts: &[] };
+        Spelled { front, text }
     }
 
     /// The same name once more.
@@ -45,33 +133,21 @@ impl<'a> Spelled<'a> {
         ensures copy { result ≡ self.now }
     {
         Spelled {
-            parts: self.parts,
+            front: self.front.copy(),
             text: self.text,
         }
     }
 
     /// The last piece with bytes, after the pieces before it.
-    fn split_last(&self) -> Option<(&'a [Text], &'a str)>
-        ensures pieces { IfSome result (λ r. self.now ≡ concat r.0.now ++ r.1.now) }
+    fn split_last(&self) -> Option<(Front<'a>, &'a str)>
+        ensures pieces { IfSome result (λ r. self.now ≡ r.0 ++ r.1.now) }
         ensures some { IfSome result (λ r. 0 < length r.1.now) }
         ensures end { result ≡ None → self.now ≡ [] }
     {
         if !self.text.is_empty() {
-            return Some((self.parts, self.text));
+            return Some((self.front.copy(), self.text));
         }
-        let mut parts = self.parts;
-        'parts: loop {
-            match parts.split_last() {
-                Some((part, before)) => {
-                    let text = part.as_str();
-                    if !text.is_empty() {
-                        return Some((before, text));
-                    }
-                    parts = before;
-                }
-                None => return None,
-            }
-        }
+        self.front.split_last()
     }
 
     /// Whether the name has no bytes.
@@ -93,7 +169,8 @@ impl<'a> Spelled<'a> {
         ensures bytes { IfOk result (λ _. string_bytes text.new ≡ self.now) }
     {
         text.clear();
-        push_parts(text, self.parts)?;
+        text.push_str(self.front.head)?;
+        push_parts(text, self.front.parts)?;
         text.push_str(self.text)?;
         Ok(())
     }
@@ -103,7 +180,9 @@ impl<'a> Spelled<'a> {
     pub(crate) fn code(&self) -> u64
         ensures code { result ≡ code_of self.now }
     {
-        coded(code_of_rest(self.rest()), count_of(self.parts, self.text))
+        let front = &self.front;
+        let code = code_of_pieces(front.head, front.parts, self.text.as_bytes());
+        coded(code, count_of(front, self.text))
     }
 
     /// The bytes of the name before its last dot; without a dot it has none.
@@ -121,17 +200,13 @@ impl<'a> Spelled<'a> {
         }
     }
 
-    /// The name without its first `count` bytes, if a piece begins after these.
-    fn behind(&self, count: usize) -> Option<Spelled<'a>>
-        ensures rest { IfSome result (λ r. IsBehind count self.now r) }
+    /// The number of bytes, if it is below 2^64.
+    fn count(&self) -> Option<usize>
+        ensures count { IfSome result (λ n. n ≡ length self.now) }
     {
-        match parts_behind(self.parts, count) {
-            Some(parts) => Some(Spelled {
-                parts,
-                text: self.text,
-            }),
-            None => None,
-        }
+        let left = self.front.left_of(usize::MAX)?;
+        let left = left.checked_sub(self.text.len())?;
+        Some(usize::MAX - left)
     }
 
     /// The bytes, to be read from the last to the first.
@@ -139,32 +214,10 @@ impl<'a> Spelled<'a> {
         ensures all { result ≡ self.now }
     {
         Rest {
-            parts: self.parts,
+            front: self.front.copy(),
             text: self.text.as_bytes(),
         }
     }
-}
-
-/// Those of `parts` after the first `count` bytes, if a part begins or ends there.
-fn parts_behind(parts: &[Text], count: usize) -> Option<&[Text]>
-    ensures rest { IfSome result (λ ps. IsBehind count (concat parts.now) (concat ps.now)) }
-{
-    let mut others = parts;
-    let mut left = count;
-    'parts: while left > 0 {
-        match others.split_first() {
-            Some((part, after)) => {
-                let bytes = part.as_str().len();
-                if left < bytes {
-                    return None;
-                }
-                left -= bytes;
-                others = after;
-            }
-            None => return None,
-        }
-    }
-    Some(others)
 }
 
 /// What is before `end` in `text`, if `text` ends in it.
@@ -201,55 +254,55 @@ fn before_common_end<'a, 'b>(piece: &'a str, other: &'b str) -> Option<(&'a str,
     None
 }
 
-/// The names of `parts` and `piece` and of `others` and `other`, without some bytes in which both end.
+/// The names of `front` and `piece` and of `others` and `other`, without some bytes in which both end.
 /// Pieces that differ far from their ends have such bytes.
 fn cut_end<'a, 'b>(
-    parts: &'a [Text],
+    front: Front<'a>,
     piece: &'a str,
-    others: &'b [Text],
+    others: Front<'b>,
     other: &'b str,
 ) -> Option<(Spelled<'a>, Spelled<'b>)>
-    ensures order { IfSome result (λ r. name_order (concat parts.now ++ piece.now) (concat others.now ++ other.now) ≡ name_order r.0 r.1) }
-    ensures less { IfSome result (λ r. length r.0 < length (concat parts.now ++ piece.now)) }
+    ensures order { IfSome result (λ r. name_order (front.entry ++ piece.now) (others.entry ++ other.now) ≡ name_order r.0 r.1) }
+    ensures less { IfSome result (λ r. length r.0 < length (front.entry ++ piece.now)) }
 {
     let (text, rest) = before_common_end(piece, other)?;
-    let left = Spelled { parts, text };
+    let left = Spelled { front, text };
     let right = Spelled {
-        parts: others,
+        front: others,
         text: rest,
     };
     Some((left, right))
 }
 
-/// The names of `parts` and `piece` and of `others` and `other`, without the bytes in which both end,
+/// The names of `front` and `piece` and of `others` and `other`, without the bytes in which both end,
 /// if one of the two pieces ends in the other, or if both end in some half of one.
 fn cut<'a, 'b>(
-    parts: &'a [Text],
+    front: Front<'a>,
     piece: &'a str,
-    others: &'b [Text],
+    others: Front<'b>,
     other: &'b str,
 ) -> Option<(Spelled<'a>, Spelled<'b>)>
     requires some { (0 < length piece.now) × (0 < length other.now) }
-    ensures order { IfSome result (λ r. name_order (concat parts.now ++ piece.now) (concat others.now ++ other.now) ≡ name_order r.0 r.1) }
-    ensures less { IfSome result (λ r. length r.0 < length (concat parts.now ++ piece.now)) }
+    ensures order { IfSome result (λ r. name_order (front.entry ++ piece.now) (others.entry ++ other.now) ≡ name_order r.0 r.1) }
+    ensures less { IfSome result (λ r. length r.0 < length (front.entry ++ piece.now)) }
 {
     if let Some(text) = before(piece, other) {
-        let left = Spelled { parts, text };
+        let left = Spelled { front, text };
         let right = Spelled {
-            parts: others,
+            front: others,
             text: "",
         };
         return Some((left, right));
     }
     if let Some(text) = before(other, piece) {
-        let left = Spelled { parts, text: "" };
+        let left = Spelled { front, text: "" };
         let right = Spelled {
-            parts: others,
+            front: others,
             text,
         };
         return Some((left, right));
     }
-    cut_end(parts, piece, others, other)
+    cut_end(front, piece, others, other)
 }
 
 /// The order of `a` and `b`, or two shorter names of the same order.
@@ -261,8 +314,8 @@ fn step<'a, 'b>(a: &Spelled<'a>, b: &Spelled<'b>) -> Result<(Spelled<'a>, Spelle
     let last_a = a.split_last();
     let last_b = b.split_last();
     match last_a {
-        Some((parts, piece)) => match last_b {
-            Some((others, other)) => match cut(parts, piece, others, other) {
+        Some((front, piece)) => match last_b {
+            Some((others, other)) => match cut(front, piece, others, other) {
                 Some(left) => Ok(left),
                 None => {
                     let left_a = a.rest();
@@ -296,28 +349,92 @@ pub(crate) fn compare(a: Spelled<'_>, b: Spelled<'_>) -> Ordering
     }
 }
 
-/// Whether `a` and `b`, which begin with the same `count` bytes, are equal, by a comparison of what
-/// comes after these. Of some that are equal, the answer is `false`.
-fn are_same_behind(a: &Spelled<'_>, b: &Spelled<'_>, count: usize) -> bool
+/// What is before the last `most` bytes in `piece` and in `other`, or before all bytes of the shorter
+/// one, if these bytes are the same in both, and how many of `most` are left.
+fn before_same_end<'a, 'b>(
+    piece: &'a str,
+    other: &'b str,
+    most: usize,
+) -> Option<(&'a str, &'b str, usize)>
+    requires some { (0 < length piece.now) × (0 < length other.now) × (0 < most) }
+    ensures end { IfSome result (λ r. AreSameEnds most r.2 piece.now other.now r.0.now r.1.now) }
+    ensures less { IfSome result (λ r. r.2 < most) }
+{
+    let count = lesser(most, lesser(piece.len(), other.len()));
+    let (text, end) = piece.split_at_checked(piece.len() - count)?;
+    let rest = before(other, end)?;
+    Some((text, rest, most - count))
+}
+
+/// The names `a` and `b` without the last bytes of a piece of each, `most` at most, if these bytes are
+/// the same in both, and how many of `most` are left.
+fn cut_same_end<'a, 'b>(
+    a: &Spelled<'a>,
+    b: &Spelled<'b>,
+    most: usize,
+) -> Option<(Spelled<'a>, Spelled<'b>, usize)>
+    requires some { 0 < most }
+    ensures end { IfSome result (λ r. AreSameEnds most r.2 a.now b.now r.0 r.1) }
+    ensures less { IfSome result (λ r. r.2 < most) }
+{
+    let (front, piece) = a.split_last()?;
+    let (others, other) = b.split_last()?;
+    let (text, other_text, left) = before_same_end(piece, other, most)?;
+    let first = Spelled { front, text };
+    let second = Spelled {
+        front: others,
+        text: other_text,
+    };
+    Some((first, second, left))
+}
+
+/// Whether `a` and `b` end in the same `count` bytes. Of some that do, the answer is `false`.
+fn end_alike(a: Spelled<'_>, b: Spelled<'_>, count: usize) -> bool
+    ensures alike { result ≡ true → EndAlike count a.entry b.entry }
+{
+    let mut a = a;
+    let mut b = b;
+    let mut left = count;
+    'pieces: while left > 0 {
+        match cut_same_end(&a, &b, left) {
+            Some((first, second, rest)) => {
+                a = first;
+                b = second;
+                left = rest;
+            }
+            None => return false,
+        }
+    }
+    true
+}
+
+/// Whether `a` and `b`, which begin with the same `count` bytes, are equal, by a comparison of the
+/// bytes after these. Of some that are equal, the answer is `false`.
+fn are_same_after(a: &Spelled<'_>, b: &Spelled<'_>, count: usize) -> bool
     requires alike { take count a.now ≡ take count b.now }
     ensures same { result ≡ true → a.now ≡ b.now }
 {
     if count == 0 {
         return false;
     }
-    match (a.behind(count), b.behind(count)) {
-        (Some(left), Some(right)) => compare(left, right).is_eq(),
+    match (a.count(), b.count()) {
+        (Some(bytes), Some(others)) => {
+            if bytes != others {
+                return false;
+            }
+            end_alike(a.copy(), b.copy(), bytes.saturating_sub(count))
+        }
         _ => false,
     }
 }
 
 /// Compares the bytes of `a` and of `b`, which begin with the same `count` bytes, from the last to
-/// the first. Of equal names these first bytes are mostly not read.
+/// the first. Of equal names these first bytes are not read if a character ends there.
 pub(crate) fn compare_alike(a: &Spelled<'_>, b: &Spelled<'_>, count: usize) -> Ordering
     requires alike { take count a.now ≡ take count b.now }
     ensures order { result ≡ name_order a.now b.now }
 {
-    if are_same_behind(a, b, count) {
+    if are_same_after(a, b, count) {
         return Ordering::Equal;
     }
     compare(a.copy(), b.copy())
@@ -327,17 +444,16 @@ pub(crate) fn compare_alike(a: &Spelled<'_>, b: &Spelled<'_>, count: usize) -> O
 /// the bytes.
 #[derive(Drop)]
 pub(crate) struct Rest<'a> {
-    parts: &'a [Text],
+    front: Front<'a>,
     text: &'a [u8],
 }
 
 impl<'a> Model for Rest<'a> {
     ghost use Rattle.std.specs.Prelude.{List, ℕ, ◌++◌};
-    ghost use Rattle.std.specs.List.{concat};
 
     ghost Value = { List ℕ };
 
-    ghost view = { λ r. concat r.parts.now ++ r.text.now };
+    ghost view = { λ r. r.front ++ r.text.now };
 }
 
 impl<'a> Rest<'a> {
@@ -346,16 +462,16 @@ impl<'a> Rest<'a> {
         ensures last { self.old ≡ self.new ++ option_to_list result }
         ensures end { result ≡ None → self.old ≡ [] }
     {
-        'parts: loop {
+        'pieces: loop {
             match self.text.split_last() {
                 Some((last, before)) => {
                     self.text = before;
                     return Some(*last);
                 }
-                None => match self.parts.split_last() {
-                    Some((part, before)) => {
-                        self.parts = before;
-                        self.text = part.as_str().as_bytes();
+                None => match self.front.split_last() {
+                    Some((front, piece)) => {
+                        self.front = front;
+                        self.text = piece.as_bytes();
                     }
                     None => return None,
                 },
@@ -370,7 +486,7 @@ impl<'a> Rest<'a> {
         ensures within { IfSome result (λ n. n ≤ most) }
         ensures count { length self.now ≤ most → result ≡ Some (length self.now) }
     {
-        let left = left_after(self.parts, most)?;
+        let left = self.front.left_of(most)?;
         let left = left.checked_sub(self.text.len())?;
         Some(most.saturating_sub(left))
     }
@@ -380,10 +496,11 @@ impl<'a> Rest<'a> {
     pub(crate) fn is(self, bytes: &[u8]) -> bool
         ensures is { result ≡ bytes_eq self.entry bytes.now }
     {
-        let other = Rest {
+        let front = Front {
+            head: "",
             parts: &[],
-            text: bytes,
         };
+        let other = Rest { front, text: bytes };
         compare_bytes(self, other).is_eq()
     }
 }
@@ -392,6 +509,7 @@ impl<'a> Rest<'a> {
 fn left_after(parts: &[Text], most: usize) -> Option<usize>
     ensures within { IfSome result (λ n. n ≤ most) }
     ensures left { length (concat parts.now) ≤ most → result ≡ Some (most - length (concat parts.now)) }
+    ensures sum { IfSome result (λ n. n + length (concat parts.now) ≡ most) }
 {
     let mut left = most;
     'parts: for i in 0..parts.len() {
@@ -436,19 +554,28 @@ pub(crate) fn coded(code: u64, part: u64) -> u64
     code.wrapping_mul(FACTOR).wrapping_add(part)
 }
 
-/// The number of bytes of `parts` and `text`.
-fn count_of(parts: &[Text], text: &str) -> u64
-    ensures count { result ≡ length (concat parts.now ++ text.now) % 2 ^ 64 }
+/// The number of bytes of `parts`.
+fn count_of_parts(parts: &[Text]) -> u64
+    ensures count { result ≡ length (concat parts.now) % 2 ^ 64 }
 {
     let mut count = 0u64;
     'parts: for i in 0..parts.len() {
         count = count.wrapping_add(parts[i].as_str().len() as u64);
     }
-    count.wrapping_add(text.len() as u64)
+    count
+}
+
+/// The number of bytes of `front` and `text`.
+fn count_of(front: &Front<'_>, text: &str) -> u64
+    ensures count { result ≡ length (front.now ++ text.now) % 2 ^ 64 }
+{
+    count_of_parts(front.parts)
+        .wrapping_add(front.head.len() as u64)
+        .wrapping_add(text.len() as u64)
 }
 
 /// The lesser of `a` and `b`.
-fn lesser(a: usize, b: usize) -> usize
+pub(crate) fn lesser(a: usize, b: usize) -> usize
     ensures first { result ≤ a }
     ensures second { result ≤ b }
     ensures one { (result ≡ a) ⊎ (result ≡ b) }
@@ -469,23 +596,12 @@ fn code_after(code: u64, text: &[u8], most: usize) -> u64
     code
 }
 
-/// The code of the name of `head` and then `text`.
-pub(crate) fn code_of_both(head: &str, text: &str) -> u64
-    ensures code { result ≡ code_of (head.now ++ text.now) }
+/// The code of the last bytes of `head`, `parts` and `text`, piece by piece.
+fn code_of_pieces(head: &str, parts: &[Text], text: &[u8]) -> u64
+    ensures code { result ≡ tail_code ((head.now ++ concat parts.now) ++ text.now) }
 {
-    let last = code_after(0, text.as_bytes(), CODED);
-    let left = CODED.saturating_sub(text.len());
-    let code = code_after(last, head.as_bytes(), left);
-    let count = (head.len() as u64).wrapping_add(text.len() as u64);
-    coded(code, count)
-}
-
-/// The code of the last bytes of `bytes`, piece by piece.
-fn code_of_rest(bytes: Rest<'_>) -> u64
-    ensures code { result ≡ tail_code bytes.entry }
-{
-    let mut parts = bytes.parts;
-    let mut text = bytes.text;
+    let mut parts = parts;
+    let mut text = text;
     let mut left = CODED;
     let mut code = 0u64;
     'pieces: loop {
@@ -499,7 +615,7 @@ fn code_of_rest(bytes: Rest<'_>) -> u64
                 text = part.as_str().as_bytes();
                 parts = before;
             }
-            None => return code,
+            None => return code_after(code, head.as_bytes(), left),
         }
     }
 }

@@ -18,7 +18,7 @@ ghost use Rattle.pq_schema.specs.declared.scope.FileDefs.{FileDefs};
 use crate::along::Along;
 use crate::asked::Asked;
 use crate::closed::{Closed, close_scopes, open_scopes};
-use crate::files::Files;
+use crate::files::{Files, larger};
 use crate::full_name::FullName;
 use crate::inner::{Inner, depth_of, inner_of};
 use crate::lookup::{Lookup, most_of_one};
@@ -378,31 +378,61 @@ fn find_under<'a>(
     Ok(uses)
 }
 
-/// How many searches of one file the look-up of `name` takes, where a name is looked up in `near`
-/// files, and a dotted one perhaps in `most`.
-fn searches_for(name: &str, near: usize, most: usize) -> usize {
-    if is_scalar(name) {
-        return 0;
-    }
-    if name.contains('.') && near < most {
-        return most;
-    }
-    near
+/// How many bytes are copied or compared in the time of a search of one file.
+const BYTES: usize = 64;
+
+/// What the look-ups of the references of a file cost by.
+#[derive(Clone, Copy)]
+struct Demand {
+    /// The number of references without a dot.
+    simple: usize,
+    /// The number of references with a dot.
+    dotted: usize,
+    /// The most bytes that a message's own name has.
+    longest: usize,
 }
 
-/// How many searches of one file the look-ups of the references of `nodes` take.
-fn searches_of(nodes: &[Node], near: usize, most: usize) -> usize {
-    let mut searches = 0usize;
-    'nodes: for i in 0..nodes.len() {
-        let more = match &nodes[i].statement {
-            Statement::Field { type_name, .. } => searches_for(type_name.text.as_str(), near, most),
-            Statement::MapField { value, .. } => searches_for(value.text.as_str(), near, most),
-            Statement::Method { .. } => near.saturating_mul(2),
-            _ => 0,
-        };
-        searches = searches.saturating_add(more);
+impl Demand {
+    /// Counts the reference to `name`.
+    fn count(&mut self, name: &str) {
+        if is_scalar(name) {
+            return;
+        }
+        if name.contains('.') {
+            self.dotted = self.dotted.saturating_add(1);
+        } else {
+            self.simple = self.simple.saturating_add(1);
+        }
     }
-    searches
+
+    /// Counts the references and the name of `statement`.
+    fn add(&mut self, statement: &Statement) {
+        match statement {
+            Statement::Field { type_name, .. } => self.count(type_name.text.as_str()),
+            Statement::MapField { value, .. } => self.count(value.text.as_str()),
+            Statement::Method { input, output, .. } => {
+                self.count(input.type_name.text.as_str());
+                self.count(output.type_name.text.as_str());
+            }
+            Statement::Message { name } => {
+                self.longest = larger(self.longest, name.text.as_str().len());
+            }
+            _ => {}
+        }
+    }
+}
+
+/// What the look-ups of the references of `nodes` cost by.
+fn demand_of(nodes: &[Node]) -> Demand {
+    let mut demand = Demand {
+        simple: 0,
+        dotted: 0,
+        longest: 0,
+    };
+    'nodes: for i in 0..nodes.len() {
+        demand.add(&nodes[i].statement);
+    }
+    demand
 }
 
 /// The files `files`, for the look-up of the references of `nodes`, which are used in a file of the
@@ -415,9 +445,14 @@ fn lookup_for<'a>(
 ) -> Result<Lookup<'a>, Memory>
     ensures files { IfOk result (λ l. l ≡ files.now) }
 {
+    let demand = demand_of(nodes);
     let near = files.near(alloc, innermost_of(root))?.len();
-    let most = most_of_one(files.packages());
-    Lookup::new(alloc, files, searches_of(nodes, near, most))
+    let most = larger(near, most_of_one(files.packages()));
+    // Without an index the scope of each reference is compared, and a dotted name may be copied.
+    let scope = root.len().saturating_add(demand.longest) / BYTES;
+    let simple = demand.simple.saturating_mul(near.saturating_add(scope));
+    let dotted = demand.dotted.saturating_mul(most.saturating_add(scope));
+    Lookup::new(alloc, files, simple.saturating_add(dotted))
 }
 
 /// The references of a file of the package of `outward` with the statements `nodes`, in text order.

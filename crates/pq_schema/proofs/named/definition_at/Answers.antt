@@ -1,20 +1,14 @@
-use Rattle.std.proofs.Common.{ℕ, List, Some, sym, ap, ◌∙◌}
-use Rattle.std.specs.Prelude.{find, bytes_eq}
-use Rattle.std.proofs.lemmas.Option.{slice_get-get_or}
-use Rattle.pq_schema.specs.Contents.{Defs}
-use Rattle.pq_schema.specs.declared.definitions.Definition.{Definition}
-use Rattle.pq_schema.proofs.FirstNear.{definition_there}
+use Rattle.std.proofs.Common.{sym}
 use Rattle.pq_schema.proofs.named.definition_at.Goals as goal
 
-pub returns : goal.returns
-returns c =
-    let files = c.args.files.now in
-    let name = c.args.name.now in
-    let f = c.in_ok-f.f.now in
-    let at = slice_get-get_or files _ f c.in_ok-f.ensures.lookup.3.0 ∙ ap Some (sym (c.in_ok-f.ensures.lookup.3.1 f)) in
+pub returns-then-is_apart_at : goal.returns-then-is_apart_at
+returns-then-is_apart_at c =
     record {
-      is = ap (λ (n : List ℕ). Some (n, c.in_ok-definition.definition.now)) c.get-3.ensures.value
-          ∙ definition_there files c.args.place name f c.in_ok-definition.definition.now at
-          (c.in_ok-definition.ensures.first
-          ∙ ap (λ (d : Defs). find (λ (x : Definition). bytes_eq x.full_name name) d.definitions) c.get-2.ensures.value);
+      is = sym (c.requires.guides.apart c.args.place (c.is_apart_at.ensures.leaves c.if-is_apart_at.true) (c.is_apart_at.ensures.before c.if-is_apart_at.true));
+    }
+
+pub definition_alike-requires : goal.definition_alike-requires
+definition_alike-requires c =
+    record {
+      alike = λ f at. c.requires.guides.alike c.args.place c.alike_at.result c.alike_at.ensures.count c.alike_at.ensures.most f at;
     }

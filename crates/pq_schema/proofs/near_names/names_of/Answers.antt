@@ -12,6 +12,6 @@ places-preserved c =
 
 pub returns : goal.returns
 returns c = record {
-  names = all_names c.places.names.items c.sort.new.self.items c.args.files.now c.args.places.now c.places.place-index c.places-test.false
-      c.in_ok-sort.ensures.permutation c.in_ok-sort.ensures.sorted c.places.invariant;
+  names = all_names c.places.names.items c.sort_unstable.new.self.items c.args.files.now c.args.places.now c.places.place-index c.places-test.false
+      c.sort_unstable.ensures.permutation c.sort_unstable.ensures.sorted c.places.invariant;
 }

@@ -6,7 +6,7 @@ use Rattle.pq_schema.specs.Resolution.{dotted, scopes}
 use Rattle.pq_schema.specs.aux.Fronts.{IsSpotOf}
 use Rattle.pq_schema.proofs.Marks.{near_spots}
 use Rattle.pq_schema.proofs.OutwardSearch.{beyond_none, beyond_spot, dotted_spots, place_boundary, place_in}
-use Rattle.pq_schema.proofs.SamePackage.{beyond_same, find_has, spots_of}
+use Rattle.pq_schema.proofs.CommonFronts.{beyond_same, find_has, spots_of}
 use Rattle.pq_schema.proofs.outward.dotted_outward.Goals as goal
 
 pub open_spot-spot-requires : goal.open_spot-spot-requires

@@ -5,7 +5,7 @@ use Rattle.pq_schema.specs.aux.Hits.{found_at}
 use Rattle.pq_schema.specs.declared.search.Hit.{Hit}
 use Rattle.pq_schema.proofs.Marks.{near_spots}
 use Rattle.pq_schema.proofs.OutwardSearch.{single_nothing, single_other, single_type}
-use Rattle.pq_schema.proofs.SamePackage.{spots_of}
+use Rattle.pq_schema.proofs.CommonFronts.{spots_of}
 use Rattle.pq_schema.proofs.outward.single_outward.Goals as goal
 
 pub find_in_spots-requires : goal.find_in_spots-requires

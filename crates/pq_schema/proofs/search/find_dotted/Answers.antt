@@ -8,7 +8,7 @@ use Rattle.pq_schema.specs.declared.asked.Asked.{Asked}
 use Rattle.pq_schema.specs.aux.Asked.{AreAsked}
 use Rattle.pq_schema.proofs.Answered.{asked_on, looked, scope_range}
 use Rattle.pq_schema.proofs.Inside.{dotted_end, dotted_step, each_at, lead_at}
-use Rattle.pq_schema.proofs.SamePackage.{full_begins}
+use Rattle.pq_schema.proofs.CommonFronts.{full_begins}
 use Rattle.pq_schema.proofs.search.find_dotted.Goals as goal
 
 pub look_inside-requires : goal.look_inside-requires

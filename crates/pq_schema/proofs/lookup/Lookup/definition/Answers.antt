@@ -1,39 +1,15 @@
-use Rattle.std.proofs.Common.{ℕ, List, Option, sym, ap, subst, ◌∙◌}
-use Rattle.std.specs.Prelude.{Vec}
-use Rattle.std.specs.declared.alloc.Global.{Global}
+use Rattle.std.proofs.Common.{List, sym, subst, ◌∙◌}
 use Rattle.pq_schema.specs.declared.scope.FileDefs.{FileDefs}
-use Rattle.pq_schema.specs.Resolution.{meaning}
-use Rattle.pq_schema.specs.aux.FirstOf.{definition_in, first_near}
-use Rattle.pq_schema.specs.aux.Grouping.{AreNear, around}
-use Rattle.pq_schema.specs.aux.NearNames.{AreNames, HasAll, Rises}
-use Rattle.pq_schema.proofs.FirstNear.{near_meaning, rises_from}
-use Rattle.pq_schema.proofs.NearNames.{Entry}
+use Rattle.pq_rules.specs.Relations.{Each}
+use Rattle.pq_schema.specs.aux.Grouping.{IsBelow}
+use Rattle.pq_schema.proofs.CommonFronts.{no_guides}
 use Rattle.pq_schema.proofs.lookup.Lookup.definition.Goals as goal
 
-pub first_listed-requires : goal.first_listed-requires
-first_listed-requires c =
-    let files = c.self.inside.files.now in
-    let all = c.self.inside.all.items in
-    let names = c.self.inside.names in
-    let near : (roots : List (List ℕ)) → AreNear all files roots =
-    subst (λ (o : Option (Vec Entry Global)). HasAll o all files) c.in-Some.is c.self.invariant.1 in
+pub definition_guided-requires : goal.definition_guided-requires
+definition_guided-requires c =
     record {
-      rising = subst Rises (sym c.deref.ensures.value) (rises_from all (near (around c.args.name.now)).rising);
-      names = subst (λ (ks : List ℕ). AreNames names c.files.result.now ks) (sym c.deref.ensures.value)
-          (subst (λ (fs : List FileDefs). AreNames names fs all) (sym c.files.ensures.value) c.self.invariant.0);
-    }
-
-pub returns-in-Some : goal.returns-in-Some
-returns-in-Some c =
-    let files = c.self.inside.files.now in
-    let all = c.self.inside.all.items in
-    let name = c.args.name.now in
-    let near : (roots : List (List ℕ)) → AreNear all files roots =
-    subst (λ (o : Option (Vec Entry Global)). HasAll o all files) c.in-Some.is c.self.invariant.1 in
-    record {
-      first = near_meaning files all name c.first_listed.result (near (around name)) c.files.ensures.below
-          (c.first_listed.ensures.first
-          ∙ ap (λ (fs : List FileDefs). first_near (definition_in name) fs c.deref.result.now) c.files.ensures.value
-          ∙ ap (first_near (definition_in name) files) c.deref.ensures.value)
-          ∙ ap (λ (fs : List FileDefs). meaning fs name) c.self.view_is;
+      files = c.files.ensures.value ∙ c.self.view_is;
+      below = subst (λ (fs : List FileDefs). Each IsBelow fs) (sym c.files.ensures.value) c.files.ensures.below;
+      near = c.requires.near;
+      guides = no_guides c.files.result.now c.args.name.now;
     }
