@@ -123,6 +123,29 @@ def found_around(n):
     return before, opened("b.proto", HEAD + "package " + package + ";message M{}") + measured
 
 
+def beside_files(k, package, field, other, inner):
+    """Texts of n bytes: half is a package, the rest references. k files are visible that have a package of the same length and
+    messages."""
+    def text(n):
+        long = "a" * (n // 2)
+        start = HEAD + "".join('import "f%d";' % i for i in range(k)) + "package " + package % long + ";message M{"
+        fields = itertools.takewhile(lambda at: at[0] < n, accumulated(field, len(start)))
+        before, measured = one_file(start + "".join(more for _, more in fields) + "}")
+        return before, files_opened(("f%d" % i, HEAD + "package " + other % long + ";" + inner(n)) for i in range(k)) + measured
+    return text
+
+
+def apart(k):
+    """The packages differ in the first byte. A message there has the name that is referred to, which is nothing here."""
+    return beside_files(k, "y%s", "T x%(n)d=%(field)d;", "x%s", lambda n: "message T{message T{}}")
+
+
+def leaves(k, others=lambda n: 0):
+    """Dotted names that leave the package in its last part, and are found in the visible files. These have other messages, too."""
+    return beside_files(k, "%s.a", "b.X x%(n)d=%(field)d;", "%s.b",
+                        lambda n: "message X{}" + "".join("message Y%d{}" % i for i in range(others(n))))
+
+
 def nested_in_half(n):
     """A text of n bytes: half is a package of short parts, the rest references in messages nested 60 deep, each with a field of
     the reference's name."""
@@ -448,6 +471,12 @@ TEXTS = [of_compile(*case) for case in compile.CASES] + [
     Shape("n bytes: half a package of parts that differ, dotted names whose first part is a package, another file's",
           parts_apart(0.9, leaves=True), 25_000),
     Shape("n bytes: half a package, references found in a file of the package around it", found_around, 25_000),
+    Shape("n bytes: half a package, beside a file of another as long, references to its names", apart(1), 25_000),
+    Shape("n bytes: half a package, beside five files of another as long, references to their names", apart(5), 25_000),
+    Shape("n bytes: half a package, dotted names that leave it, found", leaves(1), 25_000),
+    Shape("n bytes: half a package, beside five files, dotted names that leave it, found", leaves(5), 25_000),
+    Shape("n bytes: half a package, beside five files of n / 50 messages each, dotted names that leave it, found",
+          leaves(5, lambda n: n // 50), 25_000),
     Shape("n bytes: half a package, beside five files, references found", in_an_index("M"), 25_000),
     Shape("n bytes: half a package, beside five files, references to nothing", in_an_index("N"), 25_000),
     Shape("n bytes: half a package, beside five files, dotted names whose first part is found", in_an_index("M.N"), 25_000),
