@@ -89,6 +89,11 @@ pub(crate) fn most_of_one(packages: &[Entry]) -> usize {
 /// The most files that are all asked for each name.
 const FEW: usize = 2;
 
+/// Whether `files` are so few that all are asked for each name.
+pub(crate) fn is_few(files: &Files) -> bool {
+    files.as_slice().len() <= FEW
+}
+
 /// How many searches of a file the index takes for each definition.
 const SEARCHES: usize = 2;
 
@@ -105,8 +110,8 @@ impl<'a> Lookup<'a> {
         }
     }
 
-    /// The files `files`, which are so few that all are asked.
-    fn few(alloc: Global, files: &'a Files) -> Result<Lookup<'a>, Memory>
+    /// The files `files`, of which all are asked for each name.
+    pub(crate) fn few(alloc: Global, files: &'a Files) -> Result<Lookup<'a>, Memory>
         ensures files { IfOk result (λ l. l ≡ files.now) }
     {
         let all = all_places(alloc, files.as_slice().len())?;
@@ -128,9 +133,6 @@ impl<'a> Lookup<'a> {
         ensures files { IfOk result (λ l. l ≡ files.now) }
     {
         let count = files.as_slice().len();
-        if count <= FEW {
-            return Lookup::few(alloc, files);
-        }
         if searches < count {
             return Ok(Lookup::plain(alloc, files));
         }

@@ -21,7 +21,7 @@ use crate::closed::{Closed, close_scopes, open_scopes};
 use crate::files::{Files, larger};
 use crate::full_name::FullName;
 use crate::inner::{Inner, depth_of, inner_of};
-use crate::lookup::{Lookup, most_of_one};
+use crate::lookup::{Lookup, is_few, most_of_one};
 use crate::nesting::innermost as innermost_of;
 use crate::outline::innermost;
 use crate::outward::Outward;
@@ -395,9 +395,6 @@ struct Demand {
 impl Demand {
     /// Counts the reference to `name`.
     fn count(&mut self, name: &str) {
-        if is_scalar(name) {
-            return;
-        }
         if name.contains('.') {
             self.dotted = self.dotted.saturating_add(1);
         } else {
@@ -405,11 +402,18 @@ impl Demand {
         }
     }
 
+    /// Counts the reference of a field's type `name`, unless that is a scalar.
+    fn count_type(&mut self, name: &str) {
+        if !is_scalar(name) {
+            self.count(name);
+        }
+    }
+
     /// Counts the references and the name of `statement`.
     fn add(&mut self, statement: &Statement) {
         match statement {
-            Statement::Field { type_name, .. } => self.count(type_name.text.as_str()),
-            Statement::MapField { value, .. } => self.count(value.text.as_str()),
+            Statement::Field { type_name, .. } => self.count_type(type_name.text.as_str()),
+            Statement::MapField { value, .. } => self.count_type(value.text.as_str()),
             Statement::Method { input, output, .. } => {
                 self.count(input.type_name.text.as_str());
                 self.count(output.type_name.text.as_str());
@@ -435,6 +439,19 @@ fn demand_of(nodes: &[Node]) -> Demand {
     demand
 }
 
+/// How many searches of one file the look-ups of the references of `nodes` in `files` take where there
+/// is no index. They are used in a file of the package `root`.
+fn searches_of(alloc: Global, files: &Files, root: &str, nodes: &[Node]) -> Result<usize, Memory> {
+    let demand = demand_of(nodes);
+    let near = files.near(alloc, innermost_of(root))?.len();
+    let most = larger(near, most_of_one(files.packages()));
+    // The scope of each reference is compared, and a dotted name may be copied.
+    let scope = root.len().saturating_add(demand.longest) / BYTES;
+    let simple = demand.simple.saturating_mul(near.saturating_add(scope));
+    let dotted = demand.dotted.saturating_mul(most.saturating_add(scope));
+    Ok(simple.saturating_add(dotted))
+}
+
 /// The files `files`, for the look-up of the references of `nodes`, which are used in a file of the
 /// package `root`.
 fn lookup_for<'a>(
@@ -445,14 +462,11 @@ fn lookup_for<'a>(
 ) -> Result<Lookup<'a>, Memory>
     ensures files { IfOk result (λ l. l ≡ files.now) }
 {
-    let demand = demand_of(nodes);
-    let near = files.near(alloc, innermost_of(root))?.len();
-    let most = larger(near, most_of_one(files.packages()));
-    // Without an index the scope of each reference is compared, and a dotted name may be copied.
-    let scope = root.len().saturating_add(demand.longest) / BYTES;
-    let simple = demand.simple.saturating_mul(near.saturating_add(scope));
-    let dotted = demand.dotted.saturating_mul(most.saturating_add(scope));
-    Lookup::new(alloc, files, simple.saturating_add(dotted))
+    if is_few(files) {
+        return Lookup::few(alloc, files);
+    }
+    let searches = searches_of(alloc, files, root, nodes)?;
+    Lookup::new(alloc, files, searches)
 }
 
 /// The references of a file of the package of `outward` with the statements `nodes`, in text order.
