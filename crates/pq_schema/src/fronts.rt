@@ -12,8 +12,8 @@ use crate::spelled::lesser;
 use pq_names::Memory;
 use std::alloc::Global;
 
-/// A number of bytes with which two texts begin, and whether both go on after these, each with another
-/// byte.
+/// A number of bytes that are the same at the beginning of two texts, and whether both go on after
+/// these, each with another byte.
 pub(crate) type Common = (usize, bool);
 
 /// What `a` and `b` begin with in common.
@@ -71,7 +71,7 @@ pub(crate) fn alike_at(fronts: &[Common], place: usize, most: usize) -> usize
     }
 }
 
-/// Whether the package of the file at `place` leaves by `fronts` before the byte `start`.
+/// Whether `fronts` says of the file at `place` that its package has another byte before `start`.
 pub(crate) fn is_apart_at(fronts: &[Common], place: usize, start: usize) -> bool
     ensures leaves { result ≡ true → (get_or fronts.now place (0, false)).1 ≡ true }
     ensures before { result ≡ true → (get_or fronts.now place (0, false)).0 < start }

@@ -381,7 +381,7 @@ fn find_under<'a>(
 /// How many bytes are copied or compared in the time of a search of one file.
 const BYTES: usize = 64;
 
-/// What the look-ups of the references of a file cost by.
+/// What decides the cost of looking up the references of a file.
 #[derive(Clone, Copy)]
 struct Demand {
     /// The number of references without a dot.
@@ -426,7 +426,7 @@ impl Demand {
     }
 }
 
-/// What the look-ups of the references of `nodes` cost by.
+/// What decides the cost of looking up the references of `nodes`.
 fn demand_of(nodes: &[Node]) -> Demand {
     let mut demand = Demand {
         simple: 0,
