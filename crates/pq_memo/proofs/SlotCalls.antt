@@ -198,3 +198,22 @@ pub known_room : {K V : Type 0} (order : K → K → Ordering) → Exact order �
 known_room {K} {V} order exact index slots kept is key copy n copied had same =
     subst (λ (l : List (K × Option (Memo K V))). HasRoom order l key) (sym same)
     (has_slot order exact index slots is key n (is.found key n (sym (had ∙ ap (λ (k : K). place_in order index k) copied))))
+
+-- an index into which a key was put that it lacked, and from which the key was taken
+pub freed_numbered : {K X : Type 0} (order : K → K → Ordering) → Exact order → (index claimed freed : List (K × ℕ)) (slots kept slice : List (K × X)) → IsNumbered order index slots
+    → (key copy : K) → copy ≡ key → None ≡ place_in order index copy → kept ≡ slots
+    → ((q : K) → place_in order claimed q ≡ cond (is_eq (order copy q)) (Some (length slice)) (place_in order index q))
+    → ((q : K) → place_in order freed q ≡ cond (is_eq (order key q)) None (place_in order claimed q)) → IsNumbered order freed kept
+freed_numbered {K} order exact index claimed freed slots kept slice is key copy copied had same puts frees = numbered_as order index freed slots kept same back is
+  where
+    free : None ≡ place_in order index key
+    free = had ∙ ap (λ (k : K). place_in order index k) copied
+
+    put : (q : K) → place_in order claimed q ≡ cond (is_eq (order key q)) (Some (length slice)) (place_in order index q)
+    put q = puts q ∙ ap (λ (k : K). cond (is_eq (order k q)) (Some (length slice)) (place_in order index q)) copied
+
+    back : (q : K) → place_in order freed q ≡ place_in order index q
+    back q = elim (cases_Bool (is_eq (order key q))) [
+      | inl eq ↦ frees q ∙ ap (λ (b : Bool). cond b None (place_in order claimed q)) eq ∙ free ∙ ap (λ (k : K). place_in order index k) (same_key order exact key q eq)
+      | inr ne ↦ frees q ∙ ap (λ (b : Bool). cond b None (place_in order claimed q)) ne ∙ put q ∙ ap (λ (b : Bool). cond b (Some (length slice)) (place_in order index q)) ne
+    ]

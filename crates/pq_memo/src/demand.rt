@@ -49,6 +49,19 @@ fn rotate(numbers: &mut Vec<usize>, least: usize) {
 }
 
 impl<R: Rules> Memos<R> {
+    /// Where the rule of a frame, after `count` reads, looks for `asked` first: where it was found
+    /// last, or else in its slot, which is made if it has none. An input has no slot.
+    fn claim_asked(&mut self, asked: &R::Key, near: Near, count: usize) -> Result<usize, Memory>
+        ensures rules { self.new.rules ≡ self.old.rules }
+        ensures same { IsSameTable (memo_at R.Key.cmp self.old.places) (memo_at R.Key.cmp self.new.places) }
+    {
+        let number = self.read_number(near.own, count, near.read);
+        if number != NOWHERE || self.rules().level(asked) == 0 {
+            return Ok(number);
+        }
+        self.make_room(asked, NOWHERE, near.read)
+    }
+
     /// Takes a turn of the rule of `key`, which has made these reads: pushes its frame, or
     /// publishes its value.
     fn take_turn(
@@ -75,6 +88,8 @@ impl<R: Rules> Memos<R> {
                 // Called for its contract alone: what is left fits in its machine integers, which
                 // bounds the steps.
                 let _left = self.rules().left(&part);
+                let mut near = near;
+                near.next = self.claim_asked(&asked, near, reads.as_slice().len())?;
                 let stage = Stage::Waiting(part, asked, reads);
                 stack.push(alloc, self.rules(), Frame { key, stage }, near)?;
                 Ok(())

@@ -266,7 +266,9 @@ impl<R: Rules> Memos<R> {
         ensures refused { OnErr result (IsSameTable (memo_at R.Key.cmp self.old.places) (memo_at R.Key.cmp self.new.places)) }
         ensures returned { IfErr result (λ f. (f.key ≡ key) × WaitsAt f.stage part asked reads.items) }
     {
-        near.next = self.read_number(near.own, reads.len(), near.read);
+        if near.next == NOWHERE {
+            near.next = self.read_number(near.own, reads.len(), near.read);
+        }
         match self.read_answer(alloc, &asked, inputs, &mut near.next) {
             Ok(Some(answer)) => self.go_on(key, *near, part, asked, reads, answer, inputs),
             Ok(None) => match self.rules().copy_key(alloc, &asked) {

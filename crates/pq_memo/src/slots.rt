@@ -18,7 +18,7 @@ ghost use Rattle.pq_memo.specs.aux.Written.{HasRoom};
 
 use crate::entry::{Entry, mark_in, number_at};
 use crate::recorded::Recorded;
-use crate::stack::{claim_place, noted, put_place};
+use crate::stack::{claim_place, free_place, noted, put_place};
 use pq_inputs::Durability;
 use pq_rules::{Memory, Rules, is_same_key, push};
 use std::alloc::Global;
@@ -499,22 +499,27 @@ impl<R: Rules> Slots<R> {
             return Ok(near);
         }
         let number = self.slots.as_slice().len();
-        let copy = rules.copy_key(self.alloc, key)?;
-        let shared = share_copy(self.alloc, rules, key, number)?;
         if self.slots.reserve(1).is_err() || make_place(&mut self.next, number).is_err() {
             return Err(Memory);
         }
+        let copy = rules.copy_key(self.alloc, key)?;
         match claim_place(rules, &mut self.index, copy, number) {
             Ok(Some(known)) => Ok(known),
-            Ok(None) => {
-                note_after(&mut self.next, before, number);
-                self.slots.push_reserved(Slot {
-                    key: shared,
-                    entry: None,
-                });
-                self.last = number;
-                Ok(number)
-            }
+            Ok(None) => match share_copy(self.alloc, rules, key, number) {
+                Ok(shared) => {
+                    note_after(&mut self.next, before, number);
+                    self.slots.push_reserved(Slot {
+                        key: shared,
+                        entry: None,
+                    });
+                    self.last = number;
+                    Ok(number)
+                }
+                Err(_) => {
+                    free_place(rules, &mut self.index, key);
+                    Err(Memory)
+                }
+            },
             Err(_) => Err(Memory),
         }
     }

@@ -3,7 +3,7 @@
 //! A key is compared with those of the last `NEAR` frames at most. For the frames before them a map
 //! has the place of each key, so a key is found in logarithmic time, and a low stack has no map. A
 //! key that left the stack may stay in the map: its place then has another key, or none.
-ghost use Rattle.std.specs.Prelude.{◌≡◌, ◌<◌, ◌≤◌, ◌++◌, ◌∷◌, [], ℕ, length, take, drop, Some, option_to_list, IfOk, IfErr, OnOk, OnErr, IfSome, IfNone, HoldsAt, if◌then◌else◌};
+ghost use Rattle.std.specs.Prelude.{◌≡◌, ◌<◌, ◌≤◌, ◌++◌, ◌∷◌, [], ℕ, length, take, drop, Some, None, option_to_list, IfOk, IfErr, OnOk, OnErr, IfSome, IfNone, HoldsAt, if◌then◌else◌};
 ghost use Rattle.std.specs.Ordering.{is_eq};
 ghost use Rattle.pq_rules.specs.Relations.{In};
 ghost use Rattle.pq_memo.specs.Frames.{frame_keys};
@@ -94,6 +94,13 @@ pub(crate) fn claim_place<R: Rules>(
             Ok(None)
         }
     }
+}
+
+/// Takes the place of `key` away.
+pub(crate) fn free_place<R: Rules>(_rules: &R, places: &mut BTreeMap<R::Key, usize>, key: &R::Key)
+    ensures freed { (q : R.Key) → place_in R.Key.cmp places.new.entries q ≡ (if is_eq (R.Key.cmp key.now q) then None else place_in R.Key.cmp places.old.entries q) }
+{
+    places.remove(key);
 }
 
 /// Notes that the place of `key` is `place`.

@@ -3,6 +3,7 @@ use Rattle.pq_rules.proofs.Weight.{Exact}
 use Rattle.pq_memo.specs.declared.frame.Stage.TheVariants.{Waiting}
 use Rattle.pq_memo.proofs.Wrote.{wrote_published}
 use Rattle.pq_memo.proofs.Stacked.{fits_left}
+use Rattle.pq_memo.proofs.TableCalls.{kept_same}
 use Rattle.pq_memo.proofs.memos.Memos.take_turn.Goals as goal
 
 pub returns-in-Ok-clause-taken : goal.returns-in-Ok-clause-taken
@@ -26,8 +27,23 @@ returns-in_ok-push-in-Ask-clause-taken g c =
       asks = c.in-Ask.is;
       fits = fits_left ((g.R.Rules.machine c.args.self.now.rules).left c.in-Ask.part) c.left-left.result.0 c.left-left.result.1
           (c.left-left.ensures.left ∙ ap (λ (r : g.row.R.Denot). (g.R.Rules.machine r).left c.in-Ask.part) c.rules.ensures) high low;
-      same = λ q. refl;
+      same = c.claim_asked.ensures.same;
       key_is = refl;
       waits = (refl, refl, refl);
       pushed = c.in_ok-push-in-Ask.ensures {u = tt};
     })
+
+pub returns-in_err-near-in-Ask-clause-kept : goal.returns-in_err-near-in-Ask-clause-kept
+returns-in_err-near-in-Ask-clause-kept g c =
+    kept_same g.R.Key.Ord.cmp (g.R.Rules.machine c.args.self.now.rules) c.args.inputs.now c.args.self.now.places c.claim_asked.new.self.places
+    c.claim_asked.ensures.same c.requires.kept
+
+pub returns-in_err-push-in-Ask-clause-kept : goal.returns-in_err-push-in-Ask-clause-kept
+returns-in_err-push-in-Ask-clause-kept g c =
+    kept_same g.R.Key.Ord.cmp (g.R.Rules.machine c.args.self.now.rules) c.args.inputs.now c.args.self.now.places c.claim_asked.new.self.places
+    c.claim_asked.ensures.same c.requires.kept
+
+pub returns-in_ok-push-in-Ask-clause-kept : goal.returns-in_ok-push-in-Ask-clause-kept
+returns-in_ok-push-in-Ask-clause-kept g c =
+    kept_same g.R.Key.Ord.cmp (g.R.Rules.machine c.args.self.now.rules) c.args.inputs.now c.args.self.now.places c.claim_asked.new.self.places
+    c.claim_asked.ensures.same c.requires.kept
