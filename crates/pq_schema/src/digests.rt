@@ -6,7 +6,7 @@ ghost use Rattle.std.specs.Prelude.{◌≡◌};
 ghost use Rattle.pq_schema.specs.aux.Digests.{digested, digest_from};
 
 use crate::definitions::Definition;
-use crate::spelled::coded;
+use crate::name_codes::coded;
 
 /// The number `digest` with the name and the item of `definition` after it.
 fn digested(digest: u64, definition: &Definition) -> u64

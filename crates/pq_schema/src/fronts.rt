@@ -7,8 +7,8 @@ ghost use Rattle.std.specs.Prelude.{◌≡◌, ◌<◌, ◌≤◌, false, get_or
 ghost use Rattle.pq_schema.specs.aux.Fronts.{AreFronts, BothBegin, DiffersAt};
 ghost use Rattle.pq_schema.specs.aux.NameParts.{leading};
 
+use crate::name_order::lesser;
 use crate::scope::FileDefs;
-use crate::spelled::lesser;
 use pq_names::Memory;
 use std::alloc::Global;
 

@@ -14,7 +14,8 @@ ghost use Rattle.pq_schema.specs.aux.NameCodes.{code_of};
 ghost use Rattle.pq_schema.specs.aux.RightIn.{IsRightIn, IsRoot};
 ghost use Rattle.pq_schema.specs.aux.Spots.{IsPlain};
 
-use crate::spelled::{Rest, Spelled, compare, compare_alike};
+use crate::name_order::{compare, compare_alike};
+use crate::spelled::{Rest, Spelled};
 use pq_names::{Memory, Text};
 use pq_rules::Shared;
 use pq_syntax::Items;

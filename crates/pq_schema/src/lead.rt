@@ -10,8 +10,9 @@ ghost use Rattle.pq_schema.specs.aux.NameParts.{leading};
 ghost use Rattle.pq_schema.specs.aux.Scopes.{before};
 
 use crate::full_name::{copy_parts, with_dot};
+use crate::name_order::compare;
 use crate::nesting::outer;
-use crate::spelled::{Spelled, compare};
+use crate::spelled::Spelled;
 use pq_names::{Memory, Text};
 use pq_rules::Shared;
 use std::alloc::Global;

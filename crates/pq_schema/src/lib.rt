@@ -12,15 +12,15 @@
 //! Modules: `definitions` (what a file defines), `define` (what a statement defines), `index` (the
 //! search by full name, over `coded`), `copies` (definitions of one name), `digests` (a number of
 //! all definitions), `references`, `outline` (the package and the scopes of a file), `full_name`
-//! and `enclosing` (names that share their scopes), `spelled` (names in pieces), `map_entries`;
-//! `scope` (the files that a file sees and reaches), `files` over `by_package` and `named` (the
-//! look-up of a full name, which files it asks, and the first that has it), `fronts` (how far the
-//! packages of files go together), `other_files` over `near_names` (many look-ups in the same
-//! files), `nesting` (the scopes around a scope), `search` (the search from scope to scope), `uses`
-//! over `inner` (the references of a file and its open scopes), `asked` and `closed` (what was
-//! looked up in these), `resolution` (their answers); `keys` (what a sum offers), `defined`,
-//! `scopes` over `collected`, and `resolved` (the queries), `rules` (the rule set); `laws`,
-//! `scope_laws`.
+//! and `enclosing` (names that share their scopes), `spelled` (names in pieces) with `name_order`
+//! and `name_codes`, `map_entries`; `scope` (the files that a file sees and reaches), `files` over
+//! `by_package` and `named` (the look-up of a full name, which files it asks, and the first that
+//! has it), `fronts` (how far the packages of files go together), `other_files` over `near_names`
+//! (many look-ups in the same files), `nesting` (the scopes around a scope), `search` (the search
+//! from scope to scope), `uses` over `inner` (the references of a file and its open scopes),
+//! `asked` and `closed` (what was looked up in these), `resolution` (their answers); `keys` (what a
+//! sum offers), `defined`, `scopes` over `collected`, and `resolved` (the queries), `rules` (the
+//! rule set); `laws`, `scope_laws`.
 #![tactic(auto)]
 
 mod along;
@@ -45,6 +45,8 @@ mod laws;
 mod lead;
 mod lookup;
 mod map_entries;
+mod name_codes;
+mod name_order;
 mod named;
 mod near_names;
 mod nesting;

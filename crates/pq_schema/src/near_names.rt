@@ -105,10 +105,9 @@ pub(crate) fn names_for(
     Ok(Some(names_of(alloc, files, places, count)?))
 }
 
-/// The number of entries whose code is below `code`.
+/// The place of the first entry of `names`, if they are sorted, whose code is not below `code`.
 pub(crate) fn first_from(names: &[Named], code: u64) -> usize
-    requires sorted { IsSorted named_order names.now }
-    ensures from { IsFrom names.now code result }
+    ensures from { IsSorted named_order names.now → IsFrom names.now code result }
 {
     names.partition_point(
         |entry: &Named| -> bool
@@ -119,8 +118,7 @@ pub(crate) fn first_from(names: &[Named], code: u64) -> usize
 
 /// Whether a name of the index has the code `code`.
 pub(crate) fn has_code(names: &[Named], code: u64) -> bool {
-    let first = names.partition_point(|entry: &Named| -> bool { entry.0 < code });
-    match names.get(first) {
+    match names.get(first_from(names, code)) {
         Some(entry) => entry.0 == code,
         None => false,
     }

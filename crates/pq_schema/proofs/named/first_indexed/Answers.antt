@@ -22,7 +22,7 @@ returns-then-names-at c =
     let name = c.args.name.now in
     let p = c.first_from-first.result in
     let i = c.entries.at in
-    let from = subst (λ (k : ℕ). IsFrom names k p) c.code-code.ensures.code c.first_from-first.ensures.from in
+    let from = subst (λ (k : ℕ). IsFrom names k p) c.code-code.ensures.code (c.first_from-first.ensures.from c.requires.names.sorted) in
     record {
       first = sym (without files places name c.requires.rising
           (none_first names files places name p c.requires.names from i c.entries.invariant c.entries.auto.at (λ within is. c.if-names-at.true (is ∙ sym c.code-code.ensures.code))));
@@ -36,7 +36,7 @@ returns-then-is_some c =
     let name = c.args.name.now in
     let p = c.first_from-first.result in
     let i = c.entries.at in
-    let from = subst (λ (k : ℕ). IsFrom names k p) c.code-code.ensures.code c.first_from-first.ensures.from in
+    let from = subst (λ (k : ℕ). IsFrom names k p) c.code-code.ensures.code (c.first_from-first.ensures.from c.requires.names.sorted) in
     let found = c.definition_at-found.result in
     let k = (get_or names i (0, 0)).1 in
     record {
@@ -54,7 +54,7 @@ returns c =
     let name = c.args.name.now in
     let p = c.first_from-first.result in
     let i = c.entries.at in
-    let from = subst (λ (k : ℕ). IsFrom names k p) c.code-code.ensures.code c.first_from-first.ensures.from in
+    let from = subst (λ (k : ℕ). IsFrom names k p) c.code-code.ensures.code (c.first_from-first.ensures.from c.requires.names.sorted) in
     record {
       first = sym (without files places name c.requires.rising
           (none_first names files places name p c.requires.names from i c.entries.invariant c.entries.auto.at (λ within is. absurd (omega (arith, within, c.entries-test.false)))));

@@ -7,7 +7,7 @@ use Rattle.pq_schema.proofs.near_names.first_from.Goals as goal
 pub returns : goal.returns
 returns c =
     record {
-      from = is_from c.args.names.now c.args.code c.partition_point.result
+      from = λ sorted. is_from c.args.names.now c.args.code c.partition_point.result
           (IsPartitionPoint-from_clause (λ (e : ℕ × ℕ). nat_lt e.0 c.args.code) _ _ c.partition_point.ensures.partitioned
-          (codes_parted c.args.names.now c.args.code c.requires.sorted) (λ a r q k. search rules));
+          (codes_parted c.args.names.now c.args.code sorted) (λ a r q k. search rules));
     }

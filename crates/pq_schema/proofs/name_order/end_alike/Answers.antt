@@ -1,5 +1,5 @@
 use Rattle.pq_schema.proofs.SameEnds.{ends_more}
-use Rattle.pq_schema.proofs.spelled.end_alike.Goals as goal
+use Rattle.pq_schema.proofs.name_order.end_alike.Goals as goal
 
 pub pieces-preserved : goal.pieces-preserved
 pieces-preserved c =

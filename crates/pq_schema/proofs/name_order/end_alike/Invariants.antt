@@ -1,5 +1,5 @@
 use Rattle.pq_schema.specs.aux.Fronts.{AreSameEnds}
-use Rattle.pq_schema.proofs.spelled.end_alike.Given as goal
+use Rattle.pq_schema.proofs.name_order.end_alike.Given as goal
 
 -- the bytes that were taken are the same in both
 abbrev pub invariant-pieces : goal.invariant-pieces

@@ -3,7 +3,7 @@ use Rattle.std.specs.List.{concat}
 use Rattle.std.proofs.Math.Nat.{mod-add-mod}
 use Rattle.std.proofs.lemmas.List.{take_all}
 use Rattle.pq_schema.proofs.LastDots.{parts_more}
-use Rattle.pq_schema.proofs.spelled.count_of_parts.Goals as goal
+use Rattle.pq_schema.proofs.name_codes.count_of_parts.Goals as goal
 
 pub parts-preserved : goal.parts-preserved
 parts-preserved c =

@@ -1,6 +1,6 @@
 use Rattle.std.proofs.Common.{[], refl}
 use Rattle.pq_schema.proofs.Pieces.{cut_both, less_first, less_second}
-use Rattle.pq_schema.proofs.spelled.cut.Goals as goal
+use Rattle.pq_schema.proofs.name_order.cut.Goals as goal
 
 pub returns-in-Some : goal.returns-in-Some
 returns-in-Some c =

@@ -2,7 +2,7 @@ use Rattle.std.proofs.Common.{◌≡◌, ℕ, ◌-◌, List, length, take, rever
 use Rattle.std.proofs.lemmas.List.{length-reverse, take_all}
 use Rattle.pq_schema.specs.aux.NameCodes.{code_from}
 use Rattle.pq_schema.proofs.Codes.{code_full, code_step, take_least}
-use Rattle.pq_schema.proofs.spelled.code_after.Goals as goal
+use Rattle.pq_schema.proofs.name_codes.code_after.Goals as goal
 
 pub bytes-init : goal.bytes-init
 bytes-init c =

@@ -1,7 +1,7 @@
 use Rattle.std.proofs.Common.{sym}
 use Rattle.std.specs.Cmp.Lexicographic.{bytes_decides}
 use Rattle.pq_schema.proofs.Pieces.{parted}
-use Rattle.pq_schema.proofs.spelled.before.Goals as goal
+use Rattle.pq_schema.proofs.name_order.before.Goals as goal
 
 pub returns-then-eq : goal.returns-then-eq
 returns-then-eq c =

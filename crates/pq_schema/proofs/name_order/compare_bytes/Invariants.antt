@@ -1,6 +1,6 @@
 use Rattle.std.proofs.Common.{◌≡◌, length}
 use Rattle.pq_schema.specs.aux.NameParts.{name_order}
-use Rattle.pq_schema.proofs.spelled.compare_bytes.Given as goal
+use Rattle.pq_schema.proofs.name_order.compare_bytes.Given as goal
 
 -- the bytes that are left compare as the whole
 abbrev pub invariant-bytes : goal.invariant-bytes

@@ -3,7 +3,7 @@ use Rattle.std.specs.List.{concat}
 use Rattle.pq_schema.specs.aux.NameCodes.{code_from, tail_code}
 use Rattle.pq_schema.proofs.Codes.{code_full, code_piece, none_joined}
 use Rattle.pq_schema.proofs.Pieces.{piece_found}
-use Rattle.pq_schema.proofs.spelled.code_of_pieces.Goals as goal
+use Rattle.pq_schema.proofs.name_codes.code_of_pieces.Goals as goal
 
 pub pieces-init : goal.pieces-init
 unfolding tail_code

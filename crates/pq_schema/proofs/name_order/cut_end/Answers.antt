@@ -1,5 +1,5 @@
 use Rattle.pq_schema.proofs.Pieces.{cut_both, less_first}
-use Rattle.pq_schema.proofs.spelled.cut_end.Goals as goal
+use Rattle.pq_schema.proofs.name_order.cut_end.Goals as goal
 
 pub returns : goal.returns
 returns c =

@@ -1,5 +1,5 @@
 use Rattle.pq_schema.proofs.Alike.{order_same}
-use Rattle.pq_schema.proofs.spelled.compare_alike.Goals as goal
+use Rattle.pq_schema.proofs.name_order.compare_alike.Goals as goal
 
 pub returns-then-are_same_after : goal.returns-then-are_same_after
 returns-then-are_same_after c =

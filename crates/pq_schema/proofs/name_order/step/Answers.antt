@@ -1,6 +1,6 @@
 use Rattle.std.proofs.Common.{refl}
 use Rattle.pq_schema.proofs.Pieces.{order_greater, order_less}
-use Rattle.pq_schema.proofs.spelled.step.Goals as goal
+use Rattle.pq_schema.proofs.name_order.step.Goals as goal
 
 pub returns-in-None-last_b-clause-order : goal.returns-in-None-last_b-clause-order
 returns-in-None-last_b-clause-order c =

@@ -1,6 +1,6 @@
 use Rattle.std.proofs.Common.{◌≡◌, ◌%◌, ◌^◌, length, take}
 use Rattle.std.specs.List.{concat}
-use Rattle.pq_schema.proofs.spelled.count_of_parts.Given as goal
+use Rattle.pq_schema.proofs.name_codes.count_of_parts.Given as goal
 
 -- the bytes of the parts so far
 abbrev pub invariant-parts : goal.invariant-parts

@@ -1,6 +1,6 @@
 use Rattle.std.proofs.Common.{◌≡◌, length}
 use Rattle.pq_schema.specs.aux.NameParts.{name_order}
-use Rattle.pq_schema.proofs.spelled.compare.Given as goal
+use Rattle.pq_schema.proofs.name_order.compare.Given as goal
 
 -- the bytes that are left compare as the whole
 abbrev pub invariant-pieces : goal.invariant-pieces

@@ -1,6 +1,6 @@
 use Rattle.std.proofs.Common.{◌≡◌, ◌-◌, length, take, reverse}
 use Rattle.pq_schema.specs.aux.NameCodes.{code_from}
-use Rattle.pq_schema.proofs.spelled.code_after.Given as goal
+use Rattle.pq_schema.proofs.name_codes.code_after.Given as goal
 
 -- the code so far, with the bytes that are left after it, is that of all that are taken
 abbrev pub invariant-bytes : goal.invariant-bytes

@@ -1,7 +1,7 @@
 use Rattle.std.proofs.Common.{◌≡◌, ◌++◌, length, take, reverse}
 use Rattle.std.specs.List.{concat}
 use Rattle.pq_schema.specs.aux.NameCodes.{code_from, tail_code}
-use Rattle.pq_schema.proofs.spelled.code_of_pieces.Given as goal
+use Rattle.pq_schema.proofs.name_codes.code_of_pieces.Given as goal
 
 -- the code so far, with the bytes that are left after it, is that of the whole
 abbrev pub invariant-pieces : goal.invariant-pieces
