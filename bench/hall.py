@@ -6,6 +6,7 @@ Each part starts a server of its own, and prints ratios of rates that were taken
     requests    requests a second with 1, 8 and 64 connections and 1, 2 and 4 workers, where nothing changed
     files       first diagnostics of independent files, 8 connections: 4 workers by 1
     edit        from an edit to its diagnostics, by `listen` and by `script` over pipes
+    reach       the same where the file that is asked reaches 1,000 others, for some cases of bench/workspaces.py
     flow        64 connections that come and go: replies in order and none lost, memory before and after
     lazy        a client that reads nothing: the rate of others beside it, and without it
     held        a client with a dear file, two workers: the time of another client's small request beside it
@@ -25,6 +26,7 @@ import sys
 import time
 
 import files
+import workspaces
 from clients import Connection, Server
 from messages import FIRST, asked, changed, diagnosed, opened, read_body
 
@@ -128,38 +130,66 @@ def middle(times):
     return sorted(times)[len(times) // 2]
 
 
-def edit_part(program, quick):
-    rounds = 50 if quick else 500
-    text = files.proto_text(1_000)
-
-    def times(send, read):
-        found = []
-        for i in range(rounds):
-            data = changed("a.proto", text + "message Last%d {}\n" % i) + diagnosed(i, "a.proto")
-            before = time.perf_counter()
-            send(data)
-            read()
-            found.append(time.perf_counter() - before)
-        return middle(found)
-
+def by_listen(program, begin, rounds):
+    """The seconds from the send of each round to its reply, of a server with two workers."""
     server = Server(program, 2)
     client = Connection(server.port)
-    client.begin(opened("a.proto", text))
-    by_port = times(client.send, lambda: client.bodies(1))
+    client.begin(*begin)
+    found = times_of(rounds, client.send, lambda: client.bodies(1))
     client.end()
     server.stop()
+    return found
+
+
+def by_script(program, begin, rounds):
+    """The same by a script over pipes."""
     script = subprocess.Popen([program, "script"], stdin=subprocess.PIPE, stdout=subprocess.PIPE)
 
     def send(data):
         script.stdin.write(data)
         script.stdin.flush()
 
-    send(FIRST + opened("a.proto", text))
+    send(FIRST + b"".join(begin))
     read_body(script.stdout)
-    by_pipe = times(send, lambda: read_body(script.stdout))
+    found = times_of(rounds, send, lambda: read_body(script.stdout))
     script.kill()
     script.wait()
-    print("from an edit of 1 kB to its diagnostics: %.0f us by listen, %.0f us by script: %.2f" % (by_port * 1e6, by_pipe * 1e6, by_port / by_pipe))
+    return found
+
+
+def times_of(rounds, send, read):
+    """The seconds from the send of each round to its reply."""
+    found = []
+    for data in rounds:
+        before = time.perf_counter()
+        send(data)
+        read()
+        found.append(time.perf_counter() - before)
+    return found
+
+
+def compared(title, program, begin, rounds):
+    """Prints what the first round takes by `listen` and by `script`, and what the middle one of the others takes."""
+    by_port, by_pipe = [by(program, begin, rounds) for by in (by_listen, by_script)]
+    for which, port, pipe in (("first", by_port[0], by_pipe[0]), ("then", middle(by_port[1:]), middle(by_pipe[1:]))):
+        print("%s, %s: %.0f us by listen, %.0f us by script: %.2f" % (title, which, port * 1e6, pipe * 1e6, port / pipe), flush=True)
+
+
+def edit_part(program, quick):
+    text = files.proto_text(1_000)
+    rounds = [changed("a.proto", text + "message Last%d {}\n" % i) + diagnosed(i, "a.proto") for i in range(50 if quick else 500)]
+    compared("from an edit of 1 kB to its diagnostics", program, [opened("a.proto", text)], rounds)
+    return True
+
+
+def reach_part(program, quick):
+    count = 100 if quick else 1_000
+    for title, case in workspaces.CASES:
+        if title.startswith("the root"):
+            side = workspaces.Side(None, "", case, count)
+            first = diagnosed("all", side.asked_for)
+            begin = [side.opens[len(FIRST):-len(first)]]
+            compared("%s, %d files" % (title, count), program, begin, [first] + [side.round(i) for i in range(20)])
     return True
 
 
@@ -264,7 +294,8 @@ def held_part(program, quick):
     return middle(times) < whole / 4
 
 
-PARTS = [("requests", requests_part), ("files", files_part), ("edit", edit_part), ("flow", flow_part), ("lazy", lazy_part), ("held", held_part)]
+PARTS = [("requests", requests_part), ("files", files_part), ("edit", edit_part), ("reach", reach_part), ("flow", flow_part),
+         ("lazy", lazy_part), ("held", held_part)]
 
 
 def main():
