@@ -1,12 +1,13 @@
 #!/usr/bin/env python3
 """Proves crates of two trees, each pair at the same time, and prints what they take and the ratio.
 
-Machines differ, and one machine differs from hour to hour: crates that had not changed took 1.06 to 1.45 times as long in
-another run of the gate. What is proved at the same time shares that. So the ratio, times what the crate took in the run by
-which the budgets were set, is what a budget of docs/GATE.md is compared with.
+Machines differ, and one machine differs from hour to hour: crates that had not changed took 1.2 to 1.6 times as long in
+another run of the gate (results/gate.txt). What is proved at the same time shares that. So the ratio, times what the crate
+took in the run by which the budgets were set, is what a budget of docs/GATE.md is compared with.
 
 Each crate is proved from nothing, as `rt ci` proves it, over the crates below it in its tree, which have to be proved: run
-`rt ci` in both trees before, or copy the folders out/ of crates that are the same. Nothing is written into the trees.
+`rt ci` in both trees before, or copy the folders out/ of crates that are the same. Nothing is written into the trees. It is
+meant for libraries, and was tried with some that start no thread.
 
 usage: bench/beside.py BEFORE NOW CRATE..
 """
