@@ -26,7 +26,6 @@ use Rattle.pq_core.specs.Starts.{Log, IsCountedFor}
 use Rattle.pq_core.specs.declared.account.Stage.TheVariants.{Made}
 use Rattle.pq_core.specs.declared.rising.Place.{Place as Seat}
 use Rattle.pq_core.specs.aux.Rising.{Slots, IsAbove}
-use Rattle.pq_core.specs.aux.Changes.{IsSetAt}
 use Rattle.pq_core.specs.aux.Accounts.{AccountStands}
 use Rattle.pq_core.specs.aux.Places.{LaneStands, LanesStand}
 use Rattle.pq_core.specs.aux.Passing.{FillsIn, Passes}

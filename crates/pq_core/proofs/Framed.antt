@@ -16,7 +16,7 @@ use Rattle.pq_memo.specs.Frames.{Sits, IsFrame, IsSameStage, Awaits, frame_keys}
 use Rattle.pq_memo.specs.Demand.{Differ}
 use Rattle.pq_memo.specs.Steps.{HasRead}
 use Rattle.pq_memo.proofs.Demanding.{differ}
-use Rattle.pq_memo.proofs.RoundBegun.{distinct_of}
+use Rattle.pq_memo.proofs.DistinctRing.{distinct_of}
 use Rattle.pq_memo.proofs.Stacked.{keys_append, awaits_frame}
 use Rattle.pq_memo.proofs.TableCalls.{zero_or}
 use Rattle.pq_core.specs.declared.frames.Top.{Top}

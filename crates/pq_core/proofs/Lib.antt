@@ -26,6 +26,7 @@ pub mod Framed
 pub mod OneTurn
 pub mod Renewed
 pub mod Stepping
+pub mod Confirmed
 pub mod Rounds
 pub mod RingFrames
 pub mod RingRuns

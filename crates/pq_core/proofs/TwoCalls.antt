@@ -1,6 +1,6 @@
 -- Calls of a store: none, one by another relation, and two of which the first leaves the ledger as it
 -- was.
-use Rattle.std.proofs.Common.{◌≡◌, ℕ, ◌⊎◌, refl, sym, subst, inl, inr}
+use Rattle.std.proofs.Common.{◌≡◌, ℕ, subst, inl, inr}
 use Rattle.std.specs.declared.cmp.Ordering.{Ordering}
 use Rattle.pq_rules.specs.Turns.{Machine}
 use Rattle.pq_core.proofs.Calling.{open_of}
@@ -9,7 +9,7 @@ use Rattle.pq_core.specs.Points.{Point}
 use Rattle.pq_core.specs.Ledger.{Entry, Ledger}
 use Rattle.pq_core.specs.RightReply.{answer_by}
 use Rattle.pq_core.specs.Lanes.{ReadyView}
-use Rattle.pq_core.specs.Told.{Told, told_puts, IsReadyAt, NoneReadyAt}
+use Rattle.pq_core.specs.Told.{Told, told_puts, IsReadyAt}
 use Rattle.pq_core.specs.Stores.{StoreView, held, fields_of, StandsFor, IsMadeIn, Makes, Goes}
 use Rattle.pq_core.specs.declared.account.Stage.TheVariants.{Made}
 use Rattle.pq_core.specs.aux.Accounts.{AccountStands}

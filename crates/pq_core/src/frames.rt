@@ -8,7 +8,8 @@
 //! step says which ring closes: `closing` publishes it. So no key of a frame is up to date before its
 //! turn comes.
 //!
-//! A step costs what one step of a frame costs and at most one claim or release.
+//! A step costs what one step of a frame costs and at most one claim or release. Before a frame
+//! walks, a step marks valid memos below it instead, where there are any: see `confirming`.
 ghost use Rattle.std.specs.Prelude.{◌≡◌, ◌≢◌, ◌++◌, ◌∷◌, [], length, None, IfOk, IfErr, OnOk, OnErr};
 ghost use Rattle.pq_memo.specs.Table.{memo_at, HasIn, IsSameTable, KeptOver};
 ghost use Rattle.pq_memo.specs.Writes.{IsPublished};
@@ -21,11 +22,12 @@ ghost use Rattle.pq_core.specs.aux.Begun.{AdvancesFirst, KeepsBegun};
 ghost use Rattle.pq_core.specs.declared.frames.Pending.{Pending};
 ghost use Rattle.pq_core.specs.declared.frames.Top.TheVariants.{Empty, At, Away};
 
+use crate::confirming::{confirm, first_free};
 use crate::fault::Memory;
 use crate::job::{Job, Made, Task};
 use pq_claims::{Claims, RunId, claims_are_sound};
 use pq_inputs::Inputs;
-use pq_memo::{Frame, Memos, Stack, Stage, Step, Unpublished, Why, turns_are_right};
+use pq_memo::{Frame, Memos, Stack, Stage, Step, Trail, Unpublished, Why, turns_are_right};
 use pq_rules::{Answer, Rules, Shared, Turn};
 use std::alloc::Global;
 
@@ -65,6 +67,8 @@ pub(crate) enum Went<W, K> {
 pub(crate) struct Frames<R: Rules> {
     pub(crate) stack: Stack<R>,
     pub(crate) top: Top<R::Key, R::Part>,
+    // Which memos below the frames may be valid. No contract speaks of it.
+    trail: Trail,
 }
 
 /// The answer that is this value.
@@ -122,6 +126,7 @@ impl<R: Rules> Frames<R> {
         Frames {
             stack: Stack::new(alloc),
             top: Top::Empty,
+            trail: Trail::new(alloc),
         }
     }
 
@@ -262,8 +267,8 @@ impl<R: Rules> Frames<R> {
         }
     }
 
-    /// Takes one step of `frame`, which was the top. If the run waited, its wait ends: it waits again
-    /// if the key that it needs is still held.
+    /// Takes one step of `frame`, which was the top, or marks valid memos below it. If the run
+    /// waited, its wait ends: it waits again if the key that it needs is still held.
     pub(crate) fn advance(
         &mut self,
         alloc: Global,
@@ -293,6 +298,14 @@ impl<R: Rules> Frames<R> {
         ensures first { IfOk result (λ w. AdvancesFirst self.old.stack (At frame) w) }
     {
         claims.end_wait(id);
+        match first_free(&mut self.trail, memos, claims, inputs, &frame) {
+            Some(first) => {
+                confirm(&mut self.trail, memos, claims, inputs, first);
+                self.top = Top::At(frame);
+                return Ok(Went::Stepped);
+            }
+            None => {}
+        }
         match memos.rules().copy_key(alloc, &frame.key) {
             Ok(copy) => self.step(alloc, id, memos, claims, inputs, frame, copy),
             Err(_) => {

@@ -19,11 +19,11 @@ use Rattle.pq_memo.specs.declared.look.Why.TheVariants.{Fresh, Changed, Ring}
 use Rattle.pq_memo.specs.Sound.{Memo}
 use Rattle.pq_memo.specs.Kept.{Kept}
 use Rattle.pq_memo.specs.Look.{FileChanged, IsUpToDate, HasChanged, IsStill, IsGreen, IsByReads, Lasts, HasLapsed}
-use Rattle.pq_memo.specs.Table.{HasIn}
-use Rattle.pq_memo.specs.Writes.{Dated}
+use Rattle.pq_memo.specs.Table.{key_at, memo_at, HasIn, KeptOver}
+use Rattle.pq_memo.specs.Writes.{Dated, IsConfirmed}
 use Rattle.pq_memo.specs.Frames.{Awaits, frame_keys}
 use Rattle.pq_memo.specs.Steps.{IsWhy}
-use Rattle.pq_memo.specs.aux.Demand.{Linked, Going, Wrote, Caused, HasMarked, HasConfirmed, waiting_key, waiting_keys, is_seen, unseen, top_rank, weight}
+use Rattle.pq_memo.specs.aux.Demand.{Linked, Going, Wrote, Caused, HasConfirmed, waiting_key, waiting_keys, is_seen, unseen, top_rank, weight}
 use Rattle.pq_memo.proofs.Wrote as wrote
 use Rattle.pq_memo.proofs.Stacked as stacked
 use Rattle.pq_memo.proofs.Stacked.{in_keys_either}
@@ -267,12 +267,14 @@ module _ {K P V : Type 0} (order : K → K → Ordering) (exact : Exact order) (
           (n.0, wrote_k.others x (λ j. elim j [ inl e ↦ fresh (subst (λ (y : K). In y c.keys) e i) | inr j ↦ absurd j ]) ∙ n.1, n.2, n.3)
 
 -- a step of the walk
-pub confirmed_step : {K P V : Type 0} (order : K → K → Ordering) (exact : Exact order) (m : Machine K P V) (inputs : Table) (before middle after : K → Option (Memo K V))
-    (fs : List (Frame K P)) (f : Frame K P) (own : K) → own ≡ f.key → Linked order m inputs before (fs ++ f ∷ [])
+pub confirmed_step : {K P V : Type 0} (order : K → K → Ordering) (exact : Exact order) (m : Machine K P V) (inputs : Table) (before : K → Option (Memo K V))
+    (middle : List (K × Option (Memo K V))) (number : ℕ) (after : List (K × Option (Memo K V))) (fs : List (Frame K P)) (f : Frame K P)
+    → Linked order m inputs before (fs ++ f ∷ [])
     → ((k : K) → In k (frame_keys (fs ++ f ∷ [])) → IsUpToDate m inputs.revision (HasIn before) k → ⊥) → Caused m inputs before (fs ++ f ∷ [])
-    → Kept order m inputs.history inputs.revision (HasIn middle) → HasConfirmed m inputs.revision before middle (frame_keys (fs ++ f ∷ []))
-    → HasMarked m inputs own middle after → HasConfirmed m inputs.revision before after (frame_keys (fs ++ f ∷ []))
-confirmed_step {K} order exact m inputs before middle after fs f own is linked stale caused kept c (inl same) = record {
+    → KeptOver order m inputs middle → HasConfirmed m inputs.revision before (memo_at order middle) (frame_keys (fs ++ f ∷ []))
+    → ((k : K) → key_at middle number ≡ Some k → k ≡ f.key → ⊥)
+    → IsConfirmed order m inputs middle number after → HasConfirmed m inputs.revision before (memo_at order after) (frame_keys (fs ++ f ∷ []))
+confirmed_step {K} order exact m inputs before middle number after fs f linked stale caused kept c other (inl same) = record {
   keys = c.keys;
   written = record {
     others = λ k out. same k ∙ c.written.others k out;
@@ -281,10 +283,10 @@ confirmed_step {K} order exact m inputs before middle after fs f own is linked s
   stale = c.stale;
   off = c.off;
 }
-confirmed_step {K} order exact m inputs before middle after fs f own is linked stale caused kept c (inr (k, other, green, written)) =
-    confirmed_more order exact m inputs before middle (fs ++ f ∷ []) c after k (green_stale order m inputs middle kept k green)
-    (green_off order m inputs middle kept fs f
-    (linked_then order exact m inputs before middle (fs ++ f ∷ []) c linked)
-    (stale_then order exact m inputs before middle (fs ++ f ∷ []) c stale)
-    (caused_then order exact m inputs before middle (fs ++ f ∷ []) c caused)
-    k (λ e. other (e ∙ sym is)) green) written
+confirmed_step {K} order exact m inputs before middle number after fs f linked stale caused kept c other (inr (k, there, green, marked)) =
+    confirmed_more order exact m inputs before (memo_at order middle) (fs ++ f ∷ []) c (memo_at order after) k (green_stale order m inputs (memo_at order middle) kept k green)
+    (green_off order m inputs (memo_at order middle) kept fs f
+    (linked_then order exact m inputs before (memo_at order middle) (fs ++ f ∷ []) c linked)
+    (stale_then order exact m inputs before (memo_at order middle) (fs ++ f ∷ []) c stale)
+    (caused_then order exact m inputs before (memo_at order middle) (fs ++ f ∷ []) c caused)
+    k (other k there) green) (wrote.wrote_marked order exact m inputs middle k after marked)

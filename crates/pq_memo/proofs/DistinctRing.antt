@@ -13,6 +13,7 @@ use Rattle.pq_rules.specs.aux.Runs.{means_at}
 use Rattle.pq_rules.proofs.Rings.{Single, Strict, first_return, each_in}
 use Rattle.pq_rules.proofs.Settled.{next_single}
 use Rattle.pq_rules.proofs.Uniqueness.{below_lower}
+use Rattle.pq_memo.specs.Demand.{Differ}
 
 -- what is left of a chain after one of its keys
 record Rest {K : Type 0} (N : K → K → Type 0) (xs : List K) (x z : K) : Type 0 where
@@ -61,3 +62,9 @@ ring_distinct {K} {P} {V} s strict k ring up means = at_level (s.level k) refl u
     at_level (suc l) at h r m =
         let here = means_at s (suc l) k (Cycle r) at m in
         of_ring (Next s (Below s (suc l)) (suc l)) (next_single s (Below s (suc l)) (suc l) (below_lower s strict (suc l))) r here.0
+
+-- keys that differ are distinct
+pub distinct_of : {K : Type 0} (ks : List K) → Differ ks → Distinct ks
+unfolding Distinct
+distinct_of [] d = tt
+distinct_of (k ∷ ks) d = (d.0, distinct_of ks d.1)

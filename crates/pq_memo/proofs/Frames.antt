@@ -1,7 +1,7 @@
 -- The steps of a key that is being brought up to date, one lemma for each: it walks, it asks, it
 -- goes on, it ends, it passes a cycle on, and the keys from one on are a ring. They are the same
 -- for an engine with one stack and for a core with many.
-use Rattle.std.proofs.Common.{◌≡◌, ℕ, ◌+◌, ◌-◌, ◌<◌, ◌≤◌, List, [], ◌∷◌, ◌++◌, length, get_or, slice_get, Option, Some, true, false, refl, sym, ◌∙◌, ap, subst, inl, inr, arith}
+use Rattle.std.proofs.Common.{◌≡◌, ℕ, ◌+◌, ◌-◌, ◌<◌, ◌≤◌, List, [], ◌∷◌, ◌++◌, length, get_or, slice_get, Option, Some, false, refl, sym, ◌∙◌, ap, subst, inl, inr, arith}
 use Rattle.std.specs.declared.cmp.Ordering.{Ordering}
 use Rattle.std.proofs.lemmas.Option.{same_Some, slice_get_within, slice_get-get_or}
 use Rattle.pq_inputs.specs.Sources.{Sources, Table}
@@ -15,14 +15,13 @@ use Rattle.pq_rules.specs.Turns.{Instance, Machine, over}
 use Rattle.pq_rules.specs.Relations.{Each, In}
 use Rattle.pq_rules.specs.Value.{Trace, Follows, Means, RightRead, ComesBy, ComesTo}
 use Rattle.pq_rules.proofs.Rings.{Strict, each_in}
-use Rattle.pq_rules.proofs.Characterisation.{each_append, means_input}
+use Rattle.pq_rules.proofs.Characterisation.{each_append}
 use Rattle.pq_rules.proofs.ListLemmas.{each_from, split}
 use Rattle.pq_memo.specs.Sound.{Memo, sources_at, at, asked_keys, HasReads}
 use Rattle.pq_memo.specs.Kept.{Kept}
-use Rattle.pq_memo.specs.Look.{IsUpToDate, HasLapsed, IsStill, IsByReads, WalksTo}
+use Rattle.pq_memo.specs.Look.{IsUpToDate, HasLapsed, IsStill, IsByReads}
 use Rattle.pq_memo.specs.aux.Tests.{IsReachedAt}
 use Rattle.pq_memo.specs.Table.{memo_at, HasIn, KeptOver}
-use Rattle.pq_memo.specs.aux.Written.{Written}
 use Rattle.pq_memo.specs.declared.look.Why.{Why}
 use Rattle.pq_memo.specs.declared.look.Why.TheVariants.{Fresh, Changed, Ring}
 use Rattle.pq_memo.specs.Frames.{Came, Sits, WalksAt}
@@ -53,23 +52,6 @@ module _ {K P V : Type 0} (order : K → K → Ordering) (strict : Strict order)
   abbrev Sitting : K → K → P → List K → Type 0
   Sitting k q p front = Sits order m history now (HasIn table) k q p front
 
-  -- a walk over recorded reads has come to a question of now
-  pub sits_walking : (k q : K) → WalksTo m history now (HasIn table) k q → (p : P) × (front : List K) × Sitting k q p front
-  sits_walking k q (memo, by, reached, stale) =
-      let w = looks.walk_asked order strict m history now counted table kept k memo by.old.has reached.front q reached.back reached.whole reached.still in (
-        w.1,
-        reached.front,
-        record {
-          ruled = (kept.memos k memo by.old.has).ruled;
-          lapsed = λ other h. subst (λ (x : Memo K V). HasLapsed history x) (same_Some memo other (sym by.old.has ∙ h)) by.lapsed;
-          run = w.0;
-          comes = w.2;
-          reads = w.3;
-          fresh = each_from (IsUpToDate m now (HasIn table)) reached.front
-              (λ x i. (each_in (IsStill m history now (HasIn table) memo.verified) x reached.front reached.still i).up_to_date);
-        },
-      )
-
   -- a walk has come to the read at its place
   pub walks_at : (k : K) (place : ℕ) (q : K) (memo : Memo K V) → IsByReads history now (HasIn table) k memo
       → IsReachedAt m history now (HasIn table) memo.verified memo.reads place q → WalksAt order m history now (HasIn table) k place q
@@ -99,24 +81,6 @@ module _ {K P V : Type 0} (order : K → K → Ordering) (strict : Strict order)
         sits = subst (λ (ks : List K). Sitting k q w.1 ks) (sym s.taken) sits;
       }
 
-  -- a rule that is started asks
-  pub sits_started : (k q : K) (p : P) → 0 < m.level k → ((memo : Memo K V) → HasIn table k memo → HasLapsed history memo)
-      → m.start k ≡ Ask q p → Sitting k q p []
-  unfolding Follows
-  sits_started k q p up lapsed start = record {
-    ruled = up;
-    lapsed = lapsed;
-    run = [];
-    comes = record { follows = start; told = tt };
-    reads = refl;
-    fresh = tt;
-  }
-
-  -- or ends at once
-  pub done_started : (k : K) (v : V) → m.start k ≡ Done v → HasReads s k (Value v) []
-  unfolding Follows
-  done_started k v start = ([], record { follows = start; told = tt }, refl)
-
   -- the rule gets the answer of what it asked
   pub told_on : (k q : K) (p : P) (front : List K) (a : Answer K V) → Sitting k q p front → RightRead s (m.level k) (q, a)
       → (run : Trace K V) × ComesBy s k run (m.advance p a) × (asked_keys run ≡ front ++ q ∷ [])
@@ -139,28 +103,6 @@ module _ {K P V : Type 0} (order : K → K → Ordering) (strict : Strict order)
   came_on k q p front a sits told up =
       let on = told_on k q p front a sits told in
       record { ruled = sits.ruled; lapsed = sits.lapsed; run = on.0; comes = on.1; reads = on.2; fresh = fresh_on q front sits.fresh up }
-
-  -- it asks again
-  pub sits_on : (k q r : K) (p o : P) (front : List K) (a : Answer K V) → Sitting k q p front → RightRead s (m.level k) (q, a)
-      → IsUpToDate m now (HasIn table) q → m.advance p a ≡ Ask r o → Sitting k r o (front ++ q ∷ [])
-  sits_on k q r p o front a sits told up next =
-      let on = told_on k q p front a sits told in
-      record {
-        ruled = sits.ruled;
-        lapsed = sits.lapsed;
-        run = on.0;
-        comes = subst (λ (t : Turn K P V). ComesBy s k on.0 t) next on.1;
-        reads = on.2;
-        fresh = fresh_on q front sits.fresh up;
-      }
-
-  -- or ends
-  pub done_on : (k q : K) (p : P) (front : List K) (a : Answer K V) (v : V) → Sitting k q p front → RightRead s (m.level k) (q, a)
-      → IsUpToDate m now (HasIn table) q → m.advance p a ≡ Done v
-      → HasReads s k (Value v) (front ++ q ∷ []) × Each (IsUpToDate m now (HasIn table)) (front ++ q ∷ [])
-  done_on k q p front a v sits told up next =
-      let on = told_on k q p front a sits told in
-      ((on.0, subst (λ (t : Turn K P V). ComesBy s k on.0 t) next on.1, sym on.2), fresh_on q front sits.fresh up)
 
   -- the key of a cycle of its level passes it on; it does not stand on that ring
   pub passed_on : (k q : K) (p : P) (front : List K) (ring : List K) (read : Memo K V) → Sitting k q p front
@@ -200,47 +142,6 @@ module _ {K P V : Type 0} (order : K → K → Ordering) (strict : Strict order)
                 }))
           ]
 
-  -- what sits stays where memos of other keys are written that are right now
-  pub sits_still : (After New : K → Memo K V → Type 0) → Written (HasIn table) After New
-      → ((x : K) (memo : Memo K V) → New x memo → memo.verified ≡ now)
-      → (k q : K) (p : P) (front : List K) → ((memo : Memo K V) → New k memo → ⊥)
-      → Sitting k q p front → Sits order m history now After k q p front
-  sits_still After New written news k q p front other sits = record {
-    ruled = sits.ruled;
-    lapsed = λ memo a. elim (written.after k memo a) [ inl n ↦ absurd (other memo n) | inr h ↦ sits.lapsed memo h.1 ];
-    run = sits.run;
-    comes = sits.comes;
-    reads = sits.reads;
-    fresh = each_from (IsUpToDate m now After) front
-        (λ x i. elim (each_in (IsUpToDate m now (HasIn table)) x front sits.fresh i) [
-          | inl low ↦ inl low
-          | inr r ↦ elim (written.decide x) [
-            | inl n ↦ inr (n.0, written.news x n.0 n.1, news x n.0 n.1)
-            | inr none ↦ inr (r.0, written.others x r.0 r.1 none, r.2)
-          ]
-        ]);
-  }
-
-  -- the answer of a read that is up to date is right for its reader
-  pub told_memo : (k q : K) (p : P) (front : List K) (read : Memo K V) → Sitting k q p front → m.level q ≤ m.level k
-      → HasIn table q read → read.verified ≡ now → (m.level q ≡ m.level k → (v : V) × (read.answer ≡ Value v))
-      → RightRead s (m.level k) (q, read.answer)
-  told_memo k q p front read sits low has fresh value = record {
-    no_higher = low;
-    means = makes.now_right order strict m history now table kept q read has fresh;
-    value = value;
-  }
-
-  pub told_input : (k q : K) (p : P) (front : List K) → Sitting k q p front → m.level q ≡ 0 → RightRead s (m.level k) (q, Value (s.input q))
-  told_input k q p front sits low =
-      let up : 0 < m.level k = sits.ruled in
-      let e : m.level q ≡ 0 = low in
-      record {
-        no_higher = omega arith;
-        means = means_input s q (s.input q) low refl;
-        value = λ same. absurd (let f : m.level q ≡ m.level k = same in omega arith);
-      }
-
 -- a rule that has ended has these reads, over the sources now
 pub came_reads : {K P V : Type 0} (order : K → K → Ordering) (m : Machine K P V) (history : List Sources) (now : ℕ) (files : Sources)
     → slice_get history now ≡ Some files → (Has : K → Memo K V → Type 0) (k : K) (turn : Turn K P V) (v : V) (front : List K)
@@ -248,10 +149,6 @@ pub came_reads : {K P V : Type 0} (order : K → K → Ordering) (m : Machine K 
 came_reads {K} {P} {V} order m history now files latest Has k turn v front came ends =
     subst (λ (s : Sources). HasReads (over order m s) k (Value v) front) (now_files history now files latest)
     (came.run, subst (λ (t : Turn K P V). ComesBy (at order m history now) k came.run t) ends came.comes, sym came.reads)
-
--- no value is a ring
-pub value_no_ring : {K V : Type 0} (k : K) (v : V) (ring : List K) → Value v ≡ Cycle ring → In k ring → ⊥
-value_no_ring k v ring e i = cc
 
 -- a key that passes a cycle on, over the sources now
 pub record PassesOn {K P V : Type 0} (order : K → K → Ordering) (m : Machine K P V) (files : Sources) (now : ℕ) (Has : K → Memo K V → Type 0)
@@ -317,13 +214,6 @@ module _ {K P V : Type 0} (order : K → K → Ordering) (strict : Strict order)
         value = value;
       })
       (elim read [ inl low ↦ inl low.0 | inr r ↦ inr (r.0, r.1, r.2) ]) refl all
-
-  -- or it is a cycle of the reader's level
-  pub cycle_read : Passes true m k q a → IsCycleRead m inputs.revision (HasIn (memo_at order places)) k q a
-  cycle_read (same, (ring, cycle)) = elim read [
-    | inl low ↦ absurd (let up : 0 < m.level k = sits.ruled in let e : m.level q ≡ 0 = low.0 in let f : m.level q ≡ m.level k = same in omega arith)
-    | inr r ↦ record { level = same; read = r.0; has = r.1; verified = r.2; ring = ring; read_is = r.3 ∙ cycle; answer_is = cycle }
-  ]
 
 -- a rule that has to be started comes to its first turn
 pub starts : {K P V : Type 0} (order : K → K → Ordering) (m : Machine K P V) (history : List Sources) (now : ℕ) (table : K → Option (Memo K V))

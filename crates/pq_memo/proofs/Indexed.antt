@@ -73,19 +73,6 @@ keys_length [] = refl
 keys_length (f ∷ fs) = ap (λ (n : ℕ). suc n) (keys_length fs)
 
 module _ {K : Type 0} (order : K → K → Ordering) where
-  pub mapped_none : (places : List (K × ℕ)) (ks : List K) → ks ≡ [] → IsMapped order places 0 ks
-  mapped_none places ks is = subst (λ (l : List K). IsMapped order places 0 l) (sym is)
-      (record { within = omega arith; indexed = λ i k low h. absurd (omega arith); distinct = λ i j k h g. absurd (no_key k h) })
-
-  -- places that are the same for the keys
-  pub mapped_as : (before after : List (K × ℕ)) (mapped : ℕ) (ks : List K) → ((k : K) → place_in order after k ≡ place_in order before k)
-      → IsMapped order before mapped ks → IsMapped order after mapped ks
-  mapped_as before after mapped ks same x = record {
-    within = x.within;
-    indexed = λ i k low h. same k ∙ x.indexed i k low h;
-    distinct = x.distinct;
-  }
-
   -- one key more is mapped
   pub mapped_next : (before after : List (K × ℕ)) (mapped : ℕ) (ks : List K) (k : K) → mapped < length ks → nth ks mapped ≡ Some k → IsNoted order before k mapped after
       → IsMapped order before mapped ks → IsMapped order after (mapped + 1) ks

@@ -16,7 +16,6 @@ pub mod DistinctRing
 pub mod TableCalls
 pub mod Frames
 pub mod RingClosed
-pub mod RingTurned
 pub mod RoundClosed
 pub mod Wrote
 pub mod Stacked
@@ -31,4 +30,3 @@ pub mod Demanding
 pub mod Indexed
 pub mod Numbered
 pub mod SlotCalls
-pub mod RoundBegun

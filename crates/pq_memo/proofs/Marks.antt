@@ -60,16 +60,6 @@ ring_leads order N (z ∷ zs) r x y i j =
     let back = comes_back N z zs z r.0 x i in
     leads_join N x z y (chain_leads N x back.0 z back.1) (head_leads N z zs z y r.0 j)
 
-chain_as : {K : Type 0} (M N : K → K → Type 0) → ((x y : K) → M x y → N x y) → (k : K) (xs : List K) (z : K) → Chain M k xs z → Chain N k xs z
-unfolding Chain
-chain_as M N f k [] z c = f k z c
-chain_as M N f k (x ∷ xs) z c = (f k x c.0, chain_as M N f x xs z c.1)
-
-pub leads_as : {K : Type 0} (M N : K → K → Type 0) → ((x y : K) → M x y → N x y) → (k z : K) → Leads M k z → Leads N k z
-unfolding Leads
-leads_as M N f k z (inl e) = inl e
-leads_as M N f k z (inr c) = inr (c.0, chain_as M N f k c.0 z c.1)
-
 module _ {K P V : Type 0} (s : Instance K P V) where
   -- keys of one level each of which waits for another
   wait_asks : (l : ℕ) → 0 < l → (x y : K) → s.level x ≡ l → Waits s x y → AsksAt s x y × (s.level y ≡ l)

@@ -8,8 +8,9 @@ use Rattle.std.specs.BTreeMap.{is_at}
 use Rattle.std.proofs.lemmas.Option.{same_Some}
 use Rattle.std.proofs.lemmas.Bool.{cases_Bool}
 use Rattle.pq_rules.proofs.Weight.{Exact}
+use Rattle.pq_memo.specs.Table.{key_at}
 use Rattle.pq_memo.specs.aux.Stack.{place_in}
-use Rattle.pq_memo.specs.aux.Slots.{key_at, value_at, with_at, IsNumbered}
+use Rattle.pq_memo.specs.aux.Slots.{value_at, with_at, IsNumbered}
 
 -- `Only slots n k` is that no slot but `n` has the key `k`
 abbrev Only : {K X : Type 0} → List (K × X) → ℕ → K → Type 0
@@ -24,9 +25,6 @@ none_some x e = cc
 
 suc_same : (i n : ℕ) → suc i ≡ suc n → i ≡ n
 suc_same i n e = omega arith
-
-zero_suc : (i : ℕ) → suc i ≡ 0 → ⊥
-zero_suc i e = omega arith
 
 suc_zero : (i : ℕ) → 0 ≡ suc i → ⊥
 suc_zero i e = omega arith

@@ -275,13 +275,6 @@ pub none_put : {K V : Type 0} (order : K → K → Ordering) (base : K → Optio
 unfolding put_back
 none_put order base all = ([], append-nil all, (λ q. refl))
 
-pub all_put : {K V : Type 0} (order : K → K → Ordering) (base table : K → Option (Memo K V)) (all left : List (K × Memo K V)) → left ≡ []
-    → (r : (done : List (K × Memo K V)) × (left ++ done ≡ all) × ((q : K) → table q ≡ put_back order done base q))
-    → (q : K) → table q ≡ put_back order all base q
-all_put {K} {V} order base table all left none r q =
-    let same : r.0 ≡ all = ap (λ l. l ++ r.0) (sym none) ∙ r.1 in
-    r.2 q ∙ ap (λ (l : List (K × Memo K V)). put_back order l base q) same
-
 -- places stay where they were
 pub rooms_stay : {K V : Type 0} (order : K → K → Ordering) (places later : List (K × Option (Memo K V))) (es : List (K × List K))
     → ((q : K) → HasRoom order places q → HasRoom order later q) → AllHaveRoom order places es → AllHaveRoom order later es

@@ -1,7 +1,6 @@
 -- Passes over lists: one element more.
 use Rattle.std.proofs.Common.{◌≡◌, ℕ, zero, suc, ◌⊎◌, ◌<◌, ◌≤◌, List, [], ◌∷◌, ◌++◌, length, take, get_or, slice_get, Some, refl, sym, ap, ◌∙◌, subst, inl, inr, arith}
 use Rattle.pq_inputs.specs.declared.durability.Durability.{Durability}
-use Rattle.pq_inputs.specs.declared.durability.Durability.TheVariants.{High}
 use Rattle.pq_inputs.specs.Sources.{Sources}
 use Rattle.pq_inputs.specs.Changes.{level}
 use Rattle.pq_rules.specs.Turns.{Machine}
@@ -9,7 +8,7 @@ use Rattle.pq_rules.specs.Relations.{Each, In}
 use Rattle.std.proofs.lemmas.Option.{slice_get_within, slice_get-get_or, same_Some}
 use Rattle.pq_rules.proofs.ListLemmas.{split}
 use Rattle.pq_memo.specs.Sound.{Memo}
-use Rattle.pq_memo.specs.Look.{IsUpToDate, HasChanged, IsStill, IsByReads, IsReached, IsGreen, WalksTo, HasChangedRead}
+use Rattle.pq_memo.specs.Look.{IsUpToDate, HasChanged, IsStill, IsByReads, IsReached, WalksTo, HasChangedRead}
 use Rattle.pq_memo.specs.aux.Tests.{IsReachedAt, IsPass}
 use Rattle.pq_memo.specs.declared.state.Passed.{Passed}
 use Rattle.pq_memo.specs.aux.Durabilities.{HasDurability, IsLeastRead}
@@ -40,15 +39,7 @@ in_take_last [] i x h e = absurd (omega arith)
 in_take_last (y ∷ xs) zero x h e = inl e
 in_take_last (y ∷ xs) (suc i) x h e = inr (in_take_last xs i x (omega arith) e)
 
-pub each_get : {A : Type 0} (P : A → Type 0) (xs : List A) (i : ℕ) (x : A) → i < length xs → x ≡ get_or xs i x → Each P xs → P x
-each_get P [] i x h e t = absurd (omega arith)
-each_get P (y ∷ xs) zero x h e t = subst P (sym e) t.0
-each_get P (y ∷ xs) (suc i) x h e t = each_get P xs i x (omega arith) e t.1
-
 module _ {K P V : Type 0} (m : Machine K P V) (files : Sources) (Has : K → Memo K V → Type 0) where
-  pub least_none : IsLeastRead m files Has (λ q. In q []) High
-  least_none = record { lower = λ q i. absurd i; attained = inl refl }
-
   -- one read more
   pub least_more : (xs : List K) (i : ℕ) (x : K) (least d next : Durability) → i < length xs → x ≡ get_or xs i x
       → IsLeastRead m files Has (λ q. In q (take i xs)) least → HasDurability m files Has x d
@@ -95,16 +86,6 @@ module _ {K P V : Type 0} (m : Machine K P V) (history : List Sources) (now : �
 
   module _ (k : K) (memo : Memo K V) (by : IsByReads history now Has k memo) (since : ℕ) (reads : List K)
       (verified : since ≡ memo.verified) (same : reads ≡ memo.reads) where
-    pub green_by : Each (IsStill m history now Has since) reads → IsGreen m history now Has k
-    green_by each = (
-      memo,
-      inr (
-        by,
-        subst (λ (r : ℕ). Each (IsStill m history now Has r) memo.reads) verified
-            (subst (λ (ks : List K). Each (IsStill m history now Has since) ks) same each),
-      ),
-    )
-
     here : (i : ℕ) (q x : K) → IsReachedAt m history now Has since reads i q → x ≡ get_or reads i x → IsReached m history now Has memo.verified memo.reads x × (q ≡ x)
     here i q x r e =
         let one : q ≡ x = at_place reads i q x r.there e in (

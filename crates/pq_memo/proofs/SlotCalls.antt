@@ -10,9 +10,9 @@ use Rattle.std.specs.BTreeMap.{is_at}
 use Rattle.pq_rules.proofs.Weight.{Exact}
 use Rattle.pq_memo.proofs.Numbered.{found_value, not_found, has_slot, numbered_with, lookup_with, numbered_more, lookup_added, key_within, same_key, tied}
 use Rattle.pq_memo.specs.Sound.{Memo}
-use Rattle.pq_memo.specs.Table.{memo_at, joined, IsPut, IsSameTable}
+use Rattle.pq_memo.specs.Table.{key_at, memo_at, joined, IsSameTable}
 use Rattle.pq_memo.specs.aux.Stack.{place_in}
-use Rattle.pq_memo.specs.aux.Slots.{key_at, value_at, with_at, IsNumbered}
+use Rattle.pq_memo.specs.aux.Slots.{value_at, with_at, IsNumbered}
 use Rattle.pq_memo.specs.aux.Written.{HasRoom}
 
 module _ {K X : Type 0} where
@@ -144,11 +144,6 @@ numbered_as {K} {X} order index after slots kept same puts is =
 
 -- what was added to the list, for the table
 module _ {K V : Type 0} (order : K → K → Ordering) (exact : Exact order) (before after : List (K × Option (Memo K V))) (k : K) where
-  pub put_added : (memo : Memo K V) → ((q : K) → lookup (is_at (order q)) after ≡ cond (is_eq (order k q)) (Some (Some memo)) (lookup (is_at (order q)) before))
-      → IsPut order (memo_at order before) k memo (memo_at order after)
-  put_added memo added q =
-      ap (λ (o : Option (Option (Memo K V))). joined o) (added q) ∙ joined_cond (is_eq (order k q)) (Some memo) (lookup (is_at (order q)) before)
-
   module _ (added : (q : K) → lookup (is_at (order q)) after ≡ cond (is_eq (order k q)) (Some None) (lookup (is_at (order q)) before)) where
     pub same_added : lookup (is_at (order k)) before ≡ None → IsSameTable (memo_at order before) (memo_at order after)
     same_added absent q = elim (cases_Bool (is_eq (order k q))) [

@@ -1,6 +1,6 @@
 -- The stack of a demand: what stays of its frames where memos of other keys are written, and its
 -- frames when some are added, popped and replaced.
-use Rattle.std.proofs.Common.{◌≡◌, ℕ, ◌^◌, ◌<◌, ◌≤◌, ◌⊎◌, List, [], ◌∷◌, ◌++◌, length, take, get_or, zero, suc, Option, refl, sym, ◌∙◌, ap, subst, inl, inr, arith}
+use Rattle.std.proofs.Common.{◌≡◌, ℕ, ◌^◌, ◌<◌, ◌≤◌, ◌⊎◌, List, [], ◌∷◌, ◌++◌, length, take, Option, refl, sym, ◌∙◌, ap, subst, inl, inr, arith}
 use Rattle.std.specs.declared.cmp.Ordering.{Ordering}
 use Rattle.std.proofs.lemmas.Option.{same_Some, slice_get_within}
 use Rattle.pq_inputs.specs.Sources.{Table}
@@ -95,10 +95,6 @@ module _ {K P V : Type 0} (order : K → K → Ordering) (m : Machine K P V) (in
   awaits_asks k (Walking place) q w = (w.part, (w.sits.run, w.sits.comes))
   awaits_asks k (Waiting part asked reads) q w =
       (part, (w.1.run, subst (λ (x : K). ComesBy (at order m inputs.history inputs.revision) k w.1.run (Ask x part)) w.0 w.1.comes))
-
-  pub frame_ruled : (k : K) (stage : Stage K P) → IsFrame order m inputs.history inputs.revision (HasIn table) k stage → 0 < m.level k
-  frame_ruled k (Walking place) f = f.0
-  frame_ruled k (Waiting part asked reads) f = f.ruled
 
   abbrev Chained : List (Frame K P) → Type 0
   Chained fs = Linked order m inputs table fs
@@ -239,15 +235,6 @@ waits_fits {K} {P} m (Waiting other question reads) part asked front w fits =
 pub waits_waiting : {K P : Type 0} (k : K) (stage : Stage K P) (part : P) (asked : K) (front : List K) → WaitsAt stage part asked front → In k (waiting_key k stage)
 waits_waiting k (Walking place) part asked front w = absurd w
 waits_waiting k (Waiting other question reads) part asked front w = inl refl
-
--- one frame more that is not of the key
-pub no_more_frame : {K P : Type 0} (k : K) (xs : List (Frame K P)) (i : ℕ) (d : Frame K P) → i < length xs
-    → (In k (frame_keys (take i xs)) → ⊥) → ((get_or xs i d).key ≡ k → ⊥) → In k (frame_keys (take (suc i) xs)) → ⊥
-no_more_frame k [] i d h none other j = absurd j
-no_more_frame k (x ∷ xs) zero d h none other (inl p) = other (sym p)
-no_more_frame k (x ∷ xs) zero d h none other (inr j) = j
-no_more_frame k (x ∷ xs) (suc i) d h none other (inl p) = none (inl p)
-no_more_frame k (x ∷ xs) (suc i) d h none other (inr j) = no_more_frame k xs i d (omega arith) (λ e. none (inr e)) other j
 
 pub fits_left : (l : ℕ × ℕ) (a b : ℕ) → (a, b) ≡ l → a < 2 ^ 32 → b < 2 ^ 64 → (l.0 < 2 ^ 32) × (l.1 < 2 ^ 64)
 fits_left l a b e h j = subst (λ (x : ℕ × ℕ). (x.0 < 2 ^ 32) × (x.1 < 2 ^ 64)) e (h, j)

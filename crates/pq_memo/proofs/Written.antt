@@ -166,11 +166,6 @@ kept_sound order strict m history now Has kept k memo h =
       unchanged = o.unchanged;
     }
 
--- a table without memos
-pub kept_none : {K P V : Type 0} (order : K → K → Ordering) (m : Machine K P V) (history : List Sources) (now : ℕ)
-    (Has : K → Memo K V → Type 0) → ((k : K) (memo : Memo K V) → Has k memo → ⊥) → Kept order m history now Has
-kept_none order m history now Has none = record { memos = λ k memo h. absurd (none k memo h) }
-
 -- the same table, said in another way
 pub kept_as : {K P V : Type 0} (order : K → K → Ordering) (m : Machine K P V) (history : List Sources) (now : ℕ)
     (Has As : K → Memo K V → Type 0) → ((k : K) (memo : Memo K V) → Has k memo → As k memo) → ((k : K) (memo : Memo K V) → As k memo → Has k memo)

@@ -20,18 +20,6 @@ use Rattle.pq_memo.proofs.PutAll.{decide_in, put_here, put_elsewhere}
 pub wrote_none : {K V : Type 0} (now : ℕ) (before after : K → Option (Memo K V)) → IsSameTable before after → Wrote now before after []
 wrote_none now before after same = record { others = λ k out. same k; news = λ k i. absurd i }
 
--- a table that is the same, and then a write
-pub wrote_then : {K V : Type 0} (now : ℕ) (before middle after : K → Option (Memo K V)) (keys : List K) → IsSameTable before middle
-    → Wrote now middle after keys → Wrote now before after keys
-wrote_then {K} {V} now before middle after keys same wrote = record {
-  others = λ k out. wrote.others k out ∙ same k;
-  news = λ k i. let n = wrote.news k i in (n.0, n.1, n.2, dated k n.0 n.3);
-}
-  where
-    dated : (k : K) (memo : Memo K V) → Dated now (HasIn middle) k memo → Dated now (HasIn before) k memo
-    dated k memo (inl d) = inl (d.0, sym (same k) ∙ d.1, d.2, d.3)
-    dated k memo (inr d) = inr (d.0, λ old h. d.1 old (same k ∙ h))
-
 -- one memo was written
 pub wrote_put : {K V : Type 0} (order : K → K → Ordering) → Exact order → (now : ℕ) (before after : K → Option (Memo K V)) (k : K) (memo : Memo K V)
     → IsPut order before k memo after → memo.verified ≡ now → Dated now (HasIn before) k memo → Wrote now before after (k ∷ [])

@@ -97,12 +97,6 @@ IsRound order m history now table [] = ⊥
 IsRound order m history now table (f ∷ fs) =
     RoundOf order m history now table f.key (f ∷ fs) × Each (λ x. order f.key x ≡ Less) (frame_keys fs)
 
--- `IsWaitRound order m history now table frames` is that each of `frames` waits for the key of the
--- next, and the last for that of the first
-abbrev pub IsWaitRound : {K P V : Type 0} → (K → K → Ordering) → Machine K P V → List Sources → ℕ → (K → Option (Memo K V)) → List (Frame K P) → Type 0
-IsWaitRound order m history now table [] = ⊥
-IsWaitRound order m history now table (f ∷ fs) = RoundOf order m history now table f.key (f ∷ fs)
-
 -- `IsMember order m history now table frame member` is that `member` is the key of `frame` with its
 -- reads, the one that it waits for included
 abbrev pub IsMember : {K P V : Type 0} → (K → K → Ordering) → Machine K P V → List Sources → ℕ → (K → Option (Memo K V)) → Frame K P → K × List K → Type 0

@@ -1,6 +1,6 @@
 -- What contracts see of a table of memos: the rule set, and the places of the keys, in their order.
 -- A key may have a place without a memo.
-use Rattle.std.specs.Prelude.{◌≡◌, ◌+◌, List, [], ◌∷◌, ◌++◌, length, slice_get, Option, Some, None, cond}
+use Rattle.std.specs.Prelude.{ℕ, zero, suc, ◌≡◌, ◌+◌, List, [], ◌∷◌, ◌++◌, length, slice_get, Option, Some, None, cond}
 use Rattle.std.specs.Map.{lookup}
 use Rattle.std.specs.BTreeMap.{is_at}
 use Rattle.std.specs.Ordering.{is_eq}
@@ -14,6 +14,12 @@ use Rattle.pq_memo.specs.Kept.{Kept}
 pub record View (R K V : Type 0) : Type 0 where
   pub rules : R
   pub places : List (K × Option (Memo K V))
+
+-- `key_at places n` is the key of the place `n`, counted from 0, if there is one
+abbrev pub key_at : {K X : Type 0} → List (K × X) → ℕ → Option K
+key_at [] n = None
+key_at (e ∷ es) zero = Some e.0
+key_at (e ∷ es) (suc n) = key_at es n
 
 -- `joined o` is what is in the place `o`, if there is a place
 abbrev pub joined : {A : Type 0} → Option (Option A) → Option A

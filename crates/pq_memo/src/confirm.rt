@@ -4,21 +4,20 @@
 //! first memo that neither durability nor its reads confirm, and from there on frames take over.
 //! Each memo that it marks costs two passes over its reads: to find one that is not up to date, and
 //! to test the memo. So the walk is linear in the reads below the frame.
-ghost use Rattle.std.specs.Prelude.{◌≡◌, ◌++◌, ◌∷◌, [], Some, IfSome, if◌then◌else◌};
-ghost use Rattle.std.specs.Option.{option_map};
-ghost use Rattle.std.specs.Ordering.{is_eq};
+//!
+//! The engine marks all in one call (`confirm`). A caller that keeps the frames of many runs goes
+//! down with `start_trail` and `next_slot`, and marks what it may with `confirm_slot`.
+ghost use Rattle.std.specs.Prelude.{◌≡◌, ◌++◌, ◌∷◌, [], Some, IsTrue, IfSome};
 ghost use Rattle.pq_rules.specs.Relations.{Each, In};
-ghost use Rattle.pq_memo.specs.Sound.{Memo};
 ghost use Rattle.pq_memo.specs.Look.{IsUpToDate, HasChanged, IsStill, IsGreen};
-ghost use Rattle.pq_memo.specs.Table.{memo_at, HasIn, KeptOver};
-ghost use Rattle.pq_memo.specs.Writes.{remarked};
+ghost use Rattle.pq_memo.specs.Table.{key_at, memo_at, HasIn, KeptOver};
+ghost use Rattle.pq_memo.specs.Writes.{IsConfirmed};
 ghost use Rattle.pq_memo.specs.Frames.{frame_keys};
 ghost use Rattle.pq_memo.specs.aux.Durabilities.{HasDurability, IsLeastRead};
-ghost use Rattle.pq_memo.specs.aux.Demand.{Linked, Caused, HasMarked, HasConfirmed, HasNow, IsValidAt};
-ghost use Rattle.pq_memo.specs.aux.Slots.{key_at};
+ghost use Rattle.pq_memo.specs.aux.Demand.{Linked, Caused, HasConfirmed, HasNow, IsValidAt};
 
 use crate::entry::Entry;
-use crate::frame::Frame;
+use crate::frame::{Frame, Stage};
 use crate::memos::Memos;
 use crate::recorded::Recorded;
 use crate::slots::{FILES, NOWHERE, file_number};
@@ -78,28 +77,41 @@ impl<R: Rules> Memos<R> {
         Passage::Through
     }
 
-    /// Goes down `trail` to the first memo whose reads are all up to date. Returns its slot, or
-    /// `NOWHERE` where the trail ends, or its first mark is that memo.
-    fn next_slot(&self, trail: &mut Trail, inputs: &Inputs) -> usize {
-        let steps = trail.fuel();
+    /// Begins `trail` at `frame`, or goes on with it where it led to that frame. Returns whether there
+    /// may be a memo to mark below the frame. It takes one search of the index.
+    pub fn start_trail(&self, trail: &mut Trail, frame: &Frame<R::Key, R::Part>) -> bool {
+        match &frame.stage {
+            Stage::Walking(_) => match self.entries.find(&self.rules, &frame.key, NOWHERE) {
+                Some(number) => trail.start(frame, number, self.entries.count()),
+                None => false,
+            },
+            Stage::Waiting(_, _, _) => false,
+        }
+    }
+
+    /// Goes down `trail`, over `steps` marks at most, to the first memo whose reads are all up to
+    /// date, and returns the number of its key. A memo with a frame is none: the frame marks it.
+    pub fn next_slot(&self, trail: &mut Trail, steps: usize, inputs: &Inputs) -> Option<usize> {
+        trail.close();
         for _ in 0..steps {
             let mark = trail.last();
             match self.passage(mark, inputs) {
-                Passage::Shut => return NOWHERE,
+                Passage::Shut => return None,
                 Passage::Below(place, number) => {
                     if !trail.go_below(place, number) {
-                        return NOWHERE;
+                        return None;
                     }
                 }
                 Passage::Through => {
-                    if trail.is_at_start() {
-                        return NOWHERE;
+                    if trail.is_at_frame() {
+                        return None;
                     }
-                    return mark.number;
+                    return Some(mark.number);
                 }
             }
         }
-        NOWHERE
+        trail.open();
+        None
     }
 
     /// The revision at which `key` last changed, and its durability now, if it is up to date. It is
@@ -179,52 +191,56 @@ impl<R: Rules> Memos<R> {
         }
     }
 
-    /// The durability that the memo in the slot `number` has now, if it is valid, was not verified
-    /// now, and its key is another than `own`.
-    fn valid_at(&self, own: &R::Key, number: usize, inputs: &Inputs) -> Option<Durability>
-        requires { KeptOver R.Key.cmp (R.machine self.now.rules) inputs.now self.now.places }
-        ensures { IfSome result (λ d. IsValidAt R.Key.cmp (R.machine self.now.rules) inputs.now own.now self.now.places number d) }
+    /// The durability that the memo in the slot `number` has now, if it is valid and was not verified
+    /// now.
+    fn valid_at(&self, number: usize, inputs: &Inputs) -> Option<Durability>
+        ensures { IfSome result (λ d. IsValidAt R.Key.cmp (R.machine self.now.rules) inputs.now self.now.places number d) }
     {
         match self.entries.key_of(number) {
-            Some(key) => {
-                if is_same_key(&self.rules, key, own) {
-                    return None;
-                }
-                match self.entries.entry_at(&self.rules, key, number) {
-                    Some(entry) => match self.valid_durability(key, entry, inputs) {
-                        Some(durability) => Some(durability),
-                        None => None,
-                    },
+            Some(key) => match self.entries.entry_at(&self.rules, key, number) {
+                Some(entry) => match self.valid_durability(key, entry, inputs) {
+                    Some(durability) => Some(durability),
                     None => None,
-                }
-            }
+                },
+                None => None,
+            },
             None => None,
         }
     }
 
-    /// Sets the verified revision and the durability of the memo in the slot `number`, if it has
-    /// one.
-    fn mark_slot(&mut self, number: usize, revision: u64, durability: Durability)
-        requires { (k : R.Key) × (key_at self.old.places number ≡ Some k) }
-        ensures rules { self.new.rules ≡ self.old.rules }
-        ensures marked { (k q : R.Key) → key_at self.old.places number ≡ Some k → memo_at R.Key.cmp self.new.places q
-            ≡ (if is_eq (R.Key.cmp k q) then option_map (λ (m : Memo R.Key R.Value). remarked m revision durability) (memo_at R.Key.cmp self.old.places k) else memo_at R.Key.cmp self.old.places q) }
-    {
-        self.entries
-            .mark_of(&self.rules, number, revision, durability);
-    }
-
-    /// Marks the memo in the slot `number` as verified now, if it is valid, was not verified now,
-    /// and its key is another than `own`. Returns whether it did.
-    fn confirm_slot(&mut self, own: &R::Key, number: usize, inputs: &Inputs) -> bool
-        requires { KeptOver R.Key.cmp (R.machine self.old.rules) inputs.now self.old.places }
+    /// Marks the memo of the key with the number `number` as verified now, if it is valid and was not
+    /// verified now. Returns whether it did. It takes no memory.
+    pub fn confirm_slot(&mut self, number: usize, inputs: &Inputs) -> bool
+        requires kept { KeptOver R.Key.cmp (R.machine self.old.rules) inputs.now self.old.places }
         ensures rules { self.new.rules ≡ self.old.rules }
         ensures kept { KeptOver R.Key.cmp (R.machine self.old.rules) inputs.now self.new.places }
-        ensures marked { HasMarked (R.machine self.old.rules) inputs.now own.now (memo_at R.Key.cmp self.old.places) (memo_at R.Key.cmp self.new.places) }
+        ensures confirmed { IsConfirmed R.Key.cmp (R.machine self.old.rules) inputs.now self.old.places number self.new.places }
     {
-        match self.valid_at(own, number, inputs) {
+        match self.valid_at(number, inputs) {
             Some(durability) => {
                 self.mark_slot(number, inputs.now().number(), durability);
+                true
+            }
+            None => false,
+        }
+    }
+
+    /// The key with the number `number`, if there is one.
+    pub fn key_in(&self, number: usize) -> Option<&R::Key>
+        ensures { IfSome result (λ k. key_at self.now.places number ≡ Some k.now) }
+    {
+        self.entries.key_of(number)
+    }
+
+    /// Whether `number` is that of another key than `own`.
+    fn is_other(&self, own: &R::Key, number: usize) -> bool
+        ensures { IsTrue result → (k : R.Key) → key_at self.now.places number ≡ Some k → k ≡ own.now → ⊥ }
+    {
+        match self.key_in(number) {
+            Some(key) => {
+                if is_same_key(&self.rules, key, own) {
+                    return false;
+                }
                 true
             }
             None => false,
@@ -250,13 +266,23 @@ impl<R: Rules> Memos<R> {
         ensures confirmed { HasConfirmed (R.machine self.old.rules) inputs.now.revision (memo_at R.Key.cmp self.old.places) (memo_at R.Key.cmp self.new.places) (frame_keys (_stack.now ++ frame.now ∷ [])) }
     {
         let _latest = inputs.now();
-        let steps = trail.start(frame, number);
+        if !trail.start(frame, number, self.entries.count()) {
+            return;
+        }
+        let steps = trail.fuel();
         'marks: for _ in 0..steps {
-            let next = self.next_slot(trail, inputs);
-            if !self.confirm_slot(&frame.key, next, inputs) {
-                return;
+            match self.next_slot(trail, steps, inputs) {
+                Some(next) => {
+                    if !self.is_other(&frame.key, next) {
+                        return;
+                    }
+                    if !self.confirm_slot(next, inputs) {
+                        return;
+                    }
+                    trail.leave();
+                }
+                None => return,
             }
-            trail.leave();
         }
     }
 }

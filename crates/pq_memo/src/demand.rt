@@ -188,7 +188,6 @@ impl<R: Rules> Memos<R> {
         ensures gone { IfOk result (λ _. HasGone R.Key.cmp (R.machine self.old.rules) inputs.now (memo_at R.Key.cmp self.old.places) (memo_at R.Key.cmp self.new.places) key ((R.machine self.old.rules).advance part answer.now) stack.old stack.new) }
         ensures refused { OnErr result (IsSameTable (memo_at R.Key.cmp self.old.places) (memo_at R.Key.cmp self.new.places)) }
     {
-        self.note_read(near.read, near.next);
         let near = near.after_read(near.next);
         match self.rules().advance(alloc, part, answer) {
             Ok(turn) => {
@@ -335,7 +334,7 @@ impl<R: Rules> Memos<R> {
         let stage = Stage::Walking(0);
         let near = Near::new(number);
         stack.push(alloc, self.rules(), Frame { key: copy, stage }, near)?;
-        let mut trail = Trail::new(alloc, self.entries.count());
+        let mut trail = Trail::new(alloc);
         'steps: while let Some(frame) = stack.pop() {
             let near = stack.popped();
             self.confirm(&stack, &frame, near.own, &mut trail, inputs);

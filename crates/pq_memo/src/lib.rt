@@ -21,8 +21,7 @@
 //! `member` and `unpublished` (what goes in, and what comes back), `frame` and `restored` (a step),
 //! `round` (frames in a round), `engine` and `demanded` (what a demand answers), `demand` (bringing
 //! a key up to date), `hand` (reads of a rule without a frame), `confirm` and `trail` (marking valid
-//! memos without frames), `stack` (its frames), `turned` and `usable` (for callers that keep
-//! frames), `laws`.
+//! memos without frames), `stack` (its frames), `usable` (for callers that keep frames), `laws`.
 #![tactic(auto)]
 
 mod compared;
@@ -46,7 +45,6 @@ mod slots;
 mod stack;
 mod state;
 mod trail;
-mod turned;
 mod unpublished;
 mod usable;
 mod writes;
@@ -59,4 +57,5 @@ pub use look::{Look, Why};
 pub use member::Member;
 pub use memos::Memos;
 pub use stack::Stack;
+pub use trail::Trail;
 pub use unpublished::{Unpublished, UnpublishedRing};

@@ -107,13 +107,6 @@ impl<R: Rules> Memos<R> {
         known
     }
 
-    /// Notes that the slot `number` was read after the slot `before`: see `read_number`.
-    pub(crate) fn note_read(&mut self, before: usize, number: usize)
-        ensures { self.new ≡ self.old }
-    {
-        self.entries.note_read(before, number);
-    }
-
     /// The answer of the memo of `key`, in logarithmic time.
     pub fn answer(&self, key: &R::Key) -> Option<&Answer<R::Key, R::Value>>
         ensures { option_copied result ≡ option_map (λ (memo : Memo R.Key R.Value). memo.answer) (memo_at R.Key.cmp self.now.places key.now) }

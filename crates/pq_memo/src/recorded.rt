@@ -5,47 +5,21 @@ use pq_rules::{Memory, Shared};
 use std::alloc::Global;
 use std::marker::Model;
 
-/// A key, and where to look first for it among the slots of the table. Contracts see the key. It
-/// need not be there: no contract speaks of the number.
-#[derive(Drop)]
-struct Numbered<K> {
-    key: K,
-    number: usize,
-}
-
-impl<K> Model for Numbered<K> {
-    ghost Value = { K };
-
-    ghost view = { λ n. n.key };
-}
-
-impl<K> Numbered<K> {
-    /// The key.
-    fn key(&self) -> &K
-        ensures { result.now ≡ self.now }
-    {
-        &self.key
-    }
-
-    /// Where to look first for the key.
-    fn number(&self) -> usize {
-        self.number
-    }
-}
-
 /// A recorded read of a memo, or the key of a slot. Contracts see the key.
 ///
 /// The key and its number are shared by the slot of the key and by the memos that read it. So a
 /// read takes 8 bytes, however long its key is.
 #[derive(Drop)]
 pub(crate) struct Recorded<K> {
-    shared: Shared<Numbered<K>>,
+    // The key, and where to look first for it among the slots of the table. It need not be there: no
+    // contract speaks of the number.
+    shared: Shared<(K, usize)>,
 }
 
 impl<K> Model for Recorded<K> {
     ghost Value = { K };
 
-    ghost view = { λ r. r.shared };
+    ghost view = { λ r. r.shared.0 };
 }
 
 impl<K> Recorded<K> {
@@ -53,12 +27,12 @@ impl<K> Recorded<K> {
     pub(crate) fn key(&self) -> &K
         ensures { result.now ≡ self.now }
     {
-        self.shared.get().key()
+        &self.shared.get().0
     }
 
     /// Where to look first for the key.
     pub(crate) fn number(&self) -> usize {
-        self.shared.get().number()
+        self.shared.get().1
     }
 }
 
@@ -67,7 +41,7 @@ impl<K: Drop> Recorded<K> {
     pub(crate) fn new(alloc: Global, key: K, number: usize) -> Result<Self, Memory>
         ensures { IfOk result (λ r. r ≡ key) }
     {
-        let shared = Shared::new(alloc, Numbered { key, number })?;
+        let shared = Shared::new(alloc, (key, number))?;
         Ok(Recorded { shared })
     }
 

@@ -11,14 +11,14 @@ ghost use Rattle.std.specs.Map.{lookup};
 ghost use Rattle.std.specs.BTreeMap.{is_at};
 ghost use Rattle.std.specs.Ordering.{is_eq};
 ghost use Rattle.pq_memo.specs.Sound.{Memo};
-ghost use Rattle.pq_memo.specs.Table.{memo_at, joined, IsPut, IsSameTable};
+ghost use Rattle.pq_memo.specs.Table.{key_at, memo_at, joined, IsPut, IsSameTable};
 ghost use Rattle.pq_memo.specs.Writes.{remarked};
-ghost use Rattle.pq_memo.specs.aux.Slots.{key_at, value_at, with_at};
+ghost use Rattle.pq_memo.specs.aux.Slots.{value_at, with_at};
 ghost use Rattle.pq_memo.specs.aux.Written.{HasRoom};
 
 use crate::entry::{Entry, mark_in, number_at};
 use crate::recorded::Recorded;
-use crate::stack::{claim_place, free_place, noted, put_place};
+use crate::stack::{claim_place, free_place, noted};
 use pq_inputs::Durability;
 use pq_rules::{Memory, Rules, is_same_key, push};
 use std::alloc::Global;
@@ -261,15 +261,6 @@ impl<R: Rules> Slots<R> {
         number_at(&self.next, number)
     }
 
-    /// Notes that the slot `number` was read after the slot `before`.
-    pub(crate) fn note_read(&mut self, before: usize, number: usize)
-        ensures { self.new ≡ self.old }
-    {
-        if number != NOWHERE {
-            note_after(&mut self.next, before, number);
-        }
-    }
-
     /// How many slots there are.
     pub(crate) fn count(&self) -> usize {
         self.slots.as_slice().len()
@@ -311,18 +302,13 @@ impl<R: Rules> Slots<R> {
 
     /// Sets the verified revision and the durability of the memo in the slot `number`, if it has
     /// one.
-    pub(crate) fn mark_of(
-        &mut self,
-        _rules: &R,
-        number: usize,
-        revision: u64,
-        durability: Durability,
-    )
+    pub(crate) fn mark(&mut self, _rules: &R, number: usize, revision: u64, durability: Durability)
         requires { (k : R.Key) × (key_at self.old number ≡ Some k) }
         ensures marked { (k q : R.Key) → key_at self.old number ≡ Some k → memo_at R.Key.cmp self.new q
             ≡ (if is_eq (R.Key.cmp k q) then option_map (λ (m : Memo R.Key R.Value). remarked m revision durability) (memo_at R.Key.cmp self.old k) else memo_at R.Key.cmp self.old q) }
     {
         mark_at(&mut self.slots, number, revision, durability);
+        self.last = number;
     }
 
     /// The entry of the slot `number`, which is that of `_key`.
@@ -359,41 +345,6 @@ impl<R: Rules> Slots<R> {
         }
     }
 
-    /// Sets the verified revision and the durability of the memo of `_key`, if it has one. Its slot
-    /// is `number`.
-    fn mark(
-        &mut self,
-        _rules: &R,
-        _key: &R::Key,
-        number: usize,
-        revision: u64,
-        durability: Durability,
-    )
-        requires { key_at self.old number ≡ Some _key.now }
-        ensures marked { (q : R.Key) → memo_at R.Key.cmp self.new q
-            ≡ (if is_eq (R.Key.cmp _key.now q) then option_map (λ (m : Memo R.Key R.Value). remarked m revision durability) (memo_at R.Key.cmp self.old _key.now) else memo_at R.Key.cmp self.old q) }
-    {
-        mark_at(&mut self.slots, number, revision, durability);
-        self.last = number;
-    }
-
-    /// Sets the verified revision and the durability of the memo of `key`, if it has one.
-    pub(crate) fn remark(
-        &mut self,
-        rules: &R,
-        key: &R::Key,
-        near: usize,
-        revision: u64,
-        durability: Durability,
-    )
-        ensures marked { (q : R.Key) → memo_at R.Key.cmp self.new q
-            ≡ (if is_eq (R.Key.cmp key.now q) then option_map (λ (m : Memo R.Key R.Value). remarked m revision durability) (memo_at R.Key.cmp self.old key.now) else memo_at R.Key.cmp self.old q) }
-    {
-        if let Some(number) = self.find(rules, key, near) {
-            self.mark(rules, key, number, revision, durability);
-        }
-    }
-
     /// Gives `_key`, whose slot is `number`, the memo `entry`.
     fn set(&mut self, _rules: &R, _key: &R::Key, number: usize, entry: Entry<R::Key, R::Value>)
         requires { key_at self.old number ≡ Some _key.now }
@@ -403,41 +354,6 @@ impl<R: Rules> Slots<R> {
         note_order(&mut self.next, entry.reads());
         set_at(&mut self.slots, number, entry);
         self.last = number;
-    }
-
-    /// Makes a slot of `key`, which has none, with `entry`. If an allocation fails, both come back.
-    fn add(
-        &mut self,
-        rules: &R,
-        key: R::Key,
-        entry: Entry<R::Key, R::Value>,
-    ) -> Result<(), (R::Key, Entry<R::Key, R::Value>)>
-        requires { lookup (is_at (R.Key.cmp key)) self.old ≡ None }
-        ensures added { OnOk result ((q : R.Key) → lookup (is_at (R.Key.cmp q)) self.new ≡ (if is_eq (R.Key.cmp key q) then Some (Some entry) else lookup (is_at (R.Key.cmp q)) self.old)) }
-        ensures refused { OnErr result (self.new ≡ self.old) }
-        ensures returned { IfErr result (λ e. (e.0 ≡ key) × (e.1 ≡ entry)) }
-    {
-        let number = self.slots.as_slice().len();
-        let copy = match rules.copy_key(self.alloc, &key) {
-            Ok(copy) => copy,
-            Err(_) => return Err((key, entry)),
-        };
-        let shared = match share_copy(self.alloc, rules, &key, number) {
-            Ok(shared) => shared,
-            Err(_) => return Err((key, entry)),
-        };
-        if self.slots.reserve(1).is_err() || make_place(&mut self.next, number).is_err() {
-            return Err((key, entry));
-        }
-        match put_place(rules, &mut self.index, copy, number) {
-            Ok(()) => {}
-            Err(_) => return Err((key, entry)),
-        }
-        note_order(&mut self.next, entry.reads());
-        let entry = Some(entry);
-        self.slots.push_reserved(Slot { key: shared, entry });
-        self.last = number;
-        Ok(())
     }
 
     /// Gives `key` the memo `entry`. If an allocation fails, both come back.
@@ -452,15 +368,12 @@ impl<R: Rules> Slots<R> {
         ensures refused { OnErr result (IsSameTable (memo_at R.Key.cmp self.old) (memo_at R.Key.cmp self.new)) }
         ensures returned { IfErr result (λ e. (e.0 ≡ key) × (e.1 ≡ entry)) }
     {
-        match self.find(rules, &key, near) {
-            Some(number) => {
-                self.set(rules, &key, number, entry);
+        match self.make_room(rules, &key, near, NOWHERE) {
+            Ok(number) => {
+                self.put(rules, &key, number, entry);
                 Ok(())
             }
-            None => match self.add(rules, key, entry) {
-                Ok(()) => Ok(()),
-                Err(back) => Err(back),
-            },
+            Err(_) => Err((key, entry)),
         }
     }
 
@@ -504,7 +417,10 @@ impl<R: Rules> Slots<R> {
         }
         let copy = rules.copy_key(self.alloc, key)?;
         match claim_place(rules, &mut self.index, copy, number) {
-            Ok(Some(known)) => Ok(known),
+            Ok(Some(known)) => {
+                note_after(&mut self.next, before, known);
+                Ok(known)
+            }
             Ok(None) => match share_copy(self.alloc, rules, key, number) {
                 Ok(shared) => {
                     note_after(&mut self.next, before, number);

@@ -6,6 +6,7 @@
 use crate::frame::{Frame, Stage};
 use crate::slots::NOWHERE;
 use std::alloc::Global;
+use std::marker::Model;
 
 /// A slot, and the place among the reads of its memo before which nothing is left to do.
 #[derive(Clone, Copy)]
@@ -24,23 +25,33 @@ pub(crate) enum Passage {
     Shut,
 }
 
-/// Slots, each of which has the next one's key among the reads of its memo.
+/// Slots, each of which has the next one's key among the reads of its memo. Contracts see nothing of
+/// it.
 #[derive(Drop)]
-pub(crate) struct Trail {
+pub struct Trail {
     marks: Vec<Mark>,
     // How many of the marks have, or had, frames.
     framed: usize,
     // How many marks more may be made. Only a table whose numbers lead in a circle uses them up.
     fuel: usize,
+    // Whether there may be a memo to mark at its end.
+    open: bool,
+}
+
+impl Model for Trail {
+    ghost Value = { Unit {0} };
+
+    ghost view = { λ _. tt };
 }
 
 impl Trail {
-    /// An empty trail, for a table with `count` slots.
-    pub(crate) fn new(alloc: Global, count: usize) -> Self {
+    /// An empty trail. It takes no memory.
+    pub fn new(alloc: Global) -> Self {
         Trail {
             marks: Vec::new(alloc),
             framed: 0,
-            fuel: count.saturating_mul(4),
+            fuel: usize::MAX,
+            open: false,
         }
     }
 
@@ -49,35 +60,39 @@ impl Trail {
         self.fuel
     }
 
-    /// Whether the next mark without a frame is that of the slot `number`. It has one now.
+    /// Whether it goes on at the slot `number`. The next mark without a frame is that of the slot, and
+    /// has one now, or the last with a frame is, and there is more below it or to try.
     fn leads_to(&mut self, number: usize) -> bool {
         let marks = self.marks.as_slice();
-        if self.framed < marks.len() {
-            if marks[self.framed].number == number {
-                self.framed += 1;
-                return true;
-            }
+        let framed = self.framed;
+        if framed < marks.len() && marks[framed].number == number {
+            self.framed = framed + 1;
+            return true;
         }
-        false
+        let goes_on = self.open || framed < marks.len();
+        goes_on && framed > 0 && framed <= marks.len() && marks[framed - 1].number == number
     }
 
-    /// Starts at `frame`, whose slot may be `number`. Returns how many marks may be made: none if
-    /// the frame does not walk, if the trail led to it, or if memory ran out.
-    pub(crate) fn start<K, P>(&mut self, frame: &Frame<K, P>, number: usize) -> usize {
+    /// Starts at `frame`, whose slot is `number` in a table with `count` slots, or goes on where it
+    /// led to the frame. Returns whether there may be a memo to mark: there is none if the frame does
+    /// not walk, or if memory ran out.
+    pub(crate) fn start<K, P>(&mut self, frame: &Frame<K, P>, number: usize, count: usize) -> bool {
         match &frame.stage {
             Stage::Walking(place) => {
                 if self.leads_to(number) {
-                    return 0;
+                    return self.open;
                 }
+                let allowed = count.saturating_mul(4);
+                if allowed < self.fuel {
+                    self.fuel = allowed;
+                }
+                let place = *place;
                 self.marks.truncate(0);
                 self.framed = 1;
-                let place = *place;
-                if self.marks.push(Mark { number, place }).is_err() {
-                    return 0;
-                }
-                self.fuel
+                self.open = self.marks.push(Mark { number, place }).is_ok();
+                self.open
             }
-            Stage::Waiting(_, _, _) => 0,
+            Stage::Waiting(_, _, _) => false,
         }
     }
 
@@ -93,14 +108,25 @@ impl Trail {
         marks[marks.len() - 1]
     }
 
-    /// Whether the last mark is the first.
-    pub(crate) fn is_at_start(&self) -> bool {
-        self.marks.as_slice().len() == 1
+    /// Whether the last mark has a frame.
+    pub(crate) fn is_at_frame(&self) -> bool {
+        self.marks.as_slice().len() <= self.framed
     }
 
-    /// Leaves the last mark.
-    pub(crate) fn leave(&mut self) {
+    /// Nothing is left to try, unless the memo at its end is marked.
+    pub(crate) fn close(&mut self) {
+        self.open = false;
+    }
+
+    /// There may be more to try.
+    pub(crate) fn open(&mut self) {
+        self.open = true;
+    }
+
+    /// Leaves the last mark, whose memo is marked as verified now.
+    pub fn leave(&mut self) {
         self.marks.pop();
+        self.open = true;
     }
 
     /// Goes on from the last mark, whose place is `place`, to the slot `number`. It does not where

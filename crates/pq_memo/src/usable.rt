@@ -1,5 +1,5 @@
 //! The answer of a key that is up to date, for a caller that keeps frames.
-ghost use Rattle.std.specs.Prelude.{◌≡◌, ◌↔◌, IsTrue, IfOk, IfSome, IfNone};
+ghost use Rattle.std.specs.Prelude.{IfOk, IfSome, IfNone};
 ghost use Rattle.pq_rules.specs.Turns.{over};
 ghost use Rattle.pq_rules.specs.Value.{Means};
 ghost use Rattle.pq_memo.specs.Look.{IsUpToDate};
@@ -12,14 +12,6 @@ use pq_rules::{Answer, Memory, Rules, Shared};
 use std::alloc::Global;
 
 impl<R: Rules> Memos<R> {
-    /// Whether `key` is an input, or its memo was verified now.
-    pub fn is_up_to_date(&self, key: &R::Key, inputs: &Inputs) -> bool
-        ensures { IsTrue result ↔ IsUpToDate (R.machine self.now.rules) inputs.now.revision (HasIn (memo_at R.Key.cmp self.now.places)) key.now }
-    {
-        let mut near = NOWHERE;
-        self.is_up_to_date_near(key, &mut near, inputs)
-    }
-
     /// The answer of `key` at the sources now, if the key is up to date. For a key with a rule it
     /// takes no memory: `Memory` says that the count of copies is used up.
     pub fn usable_answer(

@@ -3,7 +3,7 @@
 //! Marking costs a comparison of keys for each read, where durability does not confirm the memo.
 //! Publishing costs one comparison with the old answer, and for each read one with the key at its
 //! old number, or a search if it is another read than before. The numbers that it finds are kept.
-ghost use Rattle.std.specs.Prelude.{◌≡◌, ◌⊎◌, ◌<◌, ◌≤◌, List, IfOk, IfErr, OnOk, OnErr, if◌then◌else◌};
+ghost use Rattle.std.specs.Prelude.{◌≡◌, ◌⊎◌, ◌<◌, ◌≤◌, List, Some, IfOk, IfErr, OnOk, OnErr, if◌then◌else◌};
 ghost use Rattle.std.specs.Option.{option_map};
 ghost use Rattle.std.specs.Ordering.{is_eq};
 ghost use Rattle.pq_inputs.specs.Changes.{level};
@@ -12,7 +12,7 @@ ghost use Rattle.pq_rules.specs.Turns.{over};
 ghost use Rattle.pq_rules.specs.Relations.{Each, In};
 ghost use Rattle.pq_memo.specs.Sound.{Memo, HasReads};
 ghost use Rattle.pq_memo.specs.Look.{IsUpToDate, IsGreen, Lasts, HasLapsed};
-ghost use Rattle.pq_memo.specs.Table.{memo_at, HasIn, IsPut, IsSameTable, KeptOver};
+ghost use Rattle.pq_memo.specs.Table.{key_at, memo_at, HasIn, IsPut, IsSameTable, KeptOver};
 ghost use Rattle.pq_memo.specs.Writes.{IsDated, IsMarked, IsPublished, remarked};
 ghost use Rattle.pq_memo.specs.aux.Durabilities.{IsKnown, HasDurability, IsLeastRead};
 ghost use Rattle.pq_memo.specs.aux.Written.{HasRoom};
@@ -97,21 +97,27 @@ impl<R: Rules> Memos<R> {
         ensures kept { KeptOver R.Key.cmp (R.machine self.old.rules) inputs.now self.new.places }
         ensures marked { IsMarked R.Key.cmp (R.machine self.old.rules) inputs.now self.old.places key.now self.new.places }
     {
-        let durability = match self.entry(key, near) {
-            Some(entry) => self.durability_now(entry, inputs),
+        let table = &*self;
+        let slot = match table.entries.find(&table.rules, key, near) {
+            Some(slot) => slot,
             None => unreachable!(),
         };
-        self.remark(key, near, inputs.now().number(), durability);
+        let durability = match table.entries.entry_at(&table.rules, key, slot) {
+            Some(entry) => table.durability_now(entry, inputs),
+            None => unreachable!(),
+        };
+        self.mark_slot(slot, inputs.now().number(), durability);
     }
 
-    /// Sets the verified revision and the durability of the memo of `key`, if it has one.
-    fn remark(&mut self, key: &R::Key, near: usize, revision: u64, durability: Durability)
+    /// Sets the verified revision and the durability of the memo in the slot `number`, if it has
+    /// one.
+    pub(crate) fn mark_slot(&mut self, number: usize, revision: u64, durability: Durability)
+        requires { (k : R.Key) × (key_at self.old.places number ≡ Some k) }
         ensures rules { self.new.rules ≡ self.old.rules }
-        ensures marked { (q : R.Key) → memo_at R.Key.cmp self.new.places q
-            ≡ (if is_eq (R.Key.cmp key.now q) then option_map (λ (m : Memo R.Key R.Value). remarked m revision durability) (memo_at R.Key.cmp self.old.places key.now) else memo_at R.Key.cmp self.old.places q) }
+        ensures marked { (k q : R.Key) → key_at self.old.places number ≡ Some k → memo_at R.Key.cmp self.new.places q
+            ≡ (if is_eq (R.Key.cmp k q) then option_map (λ (m : Memo R.Key R.Value). remarked m revision durability) (memo_at R.Key.cmp self.old.places k) else memo_at R.Key.cmp self.old.places q) }
     {
-        self.entries
-            .remark(&self.rules, key, near, revision, durability);
+        self.entries.mark(&self.rules, number, revision, durability);
     }
 
     /// The changed revision of `answer` for `key`: that of the memo of `key`, if its answer is

@@ -163,6 +163,11 @@ AreStale {K} m now table ks = (k : K) → In k ks → IsUpToDate m now (HasIn ta
 abbrev pub OthersUnwritten : {K V : Type 0} → List (ℕ × Hold K) → ℕ → (before after : K → Option (Memo K V)) → Type 0
 OthersUnwritten {K} claims run before after = (r : ℕ) (k : K) → r ≢ run → Holds claims r k → after k ≡ before k
 
+-- `HeldUnwritten claims before after` is that `after` has the memo of `before` of each key that a run
+-- holds
+abbrev pub HeldUnwritten : {K V : Type 0} → List (ℕ × Hold K) → (before after : K → Option (Memo K V)) → Type 0
+HeldUnwritten {K} claims before after = (r : ℕ) (k : K) → Holds claims r k → after k ≡ before k
+
 -- `FramesKept order m inputs table stack top` is the invariant of the frames of a run that was
 -- started at the revision now
 abbrev pub FramesKept : {K P V : Type 0} → (K → K → Ordering) → Machine K P V → Table → (K → Option (Memo K V)) → List (Frame K P) → Top K P → Type 0

@@ -22,14 +22,13 @@ use Rattle.pq_memo.specs.declared.look.Why.{Why}
 use Rattle.pq_memo.specs.Sound.{Memo}
 use Rattle.pq_memo.specs.Kept.{Kept}
 use Rattle.pq_memo.specs.Look.{IsUpToDate, IsGreen, Lasts, HasLapsed}
-use Rattle.pq_memo.specs.Table.{memo_at, HasIn, IsSameTable}
+use Rattle.pq_memo.specs.Table.{key_at, memo_at, HasIn, IsSameTable}
 use Rattle.pq_memo.specs.Writes.{Dated}
 use Rattle.pq_memo.specs.Frames.{IsFrame, Awaits, Came, frame_keys}
 use Rattle.pq_memo.specs.Steps.{IsWhy, HasPart, IsWalking, StaysAt}
 use Rattle.pq_memo.specs.Demand.{IsCarried, IsVerified, carried_keys}
 use Rattle.pq_memo.specs.aux.Durabilities.{IsLeastRead}
 use Rattle.pq_memo.specs.aux.Frames.{WaitsAt}
-use Rattle.pq_memo.specs.aux.Slots.{key_at}
 
 -- `Fits m stage` is that what is left for a rule that waits at `stage` fits in its machine integers
 abbrev pub Fits : {K P V : Type 0} → Machine K P V → Stage K P → Type 0
@@ -248,13 +247,6 @@ Advances {K} order m inputs before after f stack carried rest entries =
 abbrev pub Caused : {K P V : Type 0} → Machine K P V → Table → (K → Option (Memo K V)) → List (Frame K P) → Type 0
 Caused {K} m inputs table fs = (k : K) → In k (waiting_keys fs) → (why : Why K) × IsWhy m inputs.history inputs.revision (HasIn table) k why
 
--- `HasMarked m inputs own before after` is that `after` is `before`, or that the valid memo of a
--- key other than `own` was marked
-abbrev pub HasMarked : {K P V : Type 0} → Machine K P V → Table → K → (K → Option (Memo K V)) → (K → Option (Memo K V)) → Type 0
-HasMarked {K} m inputs own before after =
-    IsSameTable before after
-    ⊎ ((k : K) × (k ≡ own → ⊥) × IsGreen m inputs.history inputs.revision (HasIn before) k × Wrote inputs.revision before after (k ∷ []))
-
 -- `HasConfirmed m now before after ks` is that memos of keys that were not up to date, none of
 -- which is one of `ks`, were written
 pub record HasConfirmed {K P V : Type 0} (m : Machine K P V) (now : ℕ) (before after : K → Option (Memo K V)) (ks : List K) : Type 0 where
@@ -270,13 +262,12 @@ HasNow m inputs table memo durability =
     ((Lasts inputs.history memo) × (durability ≡ memo.durability))
     ⊎ ((HasLapsed inputs.history memo) × IsLeastRead m inputs.files (HasIn table) (λ q. In q memo.reads) durability)
 
--- `IsValidAt order m inputs own places n durability` is that the slot `n` has a key other than
--- `own`, whose memo is valid and has `durability` now
-pub record IsValidAt {K P V : Type 0} (order : K → K → Ordering) (m : Machine K P V) (inputs : Table) (own : K)
+-- `IsValidAt order m inputs places n durability` is that the place `n` has a key whose memo is valid and
+-- has `durability` now
+pub record IsValidAt {K P V : Type 0} (order : K → K → Ordering) (m : Machine K P V) (inputs : Table)
     (places : List (K × Option (Memo K V))) (n : ℕ) (durability : Durability) : Type 0 where
   pub key : K
   pub there : key_at places n ≡ Some key
-  pub other : key ≡ own → ⊥
   pub memo : Memo K V
   pub has : HasIn (memo_at order places) key memo
   pub green : IsGreen m inputs.history inputs.revision (HasIn (memo_at order places)) key

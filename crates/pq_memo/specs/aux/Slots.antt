@@ -1,13 +1,8 @@
 -- Auxiliary: the slots of a table, and the index that finds the number of a key.
 use Rattle.std.specs.Prelude.{ℕ, zero, suc, ◌≡◌, List, [], ◌∷◌, Option, Some, None}
 use Rattle.std.specs.declared.cmp.Ordering.{Ordering}
+use Rattle.pq_memo.specs.Table.{key_at}
 use Rattle.pq_memo.specs.aux.Stack.{place_in}
-
--- `key_at slots n` is the key of the slot `n`, if there is one
-abbrev pub key_at : {K X : Type 0} → List (K × X) → ℕ → Option K
-key_at [] n = None
-key_at (e ∷ es) zero = Some e.0
-key_at (e ∷ es) (suc n) = key_at es n
 
 -- `value_at slots n` is what the slot `n` has beside its key, if there is such a slot
 abbrev pub value_at : {K X : Type 0} → List (K × X) → ℕ → Option X

@@ -1,7 +1,6 @@
 use Rattle.std.proofs.Common.{[], ◌∙◌, inr}
 use Rattle.pq_rules.proofs.Weight.{Exact}
 use Rattle.pq_memo.proofs.TableCalls.{mark_call}
-use Rattle.pq_memo.proofs.Wrote.{wrote_marked}
 use Rattle.pq_memo.proofs.memos.Memos.confirm_slot.Goals as goal
 
 pub returns-in-Some-clause-kept : goal.returns-in-Some-clause-kept
@@ -9,21 +8,20 @@ returns-in-Some-clause-kept g c =
     let laws = g.met.R.Rules.lawful c.args.self.now.rules [] in
     let exact : Exact g.R.Key.Ord.cmp = record { total = g.met.R.Key.Ord.total; exact = laws.exact } in
     let v = c.in-Some.ensures {u = tt} in
-    (mark_call g.R.Key.Ord.cmp exact (g.R.Rules.machine c.args.self.now.rules) c.args.inputs.now c.now.ensures.counted c.now.ensures.last c.args.self.now.places c.requires
+    (mark_call g.R.Key.Ord.cmp exact (g.R.Rules.machine c.args.self.now.rules) c.args.inputs.now c.now.ensures.counted c.now.ensures.last c.args.self.now.places c.requires.kept
     c.mark_slot.new.self.places v.key v.memo c.in-Some.durability v.has v.green v.lasting c.number.result (c.number.ensures ∙ c.now.ensures.now)
     (λ q. c.mark_slot.ensures.marked v.key q v.there)).keeps
 
-pub returns-in-Some-clause-marked : goal.returns-in-Some-clause-marked
-returns-in-Some-clause-marked g c =
+pub returns-in-Some-clause-confirmed : goal.returns-in-Some-clause-confirmed
+returns-in-Some-clause-confirmed g c =
     let laws = g.met.R.Rules.lawful c.args.self.now.rules [] in
     let exact : Exact g.R.Key.Ord.cmp = record { total = g.met.R.Key.Ord.total; exact = laws.exact } in
     let v = c.in-Some.ensures {u = tt} in
-    let made = mark_call g.R.Key.Ord.cmp exact (g.R.Rules.machine c.args.self.now.rules) c.args.inputs.now c.now.ensures.counted c.now.ensures.last c.args.self.now.places c.requires
-    c.mark_slot.new.self.places v.key v.memo c.in-Some.durability v.has v.green v.lasting c.number.result (c.number.ensures ∙ c.now.ensures.now)
-    (λ q. c.mark_slot.ensures.marked v.key q v.there) in
     inr (
       v.key,
-      v.other,
+      v.there,
       v.green,
-      wrote_marked g.R.Key.Ord.cmp exact (g.R.Rules.machine c.args.self.now.rules) c.args.inputs.now c.args.self.now.places v.key c.mark_slot.new.self.places made.marked,
+      (mark_call g.R.Key.Ord.cmp exact (g.R.Rules.machine c.args.self.now.rules) c.args.inputs.now c.now.ensures.counted c.now.ensures.last c.args.self.now.places c.requires.kept
+          c.mark_slot.new.self.places v.key v.memo c.in-Some.durability v.has v.green v.lasting c.number.result (c.number.ensures ∙ c.now.ensures.now)
+          (λ q. c.mark_slot.ensures.marked v.key q v.there)).marked,
     )
