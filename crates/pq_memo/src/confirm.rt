@@ -209,7 +209,7 @@ impl<R: Rules> Memos<R> {
     }
 
     /// Marks the memo of the key with the number `number` as verified now, if it is valid and was not
-    /// verified now. Returns whether it did. It takes no memory.
+    /// verified now. Returns whether it did, of which no contract speaks. It takes no memory.
     pub fn confirm_slot(&mut self, number: usize, inputs: &Inputs) -> bool
         requires kept { KeptOver R.Key.cmp (R.machine self.old.rules) inputs.now self.old.places }
         ensures rules { self.new.rules ≡ self.old.rules }
