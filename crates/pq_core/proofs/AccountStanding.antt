@@ -8,7 +8,7 @@ use Rattle.pq_core.specs.Ledger.{Out, Place, Put, Dropped, Entry, Client, with_e
 use Rattle.pq_core.specs.Ledger.{Waiting as PlaceWaiting, Running as PlaceRunning, Ready as PlaceReady}
 use Rattle.pq_core.specs.Lanes.{ReadyView}
 use Rattle.pq_core.specs.Accounts.{AccountView, no_requests, IsStage, with_stage, with_request, first_stage}
-use Rattle.pq_core.specs.Moves.{new_entry, first_place, with_new, owed}
+use Rattle.pq_core.specs.Moves.{new_entry, first_place, with_new}
 use Rattle.pq_core.specs.Kept.{PlaceKept, ClientKept}
 use Rattle.pq_core.specs.declared.request.Request.{Request}
 use Rattle.pq_core.specs.declared.request.Want.{Want}
@@ -217,13 +217,6 @@ module _ {K V M O : Type 0} (puts : O → List (ReplyView K V M)) where
   pub ready_there : (means : M → Point → K → Answer K V → Type 0) (inputs : Table) (c : ℕ) (account : AccountView K V M) (client : Client K V M O) (n : ℕ) (entry : Entry K V M) (reply : ReplyView K V M) → ClientKept means inputs (puts client.outbox) c client.entries → AccountStands puts account client → slice_get client.entries n ≡ Some entry → entry.place ≡ PlaceReady reply → StageOf account n entry
   ready_there means inputs c account client n entry reply kept h here is =
       stage_of means inputs c account client n entry kept h here (pending_as entry.place (PlaceReady reply) is tt)
-
-  -- the number of requests that are owed a reply
-  pub owed_count : (account : AccountView K V M) (client : Client K V M O) → AccountStands puts account client → owed puts client ≡ length account.stages
-  owed_count account client h =
-      let a = h.counted in
-      let b = h.seen in
-      omega arith
 
   -- ---- collecting, and what was put
 

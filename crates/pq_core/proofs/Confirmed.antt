@@ -1,5 +1,5 @@
 -- Memos that are marked below the frame of a run: no run holds their keys.
-use Rattle.std.proofs.Common.{◌≡◌, ℕ, List, [], ◌∷◌, Option, Some, sym, ◌∙◌, subst, inl, inr}
+use Rattle.std.proofs.Common.{◌≡◌, ℕ, List, [], ◌∷◌, Option, Some, sym, ◌∙◌, ap, subst, inl, inr}
 use Rattle.std.specs.declared.cmp.Ordering.{Ordering}
 use Rattle.pq_inputs.specs.Sources.{Table}
 use Rattle.pq_rules.specs.Turns.{Machine}
@@ -7,38 +7,69 @@ use Rattle.pq_rules.specs.Relations.{In}
 use Rattle.pq_rules.proofs.Weight.{Exact}
 use Rattle.pq_memo.specs.Sound.{Memo}
 use Rattle.pq_memo.specs.Look.{IsUpToDate}
-use Rattle.pq_memo.specs.Table.{key_at, memo_at, HasIn, KeptOver}
+use Rattle.pq_memo.specs.Table.{View, key_at, memo_at, HasIn, KeptOver}
 use Rattle.pq_memo.specs.Writes.{IsConfirmed}
 use Rattle.pq_memo.proofs.Confirming.{green_stale}
 use Rattle.pq_memo.proofs.Wrote.{wrote_marked}
 use Rattle.pq_claims.specs.Claims.{Hold, Holds, hold_of}
-use Rattle.pq_core.specs.aux.Runs.{AreStale, HeldUnwritten, OthersHold, OthersUnwritten, Renewed}
-use Rattle.pq_core.proofs.Renewed.{renewed_finished, renewed_same}
+use Rattle.pq_core.specs.aux.Runs.{AreStale, HasMarked, HeldUnwritten, OthersHold, OthersUnwritten, Renewed}
+use Rattle.pq_core.proofs.Renewed.{renewed_finished, renewed_same, renewed_then}
 
-module _ {K P V : Type 0} (order : K → K → Ordering) (exact : Exact order) (m : Machine K P V) (inputs : Table)
-    (before : List (K × Option (Memo K V))) (number : ℕ) (after : List (K × Option (Memo K V))) where
-  -- only what is up to date now was written
-  pub confirmed_renewed : KeptOver order m inputs before → IsConfirmed order m inputs before number after
-      → Renewed m inputs.revision (memo_at order before) (memo_at order after)
-  confirmed_renewed kept (inl same) = renewed_same m inputs.revision (memo_at order before) (memo_at order after) same
-  confirmed_renewed kept (inr (k, there, green, marked)) =
-      renewed_finished order exact m inputs before after k (green_stale order m inputs (memo_at order before) kept k green) (inr (inl marked))
+module _ {R K P V : Type 0} (order : K → K → Ordering) (machine : R → Machine K P V) (inputs : Table) (claims : List (ℕ × Hold K)) where
+  -- no memo was marked
+  pub marked_none : (before after : View R K V) → after.rules ≡ before.rules → after.places ≡ before.places → KeptOver order (machine before.rules) inputs before.places
+      → HasMarked order machine inputs claims before after
+  marked_none before after rules same kept = record {
+    rules = rules;
+    kept = subst (λ (places : List (K × Option (Memo K V))). KeptOver order (machine before.rules) inputs places) (sym same) kept;
+    renewed = renewed_same (machine before.rules) inputs.revision (memo_at order before.places) (memo_at order after.places)
+        (λ k. ap (λ (places : List (K × Option (Memo K V))). memo_at order places k) same);
+    unwritten = λ r k holds. ap (λ (places : List (K × Option (Memo K V))). memo_at order places k) same;
+  }
 
-  -- and no memo of a key that a run holds
-  pub confirmed_unwritten : (claims : List (ℕ × Hold K)) → ((k : K) → key_at before number ≡ Some k → (r : ℕ) → Holds claims r k → ⊥)
-      → IsConfirmed order m inputs before number after → HeldUnwritten claims (memo_at order before) (memo_at order after)
-  confirmed_unwritten claims free (inl same) = λ r q holds. same q
-  confirmed_unwritten claims free (inr (k, there, green, marked)) = λ r q holds. (wrote_marked order exact m inputs before k after marked).others q (other r q holds)
+  -- the memo of the key with a number was
+  marked_one : Exact order → (number : ℕ) (before after : View R K V) → after.rules ≡ before.rules
+      → KeptOver order (machine before.rules) inputs before.places → KeptOver order (machine before.rules) inputs after.places
+      → ((k : K) → key_at before.places number ≡ Some k → (r : ℕ) → Holds claims r k → ⊥)
+      → IsConfirmed order (machine before.rules) inputs before.places number after.places → HasMarked order machine inputs claims before after
+  marked_one exact number before after rules was kept free (k, there, green, marked) = record {
+    rules = rules;
+    kept = kept;
+    renewed = renewed_finished order exact (machine before.rules) inputs before.places after.places k
+        (green_stale order (machine before.rules) inputs (memo_at order before.places) was k green) (inr (inl marked));
+    unwritten = λ r q holds. (wrote_marked order exact (machine before.rules) inputs before.places k after.places marked).others q (other r q holds);
+  }
     where
       other : (r : ℕ) (q : K) → Holds claims r q → In q (k ∷ []) → ⊥
       other r q holds (inl e) = free k there r (subst (λ (x : K). Holds claims r x) e holds)
       other r q holds (inr i) = absurd i
 
-module _ {K V : Type 0} where
-  -- one table after another
-  pub unwritten_both : (claims : List (ℕ × Hold K)) (a b c : K → Option (Memo K V)) → HeldUnwritten claims a b → HeldUnwritten claims b c → HeldUnwritten claims a c
-  unwritten_both claims a b c first second r k holds = second r k holds ∙ first r k holds
+  -- some were, and then others
+  marked_then : (a b c : View R K V) → HasMarked order machine inputs claims a b → HasMarked order machine inputs claims b c → HasMarked order machine inputs claims a c
+  marked_then a b c first second = record {
+    rules = second.rules ∙ first.rules;
+    kept = subst (λ (r : R). KeptOver order (machine r) inputs c.places) first.rules second.kept;
+    renewed = renewed_then (machine a.rules) inputs.revision (memo_at order a.places) (memo_at order b.places) (memo_at order c.places) first.renewed
+        (subst (λ (r : R). Renewed (machine r) inputs.revision (memo_at order b.places) (memo_at order c.places)) first.rules second.renewed);
+    unwritten = λ r k holds. second.unwritten r k holds ∙ first.unwritten r k holds;
+  }
 
+  -- the table is kept by its own rules
+  still_kept : (a b : View R K V) → HasMarked order machine inputs claims a b → KeptOver order (machine b.rules) inputs b.places
+  still_kept a b first = subst (λ (r : R). KeptOver order (machine r) inputs b.places) (sym first.rules) first.kept
+
+  -- some were, and then no other
+  pub marked_left : (a b c : View R K V) → HasMarked order machine inputs claims a b → c.rules ≡ b.rules → c.places ≡ b.places → HasMarked order machine inputs claims a c
+  marked_left a b c first rules same = marked_then a b c first (marked_none b c rules same (still_kept a b first))
+
+  -- some were, and then one more
+  pub marked_next : Exact order → (number : ℕ) (a b c : View R K V) → HasMarked order machine inputs claims a b → c.rules ≡ b.rules
+      → KeptOver order (machine b.rules) inputs c.places → ((k : K) → key_at b.places number ≡ Some k → (r : ℕ) → Holds claims r k → ⊥)
+      → IsConfirmed order (machine b.rules) inputs b.places number c.places → HasMarked order machine inputs claims a c
+  marked_next exact number a b c first rules kept free confirmed =
+      marked_then a b c first (marked_one exact number b c rules (still_kept a b first) kept free confirmed)
+
+module _ {K V : Type 0} where
   -- nor was a key written that another run than `run` had before
   pub unwritten_others : (run : ℕ) (a b : List (ℕ × Hold K)) (before after : K → Option (Memo K V)) → OthersHold run a b → HeldUnwritten b before after
       → OthersUnwritten a run before after

@@ -14,10 +14,6 @@ use Rattle.pq_memo.proofs.memos.Memos.TheSendSync as memos
 use Rattle.pq_claims.proofs.claims.Claims.TheSendSync as claims
 use Rattle.pq_core.specs.declared.stamp.Stamp as stamp
 use Rattle.pq_core.specs.contracts.store.Store as store
-use Rattle.pq_core.specs.contracts.work.Work as work
-use Rattle.pq_core.specs.contracts.work.Done as done
-use Rattle.pq_memo.proofs.look.Why.TheSendSync as why
-use Rattle.pq_core.proofs.job.Task.TheSendSync as task
 use Rattle.pq_core.proofs.rising.Rising.TheSendSync as rising
 use Rattle.pq_core.proofs.account.Account.TheSendSync as account
 use Rattle.pq_core.proofs.run.Run.TheSendSync as run
@@ -29,9 +25,3 @@ module _ (R M K V P : RattleType) (rs : rules.Ghosts R.Denot K.Denot V.Denot P.D
     (p : partial.Ghosts K.Denot) (ev : eq.Ghosts V.Denot) (s : stamp.Ghosts M.Denot) where
   pub store_send : IsSend R → IsSend M → IsSend K → IsSync K → IsSend V → IsSync V → IsSend P → IsSend (store.the_row R M K V P rs o e p ev s)
   store_send r m k ky v vy q = let a = inputs_send in search (memos.the_send, claims.the_send, rising.the_send, account.the_send, run.the_send, sendable, crosses) depth 40
-
-  pub work_send : IsSend R → IsSend M → IsSend K → IsSync K → IsSend V → IsSync V → IsSend P → IsSend (work.the_row R M K V P rs o e p ev s)
-  work_send r m k ky v vy q = search (why.the_send, task.the_field_send, sendable, crosses) depth 40
-
-  pub done_send : IsSend R → IsSend M → IsSend K → IsSync K → IsSend V → IsSync V → IsSend P → IsSend (done.the_row R M K V P rs o e p ev s)
-  done_send r m k ky v vy q = search (sendable, crosses) depth 40

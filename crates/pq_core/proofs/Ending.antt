@@ -154,20 +154,6 @@ module _ {K V M L O : Type 0} (AsSeat : L → Client K V M O → Type 0) (means 
       ready_not : {r st : ℕ} {u : Option (Out K)} → ready_place {K = K} {V = V} {M = M} reply ≡ placed {K = K} {V = V} {M = M} r st u → ⊥
       ready_not x = cc
 
-  -- the outbox of an open client changes, and not its requests
-  pub outbox_stands : (f g : Fields K L) (l m : Ledger K V M O) (c : ℕ) (client : Client K V M O) (seat : L) (o : O) (refused : Bool)
-      → Stands AsSeat means puts f l → IsOpen l c client → SeatSet f g c (Some seat) → SameCounts f g → SameRuns f g
-      → AsSeat seat (with_outbox client o refused) → m ≡ with_client l c (with_outbox client o refused) → Kept means puts m → Stands AsSeat means puts g m
-  outbox_stands f g l m c client seat o refused s is_open set counts q as_seat e kept =
-      open_restand f g l m c (length client.entries) client (with_outbox client o refused) seat s is_open is_open.open_yet set counts q
-      (λ i other ne w. w)
-      (λ i other h. inl (h, below i other h))
-      (λ other r st u h p. below (length client.entries) other h refl)
-      as_seat e kept
-    where
-      below : (i : ℕ) (other : Entry K V M) → slice_get client.entries i ≡ Some other → i ≢ length client.entries
-      below i other h w = let a : i < length client.entries = get_within client.entries i other h in let b : i ≡ length client.entries = w in absurd (omega arith)
-
   -- a client is closed
   pub close_stands : (f g : Fields K L) (l m : Ledger K V M O) (c : ℕ) (client : Client K V M O) → Stands AsSeat means puts f l → IsOpen l c client
       → SeatSet f g c None → g.inputs ≡ f.inputs → g.opened + 1 ≡ f.opened → g.clients ≡ f.clients → SameRuns f g

@@ -13,7 +13,6 @@ pub mod StoreOpening
 pub mod StoreAccepting
 pub mod StoreRunning
 pub mod Keeping
-pub mod Truthful
 pub mod Shutting
 pub mod Slots
 pub mod Writes

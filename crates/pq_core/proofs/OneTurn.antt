@@ -70,13 +70,3 @@ module _ {K P V : Type 0} (order : K → K → Ordering) (strict : Strict order)
     | inl up ↦ absurd (stale up)
     | inr came ↦ came_to p.key q came.0 turn p.reads.items front files key same long came.1 due
   ]
-
-  -- and work whose rule came there is due
-  pub came_due : (k : K) (turn : Turn K P V) (reads : List K) → Came order m inputs.history inputs.revision (HasIn table) k turn reads
-      → IsDue order m inputs.files k reads turn
-  came_due k turn reads came = record {
-    ruled = came.ruled;
-    run = came.run;
-    comes = subst (λ (f : Sources). ComesBy (over order m f) k came.run turn) (now_files inputs.history inputs.revision inputs.files latest) came.comes;
-    reads = came.reads;
-  }

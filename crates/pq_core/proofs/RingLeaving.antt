@@ -174,10 +174,6 @@ module _ {K P : Type 0} (key : K) (before : List (ℕ × Hold K)) (old : List (P
     claimed r ∙ (ap (λ (o : Option (RunView K P)). claimed_keys o) here ∙ ap (λ (t : Top K P). run_keys run.stack t) top.1),
   )
 
-  -- no run holds it
-  pub none_leaves : ((r : ℕ) → Holds before r key → ⊥) → KeyLeaves key before before old old
-  none_leaves free = record { claimed = claimed; gone = free; fewer = λ r k h. h; waits = λ r k w. w; each = λ r. inl refl; split = λ r. inl refl }
-
   -- one run holds it
   pub key_leaves : (after : List (ℕ × Hold K)) (new : List (Place (RunView K P))) (id : ℕ) (was now : RunView K P) → AreSound before → found old id ≡ Some was → Holds before id key
       → (f : Frame K P) × (was.top ≡ At f) → ((k : ℕ) → found new k ≡ (if k == id then Some now else found old k)) → IsSameRun was now

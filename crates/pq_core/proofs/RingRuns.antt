@@ -22,7 +22,7 @@ use Rattle.pq_core.specs.declared.frames.Top.TheVariants.{Empty, At, Away}
 use Rattle.pq_core.specs.aux.Rising.{found}
 use Rattle.pq_core.specs.aux.Runs.{RunView, RunsKept, AreClaimed, ClosesRing, FramesKept, HoldsBelow, KeptBelow, TopAwaits, WaitsFor as FrameWaitsFor, WaitsUp, claimed_keys, run_keys, top_keys}
 use Rattle.pq_core.specs.aux.Rings.{HasFrame, IsFrameOf}
-use Rattle.pq_core.proofs.Lists.{none_some, some_one, same_or_other}
+use Rattle.pq_core.proofs.Lists.{some_one, same_or_other}
 use Rattle.pq_core.proofs.Changing.{if_at, if_other}
 use Rattle.pq_core.proofs.Claiming.{holder_there}
 use Rattle.pq_core.proofs.Rounds.{Climbs, ring_held, ring_round, ring_started, ring_waits}
@@ -163,10 +163,6 @@ module _ {K P : Type 0} where
       -- no run has a frame of a key that none holds
       pub none_has : (k : K) → ((r : ℕ) → Holds claims r k → ⊥) → (f : Frame K P) → HasFrame runs f → f.key ≡ k → ⊥
       none_has k free f h e = free h.0 (subst (λ (q : K). Holds claims h.0 q) e (frame_holds f h))
-
-      -- the run that holds a key exists
-      pub holder_found : (r : ℕ) (k : K) → Holds claims r k → found runs r ≡ None → ⊥
-      holder_found r k h e = let w = holder_there claims runs r k claimed h in none_some w.0 (sym e ∙ w.1)
 
       -- the frame of a key is one of the run that holds it
       pub own_frame : AreSound claims → (r : ℕ) (run : RunView K P) (k : K) → found runs r ≡ Some run → Holds claims r k → (f : Frame K P) → HasFrame runs f → f.key ≡ k

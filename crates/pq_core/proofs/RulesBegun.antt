@@ -151,11 +151,6 @@ module _ {K P : Type 0} where
   empty_first stack top bare empty k None = tt
   empty_first stack top bare empty k (Some why) = λ b. none_begun stack top bare empty k b
 
-  -- what a run without frames keeps
-  pub none_keeps : {V : Type 0} (m : Machine K P V) (now : ℕ) (table : K → Option (Memo K V)) (stack left : List (Frame K P)) (top new : Top K P) → stack ≡ [] → top ≡ Empty
-      → KeepsBegun m now table stack top left new
-  none_keeps m now table stack left top new bare empty k b = absurd (none_begun stack top bare empty k b)
-
   pub none_looks : {R V A E : Type 0} (stack : List (Frame K P)) (top : Top K P) → stack ≡ [] → top ≡ Empty → (answer : Result (Looked (WorkView R K P V) K A) E)
       → IfOk answer (λ l. LooksFirst stack top l)
   none_looks stack top bare empty (Ok (Carry work)) = empty_first stack top bare empty work.done.key work.why

@@ -7,7 +7,7 @@ use Rattle.std.proofs.lemmas.Option.{slice_get_read, get_or_from_slice_get}
 use Rattle.pq_core.proofs.Lists.{some_one, get_within, same_or_other, set_same, set_long}
 use Rattle.pq_core.specs.Moves.{one_if}
 use Rattle.pq_core.specs.declared.rising.Place.{Place}
-use Rattle.pq_core.specs.aux.Rising.{found, IsVacant, IsAbove, IsBelow, Rises, has_value, live_count, SameFound, Compacts}
+use Rattle.pq_core.specs.aux.Rising.{found, IsVacant, IsAbove, IsBelow, Rises, has_value, live_count, Compacts}
 
 none_of : {A : Type 0} {P : Type 0} (y : A) → None ≡ Some y → P
 none_of y h = cc
@@ -328,12 +328,6 @@ compacts_all items left h e =
       same = record { same = λ n. found_filter items n h; above = λ n a. above_filter n items a };
       counted = count_filter items;
     })
-
-pub same_found : {T : Type 0} (items : List (Place T)) → SameFound items items
-same_found items = record { same = λ n. refl; above = λ n a. a }
-
-pub compacts_none : {T : Type 0} (items : List (Place T)) → Rises items → Compacts items items
-compacts_none items h = record { rises = h; same = same_found items; counted = refl }
 
 -- ---- a value more
 

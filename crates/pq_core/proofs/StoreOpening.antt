@@ -19,7 +19,7 @@ use Rattle.pq_core.specs.Stores.{Held, fields_of, run_seen, StandsOf}
 use Rattle.pq_core.specs.declared.rising.Place.{Place}
 use Rattle.pq_core.specs.aux.Rising.{found}
 use Rattle.pq_core.specs.Accounts.{no_requests}
-use Rattle.pq_core.specs.Told.{Told, told_puts, OpensNext, IsNextClient}
+use Rattle.pq_core.specs.Told.{Told, told_puts, OpensNext}
 use Rattle.pq_core.specs.aux.Accounts.{AccountStands}
 use Rattle.pq_core.specs.declared.fault.OpenFault.TheVariants.{TooManyClients, Memory as OpenMemory}
 
@@ -63,10 +63,6 @@ module _ {K P V M : Type 0} (order : K → K → Ordering) (m : Machine K P V) (
   pub open_many : (b : Held K P V M) (l : Ledger K V M (Told K V M)) → (64 ≤ b.opened) ⊎ (2 ^ 64 ≤ b.clients + 1) → StandsOf order m point told_puts b l
       → Reaches (OpensNext (Err TooManyClients)) l (StandsOf order m point told_puts b)
   open_many b l why s = (l, (open_full b l why s, refl), s)
-
-  -- the number of the next client
-  pub next_is : (b : Held K P V M) (l : Ledger K V M (Told K V M)) → b.opened < 64 → b.clients + 1 < 2 ^ 64 → StandsOf order m point told_puts b l → IsNextClient l (Some b.clients)
-  next_is b l few below s = (sym s.clients, subst (λ (n : ℕ). n < max_clients) (sym s.opened) few, below)
 
   -- a client is opened
   pub open_moved : (b a : Held K P V M) (l : Ledger K V M (Told K V M))

@@ -9,7 +9,7 @@ use Rattle.pq_core.specs.Changes.{ChangeView}
 use Rattle.pq_core.specs.Works.{DoneView, WorkView, IsWorkOf}
 use Rattle.pq_core.specs.Ledger.{Out, Running, Put, Entry, Client, Ledger, IsOpen, IsClosed, IsEntry, with_client, with_entry, moved_to, with_outbox, opened, closed}
 use Rattle.pq_core.specs.Moves.{one_if, open_count, window, owed, OpenRefusal, Opens, AcceptRefusal, Accepts, new_entry, with_new, EditRefusal, Edits, changed, Waits, NoneWaits, Starts, started_at, RunAt, Runs, NoneRuns, IsRequestOf, ended, with_out, out_of, IsOvertaken, IsCurrent, GoesOn, IsBlocked, LooksFor, IsOf, Gives, Starves, NextReady, IsReady, Releases}
-use Rattle.pq_core.specs.Kept.{ClientKept, Kept}
+use Rattle.pq_core.specs.Kept.{Kept}
 use Rattle.pq_core.specs.Told.{Told, told_puts, told_client, told_ledger, IsReadyAt, NoneReadyAt, OpensNext, Shuts, TellsOne, Tells}
 use Rattle.pq_core.specs.declared.request.Request.{Request}
 use Rattle.pq_core.specs.declared.outcome.Outcome.{Outcome}
@@ -19,7 +19,6 @@ use Rattle.pq_core.specs.declared.moves.Move.TheVariants.{Carry, Blocked, Steppe
 use Rattle.pq_core.specs.declared.moves.Released.TheVariants.{Put as ReleasedPut}
 use Rattle.pq_core.specs.declared.fault.OpenFault.{OpenFault}
 use Rattle.pq_core.specs.declared.fault.OpenFault.TheVariants.{TooManyClients, Memory as OpenMemory}
-use Rattle.pq_core.specs.declared.fault.OpenRefused.{OpenRefused}
 use Rattle.pq_core.specs.declared.fault.AcceptFault.{AcceptFault}
 use Rattle.pq_core.specs.declared.fault.AcceptFault.TheVariants.{NoClient as AcceptNoClient, Closed as AcceptClosed, WindowFull, Memory as AcceptMemory}
 use Rattle.pq_core.specs.declared.fault.AcceptRefused.{AcceptRefused}
@@ -98,9 +97,6 @@ module _ {K V M O : Type 0} (puts : O → List (ReplyView K V M)) where
   open_told l c x o =
       let w = client_of l c x o.here in
       (w.client, record { here = w.here; open_yet = ap (λ (y : Client K V M (Told K V M)). y.is_open) (sym w.is) ∙ o.open_yet }, w.is)
-
-  pub told_closed : (l : Ledger K V M O) (c : ℕ) → IsClosed l c → IsClosed (told_ledger puts l) c
-  told_closed l c o = record { client = told_client puts o.client; here = told_here l c o.client o.here; closed = o.closed }
 
   pub closed_told : (l : Ledger K V M O) (c : ℕ) → IsClosed (told_ledger puts l) c → IsClosed l c
   closed_told l c o =
@@ -212,11 +208,6 @@ module _ {K V M O : Type 0} (puts : O → List (ReplyView K V M)) where
     ap (λ (xs : List (Client K V M (Told K V M))). record { inputs = l.inputs; clients = xs; runs = l.runs }) (map_more (told_client puts) l.clients (opened outbox))
         ∙ (ap (λ (o : Told K V M). record { inputs = l.inputs; clients = map (told_client puts) l.clients ++ opened o ∷ []; runs = l.runs }) none ∙ sym e),
   )
-
-  pub open_refused_told : (refused : OpenRefused O) (outbox : O) (fault : OpenFault) (l : Ledger K V M O) (n : Ledger K V M (Told K V M)) → refused.outbox ≡ outbox → refused.fault ≡ fault
-      → OpensNext (Err fault) (told_ledger puts l) n → Lifts (Opens outbox (Err refused)) l n
-  open_refused_told refused outbox fault l n same is (why, e) =
-      (l, (same, subst (λ (f : OpenFault). OpenRefusal l f) (sym is) (refusal_told l fault why), refl), sym e)
 
   pub accept_refusal_told : (l : Ledger K V M O) (c : ℕ) (fault : AcceptFault) → AcceptRefusal told_puts (told_ledger puts l) c fault → AcceptRefusal puts l c fault
   accept_refusal_told l c AcceptNoClient h = let a = told_long l in omega arith
@@ -435,14 +426,6 @@ module _ {K V M O : Type 0} (puts : O → List (ReplyView K V M)) where
   told_puts_one takes was_full was_gone c k l m h = (told_ledger puts m, told_put takes was_full was_gone c k l m h, refl)
 
   -- ---- what holds of each ledger
-
-  pub told_kept : (means : M → Point → K → Answer K V → Type 0) (l : Ledger K V M O) → Kept means puts l → Kept means told_puts (told_ledger puts l)
-  told_kept means l k = record {
-    inputs = k.inputs;
-    clients = λ c x h.
-        let w = client_of l c x h in
-        subst (λ (y : Client K V M (Told K V M)). ClientKept means l.inputs (told_puts y.outbox) c y.entries) (sym w.is) (k.clients c w.client w.here);
-  }
 
   pub kept_told : (means : M → Point → K → Answer K V → Type 0) (l : Ledger K V M O) → Kept means told_puts (told_ledger puts l) → Kept means puts l
   kept_told means l k = record {

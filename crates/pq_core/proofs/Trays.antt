@@ -4,7 +4,7 @@ use Rattle.std.specs.Prelude.{Ok}
 use Rattle.pq_core.specs.Replies.{ReplyView}
 use Rattle.pq_core.specs.Moves.{window}
 use Rattle.pq_core.specs.Outboxes.{TakesNext}
-use Rattle.pq_core.specs.Lanes.{ReadyView, Tray, empty_tray, HasPlace, placed_in, IsNextIn, LetsOutOf, TakesOutOf, after_next, tray_with, tray_after, closed_tray, TrayKept}
+use Rattle.pq_core.specs.Lanes.{ReadyView, Tray, empty_tray, HasPlace, placed_in, IsNextIn, LetsOutOf, TakesOutOf, after_next, tray_with, tray_after, TrayKept}
 use Rattle.pq_core.specs.declared.moves.Released.TheVariants.{Put as ReleasedPut, Full as ReleasedFull, Gone as ReleasedGone, Nothing as ReleasedNothing}
 use Rattle.pq_core.proofs.Lists.{some_one, get_set, get_append, set_long, append_long}
 use Rattle.pq_core.proofs.Writes.{nothing_there, drop_get, drop_long}
@@ -89,14 +89,6 @@ module _ {K V M O : Type 0} (Right : ReplyView K V M → Type 0) (puts : O → L
         let p = k.placed (suc i) other (shifted l.places i other get) in
         let number : other.reply.number ≡ l.put + suc i = p.0 in
         (omega arith, p.1, p.2);
-  }
-
-  pub closed_kept : (l : Tray K V M O) → TrayKept Right puts (closed_tray l)
-  closed_kept l = record {
-    count = λ o is. nothing_there o is;
-    room = λ o is. nothing_there o is;
-    put_so = λ o n reply is get. nothing_there o is;
-    placed = λ i ready get. nothing_there (Some ready) get;
   }
 
 module _ {K V M O : Type 0} (puts takes : O → List (ReplyView K V M)) where

@@ -7,9 +7,9 @@
 //!
 //! A look marks `PORTION` memos at most, so no other run and no edit waits for a whole trail.
 ghost use Rattle.std.specs.Prelude.{◌≡◌, ℕ, Some, IsTrue};
-ghost use Rattle.pq_memo.specs.Table.{key_at, memo_at, KeptOver};
+ghost use Rattle.pq_memo.specs.Table.{key_at, KeptOver};
 ghost use Rattle.pq_claims.specs.Claims.{Holds};
-ghost use Rattle.pq_core.specs.aux.Runs.{HeldUnwritten, Renewed};
+ghost use Rattle.pq_core.specs.aux.Runs.{HasMarked};
 
 use pq_claims::Claims;
 use pq_inputs::Inputs;
@@ -55,32 +55,8 @@ pub(crate) fn first_free<R: Rules>(
     None
 }
 
-/// Marks the memo of the key with the number `number`, to which `trail` came, if it is valid and no
-/// run holds the key. Returns whether it did.
-fn mark<R: Rules>(
-    trail: &mut Trail,
-    memos: &mut Memos<R>,
-    claims: &Claims<R>,
-    inputs: &Inputs,
-    number: usize,
-) -> bool
-    requires kept { KeptOver R.Key.cmp (R.machine memos.old.rules) inputs.now memos.old.places }
-    ensures rules { memos.new.rules ≡ memos.old.rules }
-    ensures kept { KeptOver R.Key.cmp (R.machine memos.old.rules) inputs.now memos.new.places }
-    ensures renewed { Renewed (R.machine memos.old.rules) inputs.now.revision (memo_at R.Key.cmp memos.old.places) (memo_at R.Key.cmp memos.new.places) }
-    ensures unwritten { HeldUnwritten claims.now (memo_at R.Key.cmp memos.old.places) (memo_at R.Key.cmp memos.new.places) }
-{
-    if !is_free(memos, claims, number) {
-        return false;
-    }
-    if !memos.confirm_slot(number, inputs) {
-        return false;
-    }
-    trail.leave();
-    true
-}
-
-/// Marks the memo of the key with the number `first`, and those that `trail` comes to after it.
+/// Marks the memo of the key with the number `first`, to which `trail` came, and those that it comes to
+/// after it, until one is not valid or a run holds its key.
 pub(crate) fn confirm<R: Rules>(
     trail: &mut Trail,
     memos: &mut Memos<R>,
@@ -89,21 +65,19 @@ pub(crate) fn confirm<R: Rules>(
     first: usize,
 )
     requires kept { KeptOver R.Key.cmp (R.machine memos.old.rules) inputs.now memos.old.places }
-    ensures rules { memos.new.rules ≡ memos.old.rules }
-    ensures kept { KeptOver R.Key.cmp (R.machine memos.old.rules) inputs.now memos.new.places }
-    ensures renewed { Renewed (R.machine memos.old.rules) inputs.now.revision (memo_at R.Key.cmp memos.old.places) (memo_at R.Key.cmp memos.new.places) }
-    ensures unwritten { HeldUnwritten claims.now (memo_at R.Key.cmp memos.old.places) (memo_at R.Key.cmp memos.new.places) }
+    ensures { HasMarked R.Key.cmp R.machine inputs.now claims.now memos.old memos.new }
 {
-    if !mark(trail, memos, claims, inputs, first) {
-        return;
-    }
-    'marks: for _ in 1..PORTION {
+    let mut number = first;
+    'marks: for _ in 0..PORTION {
+        if !is_free(memos, claims, number) {
+            return;
+        }
+        if !memos.confirm_slot(number, inputs) {
+            return;
+        }
+        trail.leave();
         match memos.next_slot(trail, PORTION, inputs) {
-            Some(number) => {
-                if !mark(trail, memos, claims, inputs, number) {
-                    return;
-                }
-            }
+            Some(next) => number = next,
             None => return,
         }
     }

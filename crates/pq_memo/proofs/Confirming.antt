@@ -274,16 +274,7 @@ pub confirmed_step : {K P V : Type 0} (order : K → K → Ordering) (exact : Ex
     → KeptOver order m inputs middle → HasConfirmed m inputs.revision before (memo_at order middle) (frame_keys (fs ++ f ∷ []))
     → ((k : K) → key_at middle number ≡ Some k → k ≡ f.key → ⊥)
     → IsConfirmed order m inputs middle number after → HasConfirmed m inputs.revision before (memo_at order after) (frame_keys (fs ++ f ∷ []))
-confirmed_step {K} order exact m inputs before middle number after fs f linked stale caused kept c other (inl same) = record {
-  keys = c.keys;
-  written = record {
-    others = λ k out. same k ∙ c.written.others k out;
-    news = λ k i. let n = c.written.news k i in (n.0, same k ∙ n.1, n.2, n.3);
-  };
-  stale = c.stale;
-  off = c.off;
-}
-confirmed_step {K} order exact m inputs before middle number after fs f linked stale caused kept c other (inr (k, there, green, marked)) =
+confirmed_step order exact m inputs before middle number after fs f linked stale caused kept c other (k, there, green, marked) =
     confirmed_more order exact m inputs before (memo_at order middle) (fs ++ f ∷ []) c (memo_at order after) k (green_stale order m inputs (memo_at order middle) kept k green)
     (green_off order m inputs (memo_at order middle) kept fs f
     (linked_then order exact m inputs before (memo_at order middle) (fs ++ f ∷ []) c linked)

@@ -1,5 +1,5 @@
 -- The calls of the slots of a table, over the list that contracts see.
-use Rattle.std.proofs.Common.{◌≡◌, ℕ, zero, suc, ◌<◌, List, [], ◌∷◌, ◌++◌, length, get_or, slice_set, Option, Some, None, IsSome, refl, sym, ◌∙◌, ap, subst, inl, inr, arith, Bool, true, false, cond}
+use Rattle.std.proofs.Common.{◌≡◌, ℕ, zero, suc, ◌<◌, ◌≤◌, List, [], ◌∷◌, ◌++◌, length, get_or, slice_set, Option, Some, None, IsSome, refl, sym, ◌∙◌, ap, subst, inl, inr, arith, Bool, true, false, cond}
 use Rattle.std.proofs.lemmas.Bool.{cases_Bool}
 use Rattle.std.proofs.lemmas.Option.{same_Some}
 use Rattle.std.specs.declared.cmp.Ordering.{Ordering}
@@ -20,6 +20,15 @@ module _ {K X : Type 0} where
   key_get [] n e h is = absurd (omega arith)
   key_get (s ∷ ss) zero e h is = ap (λ (p : K × X). Some p.0) (sym is)
   key_get (s ∷ ss) (suc n) e h is = key_get ss n e (omega arith) is
+
+  -- no key is past the last slot
+  pub key_past : (slots slice : List (K × X)) (n : ℕ) → slice ≡ slots → length slice ≤ n → key_at slots n ≡ None
+  key_past slots slice n value past = subst (λ (l : List (K × X)). key_at l n ≡ None) value (none slice n past)
+    where
+      none : (l : List (K × X)) (i : ℕ) → length l ≤ i → key_at l i ≡ None
+      none [] i past = refl
+      none (e ∷ es) zero past = absurd (omega arith)
+      none (e ∷ es) (suc i) past = none es i (omega arith)
 
   pub value_get : (slots : List (K × X)) (n : ℕ) (e : K × X) → n < length slots → e ≡ get_or slots n e → value_at slots n ≡ Some e.1
   value_get [] n e h is = absurd (omega arith)

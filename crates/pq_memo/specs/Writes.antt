@@ -10,7 +10,7 @@ use Rattle.pq_rules.specs.Relations.{In}
 use Rattle.pq_memo.specs.Sound.{Memo}
 use Rattle.pq_memo.specs.Kept.{IsLeastAt}
 use Rattle.pq_memo.specs.Look.{IsGreen}
-use Rattle.pq_memo.specs.Table.{key_at, memo_at, HasIn, IsPut, IsSameTable}
+use Rattle.pq_memo.specs.Table.{key_at, memo_at, HasIn, IsPut}
 
 -- `IsDated now Has k answer changed` is that `changed` is the changed revision of `answer` for `k`:
 -- that of the memo that the table has of `k`, if its answer is equal, and else now
@@ -38,13 +38,12 @@ pub record IsMarked {K P V : Type 0} (order : K → K → Ordering) (m : Machine
   pub least : IsLeastAt order m inputs.history inputs.revision k durability
   pub put : IsPut order (memo_at order before) k (remarked memo inputs.revision durability) (memo_at order after)
 
--- `IsConfirmed order m inputs before n after` is that the places `after` have the memos of `before`, or
--- that the place `n` has a key whose memo is valid, and that this memo is verified now
+-- `IsConfirmed order m inputs before n after` is that the place `n` of `before` has a key whose memo is
+-- valid, and that in the places `after` this memo is verified now
 abbrev pub IsConfirmed : {K P V : Type 0} → (K → K → Ordering) → Machine K P V → Table → List (K × Option (Memo K V)) → ℕ
     → List (K × Option (Memo K V)) → Type 0
 IsConfirmed {K} order m inputs before n after =
-    IsSameTable (memo_at order before) (memo_at order after)
-    ⊎ ((k : K) × (key_at before n ≡ Some k) × IsGreen m inputs.history inputs.revision (HasIn (memo_at order before)) k × IsMarked order m inputs before k after)
+    (k : K) × (key_at before n ≡ Some k) × IsGreen m inputs.history inputs.revision (HasIn (memo_at order before)) k × IsMarked order m inputs before k after
 
 -- `IsPublished order m inputs before k answer reads after` is that in the places `after` the key
 -- `k` has a memo of `answer` and `reads`, verified now, with the least durability below `k` and the

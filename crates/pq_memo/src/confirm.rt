@@ -7,7 +7,7 @@
 //!
 //! The engine marks all in one call (`confirm`). A caller that keeps the frames of many runs goes
 //! down with `start_trail` and `next_slot`, and marks what it may with `confirm_slot`.
-ghost use Rattle.std.specs.Prelude.{◌≡◌, ◌++◌, ◌∷◌, [], Some, IsTrue, IfSome};
+ghost use Rattle.std.specs.Prelude.{◌≡◌, ◌++◌, ◌∷◌, [], None, Some, IsTrue, IsFalse, IfSome, IfNone};
 ghost use Rattle.pq_rules.specs.Relations.{Each, In};
 ghost use Rattle.pq_memo.specs.Look.{IsUpToDate, HasChanged, IsStill, IsGreen};
 ghost use Rattle.pq_memo.specs.Table.{key_at, memo_at, HasIn, KeptOver};
@@ -209,12 +209,13 @@ impl<R: Rules> Memos<R> {
     }
 
     /// Marks the memo of the key with the number `number` as verified now, if it is valid and was not
-    /// verified now. Returns whether it did, of which no contract speaks. It takes no memory.
+    /// verified now. Returns whether it did. It takes no memory.
     pub fn confirm_slot(&mut self, number: usize, inputs: &Inputs) -> bool
         requires kept { KeptOver R.Key.cmp (R.machine self.old.rules) inputs.now self.old.places }
         ensures rules { self.new.rules ≡ self.old.rules }
         ensures kept { KeptOver R.Key.cmp (R.machine self.old.rules) inputs.now self.new.places }
-        ensures confirmed { IsConfirmed R.Key.cmp (R.machine self.old.rules) inputs.now self.old.places number self.new.places }
+        ensures confirmed { IsTrue result → IsConfirmed R.Key.cmp (R.machine self.old.rules) inputs.now self.old.places number self.new.places }
+        ensures left { IsFalse result → self.new.places ≡ self.old.places }
     {
         match self.valid_at(number, inputs) {
             Some(durability) => {
@@ -227,7 +228,8 @@ impl<R: Rules> Memos<R> {
 
     /// The key with the number `number`, if there is one.
     pub fn key_in(&self, number: usize) -> Option<&R::Key>
-        ensures { IfSome result (λ k. key_at self.now.places number ≡ Some k.now) }
+        ensures key { IfSome result (λ k. key_at self.now.places number ≡ Some k.now) }
+        ensures none { IfNone result (key_at self.now.places number ≡ None) }
     {
         self.entries.key_of(number)
     }

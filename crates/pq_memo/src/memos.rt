@@ -3,7 +3,7 @@
 //! A memo is valid if no input of its durability or more changed since it was verified, or else if
 //! each of its reads is up to date and did not change. A memo whose key is on the ring that is its
 //! answer reads itself, so its reads cannot confirm it.
-ghost use Rattle.std.specs.Prelude.{◌≡◌, ◌≤◌, ◌<◌, ◌↔◌, List, [], length, take, IsTrue, IfSome, IfNone, IfOk, option_copied, Option, None};
+ghost use Rattle.std.specs.Prelude.{◌≡◌, ◌≤◌, ◌<◌, ◌↔◌, length, take, IsTrue, IfSome, IfNone, option_copied, Option, None};
 ghost use Rattle.std.specs.Option.{option_map};
 ghost use Rattle.pq_rules.specs.Relations.{Each, In};
 ghost use Rattle.pq_memo.specs.Sound.{Memo};

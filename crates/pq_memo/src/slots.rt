@@ -5,7 +5,7 @@
 //! number along: one comparison then takes the place of the search, and a wrong number only costs
 //! that comparison. So numbers that are kept elsewhere are in no contract. An input has no slot; its
 //! number says where its file is among the inputs.
-ghost use Rattle.std.specs.Prelude.{◌≡◌, ◌<◌, ◌++◌, ◌∷◌, [], length, IsTrue, IsSome, IfSome, IfNone, IfOk, IfErr, OnOk, OnErr, Some, None, option_copied, if◌then◌else◌};
+ghost use Rattle.std.specs.Prelude.{◌≡◌, ◌<◌, [], length, IsTrue, IfSome, IfNone, IfOk, IfErr, OnOk, OnErr, Some, None, option_copied, if◌then◌else◌};
 ghost use Rattle.std.specs.Option.{option_map};
 ghost use Rattle.std.specs.Map.{lookup};
 ghost use Rattle.std.specs.BTreeMap.{is_at};
@@ -268,7 +268,8 @@ impl<R: Rules> Slots<R> {
 
     /// The key of the slot `number`, if there is such a slot.
     pub(crate) fn key_of(&self, number: usize) -> Option<&R::Key>
-        ensures { IfSome result (λ k. key_at self.now number ≡ Some k.now) }
+        ensures key { IfSome result (λ k. key_at self.now number ≡ Some k.now) }
+        ensures none { IfNone result (key_at self.now number ≡ None) }
     {
         let slots = self.slots.as_slice();
         if number < slots.len() {

@@ -15,7 +15,7 @@ use Rattle.pq_rules.specs.Value.{Means}
 use Rattle.pq_memo.specs.declared.frame.Frame.{Frame}
 use Rattle.pq_memo.specs.Sound.{Memo}
 use Rattle.pq_memo.specs.Look.{IsUpToDate}
-use Rattle.pq_memo.specs.Table.{HasIn}
+use Rattle.pq_memo.specs.Table.{View, memo_at, HasIn, KeptOver}
 use Rattle.pq_memo.specs.Writes.{Dated}
 use Rattle.pq_memo.specs.Frames.{Came, IsFrame, Awaits, frame_keys}
 use Rattle.pq_memo.specs.Steps.{IsWhy}
@@ -167,6 +167,15 @@ OthersUnwritten {K} claims run before after = (r : ℕ) (k : K) → r ≢ run �
 -- holds
 abbrev pub HeldUnwritten : {K V : Type 0} → List (ℕ × Hold K) → (before after : K → Option (Memo K V)) → Type 0
 HeldUnwritten {K} claims before after = (r : ℕ) (k : K) → Holds claims r k → after k ≡ before k
+
+-- `HasMarked order machine inputs claims before after` is that the memos `after` are those of `before`,
+-- but for some that are verified now, of keys that no run holds
+pub record HasMarked {R K P V : Type 0} (order : K → K → Ordering) (machine : R → Machine K P V) (inputs : Table) (claims : List (ℕ × Hold K))
+    (before after : View R K V) : Type 0 where
+  pub rules : after.rules ≡ before.rules
+  pub kept : KeptOver order (machine before.rules) inputs after.places
+  pub renewed : Renewed (machine before.rules) inputs.revision (memo_at order before.places) (memo_at order after.places)
+  pub unwritten : HeldUnwritten claims (memo_at order before.places) (memo_at order after.places)
 
 -- `FramesKept order m inputs table stack top` is the invariant of the frames of a run that was
 -- started at the revision now

@@ -1,4 +1,4 @@
-use Rattle.std.proofs.Common.{[], ◌∙◌, inr}
+use Rattle.std.proofs.Common.{[], ◌∙◌}
 use Rattle.pq_rules.proofs.Weight.{Exact}
 use Rattle.pq_memo.proofs.TableCalls.{mark_call}
 use Rattle.pq_memo.proofs.memos.Memos.confirm_slot.Goals as goal
@@ -17,7 +17,7 @@ returns-in-Some-clause-confirmed g c =
     let laws = g.met.R.Rules.lawful c.args.self.now.rules [] in
     let exact : Exact g.R.Key.Ord.cmp = record { total = g.met.R.Key.Ord.total; exact = laws.exact } in
     let v = c.in-Some.ensures {u = tt} in
-    inr (
+    λ yes. (
       v.key,
       v.there,
       v.green,
