@@ -5,17 +5,29 @@ import signal
 import socket
 import subprocess
 import sys
+import threading
 
-from messages import FIRST, LAST
+from messages import FIRST, LAST, bodies_of, frame, is_request
 
 LENGTH = re.compile(rb"Content-Length: (\d+)\r\n\r\n")
 
 
-class Server:
-    """A program that listens on a port of its own choice, until it is stopped."""
+def batches_of(session):
+    """The frames of a session in batches, notifications and then requests, each with the number of its requests."""
+    found = []
+    for body in bodies_of(session):
+        if not found or found[-1][1] and not is_request(body):
+            found.append([[], 0])
+        found[-1][0].append(frame(body))
+        found[-1][1] += is_request(body)
+    return [(b"".join(frames), requests) for frames, requests in found]
 
-    def __init__(self, program, workers, *more):
-        words = [program, "listen", "--port", "0", "--workers", str(workers)] + list(more)
+
+class Server:
+    """A program that listens on a port of its own choice, until it is stopped. The words of `before` begin it."""
+
+    def __init__(self, program, workers, *more, before=()):
+        words = list(before) + [program, "listen", "--port", "0", "--workers", str(workers)] + list(more)
         self.process = subprocess.Popen(words, stdout=subprocess.PIPE, stderr=subprocess.PIPE)
         line = self.process.stdout.readline()
         found = re.fullmatch(rb"listening on 127\.0\.0\.1:(\d+)\n", line)
@@ -23,10 +35,10 @@ class Server:
             sys.exit("the server printed %r and %r" % (line, self.process.stderr.read()))
         self.port = int(found.group(1))
 
-    def kilobytes(self):
-        """The memory that the server has now."""
+    def kilobytes(self, which="VmRSS"):
+        """The memory that the server has now, or the most that it had, `VmHWM`."""
         with open("/proc/%d/status" % self.process.pid, encoding="ascii") as source:
-            return next(int(line.split()[1]) for line in source if line.startswith("VmRSS:"))
+            return next(int(line.split()[1]) for line in source if line.startswith(which + ":"))
 
     def seconds(self):
         """The processor time that the server took so far, all its threads together."""
@@ -40,6 +52,12 @@ class Server:
             sys.exit("the server ended with status %d: %r" % (self.process.returncode, self.process.stderr.read()))
         self.process.send_signal(signal.SIGKILL)
         self.process.wait()
+
+    def terminated(self):
+        """Asks the server to end, if it still runs, and gives its status and what it printed as errors."""
+        self.process.terminate()
+        _, printed = self.process.communicate()
+        return self.process.returncode, printed
 
     def ended(self):
         """The status of the server once it has ended by itself."""
@@ -84,6 +102,24 @@ class Connection:
                     self.held = self.held[end:]
                     return
             self.more()
+
+    def answers(self, session, seconds):
+        """The bodies of all replies to a whole session, after which the server closes the connection.
+
+        A notification waits for the replies to the requests before it, since an edit stops what runs. Each wait for bytes
+        may take these seconds.
+        """
+        self.socket.settimeout(seconds)
+        found = []
+        for data, requests in batches_of(session):
+            sender = threading.Thread(target=self.send, args=(data,), daemon=True)
+            sender.start()
+            found += self.bodies(requests)
+            sender.join()
+        if self.socket.recv(1):
+            raise EOFError("the server sent more than the replies")
+        self.socket.close()
+        return found
 
     def more(self):
         data = self.socket.recv(1 << 20)

@@ -10,14 +10,20 @@ files. Printed is a Markdown table with the time of one answer at n and at 2n an
 A ratio of times above 2 can be that of a cache that is outgrown: the ratio of instructions says which it is.
 Last come texts that take much for their length, with the peak of memory of a process and its time, by Debian's `time`.
 
-usage: bench/compile.py [--runs N] [--program PATH] [--only WORD] [--instructions]
+With --rates it prints instead how many MB/s of files without an error are compiled to diagnostics: made files of a megabyte,
+and a tree of 200 files that import one another, each compiled alone. Another program, built by an earlier commit, can be
+measured beside: their runs take turns.
+
+usage: bench/compile.py [--runs N] [--program PATH] [--only WORD] [--instructions] [--rates [--against PATH]]
 """
 import argparse
 import os
 import sys
 import tempfile
 
+import files
 import parts
+import workspaces
 from files import written
 
 CRATES = ["pq_lex", "pq_names", "pq_inputs", "pq_rules", "pq_syntax", "pq_links", "pq_schema", "pq_checks", "pq_proto"]
@@ -211,16 +217,44 @@ def table(program, folder, cases, runs, counts):
     return worst
 
 
+def rated():
+    """Sets of files without an error: a title, and the texts by name."""
+    for title, text in files.texts(1_000_000):
+        yield title, {"a.proto": text}
+    count = 200
+    yield "%d files in a tree of imports" % count, {workspaces.HUB: workspaces.hub(), **{
+        workspaces.name(i): workspaces.text(i, count) for i in range(count)}}
+
+
+def rates(programs, folder, runs, counts):
+    """Prints the table of the rates: the cells of a column have a figure for each program."""
+    print("| Files | kB | MB/s | instructions a byte |\n|---|---|---|---|")
+    for i, (title, texts) in enumerate(rated()):
+        paths = {name: written(os.path.join(folder, str(i), name), text) for name, text in texts.items()}
+        words = ["Diagnostics"] + [word for pair in paths.items() for word in pair]
+        sides = [parts.Rounds(program, words, said=b"\n0 errors, 0 nulls\n") for program in programs]
+        parts.in_turns(sides, runs)
+        size = sum(map(len, texts.values()))
+        print("| %s | %.0f | %s | %s |" % (
+            title, size / 1e3, "; ".join("%.1f" % (size / side.time() / 1e6) for side in sides),
+            "; ".join("%.0f" % (side.instructions() / size) for side in sides) if counts else ""), flush=True)
+
+
 def main():
     words = argparse.ArgumentParser()
     words.add_argument("--runs", type=int, default=7)
     words.add_argument("--program", help="the program, built before")
     words.add_argument("--only", default="", help="a word of the titles of the cases to run")
     words.add_argument("--instructions", action="store_true", help="count the instructions too, by valgrind")
+    words.add_argument("--rates", action="store_true", help="the rates of files without an error, and no cases")
+    words.add_argument("--against", help="another program, for the rates")
     words = words.parse_args()
     cases = [case for case in CASES if words.only in case[0]]
     with tempfile.TemporaryDirectory() as folder:
         program = words.program or parts.built_from(os.path.join(folder, "build"), "compile", CRATES, USES)
+        if words.rates:
+            rates([words.against, program] if words.against else [program], folder, words.runs, words.instructions)
+            return 0
         worst = table(program, folder, cases, words.runs, words.instructions)
         hostile(program, folder)
     print("\nlargest ratio %.2f, wanted at most %.1f" % (worst, parts.MOST))

@@ -33,6 +33,11 @@ FIRST = frame({"id": "first", "jsonrpc": "2.0", "method": "initialize", "params"
 LAST = frame({"id": "last", "jsonrpc": "2.0", "method": "shutdown"}) + frame({"jsonrpc": "2.0", "method": "exit"})
 
 
+def is_request(body):
+    """Whether a body of these messages is that of a request."""
+    return body.startswith(b'{"id":')
+
+
 def bodies_of(data):
     """The bodies of the frames of `data`, which has to be whole frames."""
     found, at = [], 0

@@ -29,7 +29,7 @@ import tempfile
 import files
 import parts
 import workspaces
-from messages import FIRST, LAST, asked, bodies_of, changed, diagnosed, frame, opened
+from messages import FIRST, LAST, asked, bodies_of, changed, diagnosed, frame, is_request, opened
 
 HERE = os.path.dirname(os.path.abspath(__file__))
 PROGRAM = os.path.join(HERE, "..", "crates", "pq_server", "out", "pq_server")
@@ -133,7 +133,7 @@ def timed(program, paths, runs):
 def looked_at(program, path, said):
     """Ends the bench where a request has no response, or an error, or one but the first and the last without `said`."""
     with open(path, "rb") as source:
-        asked_for = sum(body.startswith(b'{"id":') for body in bodies_of(source.read()))
+        asked_for = sum(map(is_request, bodies_of(source.read())))
         source.seek(0)
         bodies = bodies_of(subprocess.run([program, "script"], stdin=source, capture_output=True).stdout)
     if len(bodies) != asked_for:

@@ -193,6 +193,11 @@ def equal_messages(n):
     return one_file(HEAD + "package " + "a" * (10 * n) + ";" + "message M{}" * n)
 
 
+def messages_in(package):
+    """n messages in a package of 20 n bytes, and no reference."""
+    return lambda n: one_file(HEAD + "package " + package(20 * n) + ";" + "".join("message M%d{}" % i for i in range(n)))
+
+
 def long_names(n):
     """The descriptor of n references in a package of 10 n bytes: each has the full name of its type."""
     return one_file(compile.references(n)[0].replace("a.b", "a" * (10 * n)), "descriptors")
@@ -486,6 +491,8 @@ TEXTS = [of_compile(*case) for case in compile.CASES] + [
           copies_in_long("message A{" * 60 + "}" * 60), 25_000),
     Shape("n equal messages in a package of 10 n bytes", equal_messages, 250, REPLIED),
     Shape("n references in a package of 10 n bytes: descriptors", long_names, 250, REPLIED),
+    Shape("n messages in a package of one part of 20 n bytes", messages_in(lambda length: "a" * length), 1_000),
+    Shape("n messages in a package of 20 n bytes, of short parts", messages_in(lambda length: "a" + ".a" * (length // 2)), 1_000),
     Shape("messages", lambda n: repeated("message M%(n)d{}", n), 1_000),
     Shape("messages: symbols", lambda n: repeated("message M%(n)d{}", n, "symbols"), 1_000),
     Shape("equal messages", lambda n: repeated("message M{}", n), 1_000),
