@@ -56,7 +56,8 @@ pub(crate) fn first_free<R: Rules>(
 }
 
 /// Marks the memo of the key with the number `first`, to which `trail` came, and those that it comes to
-/// after it, until one is not valid or a run holds its key.
+/// after it, until one is not valid or a run holds its key. It asks for none that it would not mark: a
+/// trail stays shut until the memo to which it came is marked, or a frame is made for it.
 pub(crate) fn confirm<R: Rules>(
     trail: &mut Trail,
     memos: &mut Memos<R>,
@@ -68,7 +69,7 @@ pub(crate) fn confirm<R: Rules>(
     ensures { HasMarked R.Key.cmp R.machine inputs.now claims.now memos.old memos.new }
 {
     let mut number = first;
-    'marks: for _ in 0..PORTION {
+    'marks: for i in 1..PORTION + 1 {
         if !is_free(memos, claims, number) {
             return;
         }
@@ -76,6 +77,9 @@ pub(crate) fn confirm<R: Rules>(
             return;
         }
         trail.leave();
+        if i == PORTION {
+            return;
+        }
         match memos.next_slot(trail, PORTION, inputs) {
             Some(next) => number = next,
             None => return,

@@ -23,3 +23,10 @@ marks-preserved g c =
     (record { total = g.met.R.Key.Ord.total; exact = (g.met.R.Rules.lawful c.args.memos.now.rules []).exact }) c.marks.number c.args.memos.now c.marks.memos
     c.confirm_slot.new.self c.marks.invariant c.confirm_slot.ensures.rules c.confirm_slot.ensures.kept (c.is_free.ensures c.if-not-is_free.false)
     (c.confirm_slot.ensures.confirmed c.if-not-confirm_slot.false)
+
+pub returns-then-i-eq-PORTION : goal.returns-then-i-eq-PORTION
+returns-then-i-eq-PORTION g c =
+    marked_next g.R.Key.Ord.cmp g.R.Rules.machine c.args.inputs.now c.args.claims.now
+    (record { total = g.met.R.Key.Ord.total; exact = (g.met.R.Rules.lawful c.args.memos.now.rules []).exact }) c.marks.number c.args.memos.now c.marks.memos
+    c.confirm_slot.new.self c.marks.invariant c.confirm_slot.ensures.rules c.confirm_slot.ensures.kept (c.is_free.ensures c.if-not-is_free.false)
+    (c.confirm_slot.ensures.confirmed c.if-not-confirm_slot.false)
