@@ -57,7 +57,7 @@ pub(crate) fn first_free<R: Rules>(
 
 /// Marks the memo of the key with the number `first`, to which `trail` came, and those that it comes to
 /// after it, until one is not valid or a run holds its key. It asks for none that it would not mark: a
-/// trail stays shut until the memo to which it came is marked, or a frame is made for it.
+/// trail is closed at a memo until that is marked, and the next look would make a frame.
 pub(crate) fn confirm<R: Rules>(
     trail: &mut Trail,
     memos: &mut Memos<R>,
