@@ -4,7 +4,7 @@ use Rattle.pq_inputs.specs.Sources.{Table}
 use Rattle.pq_rules.specs.declared.turn.Answer.{Answer}
 use Rattle.pq_core.specs.Points.{Point}
 use Rattle.pq_core.specs.Replies.{ReplyView}
-use Rattle.pq_core.specs.Ledger.{Out, Place, Put, Dropped, Entry, Client, with_entry, moved_to, opened}
+use Rattle.pq_core.specs.Ledger.{Out, Place, Put, Dropped, Entry, Client, with_entry, moved_to, opened, Unharmed}
 use Rattle.pq_core.specs.Ledger.{Waiting as PlaceWaiting, Running as PlaceRunning, Ready as PlaceReady}
 use Rattle.pq_core.specs.Lanes.{ReadyView}
 use Rattle.pq_core.specs.Accounts.{AccountView, no_requests, IsStage, with_stage, with_request, first_stage}
@@ -32,7 +32,7 @@ IsPending Put = ⊥
 IsPending Dropped = ⊥
 
 -- the request at its acceptance
-first_stands : {K : Type 0} (V M : Type 0) (c n revision : ℕ) (request : Request K) (want : Want K) → StageStands {K = K} {V = V} {M = M} (first_stage c n request revision want) (record { request = request; accepted = revision; place = first_place c n request revision want; starved = false })
+first_stands : {K : Type 0} (V M : Type 0) (c n revision : ℕ) (request : Request K) (want : Want K) → StageStands {K = K} {V = V} {M = M} (first_stage c n request revision want) (record { request = request; accepted = revision; place = first_place c n request revision want; fate = Unharmed })
 first_stands V M c n revision request (Demand key) = (refl, refl, refl)
 first_stands V M c n revision request (Fixed text) = (refl, refl)
 

@@ -16,7 +16,7 @@ use Rattle.pq_core.specs.Points.{Point}
 use Rattle.pq_core.specs.Replies.{ReplyView}
 use Rattle.pq_core.specs.Changes.{ChangeView}
 use Rattle.pq_core.specs.Works.{DoneView, WorkView}
-use Rattle.pq_core.specs.Ledger.{Out, Place, Waiting, Running, Ready, Entry, Client, Ledger, with_client, with_entry, moved_to, opened}
+use Rattle.pq_core.specs.Ledger.{Out, Place, Waiting, Running, Ready, Entry, Client, Ledger, with_client, with_entry, moved_to, opened, Fate, WasStarved}
 use Rattle.pq_core.specs.Moves.{OpenRefusal, Opens, Accepts, Edits, Starts, RunAt, Runs, IsRequestOf, ended, ended_entry, LooksFor, Looks, Gives, Starves, new_entry, with_new, out_of, first_place}
 use Rattle.pq_core.specs.Kept.{IsDemand}
 use Rattle.pq_core.specs.RightReply.{answer_by}
@@ -131,9 +131,9 @@ module _ {K V M O : Type 0} (puts : O → List (ReplyView K V M)) where
   pub record Ends (l : Ledger K V M O) (run : ℕ) (m : Ledger K V M O) : Type 0 where
     pub at : RunAt K V M O
     pub runs : Runs l run at
-    pub starved : Bool
+    pub fate : Fate
     pub outcome : Outcome K V M
-    pub is : m ≡ ended l at starved outcome
+    pub is : m ≡ ended l at fate outcome
 
 module _ {R K P V M O : Type 0} (order : K → K → Ordering) (mach : Machine K P V) (point : M → Point) (puts : O → List (ReplyView K V M)) where
   -- a call that changes nothing
@@ -237,7 +237,7 @@ module _ {R K P V M O : Type 0} (order : K → K → Ordering) (mach : Machine K
       → LanesStand puts lanes.items l → Makes before made (told_ledger puts l) (told_ledger puts m) → Ends puts l run m → IsRequestOf l run asked
       → IfSome asked (λ named. Passes named.0 made after lanes left) → Passed puts m after lanes left × (length l.clients ≤ length m.clients)
   end_passed run (Some named) before made after lanes left l m none was s h makes ends asked p =
-      let turn = turn_run puts l m run ends.at (ended_entry l ends.at ends.starved ends.outcome) ends.runs ends.is in
+      let turn = turn_run puts l m run ends.at (ended_entry l ends.at ends.fate ends.outcome) ends.runs ends.is in
       let same = run_once l before run named ends.at was asked ends.runs in (
         passed order mach point puts before made after lanes left l m ends.at.c ends.at.n none s h makes turn (subst (λ (x : ℕ). Passes x made after lanes left) same p),
         long_turn puts l m ends.at.c ends.at.n turn,
@@ -250,8 +250,8 @@ module _ {R K P V M O : Type 0} (order : K → K → Ordering) (mach : Machine K
   look_ends means rules run (Carry work) l m end w = absurd (elim end [ inl e ↦ cc | inr e ↦ cc ])
   look_ends means rules run (Blocked other) l m end w = absurd (elim end [ inl e ↦ cc | inr e ↦ cc ])
   look_ends means rules run Stepped l m end w = absurd (elim end [ inl e ↦ cc | inr e ↦ cc ])
-  look_ends means rules run MoveAnswered l m end (at, goes, (answer, stamp, so, e)) = record { at = at; runs = goes.runs; starved = at.entry.starved; outcome = Answered answer stamp; is = e }
-  look_ends means rules run Stopped l m end (at, runs, over, e) = record { at = at; runs = runs; starved = at.entry.starved; outcome = Cancelled at.started l.inputs.revision; is = e }
+  look_ends means rules run MoveAnswered l m end (at, goes, (answer, stamp, so, e)) = record { at = at; runs = goes.runs; fate = at.entry.fate; outcome = Answered answer stamp; is = e }
+  look_ends means rules run Stopped l m end (at, runs, over, e) = record { at = at; runs = runs; fate = at.entry.fate; outcome = Cancelled at.started l.inputs.revision; is = e }
 
   look_still : (means : M → Point → K → Answer K V → Type 0) (rules : R) (run : ℕ) (answer : Result (Move (WorkView R K P V)) LookFault) (before made : StoreView R K P V M) (lanes : Slots (Tray K V M O)) (l m : Ledger K V M O)
       → ((moved : Move (WorkView R K P V)) → answer ≡ Ok moved → IsEnd moved → ⊥) → NoneMade before → StoreStandsFor order mach point made (told_ledger puts m)
@@ -312,7 +312,7 @@ module _ {R K P V M O : Type 0} (order : K → K → Ordering) (mach : Machine K
   give_ends run done (Blocked other) l m end w = absurd w
   give_ends run done Stepped l m end w = absurd (elim end [ inl e ↦ cc | inr e ↦ cc ])
   give_ends run done MoveAnswered l m end w = absurd w
-  give_ends run done Stopped l m end (at, runs, its, over, e) = record { at = at; runs = runs; starved = at.entry.starved; outcome = Cancelled at.started l.inputs.revision; is = e }
+  give_ends run done Stopped l m end (at, runs, its, over, e) = record { at = at; runs = runs; fate = at.entry.fate; outcome = Cancelled at.started l.inputs.revision; is = e }
 
   give_still : (run : ℕ) (done : DoneView R K P V) (answer : Result (Move (WorkView R K P V)) (GiveRefused (DoneView R K P V))) (before made : StoreView R K P V M) (lanes : Slots (Tray K V M O)) (l m : Ledger K V M O)
       → ((moved : Move (WorkView R K P V)) → answer ≡ Ok moved → IsEnd moved → ⊥) → NoneMade before → StoreStandsFor order mach point made (told_ledger puts m)
@@ -369,7 +369,7 @@ module _ {R K P V M O : Type 0} (order : K → K → Ordering) (mach : Machine K
       let m = starves_told puts run true l g.0 g.1 in
       let stands = subst (λ (t : Ledger K V M (Told K V M)). StoreStandsFor order mach point made t) (sym m.2) g.2 in
       let makes = subst (λ (t : Ledger K V M (Told K V M)). Makes before made (told_ledger puts l) t) (sym m.2) g.3 in
-      let w = end_passed run asked before made after lanes left l m.0 none s.store stands s.lanes makes (record { at = m.1.0; runs = m.1.1; starved = true; outcome = Starved; is = m.1.2 }) (request_told puts l run asked (names (told_ledger puts l) s.store)) p in
+      let w = end_passed run asked before made after lanes left l m.0 none s.store stands s.lanes makes (record { at = m.1.0; runs = m.1.1; fate = WasStarved; outcome = Starved; is = m.1.2 }) (request_told puts l run asked (names (told_ledger puts l) s.store)) p in
       landed order mach point puts (Starves run true) lanes left l m.0 after m.1 (keeps (told_ledger puts m.0) stands) w.0 w.1
 
   pub starve_none_so : (run : ℕ) (before made : StoreView R K P V M) (lanes : Slots (Tray K V M O)) (l : Ledger K V M O) → NoneMade before → StandsFor order mach point puts (core_of before lanes) l

@@ -8,7 +8,7 @@ use Rattle.pq_core.proofs.Calling.{SeatSet, RunSet, SameCounts, run_entry, place
 use Rattle.pq_core.proofs.Moving.{SameRuns, elsewhere_seat, none_there}
 use Rattle.pq_core.specs.Points.{Point}
 use Rattle.pq_core.specs.Replies.{ReplyView}
-use Rattle.pq_core.specs.Ledger.{Out, Place, Waiting, Running, Ready, Put, Dropped, Entry, Client, Ledger, IsOpen, with_client, with_entry, moved_to, with_outbox, place_closed, entry_closed, closed}
+use Rattle.pq_core.specs.Ledger.{Out, Place, Waiting, Running, Ready, Put, Dropped, Entry, Client, Ledger, IsOpen, with_client, with_entry, moved_to, with_outbox, place_closed, entry_closed, closed, Fate}
 use Rattle.pq_core.specs.Moves.{RunAt, Runs, open_count, ended, ended_entry, place_ended, reply_at, with_out}
 use Rattle.pq_core.specs.Kept.{Kept}
 use Rattle.pq_core.specs.aux.Stands.{RunSeen, Fields, EntryStands, IsOwedNothing, ClientStands, HasRun, Stands}
@@ -30,16 +30,16 @@ module _ {K V M L O : Type 0} (AsSeat : L → Client K V M O → Type 0) (means 
   ended_nothing false reply e = tt
 
   -- a run ends: its reply is in the seat of its client, if that is open
-  pub end_stands : (f g : Fields K L) (l m : Ledger K V M O) (r : ℕ) (at : RunAt K V M O) (starved : Bool) (outcome : Outcome K V M)
+  pub end_stands : (f g : Fields K L) (l m : Ledger K V M O) (r : ℕ) (at : RunAt K V M O) (fate : Fate) (outcome : Outcome K V M)
       → Stands AsSeat means puts f l → Runs l r at → SameCounts f g → RunSet f g r None → g.started ≡ f.started
       → ((k : ℕ) → k ≢ at.c → g.seats k ≡ f.seats k)
-      → (at.client.is_open ≡ true → (seat : L) × (g.seats at.c ≡ Some seat) × AsSeat seat (with_entry at.client at.n (ended_entry l at starved outcome)))
+      → (at.client.is_open ≡ true → (seat : L) × (g.seats at.c ≡ Some seat) × AsSeat seat (with_entry at.client at.n (ended_entry l at fate outcome)))
       → (at.client.is_open ≡ false → g.seats at.c ≡ None)
-      → m ≡ ended l at starved outcome → Kept means puts m → Stands AsSeat means puts g m
-  end_stands f g l m r at starved outcome s h counts runs started seats seat shut e kept =
-      run_entry AsSeat means puts f g l m r at (ended_entry l at starved outcome) None s h counts runs started seats seat shut
+      → m ≡ ended l at fate outcome → Kept means puts m → Stands AsSeat means puts g m
+  end_stands f g l m r at fate outcome s h counts runs started seats seat shut e kept =
+      run_entry AsSeat means puts f g l m r at (ended_entry l at fate outcome) None s h counts runs started seats seat shut
       (λ o. ended_nothing at.client.is_open (reply_at l at outcome) o)
-      (ended_entry_stands g at.c at.n (ended_entry l at starved outcome) at.client.is_open (reply_at l at outcome))
+      (ended_entry_stands g at.c at.n (ended_entry l at fate outcome) at.client.is_open (reply_at l at outcome))
       (λ seen x. absurd (none_some seen x))
       e kept
 

@@ -7,7 +7,7 @@ use Rattle.pq_core.specs.Points.{Point}
 use Rattle.pq_core.specs.Replies.{ReplyView}
 use Rattle.pq_rules.proofs.ListLemmas.{get_last}
 use Rattle.pq_core.proofs.Lists.{get_set, get_append, get_longer, get_within, get_map, set_long, append_long, map_long}
-use Rattle.pq_core.specs.Ledger.{Out, Place, Waiting, Running, Ready, Put, Dropped, Entry, Client, Ledger, with_client, with_entry, moved_to, opened, with_outbox, place_closed, entry_closed}
+use Rattle.pq_core.specs.Ledger.{Out, Place, Waiting, Running, Ready, Put, Dropped, Entry, Client, Ledger, with_client, with_entry, moved_to, opened, with_outbox, place_closed, entry_closed, Fate, Unharmed, WasStarved}
 use Rattle.pq_core.specs.RightReply.{IsTrueOutcome, IsRightFor}
 use Rattle.pq_core.specs.Moves.{Opens, Accepts, Edits, Starts, LooksFor, Gives, Starves, Releases, Closes, TakesOut, RunAt, Runs, IsOvertaken, new_entry, first_place, changed, reply_at, ended, with_out, out_of, place_ended}
 use Rattle.pq_core.specs.Kept.{IsDemand, PlaceKept, EntryKept, ClientKept, Kept}
@@ -71,7 +71,7 @@ module _ {K V M : Type 0} (means : M → Point → K → Answer K V → Type 0) 
   }
 
   new_placed : (inputs : Table) (qs : List (ReplyView K V M)) (c n : ℕ) (request : Request K) (want : Want K) → request.want ≡ want → length qs ≤ n
-      → PlaceKept means inputs qs c n (record { request = request; accepted = inputs.revision; place = first_place c n request inputs.revision want; starved = false }) (first_place c n request inputs.revision want)
+      → PlaceKept means inputs qs c n (record { request = request; accepted = inputs.revision; place = first_place c n request inputs.revision want; fate = Unharmed }) (first_place c n request inputs.revision want)
   new_placed inputs qs c n request (Demand key) e h = (h, subst IsDemand (sym e) tt)
   new_placed inputs qs c n request (Fixed text) e h = (
     h,
@@ -79,7 +79,7 @@ module _ {K V M : Type 0} (means : M → Point → K → Answer K V → Type 0) 
       client = refl;
       number = refl;
       request = refl;
-      outcome = subst (λ (w : Want K). IsTrueOutcome means inputs inputs.revision false w inputs.revision Plain) (sym e) refl;
+      outcome = subst (λ (w : Want K). IsTrueOutcome means inputs inputs.revision Unharmed w inputs.revision Plain) (sym e) refl;
     },
   )
 
@@ -88,7 +88,7 @@ module _ {K V M : Type 0} (means : M → Point → K → Answer K V → Type 0) 
   new_kept inputs qs c n request h = record { past = omega arith; placed = new_placed inputs qs c n request request.want refl h }
 
   -- later inputs
-  pub true_later : (t u : Table) (a : ℕ) (s : Bool) (want : Want K) (r : ℕ) (outcome : Outcome K V M) → t.revision ≤ u.revision
+  pub true_later : (t u : Table) (a : ℕ) (s : Fate) (want : Want K) (r : ℕ) (outcome : Outcome K V M) → t.revision ≤ u.revision
       → ((j : ℕ) (files : Sources) → slice_get t.history j ≡ Some files → slice_get u.history j ≡ Some files)
       → IsTrueOutcome means t a s want r outcome → IsTrueOutcome means u a s want r outcome
   true_later t u a s (Demand key) r (Answered answer stamp) h f x =
@@ -109,7 +109,7 @@ module _ {K V M : Type 0} (means : M → Point → K → Answer K V → Type 0) 
     client = x.client;
     number = x.number;
     request = x.request;
-    outcome = true_later t u entry.accepted entry.starved entry.request.want reply.revision reply.outcome h f x.outcome;
+    outcome = true_later t u entry.accepted entry.fate entry.request.want reply.revision reply.outcome h f x.outcome;
   }
 
   placed_later : (t u : Table) (qs : List (ReplyView K V M)) (c n : ℕ) (entry : Entry K V M) (place : Place K V M) → t.revision ≤ u.revision
@@ -190,11 +190,11 @@ module _ {K V M : Type 0} (means : M → Point → K → Answer K V → Type 0) 
   }
 
   -- a run ends, in a place that is right
-  pub ended_placed : (inputs : Table) (qs : List (ReplyView K V M)) (c n : ℕ) (entry : Entry K V M) (starved is_open : Bool) (reply : ReplyView K V M)
-      → length qs ≤ n → IsRightFor means inputs c n (record { request = entry.request; accepted = entry.accepted; place = place_ended is_open reply; starved = starved }) reply
-      → PlaceKept means inputs qs c n (record { request = entry.request; accepted = entry.accepted; place = place_ended is_open reply; starved = starved }) (place_ended is_open reply)
-  ended_placed inputs qs c n entry starved true reply h x = (h, x)
-  ended_placed inputs qs c n entry starved false reply h x = h
+  pub ended_placed : (inputs : Table) (qs : List (ReplyView K V M)) (c n : ℕ) (entry : Entry K V M) (fate : Fate) (is_open : Bool) (reply : ReplyView K V M)
+      → length qs ≤ n → IsRightFor means inputs c n (record { request = entry.request; accepted = entry.accepted; place = place_ended is_open reply; fate = fate }) reply
+      → PlaceKept means inputs qs c n (record { request = entry.request; accepted = entry.accepted; place = place_ended is_open reply; fate = fate }) (place_ended is_open reply)
+  ended_placed inputs qs c n entry fate true reply h x = (h, x)
+  ended_placed inputs qs c n entry fate false reply h x = h
 
 module _ {K V M O : Type 0} (means : M → Point → K → Answer K V → Type 0) (puts : O → List (ReplyView K V M)) where
   -- what is known of a request that runs
@@ -205,30 +205,30 @@ module _ {K V M O : Type 0} (means : M → Point → K → Answer K V → Type 0
       ((k.clients at.c at.client r.is_entry.client_here).each at.n at.entry r.is_entry.here).placed
 
   -- a run ends with a true outcome
-  pub kept_end : (l : Ledger K V M O) (run : ℕ) (at : RunAt K V M O) (starved : Bool) (outcome : Outcome K V M)
+  pub kept_end : (l : Ledger K V M O) (run : ℕ) (at : RunAt K V M O) (fate : Fate) (outcome : Outcome K V M)
       → Kept means puts l → Runs l run at
-      → IsTrueOutcome means l.inputs at.entry.accepted starved at.entry.request.want l.inputs.revision outcome
-      → Kept means puts (ended l at starved outcome)
-  kept_end l run at starved outcome k r true_so =
+      → IsTrueOutcome means l.inputs at.entry.accepted fate at.entry.request.want l.inputs.revision outcome
+      → Kept means puts (ended l at fate outcome)
+  kept_end l run at fate outcome k r true_so =
       let ck = k.clients at.c at.client r.is_entry.client_here in
       let placed = runs_placed l run at k r in
       kept_client means puts l at.c _ k
       (kept_entry means l.inputs (puts at.client.outbox) at.c at.client.entries at.n _ ck
       (record {
         past = (ck.each at.n at.entry r.is_entry.here).past;
-        placed = ended_placed means l.inputs (puts at.client.outbox) at.c at.n at.entry starved at.client.is_open _ placed.0
+        placed = ended_placed means l.inputs (puts at.client.outbox) at.c at.n at.entry fate at.client.is_open _ placed.0
             (record { client = refl; number = refl; request = refl; outcome = true_so });
       }))
 
   -- the run of a closed client ends without a reply
-  kept_dropped : (l : Ledger K V M O) (run : ℕ) (at : RunAt K V M O) (starved : Bool) (outcome : Outcome K V M)
-      → Kept means puts l → Runs l run at → at.client.is_open ≡ false → Kept means puts (ended l at starved outcome)
-  kept_dropped l run at starved outcome k r shut =
+  kept_dropped : (l : Ledger K V M O) (run : ℕ) (at : RunAt K V M O) (fate : Fate) (outcome : Outcome K V M)
+      → Kept means puts l → Runs l run at → at.client.is_open ≡ false → Kept means puts (ended l at fate outcome)
+  kept_dropped l run at fate outcome k r shut =
       let ck = k.clients at.c at.client r.is_entry.client_here in
       let placed = runs_placed l run at k r in
       kept_client means puts l at.c _ k
       (kept_entry means l.inputs (puts at.client.outbox) at.c at.client.entries at.n _ ck
-      (subst (λ (b : Bool). EntryKept means l.inputs (puts at.client.outbox) at.c at.n (record { request = at.entry.request; accepted = at.entry.accepted; place = place_ended b (reply_at l at outcome); starved = starved })) (sym shut)
+      (subst (λ (b : Bool). EntryKept means l.inputs (puts at.client.outbox) at.c at.n (record { request = at.entry.request; accepted = at.entry.accepted; place = place_ended b (reply_at l at outcome); fate = fate })) (sym shut)
       (record { past = (ck.each at.n at.entry r.is_entry.here).past; placed = placed.0 })))
 
   -- the work of a run that is out is other work, or none
@@ -307,24 +307,24 @@ module _ {K V M O : Type 0} (means : M → Point → K → Answer K V → Type 0
   kept_starts None l m k s = subst (Kept means puts) (sym s.1) k
 
   -- the outcomes of ends are true
-  stopped_true : (inputs : Table) (a started : ℕ) (starved : Bool) (want : Want K) → IsDemand want → a ≤ started → started < inputs.revision
-      → IsTrueOutcome means inputs a starved want inputs.revision (Cancelled started inputs.revision)
-  stopped_true inputs a started starved (Demand key) d h i = (h, i, omega arith, refl)
-  stopped_true inputs a started starved (Fixed text) d h i = absurd d
+  stopped_true : (inputs : Table) (a started : ℕ) (fate : Fate) (want : Want K) → IsDemand want → a ≤ started → started < inputs.revision
+      → IsTrueOutcome means inputs a fate want inputs.revision (Cancelled started inputs.revision)
+  stopped_true inputs a started fate (Demand key) d h i = (h, i, omega arith, refl)
+  stopped_true inputs a started fate (Fixed text) d h i = absurd d
 
-  starved_true : (inputs : Table) (a : ℕ) (want : Want K) → IsDemand want → a ≤ inputs.revision → IsTrueOutcome means inputs a true want inputs.revision Starved
+  starved_true : (inputs : Table) (a : ℕ) (want : Want K) → IsDemand want → a ≤ inputs.revision → IsTrueOutcome means inputs a WasStarved want inputs.revision Starved
   starved_true inputs a (Demand key) d h = (refl, h, omega arith)
   starved_true inputs a (Fixed text) d h = absurd d
 
   -- a run that was overtaken stops
   kept_stops : (l m : Ledger K V M O) (run : ℕ) (at : RunAt K V M O) → Kept means puts l → Runs l run at → IsOvertaken l at
-      → m ≡ ended l at at.entry.starved (Cancelled at.started l.inputs.revision) → Kept means puts m
+      → m ≡ ended l at at.entry.fate (Cancelled at.started l.inputs.revision) → Kept means puts m
   kept_stops l m run at k r overtaken e =
       let placed = runs_placed l run at k r in
       subst (Kept means puts) (sym e)
       (elim overtaken [
-        | inl late ↦ kept_end l run at at.entry.starved _ k r (stopped_true l.inputs at.entry.accepted at.started at.entry.starved at.entry.request.want placed.1 placed.2 late)
-        | inr shut ↦ kept_dropped l run at at.entry.starved _ k r shut
+        | inl late ↦ kept_end l run at at.entry.fate _ k r (stopped_true l.inputs at.entry.accepted at.started at.entry.fate at.entry.request.want placed.1 placed.2 late)
+        | inr shut ↦ kept_dropped l run at at.entry.fate _ k r shut
       ])
 
   pub kept_looks : {R P : Type 0} (rules : R) (run : ℕ) (answer : Result (Move (WorkView R K P V)) LookFault) (l m : Ledger K V M O) → Kept means puts l → LooksFor means rules run answer l m → Kept means puts m
@@ -339,8 +339,8 @@ module _ {K V M O : Type 0} (means : M → Point → K → Answer K V → Type 0
       let b : at.started ≤ l.inputs.revision = placed.3 in
       let w = s.2.2 in
       subst (Kept means puts) (sym s.2.3)
-      (kept_end l run at at.entry.starved (Answered s.2.0 s.2.1) k runs
-      (subst (λ (x : Want K). IsTrueOutcome means l.inputs at.entry.accepted at.entry.starved x l.inputs.revision (Answered s.2.0 s.2.1)) (sym w.demanded)
+      (kept_end l run at at.entry.fate (Answered s.2.0 s.2.1) k runs
+      (subst (λ (x : Want K). IsTrueOutcome means l.inputs at.entry.accepted at.entry.fate x l.inputs.revision (Answered s.2.0 s.2.1)) (sym w.demanded)
       (omega arith, omega arith, w.is_value)))
   kept_looks rules run (Ok MoveStopped) l m k s = kept_stops l m run s.0 k s.1 s.2 s.3
   kept_looks rules run (Err NoRun) l m k s = subst (Kept means puts) (sym s.1) k
@@ -361,7 +361,7 @@ module _ {K V M O : Type 0} (means : M → Point → K → Answer K V → Type 0
       let a : at.entry.accepted ≤ at.started = placed.2 in
       let b : at.started ≤ l.inputs.revision = placed.3 in
       subst (Kept means puts) (sym s.2)
-      (kept_end l run at true Starved k s.1 (starved_true l.inputs at.entry.accepted at.entry.request.want placed.1 (omega arith)))
+      (kept_end l run at WasStarved Starved k s.1 (starved_true l.inputs at.entry.accepted at.entry.request.want placed.1 (omega arith)))
   kept_starves run false l m k s = subst (Kept means puts) (sym s.1) k
 
   -- another outbox with the same replies put

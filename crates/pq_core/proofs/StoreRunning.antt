@@ -23,7 +23,7 @@ use Rattle.pq_core.proofs.Making.{AllAdvance, all_same, all_set, advances_staged
 use Rattle.pq_core.proofs.Queued.{queue_same, queue_finished}
 use Rattle.pq_core.specs.Points.{Point, point_now}
 use Rattle.pq_core.specs.Replies.{ReplyView}
-use Rattle.pq_core.specs.Ledger.{Out, Ledger, with_entry}
+use Rattle.pq_core.specs.Ledger.{Out, Ledger, with_entry, Fate}
 use Rattle.pq_core.specs.RightReply.{answer_by}
 use Rattle.pq_core.specs.Kept.{Kept, IsDemand}
 use Rattle.pq_core.specs.Works.{DoneView, WorkView, HasWhy}
@@ -197,14 +197,14 @@ module _ {K P V M O : Type 0} (order : K → K → Ordering) (m : Machine K P V)
           (subst (λ (y : RunSeen K). found b.accounts y.client ≡ Some account) x.same h)).0
 
   -- a run that was taken out ends
-  pub end_moved : (b a : Held K P V M) (l : Ledger K V M O) (r : ℕ) (run : RunView K P) (starved : Bool) (outcome : Outcome K V M) (x : RunHere l r run)
+  pub end_moved : (b a : Held K P V M) (l : Ledger K V M O) (r : ℕ) (run : RunView K P) (fate : Fate) (outcome : Outcome K V M) (x : RunHere l r run)
       → StandsOf order m point puts b l → found b.runs r ≡ Some run
       → ((k : ℕ) → found a.runs k ≡ (if k == r then None else found b.runs k))
       → ((account : AccountView K V M) → found b.accounts run.client ≡ Some account → EndsIn b.accounts a.accounts account run.client run.number (run_reply run b.inputs.revision outcome))
       → (found b.accounts run.client ≡ None → (k : ℕ) → found a.accounts k ≡ found b.accounts k)
-      → SameBut b a → Kept (answer_by order m point) puts (ended l x.at starved outcome) → StandsOf order m point puts a (ended l x.at starved outcome)
-  end_moved b a l r run starved outcome x s h runs set same but kept =
-      end_stands (AccountStands puts) (answer_by order m point) puts (fields_of b) (fields_of a) l (ended l x.at starved outcome) r x.at starved outcome s x.runs
+      → SameBut b a → Kept (answer_by order m point) puts (ended l x.at fate outcome) → StandsOf order m point puts a (ended l x.at fate outcome)
+  end_moved b a l r run fate outcome x s h runs set same but kept =
+      end_stands (AccountStands puts) (answer_by order m point) puts (fields_of b) (fields_of a) l (ended l x.at fate outcome) r x.at fate outcome s x.runs
       (record { inputs = but.inputs; opened = but.opened; clients = but.clients })
       (record {
         here = ap (option_map seen_of) (runs r ∙ if_at r None (found b.runs r));
@@ -238,7 +238,7 @@ module _ {K P V M O : Type 0} (order : K → K → Ordering) (m : Machine K P V)
           both z = cc
 
       opened_so : (account : Option (AccountView K V M)) → found b.accounts run.client ≡ account → x.at.client.is_open ≡ true
-          → (after : AccountView K V M) × (found a.accounts x.at.c ≡ Some after) × AccountStands puts after (with_entry x.at.client x.at.n (ended_entry l x.at starved outcome))
+          → (after : AccountView K V M) × (found a.accounts x.at.c ≡ Some after) × AccountStands puts after (with_entry x.at.client x.at.n (ended_entry l x.at fate outcome))
       opened_so None e o =
           absurd (both (sym o ∙ seat_shut (AccountStands puts) (answer_by order m point) puts (fields_of b) l x.at.c x.at.client s x.runs.is_entry.client_here
           (ap (λ (c : ℕ). found b.accounts c) (sym c_is) ∙ e)))
@@ -255,9 +255,9 @@ module _ {K P V M O : Type 0} (order : K → K → Ordering) (m : Machine K P V)
           running_one {K = K} {V = V} {M = M} x.at.entry.accepted ends.accepted (one_stage account x.at.n (Running x.at.entry.accepted) (Running ends.accepted) there was) in (
             with_stage account run.number (Made (record { reply = run_reply run b.inputs.revision outcome; accepted = ends.accepted })),
             ap (λ (c : ℕ). found a.accounts c) (sym c_is) ∙ (ends.set run.client ∙ if_at run.client (Some _) (found b.accounts run.client)),
-            subst (λ (n : ℕ). AccountStands puts (with_stage account n (Made (record { reply = run_reply run b.inputs.revision outcome; accepted = ends.accepted }))) (with_entry x.at.client x.at.n (ended_entry l x.at starved outcome))) (sym n_is)
-                (subst (λ (y : ReplyView K V M). AccountStands puts (with_stage account x.at.n (Made (record { reply = y; accepted = ends.accepted }))) (with_entry x.at.client x.at.n (ended_entry l x.at starved outcome))) (sym reply_is)
-                (finished_stands puts account x.at.client x.at.n ends.accepted (ended_entry l x.at starved outcome) (reply_at l x.at outcome) w.1 was
+            subst (λ (n : ℕ). AccountStands puts (with_stage account n (Made (record { reply = run_reply run b.inputs.revision outcome; accepted = ends.accepted }))) (with_entry x.at.client x.at.n (ended_entry l x.at fate outcome))) (sym n_is)
+                (subst (λ (y : ReplyView K V M). AccountStands puts (with_stage account x.at.n (Made (record { reply = y; accepted = ends.accepted }))) (with_entry x.at.client x.at.n (ended_entry l x.at fate outcome))) (sym reply_is)
+                (finished_stands puts account x.at.client x.at.n ends.accepted (ended_entry l x.at fate outcome) (reply_at l x.at outcome) w.1 was
                 (ap (λ (f : Bool). place_ended f (reply_at l x.at outcome)) o) accepted)),
           )
 
@@ -333,12 +333,12 @@ module _ {R K P V M O : Type 0} (order : K → K → Ordering) (m : Machine K P 
       → ((k : ℕ) → found a.runs k ≡ (if k == r then None else found b.runs k))
       → ((account : AccountView K V M) → found b.accounts run.client ≡ Some account → EndsIn b.accounts a.accounts account run.client run.number (run_reply run b.inputs.revision (Cancelled run.started b.inputs.revision)))
       → (found b.accounts run.client ≡ None → (k : ℕ) → found a.accounts k ≡ found b.accounts k)
-      → SameBut b a → Stops l r (ended l x.at x.at.entry.starved (Cancelled x.at.started l.inputs.revision))
-      × StandsOf order m point puts a (ended l x.at x.at.entry.starved (Cancelled x.at.started l.inputs.revision))
+      → SameBut b a → Stops l r (ended l x.at x.at.entry.fate (Cancelled x.at.started l.inputs.revision))
+      × StandsOf order m point puts a (ended l x.at x.at.entry.fate (Cancelled x.at.started l.inputs.revision))
   stop_moved b a l r run x s h late runs set same but =
-      let stops : Stops l r (ended l x.at x.at.entry.starved (Cancelled x.at.started l.inputs.revision)) = (x.at, x.runs, overtaken order m point puts b l r run s x late, refl) in (
+      let stops : Stops l r (ended l x.at x.at.entry.fate (Cancelled x.at.started l.inputs.revision)) = (x.at, x.runs, overtaken order m point puts b l r run s x late, refl) in (
         stops,
-        end_moved order m point puts b a l r run x.at.entry.starved (Cancelled x.at.started l.inputs.revision) x s h runs
+        end_moved order m point puts b a l r run x.at.entry.fate (Cancelled x.at.started l.inputs.revision) x s h runs
             (λ account e. subst (λ (y : Outcome K V M). EndsIn b.accounts a.accounts account run.client run.number (run_reply run b.inputs.revision y)) same_outcome (set account e))
             same but
             (kept_looks (answer_by order m point) puts {P = P} rules r (Ok Stopped) l _ s.kept stops),
@@ -377,12 +377,12 @@ module _ {R K P V M O : Type 0} (order : K → K → Ordering) (m : Machine K P 
   -- an overtaken run is given its result
   pub give_stopped : (b a : Held K P V M) (l : Ledger K V M O) (r : ℕ) (run : RunView K P) (done : DoneView R K P V) (x : RunHere l r run)
       → (done.run ≡ r) × (done.started ≡ run.started) × (out_at run.top ≡ Some (out_of done))
-      → Stops l r (ended l x.at x.at.entry.starved (Cancelled x.at.started l.inputs.revision))
-      × StandsOf order m point puts a (ended l x.at x.at.entry.starved (Cancelled x.at.started l.inputs.revision))
+      → Stops l r (ended l x.at x.at.entry.fate (Cancelled x.at.started l.inputs.revision))
+      × StandsOf order m point puts a (ended l x.at x.at.entry.fate (Cancelled x.at.started l.inputs.revision))
       → StandsOf order m point puts b l → (run.started < b.inputs.revision) ⊎ (found b.accounts run.client ≡ None)
       → Reaches (Gives r done (Ok Stopped)) l (StandsOf order m point puts a)
   give_stopped b a l r run done x f w s late =
-      (ended l x.at x.at.entry.starved (Cancelled x.at.started l.inputs.revision), (x.at, x.runs, fits_of l r run done x f, overtaken order m point puts b l r run s x late, refl), w.1)
+      (ended l x.at x.at.entry.fate (Cancelled x.at.started l.inputs.revision), (x.at, x.runs, fits_of l r run done x f, overtaken order m point puts b l r run s x late, refl), w.1)
 
   -- a run takes its result
   pub give_moved : (b a : Held K P V M) (l : Ledger K V M O) (r : ℕ) (run after : RunView K P) (done : DoneView R K P V)
@@ -475,7 +475,7 @@ module _ {R K P V M O : Type 0} (order : K → K → Ordering) (m : Machine K P 
   answer_moved b a l r run answer stamp s h early empty means stamped runs set accounts but =
       let x = run_here order m point puts b l r run s h in
       let now = current order m point puts b l r run s x early in
-      let move : LooksFor {P = P} (answer_by order m point) rules r (Ok MoveAnswered) l (ended l x.at x.at.entry.starved (Answered answer stamp)) = (
+      let move : LooksFor {P = P} (answer_by order m point) rules r (Ok MoveAnswered) l (ended l x.at x.at.entry.fate (Answered answer stamp)) = (
         x.at,
         record { runs = x.runs; current = now.0; idle = idle_of l r run x empty },
         (
@@ -493,9 +493,9 @@ module _ {R K P V M O : Type 0} (order : K → K → Ordering) (m : Machine K P 
           refl,
         ),
       ) in (
-        ended l x.at x.at.entry.starved (Answered answer stamp),
+        ended l x.at x.at.entry.fate (Answered answer stamp),
         move,
-        end_moved order m point puts b a l r run x.at.entry.starved (Answered answer stamp) x s h runs set accounts but (kept_looks (answer_by order m point) puts {P = P} rules r (Ok MoveAnswered) l _ s.kept move),
+        end_moved order m point puts b a l r run x.at.entry.fate (Answered answer stamp) x s h runs set accounts but (kept_looks (answer_by order m point) puts {P = P} rules r (Ok MoveAnswered) l _ s.kept move),
       )
 
 -- there is no work out where a test finds none

@@ -7,7 +7,7 @@ use Rattle.pq_core.specs.Points.{Point}
 use Rattle.pq_core.specs.Replies.{ReplyView}
 use Rattle.pq_core.specs.Changes.{ChangeView}
 use Rattle.pq_core.specs.Works.{DoneView, WorkView, IsWorkOf}
-use Rattle.pq_core.specs.Ledger.{Out, Running, Put, Entry, Client, Ledger, IsOpen, IsClosed, IsEntry, with_client, with_entry, moved_to, with_outbox, opened, closed}
+use Rattle.pq_core.specs.Ledger.{Out, Running, Put, Entry, Client, Ledger, IsOpen, IsClosed, IsEntry, with_client, with_entry, moved_to, with_outbox, opened, closed, Fate, WasStarved}
 use Rattle.pq_core.specs.Moves.{one_if, open_count, window, owed, OpenRefusal, Opens, AcceptRefusal, Accepts, new_entry, with_new, EditRefusal, Edits, changed, Waits, NoneWaits, Starts, started_at, RunAt, Runs, NoneRuns, IsRequestOf, ended, with_out, out_of, IsOvertaken, IsCurrent, GoesOn, IsBlocked, LooksFor, IsOf, Gives, Starves, NextReady, IsReady, Releases}
 use Rattle.pq_core.specs.Kept.{Kept}
 use Rattle.pq_core.specs.Told.{Told, told_puts, told_client, told_ledger, IsReadyAt, NoneReadyAt, OpensNext, Shuts, TellsOne, Tells}
@@ -181,9 +181,9 @@ module _ {K V M O : Type 0} (puts : O → List (ReplyView K V M)) where
       )
   request_told l run None w = none_runs_told l run w
 
-  told_ended : (l : Ledger K V M O) (at : RunAt K V M O) (starved : Bool) (outcome : Outcome K V M)
-      → told_ledger puts (ended l at starved outcome) ≡ ended (told_ledger puts l) (told_at at) starved outcome
-  told_ended l at starved outcome = told_set l at.c (with_entry at.client at.n _)
+  told_ended : (l : Ledger K V M O) (at : RunAt K V M O) (fate : Fate) (outcome : Outcome K V M)
+      → told_ledger puts (ended l at fate outcome) ≡ ended (told_ledger puts l) (told_at at) fate outcome
+  told_ended l at fate outcome = told_set l at.c (with_entry at.client at.n _)
 
   told_out : (l : Ledger K V M O) (run : ℕ) (at : RunAt K V M O) (out : Option (Out K)) → told_ledger puts (with_out l run at out) ≡ with_out (told_ledger puts l) run (told_at at) out
   told_out l run at out = told_set l at.c (with_entry at.client at.n _)
@@ -277,11 +277,11 @@ module _ {K V M O : Type 0} (puts : O → List (ReplyView K V M)) where
   }
 
   stops_told : (run : ℕ) (l : Ledger K V M O) (n : Ledger K V M (Told K V M)) (x : RunAt K V M (Told K V M)) (w : RunOf l run x)
-      → n ≡ ended (told_ledger puts l) x x.entry.starved (Cancelled x.started l.inputs.revision)
-      → told_ledger puts (ended l w.at w.at.entry.starved (Cancelled w.at.started l.inputs.revision)) ≡ n
+      → n ≡ ended (told_ledger puts l) x x.entry.fate (Cancelled x.started l.inputs.revision)
+      → told_ledger puts (ended l w.at w.at.entry.fate (Cancelled w.at.started l.inputs.revision)) ≡ n
   stops_told run l n x w e =
-      told_ended l w.at w.at.entry.starved (Cancelled w.at.started l.inputs.revision)
-      ∙ (ap (λ (y : RunAt K V M (Told K V M)). ended (told_ledger puts l) y y.entry.starved (Cancelled y.started l.inputs.revision)) (sym w.is) ∙ sym e)
+      told_ended l w.at w.at.entry.fate (Cancelled w.at.started l.inputs.revision)
+      ∙ (ap (λ (y : RunAt K V M (Told K V M)). ended (told_ledger puts l) y y.entry.fate (Cancelled y.started l.inputs.revision)) (sym w.is) ∙ sym e)
 
   out_told : (run : ℕ) (out : Option (Out K)) (l : Ledger K V M O) (n : Ledger K V M (Told K V M)) (x : RunAt K V M (Told K V M)) (w : RunOf l run x)
       → n ≡ with_out (told_ledger puts l) run x out → told_ledger puts (with_out l run w.at out) ≡ n
@@ -319,7 +319,7 @@ module _ {K V M O : Type 0} (puts : O → List (ReplyView K V M)) where
       (l, (w.at, goes_told l run x w goes, refl), sym e)
   looks_told means rules run (Ok MoveAnswered) l n (x, goes, (answer, stamp, so, e)) =
       let w = run_of l run x goes.runs in (
-        ended l w.at w.at.entry.starved (Answered answer stamp),
+        ended l w.at w.at.entry.fate (Answered answer stamp),
         (
           w.at,
           goes_told l run x w goes,
@@ -334,12 +334,12 @@ module _ {K V M O : Type 0} (puts : O → List (ReplyView K V M)) where
             refl,
           ),
         ),
-        told_ended l w.at w.at.entry.starved (Answered answer stamp)
-            ∙ (ap (λ (y : RunAt K V M (Told K V M)). ended (told_ledger puts l) y y.entry.starved (Answered answer stamp)) (sym w.is) ∙ sym e),
+        told_ended l w.at w.at.entry.fate (Answered answer stamp)
+            ∙ (ap (λ (y : RunAt K V M (Told K V M)). ended (told_ledger puts l) y y.entry.fate (Answered answer stamp)) (sym w.is) ∙ sym e),
       )
   looks_told means rules run (Ok Stopped) l n (x, runs, over, e) =
       let w = run_of l run x runs in (
-        ended l w.at w.at.entry.starved (Cancelled w.at.started l.inputs.revision),
+        ended l w.at w.at.entry.fate (Cancelled w.at.started l.inputs.revision),
         (w.at, w.runs, overtaken_told l x w.at w.is over, refl),
         stops_told run l n x w e,
       )
@@ -373,7 +373,7 @@ module _ {K V M O : Type 0} (puts : O → List (ReplyView K V M)) where
   gives_told run done (Ok MoveAnswered) l n h = absurd h
   gives_told run done (Ok Stopped) l n (x, runs, its, over, e) =
       let w = run_of l run x runs in (
-        ended l w.at w.at.entry.starved (Cancelled w.at.started l.inputs.revision),
+        ended l w.at w.at.entry.fate (Cancelled w.at.started l.inputs.revision),
         (w.at, w.runs, of_told run done l x w its, overtaken_told l x w.at w.is over, refl),
         stops_told run l n x w e,
       )
@@ -382,9 +382,9 @@ module _ {K V M O : Type 0} (puts : O → List (ReplyView K V M)) where
   pub starves_told : (run : ℕ) (answer : Bool) (l : Ledger K V M O) (n : Ledger K V M (Told K V M)) → Starves run answer (told_ledger puts l) n → Lifts (Starves run answer) l n
   starves_told run true l n (x, runs, e) =
       let w = run_of l run x runs in (
-        ended l w.at true Starved,
+        ended l w.at WasStarved Starved,
         (w.at, w.runs, refl),
-        told_ended l w.at true Starved ∙ (ap (λ (y : RunAt K V M (Told K V M)). ended (told_ledger puts l) y true Starved) (sym w.is) ∙ sym e),
+        told_ended l w.at WasStarved Starved ∙ (ap (λ (y : RunAt K V M (Told K V M)). ended (told_ledger puts l) y WasStarved Starved) (sym w.is) ∙ sym e),
       )
   starves_told run false l n (none, e) = (l, (none_runs_told l run none, refl), sym e)
 

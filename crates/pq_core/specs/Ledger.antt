@@ -26,13 +26,18 @@ pub data Place (K V M : Type 0) : Type 0 where
   -- its client was closed before its reply was put
   Dropped : Place K V M
 
+-- `Fate` is what befell a request beside its run: nothing, or an allocation failed and it was starved
+pub data Fate : Type 0 where
+  Unharmed : Fate
+  WasStarved : Fate
+
 -- `Entry K V M` is an accepted request: the revision at its acceptance, where it is, and whether it
 -- was starved
 pub record Entry (K V M : Type 0) : Type 0 where
   pub request : Request K
   pub accepted : ℕ
   pub place : Place K V M
-  pub starved : Bool
+  pub fate : Fate
 
 -- `Client K V M O` is a client: its requests by their numbers; its outbox, as it is, or as it was at
 -- the close; whether its last release was refused
@@ -78,7 +83,7 @@ with_entry client n entry = record { entries = slice_set client.entries n entry;
 
 -- `moved_to entry place` is `entry` in `place`
 abbrev pub moved_to : {K V M : Type 0} → Entry K V M → Place K V M → Entry K V M
-moved_to entry place = record { request = entry.request; accepted = entry.accepted; place = place; starved = entry.starved }
+moved_to entry place = record { request = entry.request; accepted = entry.accepted; place = place; fate = entry.fate }
 
 -- `opened outbox` is a new client
 abbrev pub opened : {K V M O : Type 0} → O → Client K V M O

@@ -15,7 +15,7 @@ use Rattle.pq_core.specs.Points.{Point}
 use Rattle.pq_core.specs.Replies.{ReplyView}
 use Rattle.pq_core.specs.Works.{DoneView, WorkView, IsWorkOf}
 use Rattle.pq_core.specs.Outboxes.{TakesNext}
-use Rattle.pq_core.specs.Ledger.{Out, Place, Waiting, Running, Ready, Put, Dropped, Entry, Client, Ledger, IsOpen, IsClosed, IsEntry, with_client, with_entry, moved_to, opened, with_outbox, closed}
+use Rattle.pq_core.specs.Ledger.{Out, Place, Waiting, Running, Ready, Put, Dropped, Fate, Unharmed, WasStarved, Entry, Client, Ledger, IsOpen, IsClosed, IsEntry, with_client, with_entry, moved_to, opened, with_outbox, closed}
 use Rattle.pq_core.specs.RightReply.{IsValueAt, answer_by}
 use Rattle.pq_core.specs.declared.request.Request.{Request}
 use Rattle.pq_core.specs.declared.request.Want.{Want}
@@ -93,7 +93,7 @@ first_place c n request revision (Fixed text) = Ready (record { client = c; numb
 
 -- `new_entry c n request revision` is `request`, accepted at `revision`
 abbrev pub new_entry : {K V M : Type 0} → ℕ → ℕ → Request K → ℕ → Entry K V M
-new_entry c n request revision = record { request = request; accepted = revision; place = first_place c n request revision request.want; starved = false }
+new_entry c n request revision = record { request = request; accepted = revision; place = first_place c n request revision request.want; fate = Unharmed }
 
 -- `with_new client entry` is `client` with one more request
 abbrev pub with_new : {K V M O : Type 0} → Client K V M O → Entry K V M → Client K V M O
@@ -220,18 +220,18 @@ place_ended false reply = Dropped
 abbrev pub reply_at : {K V M O : Type 0} → Ledger K V M O → RunAt K V M O → Outcome K V M → ReplyView K V M
 reply_at l at outcome = record { client = at.c; number = at.n; request = at.entry.request; revision = l.inputs.revision; outcome = outcome }
 
--- `ended_entry l at starved outcome` is the request of the run `at` after its end with `outcome`
-abbrev pub ended_entry : {K V M O : Type 0} → Ledger K V M O → RunAt K V M O → Bool → Outcome K V M → Entry K V M
-ended_entry l at starved outcome = record {
+-- `ended_entry l at fate outcome` is the request of the run `at` after its end with `outcome`
+abbrev pub ended_entry : {K V M O : Type 0} → Ledger K V M O → RunAt K V M O → Fate → Outcome K V M → Entry K V M
+ended_entry l at fate outcome = record {
   request = at.entry.request;
   accepted = at.entry.accepted;
   place = place_ended at.client.is_open (reply_at l at outcome);
-  starved = starved;
+  fate = fate;
 }
 
--- `ended l at starved outcome` is `l` after the end of the run `at` with `outcome`
-abbrev pub ended : {K V M O : Type 0} → Ledger K V M O → RunAt K V M O → Bool → Outcome K V M → Ledger K V M O
-ended l at starved outcome = with_client l at.c (with_entry at.client at.n (ended_entry l at starved outcome))
+-- `ended l at fate outcome` is `l` after the end of the run `at` with `outcome`
+abbrev pub ended : {K V M O : Type 0} → Ledger K V M O → RunAt K V M O → Fate → Outcome K V M → Ledger K V M O
+ended l at fate outcome = with_client l at.c (with_entry at.client at.n (ended_entry l at fate outcome))
 
 -- `with_out l run at out` is `l` with `out` as the work of `run`, the run `at`, that is out
 abbrev pub with_out : {K V M O : Type 0} → Ledger K V M O → ℕ → RunAt K V M O → Option (Out K) → Ledger K V M O
@@ -252,7 +252,7 @@ pub record IsCurrent {K V M O : Type 0} (l : Ledger K V M O) (at : RunAt K V M O
 abbrev pub Stops : {K V M O : Type 0} → Ledger K V M O → ℕ → Ledger K V M O → Type 0
 Stops {K} {V} {M} {O} l run m =
     (at : RunAt K V M O) × Runs l run at × IsOvertaken l at
-    × (m ≡ ended l at at.entry.starved (Cancelled at.started l.inputs.revision))
+    × (m ≡ ended l at at.entry.fate (Cancelled at.started l.inputs.revision))
 
 -- `GoesOn l run at` is that `run` is current and its work is not out
 pub record GoesOn {K V M O : Type 0} (l : Ledger K V M O) (run : ℕ) (at : RunAt K V M O) : Type 0 where
@@ -289,7 +289,7 @@ LooksFor {R} {K} {P} {V} {M} {O} means rules run (Ok (Blocked other)) l m =
 LooksFor {R} {K} {P} {V} {M} {O} means rules run (Ok Stepped) l m = (at : RunAt K V M O) × GoesOn l run at × (m ≡ l)
 LooksFor {R} {K} {P} {V} {M} {O} means rules run (Ok MoveAnswered) l m =
     (at : RunAt K V M O) × GoesOn l run at
-    × ((answer : Answer K V) × (stamp : M) × AnswersWith means l at answer stamp × (m ≡ ended l at at.entry.starved (Answered answer stamp)))
+    × ((answer : Answer K V) × (stamp : M) × AnswersWith means l at answer stamp × (m ≡ ended l at at.entry.fate (Answered answer stamp)))
 LooksFor means rules run (Ok Stopped) l m = Stops l run m
 LooksFor means rules run (Err NoRun) l m = NoneRuns l run × (m ≡ l)
 LooksFor {R} {K} {P} {V} {M} {O} means rules run (Err LookMemory) l m = (at : RunAt K V M O) × GoesOn l run at × (m ≡ l)
@@ -320,7 +320,7 @@ Gives {R} {K} {P} {V} {M} {O} run done (Ok Stepped) l m =
 Gives run done (Ok MoveAnswered) l m = ⊥
 Gives {R} {K} {P} {V} {M} {O} run done (Ok Stopped) l m =
     (at : RunAt K V M O) × Runs l run at × IsOf run at done × IsOvertaken l at
-    × (m ≡ ended l at at.entry.starved (Cancelled at.started l.inputs.revision))
+    × (m ≡ ended l at at.entry.fate (Cancelled at.started l.inputs.revision))
 Gives {R} {K} {P} {V} {M} {O} run done (Err refused) l m = (refused.done ≡ done) × GiveRefusal l run done refused.fault × (m ≡ l)
   where
     -- the result is of no work of the run that is out; or an allocation failed
@@ -330,7 +330,7 @@ Gives {R} {K} {P} {V} {M} {O} run done (Err refused) l m = (refused.done ≡ don
 
 -- `Starves run answer l m` is that `run`, if it exists, is starved
 abbrev pub Starves : {K V M O : Type 0} → ℕ → Bool → Ledger K V M O → Ledger K V M O → Type 0
-Starves {K} {V} {M} {O} run true l m = (at : RunAt K V M O) × Runs l run at × (m ≡ ended l at true Starved)
+Starves {K} {V} {M} {O} run true l m = (at : RunAt K V M O) × Runs l run at × (m ≡ ended l at WasStarved Starved)
 Starves run false l m = NoneRuns l run × (m ≡ l)
 
 -- ---- release

@@ -1,6 +1,6 @@
 -- A right reply: it names its client, its number and the request that was accepted under that
 -- number, and its outcome is true.
-use Rattle.std.specs.Prelude.{ℕ, ◌≡◌, ◌<◌, ◌≤◌, Bool, true, slice_get, Some}
+use Rattle.std.specs.Prelude.{ℕ, ◌≡◌, ◌<◌, ◌≤◌, slice_get, Some}
 use Rattle.pq_inputs.specs.Sources.{Sources, Table}
 use Rattle.std.specs.declared.cmp.Ordering.{Ordering}
 use Rattle.pq_rules.specs.declared.turn.Answer.{Answer}
@@ -8,7 +8,7 @@ use Rattle.pq_rules.specs.Turns.{Machine, over}
 use Rattle.pq_rules.specs.Value.{Means}
 use Rattle.pq_core.specs.Points.{Point}
 use Rattle.pq_core.specs.Replies.{ReplyView}
-use Rattle.pq_core.specs.Ledger.{Entry, Client, Ledger, IsEntry}
+use Rattle.pq_core.specs.Ledger.{Fate, WasStarved, Entry, Client, Ledger, IsEntry}
 use Rattle.pq_core.specs.declared.request.Want.{Want}
 use Rattle.pq_core.specs.declared.request.Want.TheVariants.{Demand, Fixed}
 use Rattle.pq_core.specs.declared.outcome.Outcome.{Outcome}
@@ -27,22 +27,22 @@ pub record IsValueAt {K V M : Type 0} (means : M → Point → K → Answer K V 
   pub there : slice_get inputs.history revision ≡ Some files
   pub means_so : means stamp (record { revision = revision; files = files }) key answer
 
--- `IsTrueOutcome means inputs accepted starved want revision outcome` is that `outcome` at
+-- `IsTrueOutcome means inputs accepted fate want revision outcome` is that `outcome` at
 -- `revision` is true of a request for `want` that was accepted at `accepted`: an answer is that of
 -- its key at a revision not before the acceptance, with the stamp of that revision; a cancellation names the revision of the run's
 -- start and a later one, so an edit was accepted between; a starved one was starved
-abbrev pub IsTrueOutcome : {K V M : Type 0} → (M → Point → K → Answer K V → Type 0) → Table → (accepted : ℕ) → (starved : Bool) → Want K → (revision : ℕ) → Outcome K V M → Type 0
-IsTrueOutcome means inputs accepted starved (Demand key) revision (Answered answer stamp) =
+abbrev pub IsTrueOutcome : {K V M : Type 0} → (M → Point → K → Answer K V → Type 0) → Table → (accepted : ℕ) → (fate : Fate) → Want K → (revision : ℕ) → Outcome K V M → Type 0
+IsTrueOutcome means inputs accepted fate (Demand key) revision (Answered answer stamp) =
     (accepted ≤ revision) × (revision ≤ inputs.revision) × IsValueAt means inputs revision key answer stamp
-IsTrueOutcome means inputs accepted starved (Demand key) revision Plain = ⊥
-IsTrueOutcome means inputs accepted starved (Demand key) revision (Cancelled started seen) =
+IsTrueOutcome means inputs accepted fate (Demand key) revision Plain = ⊥
+IsTrueOutcome means inputs accepted fate (Demand key) revision (Cancelled started seen) =
     (accepted ≤ started) × (started < seen) × (seen ≤ inputs.revision) × (revision ≡ seen)
-IsTrueOutcome means inputs accepted starved (Demand key) revision Starved =
-    (starved ≡ true) × (accepted ≤ revision) × (revision ≤ inputs.revision)
-IsTrueOutcome means inputs accepted starved (Fixed text) revision (Answered answer stamp) = ⊥
-IsTrueOutcome means inputs accepted starved (Fixed text) revision Plain = revision ≡ accepted
-IsTrueOutcome means inputs accepted starved (Fixed text) revision (Cancelled started seen) = ⊥
-IsTrueOutcome means inputs accepted starved (Fixed text) revision Starved = ⊥
+IsTrueOutcome means inputs accepted fate (Demand key) revision Starved =
+    (fate ≡ WasStarved) × (accepted ≤ revision) × (revision ≤ inputs.revision)
+IsTrueOutcome means inputs accepted fate (Fixed text) revision (Answered answer stamp) = ⊥
+IsTrueOutcome means inputs accepted fate (Fixed text) revision Plain = revision ≡ accepted
+IsTrueOutcome means inputs accepted fate (Fixed text) revision (Cancelled started seen) = ⊥
+IsTrueOutcome means inputs accepted fate (Fixed text) revision Starved = ⊥
 
 -- `IsRightFor means inputs c n entry reply` is that `reply` is right as the one to `entry`, the
 -- request `n` of the client `c`
@@ -50,7 +50,7 @@ pub record IsRightFor {K V M : Type 0} (means : M → Point → K → Answer K V
   pub client : reply.client ≡ c
   pub number : reply.number ≡ n
   pub request : reply.request ≡ entry.request
-  pub outcome : IsTrueOutcome means inputs entry.accepted entry.starved entry.request.want reply.revision reply.outcome
+  pub outcome : IsTrueOutcome means inputs entry.accepted entry.fate entry.request.want reply.revision reply.outcome
 
 -- `IsRight means l c n reply` is that `reply` is right as the reply `n` to the client `c` of `l`
 pub record IsRight {K V M O : Type 0} (means : M → Point → K → Answer K V → Type 0) (l : Ledger K V M O) (c n : ℕ) (reply : ReplyView K V M) : Type 0 where

@@ -8,7 +8,7 @@ use Rattle.pq_core.specs.Points.{Point}
 use Rattle.pq_core.specs.Replies.{ReplyView}
 use Rattle.pq_core.specs.Changes.{ChangeView}
 use Rattle.pq_core.specs.Works.{DoneView, WorkView}
-use Rattle.pq_core.specs.Ledger.{Place, Waiting, Running, Ready, Put, Dropped, Ledger, Client, Entry, with_client, with_entry, place_closed, entry_closed, opened}
+use Rattle.pq_core.specs.Ledger.{Place, Waiting, Running, Ready, Put, Dropped, Fate, Ledger, Client, Entry, with_client, with_entry, place_closed, entry_closed, opened}
 use Rattle.pq_core.specs.Kept.{InputsKept}
 use Rattle.pq_core.specs.Moves.{Opens, Accepts, Edits, Starts, LooksFor, Gives, Starves, Releases, Closes, TakesOut, RunAt, Runs, NoneRuns, IsOf, IsMade, changed, first_place, new_entry, place_ended, ended, with_out, out_of}
 use Rattle.pq_core.specs.declared.request.Request.{Request}
@@ -349,9 +349,9 @@ module _ {R K P V M O : Type 0} (rules : R) where
   ran_same l m dones after_it s same x =
       (runs_same l m x.0 s, λ r. subst (OutOf rules m r) (sym (same r)) (outs_same rules l m r (dones r) s (x.1 r)))
 
-  ran_ended : (l m : Ledger K V M O) (run : ℕ) (at : RunAt K V M O) (starved : Bool) (outcome : Outcome K V M) (dones after_it : ℕ → Option (DoneView R K P V)) → Runs l run at → m ≡ ended l at starved outcome
+  ran_ended : (l m : Ledger K V M O) (run : ℕ) (at : RunAt K V M O) (fate : Fate) (outcome : Outcome K V M) (dones after_it : ℕ → Option (DoneView R K P V)) → Runs l run at → m ≡ ended l at fate outcome
       → IsPut dones after_it run None → Ran l dones → Ran m after_it
-  ran_ended l m run at starved outcome dones after_it r e p x =
+  ran_ended l m run at fate outcome dones after_it r e p x =
       let a : Run K = record { number = run; started = at.started; out = at.out } in
       let new : Option (Run K) = run_in (place_ended at.client.is_open _) in
       let none : new ≡ None = ended_none at.client.is_open _ in

@@ -130,7 +130,7 @@ invariant_of-self-then-is_overtaken g c =
           let b = c.take.ensures.room in
           omega (arith, a, b);
       runs = stopped_runs _ _ _ _ _ _ _ c.args.run c.release_all.new.self runs c.release_all.ensures.released w.runs;
-      ledger = (ended w.ledger.0 x.at x.at.entry.starved (Cancelled x.at.started w.ledger.0.inputs.revision), moved.1);
+      ledger = (ended w.ledger.0 x.at x.at.entry.fate (Cancelled x.at.started w.ledger.0.inputs.revision), moved.1);
     }
 
 pub returns-then-is_overtaken-clause-none_lost : goal.returns-then-is_overtaken-clause-none_lost

@@ -93,7 +93,7 @@ invariant_of-self-then-is_overtaken g c =
           let b = c.take.ensures.room in
           omega (arith, a, b);
       runs = stopped_runs _ _ _ _ _ _ _ c.args.run c.release_all.new.self runs c.release_all.ensures.released w.runs;
-      ledger = (ended w.ledger.0 x.at x.at.entry.starved (Cancelled x.at.started w.ledger.0.inputs.revision), moved.1);
+      ledger = (ended w.ledger.0 x.at x.at.entry.fate (Cancelled x.at.started w.ledger.0.inputs.revision), moved.1);
     }
 
 pub returns-then-is_overtaken-clause-none_lost : goal.returns-then-is_overtaken-clause-none_lost
@@ -111,7 +111,7 @@ returns-then-is_overtaken-clause-moved g c =
     let moved = stop_moved g.R.Key.Ord.cmp (g.R.Rules.machine c.self.inside.memos.rules) g.M.Stamp.point told_puts c.self.inside.memos.rules (held (record { rules = c.self.inside.memos.rules; places = c.self.inside.memos.places; inputs = c.self.inside.inputs; accounts = c.self.inside.accounts; opened = c.self.inside.opened; clients = c.self.inside.clients; waiting = c.self.inside.waiting.items; runs = c.self.inside.runs; started = c.self.inside.started; claims = c.self.inside.claims })) (record { inputs = c.self.inside.inputs; accounts = c.stop_run.new.accounts.items; opened = c.self.inside.opened; clients = c.self.inside.clients; runs = c.take.new.self.items; started = c.self.inside.started }) l c.args.run c.in-Some.taken x s here
     (rw c.now-now.ensures.now at (c.is_overtaken.ensures.0 c.if-is_overtaken.true)) runs
     (λ account h. ends_of (rw c.now-now.ensures.now at (c.stop_run.ensures.«open» account h))) (λ h k. (c.stop_run.ensures.closed h).found k) (record { inputs = refl; opened = refl; clients = refl; started = refl }) in
-    (ended l x.at x.at.entry.starved (Cancelled x.at.started l.inputs.revision), moved.0, moved.1)))
+    (ended l x.at x.at.entry.fate (Cancelled x.at.started l.inputs.revision), moved.0, moved.1)))
 
 pub invariant_of-self-then-is_out : goal.invariant_of-self-then-is_out
 invariant_of-self-then-is_out g c =

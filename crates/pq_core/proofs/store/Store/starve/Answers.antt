@@ -3,6 +3,7 @@ use Rattle.pq_core.proofs.Making.{goes_by, all_same}
 use Rattle.pq_core.specs.Told.{told_puts}
 use Rattle.pq_core.specs.RightReply.{answer_by}
 use Rattle.pq_core.specs.Stores.{held}
+use Rattle.pq_core.specs.Ledger.{WasStarved}
 use Rattle.pq_core.specs.Moves.{Starves, ended}
 use Rattle.pq_core.specs.declared.outcome.Outcome.TheVariants.{Starved}
 use Rattle.pq_core.proofs.RunsKept.{same_runs, stopped_runs}
@@ -27,8 +28,8 @@ invariant_of-self g c =
     let here = sym (rw c.number.ensures at (c.in-Some.ensures {u = tt}).value) in
     let runs = rw c.number.ensures at c.take.ensures.found in
     let x = run_here g.R.Key.Ord.cmp (g.R.Rules.machine c.self.inside.memos.rules) g.M.Stamp.point told_puts (held (record { rules = c.self.inside.memos.rules; places = c.self.inside.memos.places; inputs = c.self.inside.inputs; accounts = c.self.inside.accounts; opened = c.self.inside.opened; clients = c.self.inside.clients; waiting = c.self.inside.waiting.items; runs = c.self.inside.runs; started = c.self.inside.started; claims = c.self.inside.claims })) w.ledger.0 c.args.run c.in-Some.taken w.ledger.1 here in
-    let move : Starves c.args.run true w.ledger.0 (ended w.ledger.0 x.at true Starved) = (x.at, x.runs, refl) in
-    let stands = end_moved g.R.Key.Ord.cmp (g.R.Rules.machine c.self.inside.memos.rules) g.M.Stamp.point told_puts (held (record { rules = c.self.inside.memos.rules; places = c.self.inside.memos.places; inputs = c.self.inside.inputs; accounts = c.self.inside.accounts; opened = c.self.inside.opened; clients = c.self.inside.clients; waiting = c.self.inside.waiting.items; runs = c.self.inside.runs; started = c.self.inside.started; claims = c.self.inside.claims })) (record { inputs = c.self.inside.inputs; accounts = c.end_run.new.accounts.items; opened = c.self.inside.opened; clients = c.self.inside.clients; runs = c.take.new.self.items; started = c.self.inside.started }) w.ledger.0 c.args.run c.in-Some.taken true Starved x w.ledger.1 here runs
+    let move : Starves c.args.run true w.ledger.0 (ended w.ledger.0 x.at WasStarved Starved) = (x.at, x.runs, refl) in
+    let stands = end_moved g.R.Key.Ord.cmp (g.R.Rules.machine c.self.inside.memos.rules) g.M.Stamp.point told_puts (held (record { rules = c.self.inside.memos.rules; places = c.self.inside.memos.places; inputs = c.self.inside.inputs; accounts = c.self.inside.accounts; opened = c.self.inside.opened; clients = c.self.inside.clients; waiting = c.self.inside.waiting.items; runs = c.self.inside.runs; started = c.self.inside.started; claims = c.self.inside.claims })) (record { inputs = c.self.inside.inputs; accounts = c.end_run.new.accounts.items; opened = c.self.inside.opened; clients = c.self.inside.clients; runs = c.take.new.self.items; started = c.self.inside.started }) w.ledger.0 c.args.run c.in-Some.taken WasStarved Starved x w.ledger.1 here runs
     (λ account h. ends_of (rw c.now-now.ensures.now at (c.end_run.ensures.«open» account h))) (λ h k. (c.end_run.ensures.closed h).found k) (record { inputs = refl; opened = refl; clients = refl; started = refl })
     (kept_starves (answer_by g.R.Key.Ord.cmp (g.R.Rules.machine c.self.inside.memos.rules) g.M.Stamp.point) told_puts c.args.run true w.ledger.0 _ w.ledger.1.kept move) in
     record {
@@ -43,7 +44,7 @@ invariant_of-self g c =
           let b : c.self.inside.runs.room ≤ c.take.new.self.room = c.take.ensures.room in
           omega arith;
       runs = stopped_runs _ _ _ _ _ _ _ c.args.run c.release_all.new.self runs c.release_all.ensures.released w.runs;
-      ledger = (ended w.ledger.0 x.at true Starved, stands);
+      ledger = (ended w.ledger.0 x.at WasStarved Starved, stands);
     }
 
 pub returns-in-Some-clause-moved : goal.returns-in-Some-clause-moved
@@ -54,11 +55,11 @@ returns-in-Some-clause-moved g c =
     (goes_by g.R.Key.Ord.cmp (g.R.Rules.machine c.self.inside.memos.rules) g.M.Stamp.point _ _ _ (end_advances _ _ c.in-Some.taken.client c.in-Some.taken.number _ (λ account h. ends_of (c.end_run.ensures.«open» account h)) (λ h k. (c.end_run.ensures.closed h).found k))
     (λ l s.
     let x = run_here g.R.Key.Ord.cmp (g.R.Rules.machine c.self.inside.memos.rules) g.M.Stamp.point told_puts (held (record { rules = c.self.inside.memos.rules; places = c.self.inside.memos.places; inputs = c.self.inside.inputs; accounts = c.self.inside.accounts; opened = c.self.inside.opened; clients = c.self.inside.clients; waiting = c.self.inside.waiting.items; runs = c.self.inside.runs; started = c.self.inside.started; claims = c.self.inside.claims })) l c.args.run c.in-Some.taken s here in
-    let move : Starves c.args.run true l (ended l x.at true Starved) = (x.at, x.runs, refl) in
-    let stands = end_moved g.R.Key.Ord.cmp (g.R.Rules.machine c.self.inside.memos.rules) g.M.Stamp.point told_puts (held (record { rules = c.self.inside.memos.rules; places = c.self.inside.memos.places; inputs = c.self.inside.inputs; accounts = c.self.inside.accounts; opened = c.self.inside.opened; clients = c.self.inside.clients; waiting = c.self.inside.waiting.items; runs = c.self.inside.runs; started = c.self.inside.started; claims = c.self.inside.claims })) (record { inputs = c.self.inside.inputs; accounts = c.end_run.new.accounts.items; opened = c.self.inside.opened; clients = c.self.inside.clients; runs = c.take.new.self.items; started = c.self.inside.started }) l c.args.run c.in-Some.taken true Starved x s here runs
+    let move : Starves c.args.run true l (ended l x.at WasStarved Starved) = (x.at, x.runs, refl) in
+    let stands = end_moved g.R.Key.Ord.cmp (g.R.Rules.machine c.self.inside.memos.rules) g.M.Stamp.point told_puts (held (record { rules = c.self.inside.memos.rules; places = c.self.inside.memos.places; inputs = c.self.inside.inputs; accounts = c.self.inside.accounts; opened = c.self.inside.opened; clients = c.self.inside.clients; waiting = c.self.inside.waiting.items; runs = c.self.inside.runs; started = c.self.inside.started; claims = c.self.inside.claims })) (record { inputs = c.self.inside.inputs; accounts = c.end_run.new.accounts.items; opened = c.self.inside.opened; clients = c.self.inside.clients; runs = c.take.new.self.items; started = c.self.inside.started }) l c.args.run c.in-Some.taken WasStarved Starved x s here runs
     (λ account h. ends_of (rw c.now-now.ensures.now at (c.end_run.ensures.«open» account h))) (λ h k. (c.end_run.ensures.closed h).found k) (record { inputs = refl; opened = refl; clients = refl; started = refl })
     (kept_starves (answer_by g.R.Key.Ord.cmp (g.R.Rules.machine c.self.inside.memos.rules) g.M.Stamp.point) told_puts c.args.run true l _ s.kept move) in
-    (ended l x.at true Starved, move, stands)))
+    (ended l x.at WasStarved Starved, move, stands)))
 
 pub invariant_of-self-in-None : goal.invariant_of-self-in-None
 invariant_of-self-in-None g c =
