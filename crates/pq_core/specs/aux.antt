@@ -15,3 +15,4 @@ pub mod Begun
 pub mod Accepting
 pub mod Queue
 pub mod Resting
+pub mod Inside

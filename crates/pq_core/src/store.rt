@@ -57,9 +57,11 @@ impl<R: Rules, M: Stamp> Model for Store<R, M> {
 
     ghost Value = { StoreView R R.Key R.Part R.Value M };
 
-    ghost view = { λ s. record { rules = s.memos.rules; places = s.memos.places; inputs = s.inputs; accounts = s.accounts; opened = s.opened; clients = s.clients; waiting = s.waiting.items; runs = s.runs; started = s.started; claims = s.claims } };
+    ghost use Rattle.pq_core.specs.aux.Inside.{store_of};
 
-    ghost invariant = { λ s. IsWhole R.Key.cmp (R.machine s.memos.rules) M.point s.stamp (record { rules = s.memos.rules; places = s.memos.places; inputs = s.inputs; accounts = s.accounts; opened = s.opened; clients = s.clients; waiting = s.waiting.items; runs = s.runs; started = s.started; claims = s.claims }) };
+    ghost view = { store_of };
+
+    ghost invariant = { λ s. IsWhole R.Key.cmp (R.machine s.memos.rules) M.point s.stamp (store_of s) };
 }
 
 impl<R: Rules, M: Stamp> Store<R, M> {

@@ -10,11 +10,12 @@ use Rattle.pq_core.proofs.Queued.{queue_same, queue_pushed, queue_fixed}
 use Rattle.pq_rules.proofs.Weight.{Exact}
 use Rattle.pq_memo.specs.Table.{memo_at}
 use Rattle.pq_core.proofs.StoreCounting.{same_counted}
+use Rattle.pq_core.specs.aux.Inside.{store_of}
 use Rattle.pq_core.proofs.store.Store.accept.Goals as goal
 
 pub returns-in-Some-clause-moved : goal.returns-in-Some-clause-moved
 returns-in-Some-clause-moved g c =
-    let refused : MayNot (held (record { rules = c.self.inside.memos.rules; places = c.self.inside.memos.places; inputs = c.self.inside.inputs; accounts = c.self.inside.accounts; opened = c.self.inside.opened; clients = c.self.inside.clients; waiting = c.self.inside.waiting.items; runs = c.self.inside.runs; started = c.self.inside.started; claims = c.self.inside.claims })) c.args.client c.in-Some.fault =
+    let refused : MayNot (held (store_of c.self.inside)) c.args.client c.in-Some.fault =
     subst (λ (v : StoreView g.row.R.Denot g.row.R-Key.Denot g.row.R-Part.Denot g.row.R-Value.Denot g.row.M.Denot). MayNot (held v) c.args.client c.in-Some.fault) (sym c.self.view_is)
     (rw c.number.ensures at (c.in-Some.ensures {u = tt}).refused) in
     rw (← c.self.view_is)
@@ -56,7 +57,7 @@ invariant_of-self g c =
 
 pub returns-then-is_err-clause-moved : goal.returns-then-is_err-clause-moved
 returns-then-is_err-clause-moved g c =
-    let may : MayPost (held (record { rules = c.self.inside.memos.rules; places = c.self.inside.memos.places; inputs = c.self.inside.inputs; accounts = c.self.inside.accounts; opened = c.self.inside.opened; clients = c.self.inside.clients; waiting = c.self.inside.waiting.items; runs = c.self.inside.runs; started = c.self.inside.started; claims = c.self.inside.claims })) c.args.client =
+    let may : MayPost (held (store_of c.self.inside)) c.args.client =
     subst (λ (v : StoreView g.row.R.Denot g.row.R-Key.Denot g.row.R-Part.Denot g.row.R-Value.Denot g.row.M.Denot). MayPost (held v) c.args.client) (sym c.self.view_is)
     (rw c.number.ensures at (c.in_default.ensures {u = tt}).may) in
     rw (← c.self.view_is)
@@ -79,16 +80,16 @@ returns-then-is_err-clause-moved g c =
 pub invariant_of-self-then-waits : goal.invariant_of-self-then-waits
 invariant_of-self-then-waits g c =
     let w = c.self.invariant in
-    let may : MayPost (held (record { rules = c.self.inside.memos.rules; places = c.self.inside.memos.places; inputs = c.self.inside.inputs; accounts = c.self.inside.accounts; opened = c.self.inside.opened; clients = c.self.inside.clients; waiting = c.self.inside.waiting.items; runs = c.self.inside.runs; started = c.self.inside.started; claims = c.self.inside.claims })) c.args.client =
+    let may : MayPost (held (store_of c.self.inside)) c.args.client =
     subst (λ (v : StoreView g.row.R.Denot g.row.R-Key.Denot g.row.R-Part.Denot g.row.R-Value.Denot g.row.M.Denot). MayPost (held v) c.args.client) (sym c.self.view_is) (rw c.number.ensures at (c.in_default.ensures {u = tt}).may) in
     let told = (c.in-Ok.ensures {u = tt}).accepted in
     let pushed : c.push_back_reserved.new.self.items ≡ c.self.inside.waiting.items ++ (c.args.client, c.in-Ok.number) ∷ [] =
     rw c.make_room.ensures.queue at (rw c.number-then-waits-2.ensures at (rw c.number-then-waits.ensures at c.push_back_reserved.ensures.items)) in
     let moved = accept_moved g.R.Key.Ord.cmp (g.R.Rules.machine c.self.inside.memos.rules) g.M.Stamp.point told_puts
-    (held (record { rules = c.self.inside.memos.rules; places = c.self.inside.memos.places; inputs = c.self.inside.inputs; accounts = c.self.inside.accounts; opened = c.self.inside.opened; clients = c.self.inside.clients; waiting = c.self.inside.waiting.items; runs = c.self.inside.runs; started = c.self.inside.started; claims = c.self.inside.claims }))
-    (record { inputs = c.self.inside.inputs; accounts = c.accept_in.new.accounts.items; opened = c.self.inside.opened; clients = c.self.inside.clients; runs = c.make_room.new.runs.items; started = c.self.inside.started })
+    (held (store_of c.self.inside))
+    (record (held (store_of c.self.inside)) { accounts = c.accept_in.new.accounts.items; runs = c.make_room.new.runs.items })
     c.args.client c.in-Ok.number c.now-revision.result c.args.request told.0 w.ledger.0 told.1
-    (not_full (held (record { rules = c.self.inside.memos.rules; places = c.self.inside.memos.places; inputs = c.self.inside.inputs; accounts = c.self.inside.accounts; opened = c.self.inside.opened; clients = c.self.inside.clients; waiting = c.self.inside.waiting.items; runs = c.self.inside.runs; started = c.self.inside.started; claims = c.self.inside.claims })) c.args.client told.0 may told.1) told.3.found told.2 c.now-revision.ensures.now refl refl refl c.make_room.ensures.runs.found refl
+    (not_full (held (store_of c.self.inside)) c.args.client told.0 may told.1) told.3.found told.2 c.now-revision.ensures.now refl refl refl c.make_room.ensures.runs.found refl
     w.ledger.1 in
     record {
       stamped = c.self.invariant.stamped;
@@ -104,29 +105,29 @@ invariant_of-self-then-waits g c =
 
 pub returns-then-waits-clause-moved : goal.returns-then-waits-clause-moved
 returns-then-waits-clause-moved g c =
-    let may : MayPost (held (record { rules = c.self.inside.memos.rules; places = c.self.inside.memos.places; inputs = c.self.inside.inputs; accounts = c.self.inside.accounts; opened = c.self.inside.opened; clients = c.self.inside.clients; waiting = c.self.inside.waiting.items; runs = c.self.inside.runs; started = c.self.inside.started; claims = c.self.inside.claims })) c.args.client =
+    let may : MayPost (held (store_of c.self.inside)) c.args.client =
     subst (λ (v : StoreView g.row.R.Denot g.row.R-Key.Denot g.row.R-Part.Denot g.row.R-Value.Denot g.row.M.Denot). MayPost (held v) c.args.client) (sym c.self.view_is) (rw c.number.ensures at (c.in_default.ensures {u = tt}).may) in
     let told = (c.in-Ok.ensures {u = tt}).accepted in
     rw (← c.self.view_is)
     (goes_by g.R.Key.Ord.cmp (g.R.Rules.machine c.self.inside.memos.rules) g.M.Stamp.point _ _ _ (all_set _ _ c.args.client told.0 _ told.1 told.3.found (advances_longer told.0 _ (first_not_collected _ _ c.args.client c.in-Ok.number c.args.request c.now-revision.result c.args.request.want)))
     (λ l s. accept_moved g.R.Key.Ord.cmp (g.R.Rules.machine c.self.inside.memos.rules) g.M.Stamp.point told_puts
-    (held (record { rules = c.self.inside.memos.rules; places = c.self.inside.memos.places; inputs = c.self.inside.inputs; accounts = c.self.inside.accounts; opened = c.self.inside.opened; clients = c.self.inside.clients; waiting = c.self.inside.waiting.items; runs = c.self.inside.runs; started = c.self.inside.started; claims = c.self.inside.claims }))
-    (record { inputs = c.self.inside.inputs; accounts = c.accept_in.new.accounts.items; opened = c.self.inside.opened; clients = c.self.inside.clients; runs = c.make_room.new.runs.items; started = c.self.inside.started })
+    (held (store_of c.self.inside))
+    (record (held (store_of c.self.inside)) { accounts = c.accept_in.new.accounts.items; runs = c.make_room.new.runs.items })
     c.args.client c.in-Ok.number c.now-revision.result c.args.request told.0 l told.1
-    (not_full (held (record { rules = c.self.inside.memos.rules; places = c.self.inside.memos.places; inputs = c.self.inside.inputs; accounts = c.self.inside.accounts; opened = c.self.inside.opened; clients = c.self.inside.clients; waiting = c.self.inside.waiting.items; runs = c.self.inside.runs; started = c.self.inside.started; claims = c.self.inside.claims })) c.args.client told.0 may told.1) told.3.found told.2 c.now-revision.ensures.now refl refl refl c.make_room.ensures.runs.found refl
+    (not_full (held (store_of c.self.inside)) c.args.client told.0 may told.1) told.3.found told.2 c.now-revision.ensures.now refl refl refl c.make_room.ensures.runs.found refl
     s))
 
 pub invariant_of-self-else-waits : goal.invariant_of-self-else-waits
 invariant_of-self-else-waits g c =
     let w = c.self.invariant in
-    let may : MayPost (held (record { rules = c.self.inside.memos.rules; places = c.self.inside.memos.places; inputs = c.self.inside.inputs; accounts = c.self.inside.accounts; opened = c.self.inside.opened; clients = c.self.inside.clients; waiting = c.self.inside.waiting.items; runs = c.self.inside.runs; started = c.self.inside.started; claims = c.self.inside.claims })) c.args.client =
+    let may : MayPost (held (store_of c.self.inside)) c.args.client =
     subst (λ (v : StoreView g.row.R.Denot g.row.R-Key.Denot g.row.R-Part.Denot g.row.R-Value.Denot g.row.M.Denot). MayPost (held v) c.args.client) (sym c.self.view_is) (rw c.number.ensures at (c.in_default.ensures {u = tt}).may) in
     let told = (c.in-Ok.ensures {u = tt}).accepted in
     let moved = accept_moved g.R.Key.Ord.cmp (g.R.Rules.machine c.self.inside.memos.rules) g.M.Stamp.point told_puts
-    (held (record { rules = c.self.inside.memos.rules; places = c.self.inside.memos.places; inputs = c.self.inside.inputs; accounts = c.self.inside.accounts; opened = c.self.inside.opened; clients = c.self.inside.clients; waiting = c.self.inside.waiting.items; runs = c.self.inside.runs; started = c.self.inside.started; claims = c.self.inside.claims }))
-    (record { inputs = c.self.inside.inputs; accounts = c.accept_in.new.accounts.items; opened = c.self.inside.opened; clients = c.self.inside.clients; runs = c.make_room.new.runs.items; started = c.self.inside.started })
+    (held (store_of c.self.inside))
+    (record (held (store_of c.self.inside)) { accounts = c.accept_in.new.accounts.items; runs = c.make_room.new.runs.items })
     c.args.client c.in-Ok.number c.now-revision.result c.args.request told.0 w.ledger.0 told.1
-    (not_full (held (record { rules = c.self.inside.memos.rules; places = c.self.inside.memos.places; inputs = c.self.inside.inputs; accounts = c.self.inside.accounts; opened = c.self.inside.opened; clients = c.self.inside.clients; waiting = c.self.inside.waiting.items; runs = c.self.inside.runs; started = c.self.inside.started; claims = c.self.inside.claims })) c.args.client told.0 may told.1) told.3.found told.2 c.now-revision.ensures.now refl refl refl c.make_room.ensures.runs.found refl
+    (not_full (held (store_of c.self.inside)) c.args.client told.0 may told.1) told.3.found told.2 c.now-revision.ensures.now refl refl refl c.make_room.ensures.runs.found refl
     w.ledger.1 in
     record {
       stamped = c.self.invariant.stamped;
@@ -147,16 +148,16 @@ invariant_of-self-else-waits g c =
 
 pub returns-in-Ok-clause-moved : goal.returns-in-Ok-clause-moved
 returns-in-Ok-clause-moved g c =
-    let may : MayPost (held (record { rules = c.self.inside.memos.rules; places = c.self.inside.memos.places; inputs = c.self.inside.inputs; accounts = c.self.inside.accounts; opened = c.self.inside.opened; clients = c.self.inside.clients; waiting = c.self.inside.waiting.items; runs = c.self.inside.runs; started = c.self.inside.started; claims = c.self.inside.claims })) c.args.client =
+    let may : MayPost (held (store_of c.self.inside)) c.args.client =
     subst (λ (v : StoreView g.row.R.Denot g.row.R-Key.Denot g.row.R-Part.Denot g.row.R-Value.Denot g.row.M.Denot). MayPost (held v) c.args.client) (sym c.self.view_is) (rw c.number.ensures at (c.in_default.ensures {u = tt}).may) in
     let told = (c.in-Ok.ensures {u = tt}).accepted in
     rw (← c.self.view_is)
     (goes_by g.R.Key.Ord.cmp (g.R.Rules.machine c.self.inside.memos.rules) g.M.Stamp.point _ _ _ (all_set _ _ c.args.client told.0 _ told.1 told.3.found (advances_longer told.0 _ (first_not_collected _ _ c.args.client c.in-Ok.number c.args.request c.now-revision.result c.args.request.want)))
     (λ l s. accept_moved g.R.Key.Ord.cmp (g.R.Rules.machine c.self.inside.memos.rules) g.M.Stamp.point told_puts
-    (held (record { rules = c.self.inside.memos.rules; places = c.self.inside.memos.places; inputs = c.self.inside.inputs; accounts = c.self.inside.accounts; opened = c.self.inside.opened; clients = c.self.inside.clients; waiting = c.self.inside.waiting.items; runs = c.self.inside.runs; started = c.self.inside.started; claims = c.self.inside.claims }))
-    (record { inputs = c.self.inside.inputs; accounts = c.accept_in.new.accounts.items; opened = c.self.inside.opened; clients = c.self.inside.clients; runs = c.make_room.new.runs.items; started = c.self.inside.started })
+    (held (store_of c.self.inside))
+    (record (held (store_of c.self.inside)) { accounts = c.accept_in.new.accounts.items; runs = c.make_room.new.runs.items })
     c.args.client c.in-Ok.number c.now-revision.result c.args.request told.0 l told.1
-    (not_full (held (record { rules = c.self.inside.memos.rules; places = c.self.inside.memos.places; inputs = c.self.inside.inputs; accounts = c.self.inside.accounts; opened = c.self.inside.opened; clients = c.self.inside.clients; waiting = c.self.inside.waiting.items; runs = c.self.inside.runs; started = c.self.inside.started; claims = c.self.inside.claims })) c.args.client told.0 may told.1) told.3.found told.2 c.now-revision.ensures.now refl refl refl c.make_room.ensures.runs.found refl
+    (not_full (held (store_of c.self.inside)) c.args.client told.0 may told.1) told.3.found told.2 c.now-revision.ensures.now refl refl refl c.make_room.ensures.runs.found refl
     s))
 
 pub invariant_of-self-in-Err : goal.invariant_of-self-in-Err
@@ -191,7 +192,7 @@ invariant_of-self-in-Err g c =
 
 pub returns-in-Err-clause-moved : goal.returns-in-Err-clause-moved
 returns-in-Err-clause-moved g c =
-    let may : MayPost (held (record { rules = c.self.inside.memos.rules; places = c.self.inside.memos.places; inputs = c.self.inside.inputs; accounts = c.self.inside.accounts; opened = c.self.inside.opened; clients = c.self.inside.clients; waiting = c.self.inside.waiting.items; runs = c.self.inside.runs; started = c.self.inside.started; claims = c.self.inside.claims })) c.args.client =
+    let may : MayPost (held (store_of c.self.inside)) c.args.client =
     subst (λ (v : StoreView g.row.R.Denot g.row.R-Key.Denot g.row.R-Part.Denot g.row.R-Value.Denot g.row.M.Denot). MayPost (held v) c.args.client) (sym c.self.view_is) (rw c.number.ensures at (c.in_default.ensures {u = tt}).may) in
     let same = (c.in-Err.ensures {u = tt}).refused in
     rw (← c.self.view_is)

@@ -16,11 +16,12 @@ use Rattle.pq_core.proofs.StoreAccepting.{edit_refusal_so, edit_moved, edit_refu
 use Rattle.pq_rules.proofs.Weight.{Exact}
 use Rattle.pq_memo.specs.Table.{memo_at}
 use Rattle.pq_core.proofs.StoreCounting.{edited_counted}
+use Rattle.pq_core.specs.aux.Inside.{store_of}
 use Rattle.pq_core.proofs.store.Store.edit.Goals as goal
 
 pub returns-in-Some-clause-moved : goal.returns-in-Some-clause-moved
 returns-in-Some-clause-moved g c =
-    let refused : MayNotEdit (held (record { rules = c.self.inside.memos.rules; places = c.self.inside.memos.places; inputs = c.self.inside.inputs; accounts = c.self.inside.accounts; opened = c.self.inside.opened; clients = c.self.inside.clients; waiting = c.self.inside.waiting.items; runs = c.self.inside.runs; started = c.self.inside.started; claims = c.self.inside.claims })) c.args.client c.in-Some.fault =
+    let refused : MayNotEdit (held (store_of c.self.inside)) c.args.client c.in-Some.fault =
     subst (λ (v : StoreView g.row.R.Denot g.row.R-Key.Denot g.row.R-Part.Denot g.row.R-Value.Denot g.row.M.Denot). MayNotEdit (held v) c.args.client c.in-Some.fault) (sym c.self.view_is)
     (rw c.number.ensures at (c.in-Some.ensures {u = tt}).refused) in
     rw (← c.self.view_is)
@@ -39,8 +40,8 @@ invariant_of-self g c =
     let told = c.in-Ok.ensures {u = tt} in
     let table = table_is c.set.new.self c.self.inside.inputs (record { file = c.change.inside.file; text = option_map string_bytes c.change.inside.text; durability = c.change.inside.durability }) (rw c.as_str.ensures.same at told.files) (told.revision.1 ∙ told.revision.0) told.history in
     let moved = edit_moved g.R.Key.Ord.cmp (g.R.Rules.machine c.self.inside.memos.rules) g.M.Stamp.point told_puts
-    (held (record { rules = c.self.inside.memos.rules; places = c.self.inside.memos.places; inputs = c.self.inside.inputs; accounts = c.self.inside.accounts; opened = c.self.inside.opened; clients = c.self.inside.clients; waiting = c.self.inside.waiting.items; runs = c.self.inside.runs; started = c.self.inside.started; claims = c.self.inside.claims }))
-    (record { inputs = c.set.new.self; accounts = c.self.inside.accounts.items; opened = c.self.inside.opened; clients = c.self.inside.clients; runs = c.self.inside.runs.items; started = c.self.inside.started })
+    (held (store_of c.self.inside))
+    (record (held (store_of c.self.inside)) { inputs = c.set.new.self })
     c.args.client c.in-Ok.revision (record { file = c.change.inside.file; text = option_map string_bytes c.change.inside.text; durability = c.change.inside.durability }) w.ledger.0 may (rw c.as_str.ensures.same at told.accepted) told.revision.0 table (λ k. refl) refl refl (λ k. refl) refl w.ledger.1 in
     record {
       stamped =
@@ -53,7 +54,7 @@ invariant_of-self g c =
       runs_above = w.runs_above;
       queue = w.queue;
       room = w.room;
-      runs = edited_runs _ _ _ _ _ c.set.new.self _ (told.revision.1 ∙ told.revision.0) (λ s y h. run_past g.R.Key.Ord.cmp (g.R.Rules.machine c.self.inside.memos.rules) g.M.Stamp.point told_puts (held (record { rules = c.self.inside.memos.rules; places = c.self.inside.memos.places; inputs = c.self.inside.inputs; accounts = c.self.inside.accounts; opened = c.self.inside.opened; clients = c.self.inside.clients; waiting = c.self.inside.waiting.items; runs = c.self.inside.runs; started = c.self.inside.started; claims = c.self.inside.claims })) w.ledger.0 s y w.ledger.1 h) w.kept w.runs;
+      runs = edited_runs _ _ _ _ _ c.set.new.self _ (told.revision.1 ∙ told.revision.0) (λ s y h. run_past g.R.Key.Ord.cmp (g.R.Rules.machine c.self.inside.memos.rules) g.M.Stamp.point told_puts (held (store_of c.self.inside)) w.ledger.0 s y w.ledger.1 h) w.kept w.runs;
       ledger = (moved.0, moved.2);
     }
 
@@ -67,8 +68,8 @@ returns-in-Ok-clause-moved g c =
     (rw (← c.change.view_is)
     (goes_by g.R.Key.Ord.cmp (g.R.Rules.machine c.self.inside.memos.rules) g.M.Stamp.point _ _ _ (all_same _ _ (λ k. refl))
     (λ l s. edit_moved g.R.Key.Ord.cmp (g.R.Rules.machine c.self.inside.memos.rules) g.M.Stamp.point told_puts
-    (held (record { rules = c.self.inside.memos.rules; places = c.self.inside.memos.places; inputs = c.self.inside.inputs; accounts = c.self.inside.accounts; opened = c.self.inside.opened; clients = c.self.inside.clients; waiting = c.self.inside.waiting.items; runs = c.self.inside.runs; started = c.self.inside.started; claims = c.self.inside.claims }))
-    (record { inputs = c.set.new.self; accounts = c.self.inside.accounts.items; opened = c.self.inside.opened; clients = c.self.inside.clients; runs = c.self.inside.runs.items; started = c.self.inside.started })
+    (held (store_of c.self.inside))
+    (record (held (store_of c.self.inside)) { inputs = c.set.new.self })
     c.args.client c.in-Ok.revision (record { file = c.change.inside.file; text = option_map string_bytes c.change.inside.text; durability = c.change.inside.durability }) l may (rw c.as_str.ensures.same at told.accepted) told.revision.0 table (λ k. refl) refl refl (λ k. refl) refl s)))
 
 pub returns-in-Err-clause-moved : goal.returns-in-Err-clause-moved
@@ -83,7 +84,7 @@ returns-in-Err-clause-moved g c =
       l,
       (
         ap (λ x. record { file = c.change.inside.file; text = option_map string_bytes x; durability = c.change.inside.durability }) told.back,
-        edit_refused g.R.Key.Ord.cmp (g.R.Rules.machine c.self.inside.memos.rules) g.M.Stamp.point told_puts (held (record { rules = c.self.inside.memos.rules; places = c.self.inside.memos.places; inputs = c.self.inside.inputs; accounts = c.self.inside.accounts; opened = c.self.inside.opened; clients = c.self.inside.clients; waiting = c.self.inside.waiting.items; runs = c.self.inside.runs; started = c.self.inside.started; claims = c.self.inside.claims })) c.args.client (record { file = c.change.inside.file; text = option_map string_bytes c.change.inside.text; durability = c.change.inside.durability }) c.in-Err.refused.fault l may
+        edit_refused g.R.Key.Ord.cmp (g.R.Rules.machine c.self.inside.memos.rules) g.M.Stamp.point told_puts (held (store_of c.self.inside)) c.args.client (record { file = c.change.inside.file; text = option_map string_bytes c.change.inside.text; durability = c.change.inside.durability }) c.in-Err.refused.fault l may
             (rw c.as_str.ensures.same at told.fault) s,
         refl,
       ),

@@ -1,11 +1,12 @@
 use Rattle.std.proofs.Common.{refl}
 use Rattle.pq_core.proofs.StoreCollecting.{see_moved, see_queue, seen_made, still_above}
+use Rattle.pq_core.specs.aux.Inside.{store_of}
 use Rattle.pq_core.proofs.store.Store.put_seen.Goals as goal
 
 pub invariant_of-self : goal.invariant_of-self
 invariant_of-self g c =
     let w = c.self.invariant in
-    let moved = see_moved g.R.Key.Ord.cmp (g.R.Rules.machine c.self.inside.memos.rules) g.M.Stamp.point (record { rules = c.self.inside.memos.rules; places = c.self.inside.memos.places; inputs = c.self.inside.inputs; accounts = c.self.inside.accounts; opened = c.self.inside.opened; clients = c.self.inside.clients; waiting = c.self.inside.waiting.items; runs = c.self.inside.runs; started = c.self.inside.started; claims = c.self.inside.claims }) (record { inputs = c.self.inside.inputs; accounts = c.see_in.new.accounts.items; opened = c.self.inside.opened; clients = c.self.inside.clients; runs = c.self.inside.runs.items; started = c.self.inside.started }) w.ledger.0 c.number-seat.result c.args.number
+    let moved = see_moved g.R.Key.Ord.cmp (g.R.Rules.machine c.self.inside.memos.rules) g.M.Stamp.point (store_of c.self.inside) (record (held (store_of c.self.inside)) { accounts = c.see_in.new.accounts.items }) w.ledger.0 c.number-seat.result c.args.number
     (λ account h. let x = c.see_in.ensures.«open» account h in (x.0, x.1, x.2.found)) (λ h. (c.see_in.ensures.closed h).found) (record { inputs = refl; clients = refl; runs = refl; started = refl }) refl w.ledger.1 in
     record {
       stamped = w.stamped;
@@ -24,7 +25,7 @@ pub returns-clause-moved : goal.returns-clause-moved
 returns-clause-moved g c =
     rw (← c.self.view_is)
     (rw (← c.number-seat.ensures)
-    (λ l s. see_moved g.R.Key.Ord.cmp (g.R.Rules.machine c.self.inside.memos.rules) g.M.Stamp.point (record { rules = c.self.inside.memos.rules; places = c.self.inside.memos.places; inputs = c.self.inside.inputs; accounts = c.self.inside.accounts; opened = c.self.inside.opened; clients = c.self.inside.clients; waiting = c.self.inside.waiting.items; runs = c.self.inside.runs; started = c.self.inside.started; claims = c.self.inside.claims }) (record { inputs = c.self.inside.inputs; accounts = c.see_in.new.accounts.items; opened = c.self.inside.opened; clients = c.self.inside.clients; runs = c.self.inside.runs.items; started = c.self.inside.started }) l c.number-seat.result c.args.number
+    (λ l s. see_moved g.R.Key.Ord.cmp (g.R.Rules.machine c.self.inside.memos.rules) g.M.Stamp.point (store_of c.self.inside) (record (held (store_of c.self.inside)) { accounts = c.see_in.new.accounts.items }) l c.number-seat.result c.args.number
     (λ account h. let x = c.see_in.ensures.«open» account h in (x.0, x.1, x.2.found)) (λ h. (c.see_in.ensures.closed h).found) (record { inputs = refl; clients = refl; runs = refl; started = refl }) refl s))
 
 pub returns-clause-made : goal.returns-clause-made

@@ -12,6 +12,7 @@ use Rattle.pq_core.proofs.StoreStarting.{seen_of, start_full, start_none, start_
 use Rattle.pq_rules.proofs.Weight.{Exact}
 use Rattle.pq_memo.specs.Table.{memo_at}
 use Rattle.pq_core.proofs.StoreCounting.{begun_counted}
+use Rattle.pq_core.specs.aux.Inside.{store_of}
 use Rattle.pq_core.proofs.store.Store.start.Goals as goal
 
 pub start_in-request-requires : goal.start_in-request-requires
@@ -44,7 +45,7 @@ invariant_of-self g c =
       runs = started_runs _ _ c.self.inside.inputs _ _ _ _ c.self.inside.started c.new-made.result c.push_reserved.ensures.found
           (found_above c.self.inside.started _ w.runs_above) (rw c.new-made.ensures refl) (rw c.new-made.ensures refl) (rw c.new-made.ensures (λ k. tt))
           (rw c.new-made.ensures c.now-revision.ensures.now)
-          (λ s y h. run_past g.R.Key.Ord.cmp (g.R.Rules.machine c.self.inside.memos.rules) g.M.Stamp.point told_puts (held (record { rules = c.self.inside.memos.rules; places = c.self.inside.memos.places; inputs = c.self.inside.inputs; accounts = c.self.inside.accounts; opened = c.self.inside.opened; clients = c.self.inside.clients; waiting = c.self.inside.waiting.items; runs = c.self.inside.runs; started = c.self.inside.started; claims = c.self.inside.claims })) w.ledger.0 s y w.ledger.1 h) w.runs;
+          (λ s y h. run_past g.R.Key.Ord.cmp (g.R.Rules.machine c.self.inside.memos.rules) g.M.Stamp.point told_puts (held (store_of c.self.inside)) w.ledger.0 s y w.ledger.1 h) w.runs;
       ledger = (moved.0, moved.2);
     }
 
