@@ -232,7 +232,7 @@ module _ {K V M O : Type 0} (means : M → Point → K → Answer K V → Type 0
       (record { past = (ck.each at.n at.entry r.is_entry.here).past; placed = placed.0 })))
 
   -- the work of a run that is out is other work, or none
-  kept_out : (l : Ledger K V M O) (run : ℕ) (at : RunAt K V M O) (out : Option (Out K)) → Kept means puts l → Runs l run at
+  pub kept_out : (l : Ledger K V M O) (run : ℕ) (at : RunAt K V M O) (out : Option (Out K)) → Kept means puts l → Runs l run at
       → Kept means puts (with_out l run at out)
   kept_out l run at out k r =
       let ck = k.clients at.c at.client r.is_entry.client_here in

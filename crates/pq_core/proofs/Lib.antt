@@ -4,6 +4,7 @@ pub mod Standing
 pub mod Calling
 pub mod Moving
 pub mod Ending
+pub mod EndOfRun
 pub mod Changing
 pub mod InPlace
 pub mod Claiming
@@ -36,6 +37,7 @@ pub mod StoreCollecting
 pub mod StoreResting
 pub mod StoreStarting
 pub mod StoreStepping
+pub mod StepOfRun
 pub mod Counting
 pub mod RulesBegun
 pub mod StoreCounting

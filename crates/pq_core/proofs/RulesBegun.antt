@@ -26,11 +26,9 @@ use Rattle.pq_core.specs.declared.frames.Top.{Top}
 use Rattle.pq_core.specs.declared.frames.Top.TheVariants.{Empty, At, Away}
 use Rattle.pq_core.specs.declared.frames.Went.{Went}
 use Rattle.pq_core.specs.declared.frames.Went.TheVariants.{Carry as WentCarry, Stepped as WentStepped, Blocked as WentBlocked, Ring as WentRing}
-use Rattle.pq_core.specs.declared.run.Looked.{Looked}
-use Rattle.pq_core.specs.declared.run.Looked.TheVariants.{Carry, Stepped, Blocked, Ring, Answered}
 use Rattle.pq_core.specs.aux.Runs.{Enters, IsLowered, out_at}
 use Rattle.pq_core.specs.aux.Rings.{IsFrameOf}
-use Rattle.pq_core.specs.aux.Begun.{AdvancesFirst, HandsNothing, IsBegun, IsFirst, KeepsBegun, LooksFirst}
+use Rattle.pq_core.specs.aux.Begun.{AdvancesFirst, HandsNothing, IsBegun, IsFirst, KeepsBegun}
 use Rattle.pq_core.proofs.Lists.{some_one}
 use Rattle.pq_core.proofs.RingRuns.{in_key}
 
@@ -151,14 +149,13 @@ module _ {K P : Type 0} where
   empty_first stack top bare empty k None = tt
   empty_first stack top bare empty k (Some why) = λ b. none_begun stack top bare empty k b
 
-  pub none_looks : {R V A E : Type 0} (stack : List (Frame K P)) (top : Top K P) → stack ≡ [] → top ≡ Empty → (answer : Result (Looked (WorkView R K P V) K A) E)
-      → IfOk answer (λ l. LooksFirst stack top l)
-  none_looks stack top bare empty (Ok (Carry work)) = empty_first stack top bare empty work.done.key work.why
-  none_looks stack top bare empty (Ok Stepped) = tt
-  none_looks stack top bare empty (Ok (Blocked other)) = tt
-  none_looks stack top bare empty (Ok (Ring ring)) = tt
-  none_looks stack top bare empty (Ok (Answered answer)) = none_begun stack top bare empty
-  none_looks stack top bare empty (Err failure) = tt
+  pub none_advances : {R V E : Type 0} (stack : List (Frame K P)) (top : Top K P) → stack ≡ [] → top ≡ Empty → (answer : Result (Went (WorkView R K P V) K) E)
+      → IfOk answer (λ w. AdvancesFirst stack top w)
+  none_advances stack top bare empty (Ok (WentCarry work)) = empty_first stack top bare empty work.done.key work.why
+  none_advances stack top bare empty (Ok WentStepped) = tt
+  none_advances stack top bare empty (Ok (WentBlocked other)) = tt
+  none_advances stack top bare empty (Ok (WentRing ring)) = tt
+  none_advances stack top bare empty (Err failure) = tt
 
   -- the key of the work that is out
   pub out_key : (top : Top K P) (key : K) (out : Out K) → (p : Pending K) × (top ≡ Away p) × (p.key ≡ key) → out_at top ≡ Some out → out.key ≡ key

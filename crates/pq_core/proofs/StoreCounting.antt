@@ -183,14 +183,13 @@ module _ {K P V : Type 0} (order : K → K → Ordering) (exact : Exact order) (
         (ended_counts order exact.total exact.exact inputs.revision (λ k. Taken m inputs.revision tb b k) (λ k. Taken m inputs.revision ta a k) log r was.started (hold_of claims r).keys
         (λ k t. elim (ended_taken order m inputs tb ta b a r was here renewed set k t) [ inl u ↦ inl u | inr n ↦ inr (claimed_begun claims b claimed r was here k n.0, n.1) ]) x)
 
-    -- a run took a step, and then a ring was published
-    pub ring_counted : (tc : K → Option (Memo K V)) (c : List (Place (RunView K P))) (run : RunView K P) → Renewed m inputs.revision tb ta
-        → ((k : ℕ) → found a k ≡ (if k == r then Some run else found b k)) → IsSameRun was run → KeepsBegun m inputs.revision ta was.stack was.top run.stack run.top
-        → Renewed m inputs.revision ta tc → ((k : K) → IsBegunIn inputs.revision a k → IsBegunIn inputs.revision c k ⊎ IsUpToDate m inputs.revision (HasIn tc) k)
-        → IsCounted order inputs.revision (λ k. Taken m inputs.revision tb b k) log → IsCounted order inputs.revision (λ k. Taken m inputs.revision tc c k) log
-    ring_counted tc c run renewed set is keeps again begun x =
-        same_counts order exact.total exact.exact inputs.revision (λ k. Taken m inputs.revision ta a k) (λ k. Taken m inputs.revision tc c k) log next (stepped_counted run renewed set is keeps x)
-      where
-        next : (k : K) → Taken m inputs.revision ta a k → Taken m inputs.revision tc c k
-        next k (inl up) = inl (up_still order m inputs ta tc again k up)
-        next k (inr t) = elim (begun k t) [ inl g ↦ inr g | inr up ↦ inl up ]
+  -- a ring was published
+  pub ring_on : (tb ta : K → Option (Memo K V)) (b a : List (Place (RunView K P))) → Renewed m inputs.revision tb ta
+      → ((k : K) → IsBegunIn inputs.revision b k → IsBegunIn inputs.revision a k ⊎ IsUpToDate m inputs.revision (HasIn ta) k)
+      → IsCounted order inputs.revision (λ k. Taken m inputs.revision tb b k) log → IsCounted order inputs.revision (λ k. Taken m inputs.revision ta a k) log
+  ring_on tb ta b a renewed begun x =
+      same_counts order exact.total exact.exact inputs.revision (λ k. Taken m inputs.revision tb b k) (λ k. Taken m inputs.revision ta a k) log next x
+    where
+      next : (k : K) → Taken m inputs.revision tb b k → Taken m inputs.revision ta a k
+      next k (inl up) = inl (up_still order m inputs tb ta renewed k up)
+      next k (inr t) = elim (begun k t) [ inl g ↦ inr g | inr up ↦ inl up ]

@@ -363,7 +363,7 @@ module _ {R K P V M O : Type 0} (order : K → K → Ordering) (m : Machine K P 
       let is = run_is b l r run at s h w in
       f (o.run_same, o.started ∙ ap (λ (y : RunSeen K). y.started) (sym is), ap (λ (y : RunSeen K). y.out) is ∙ o.out)
 
-  fits_of : (l : Ledger K V M O) (r : ℕ) (run : RunView K P) (done : DoneView R K P V) (x : RunHere l r run)
+  pub fits_of : (l : Ledger K V M O) (r : ℕ) (run : RunView K P) (done : DoneView R K P V) (x : RunHere l r run)
       → (done.run ≡ r) × (done.started ≡ run.started) × (out_at run.top ≡ Some (out_of done)) → IsOf r x.at done
   fits_of l r run done x f = record {
     run_same = f.0;

@@ -16,3 +16,5 @@ pub mod Accepting
 pub mod Queue
 pub mod Resting
 pub mod Inside
+pub mod RunEnds
+pub mod RunStates

@@ -17,7 +17,8 @@
 //! Modules: `ids`, `label` and `request` (what clients post), `stamp` (of a revision), `outcome` and
 //! `reply`, `fault` (why a call is refused), `moves` (what runs and releases come to), `outbox` (where
 //! replies go), `work` and `job` (a rule that is to be carried out, with a stamp and without), `store`
-//! (the store), `opening`, `accepting`, `starting`, `running` and `collecting` (its calls), `account`
+//! (the store), `opening`, `accepting`, `starting`, `running` and `collecting` (its calls), `run_state`,
+//! `run_step` and `run_end` (the state of a run, its step, its end), `account`
 //! and `in_accounts` (what it knows of an open client), `ready` (a reply on its way), `lane`, `cores`
 //! (the core), `serving` and `releasing` (its calls), `passing` (from the store to a lane), `rising` (a
 //! map from rising numbers), `run`, `frames`, `confirming` and `entering` (how a run goes on),
@@ -52,6 +53,9 @@ mod reply;
 mod request;
 mod rising;
 mod run;
+mod run_end;
+mod run_state;
+mod run_step;
 mod running;
 mod serving;
 mod stamp;

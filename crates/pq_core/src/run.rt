@@ -9,8 +9,8 @@ ghost use Rattle.pq_memo.specs.Table.{memo_at, HasIn, KeptOver};
 ghost use Rattle.pq_claims.specs.Claims.{hold_of};
 ghost use Rattle.pq_core.specs.Kept.{IsDemand};
 ghost use Rattle.pq_core.specs.Moves.{out_of};
-ghost use Rattle.pq_core.specs.aux.Runs.{AreStale, FramesKept, HasLooked, IsAnswer, IsSameRun, IsStale, OthersHold, Renewed, RunKept, WaitStands, OthersUnwritten, out_at, run_keys};
-ghost use Rattle.pq_core.specs.aux.Begun.{KeepsBegun, LooksFirst};
+ghost use Rattle.pq_core.specs.aux.Runs.{AreStale, HasAdvanced, IsAnswer, IsSameRun, IsStale, OthersHold, Renewed, RunKept, WaitStands, OthersUnwritten, out_at, run_keys};
+ghost use Rattle.pq_core.specs.aux.Begun.{AdvancesFirst, KeepsBegun};
 ghost use Rattle.pq_core.specs.declared.frames.Top.TheVariants.{Empty, At};
 ghost use Rattle.pq_core.specs.declared.request.Want.TheVariants.{Demand};
 
@@ -25,21 +25,6 @@ use pq_rules::{Answer, Rules, Shared, is_same_key};
 use std::alloc::Global;
 use std::marker::Model;
 use std::mem::replace;
-
-/// What a look comes to. `W` is the work that it may hand out, `K` the type of keys, `A` that of answers.
-#[derive(Drop)]
-pub(crate) enum Looked<W, K, A> {
-    /// This work is handed out.
-    Carry(W),
-    /// The run went on.
-    Stepped,
-    /// The run waits for this other run.
-    Blocked(RunId),
-    /// The top frame waits for a key, and a wait of the run for it would close the ring of these keys.
-    Ring(Vec<K>),
-    /// This is the answer of the request's key.
-    Answered(A),
-}
 
 /// A request, and how far its key is.
 #[derive(Drop)]
@@ -112,7 +97,7 @@ impl<R: Rules> Run<R> {
     }
 
     /// The answer of the request's key at the sources now, if it is up to date.
-    fn answer(
+    fn key_answer(
         &self,
         alloc: Global,
         memos: &Memos<R>,
@@ -129,6 +114,26 @@ impl<R: Rules> Run<R> {
         }
     }
 
+    /// The answer of the request's key at the sources now, if the run has no frame and the key is up to
+    /// date.
+    pub(crate) fn answer(
+        &self,
+        alloc: Global,
+        memos: &Memos<R>,
+        inputs: &Inputs,
+    ) -> Result<Option<Shared<Answer<R::Key, R::Value>>>, Memory>
+        requires kept { KeptOver R.Key.cmp (R.machine memos.now.rules) inputs.now memos.now.places }
+        requires demand { IsDemand self.now.request.want }
+        ensures answered { IfOk result (λ o. IfSome o (λ a. (self.now.top ≡ Empty) × IsAnswer R.Key.cmp (R.machine memos.now.rules) inputs.now self.now.request a)) }
+        ensures stale { IfOk result (λ o. IfNone o (self.now.top ≡ Empty → IsStale (R.machine memos.now.rules) inputs.now.revision (HasIn (memo_at R.Key.cmp memos.now.places)) self.now.request)) }
+    {
+        match &self.frames.top {
+            Top::Empty => return self.key_answer(alloc, memos, inputs),
+            Top::At(_) => return Ok(None),
+            Top::Away(_) => return Ok(None),
+        }
+    }
+
     /// A copy of the request's key.
     fn first_key(&self, alloc: Global, rules: &R) -> Result<R::Key, Memory>
         requires demand { IsDemand self.now.request.want }
@@ -140,48 +145,7 @@ impl<R: Rules> Run<R> {
         }
     }
 
-    /// Takes one step of `frame`, which was the top.
-    fn advance(
-        &mut self,
-        alloc: Global,
-        id: RunId,
-        memos: &mut Memos<R>,
-        claims: &mut Claims<R>,
-        inputs: &Inputs,
-        frame: Frame<R::Key, R::Part>,
-    ) -> Result<Looked<Job<R>, R::Key, Shared<Answer<R::Key, R::Value>>>, Memory>
-        requires kept { KeptOver R.Key.cmp (R.machine memos.old.rules) inputs.now memos.old.places }
-        requires frames_kept { FramesKept R.Key.cmp (R.machine memos.old.rules) inputs.now (memo_at R.Key.cmp memos.old.places) self.old.stack (At frame) }
-        requires claimed { (hold_of claims.old id).keys ≡ run_keys self.old.stack (At frame) }
-        requires stale { AreStale (R.machine memos.old.rules) inputs.now.revision (memo_at R.Key.cmp memos.old.places) (run_keys self.old.stack (At frame)) }
-        ensures rules { memos.new.rules ≡ memos.old.rules }
-        ensures kept { KeptOver R.Key.cmp (R.machine memos.old.rules) inputs.now memos.new.places }
-        ensures renewed { Renewed (R.machine memos.old.rules) inputs.now.revision (memo_at R.Key.cmp memos.old.places) (memo_at R.Key.cmp memos.new.places) }
-        ensures same { IsSameRun self.old self.new }
-        ensures run_kept { RunKept R.Key.cmp (R.machine memos.old.rules) inputs.now (memo_at R.Key.cmp memos.new.places) self.new }
-        ensures claimed { (hold_of claims.new id).keys ≡ run_keys self.new.stack self.new.top }
-        ensures others { OthersHold id claims.old claims.new }
-        ensures stale { AreStale (R.machine memos.old.rules) inputs.now.revision (memo_at R.Key.cmp memos.new.places) (run_keys self.new.stack self.new.top) }
-        ensures waits { WaitStands R.Key.cmp (R.machine memos.old.rules) inputs.now (memo_at R.Key.cmp memos.new.places) claims.new id self.new.top }
-        ensures written { OthersUnwritten claims.old id (memo_at R.Key.cmp memos.old.places) (memo_at R.Key.cmp memos.new.places) }
-        ensures looked { IfOk result (λ l. HasLooked R.Key.cmp (R.machine memos.old.rules) memos.old.rules inputs.now (memo_at R.Key.cmp memos.old.places) claims.new id self.old.request self.new.top l) }
-        ensures refused { OnErr result (out_at self.new.top ≡ None) }
-        ensures begun { KeepsBegun (R.machine memos.old.rules) inputs.now.revision (memo_at R.Key.cmp memos.new.places) self.old.stack (At frame) self.new.stack self.new.top }
-        ensures first { IfOk result (λ l. LooksFirst self.old.stack (At frame) l) }
-    {
-        match self
-            .frames
-            .advance(alloc, id, memos, claims, inputs, frame)?
-        {
-            Went::Carry(work) => Ok(Looked::Carry(work)),
-            Went::Stepped => Ok(Looked::Stepped),
-            Went::Blocked(other) => Ok(Looked::Blocked(other)),
-            Went::Ring(ring) => Ok(Looked::Ring(ring)),
-        }
-    }
-
-    /// Takes the first step: finds the answer of the request's key, or claims it and begins with
-    /// it.
+    /// Takes the first step: claims the request's key, which is not up to date, and begins with it.
     fn begin(
         &mut self,
         alloc: Global,
@@ -189,9 +153,10 @@ impl<R: Rules> Run<R> {
         memos: &mut Memos<R>,
         claims: &mut Claims<R>,
         inputs: &Inputs,
-    ) -> Result<Looked<Job<R>, R::Key, Shared<Answer<R::Key, R::Value>>>, Memory>
+    ) -> Result<Went<Job<R>, R::Key>, Memory>
         requires demand { IsDemand self.old.request.want }
         requires empty { (self.old.stack ≡ []) × (self.old.top ≡ Empty) }
+        requires stale { IsStale (R.machine memos.old.rules) inputs.now.revision (HasIn (memo_at R.Key.cmp memos.old.places)) self.old.request }
         requires kept { KeptOver R.Key.cmp (R.machine memos.old.rules) inputs.now memos.old.places }
         requires claimed { (hold_of claims.old id).keys ≡ run_keys self.old.stack self.old.top }
         ensures rules { memos.new.rules ≡ memos.old.rules }
@@ -204,27 +169,25 @@ impl<R: Rules> Run<R> {
         ensures stale { AreStale (R.machine memos.old.rules) inputs.now.revision (memo_at R.Key.cmp memos.new.places) (run_keys self.new.stack self.new.top) }
         ensures waits { WaitStands R.Key.cmp (R.machine memos.old.rules) inputs.now (memo_at R.Key.cmp memos.new.places) claims.new id self.new.top }
         ensures written { OthersUnwritten claims.old id (memo_at R.Key.cmp memos.old.places) (memo_at R.Key.cmp memos.new.places) }
-        ensures looked { IfOk result (λ l. HasLooked R.Key.cmp (R.machine memos.old.rules) memos.old.rules inputs.now (memo_at R.Key.cmp memos.old.places) claims.new id self.old.request self.new.top l) }
+        ensures advanced { IfOk result (λ w. HasAdvanced R.Key.cmp (R.machine memos.old.rules) memos.old.rules inputs.now (memo_at R.Key.cmp memos.old.places) claims.new id self.new.top w) }
         ensures refused { OnErr result (out_at self.new.top ≡ None) }
         ensures begun { KeepsBegun (R.machine memos.old.rules) inputs.now.revision (memo_at R.Key.cmp memos.new.places) self.old.stack self.old.top self.new.stack self.new.top }
-        ensures first { IfOk result (λ l. LooksFirst self.old.stack self.old.top l) }
+        ensures first { IfOk result (λ w. AdvancesFirst self.old.stack self.old.top w) }
     {
-        if let Some(answer) = self.answer(alloc, memos, inputs)? {
-            return Ok(Looked::Answered(answer));
-        }
         let key = self.first_key(alloc, memos.rules())?;
         match claims.claim(alloc, id, &key)? {
             Claim::Got => {
                 let stage = Stage::Walking(0);
-                self.advance(alloc, id, memos, claims, inputs, Frame { key, stage })
+                self.frames
+                    .advance(alloc, id, memos, claims, inputs, Frame { key, stage })
             }
-            Claim::HeldBy(other) => Ok(Looked::Blocked(other)),
+            Claim::HeldBy(other) => Ok(Went::Blocked(other)),
             Claim::Ring(_) => unreachable!(),
         }
     }
 
-    /// Takes one step: hands out work, goes on, waits for another run, finds a ring, or finds the
-    /// answer of the request's key. If an allocation fails, no key gets another memo.
+    /// Takes one step: hands out work, goes on, waits for another run, or finds a ring. If an allocation
+    /// fails, no key gets another memo.
     pub(crate) fn look(
         &mut self,
         alloc: Global,
@@ -232,9 +195,10 @@ impl<R: Rules> Run<R> {
         memos: &mut Memos<R>,
         claims: &mut Claims<R>,
         inputs: &Inputs,
-    ) -> Result<Looked<Job<R>, R::Key, Shared<Answer<R::Key, R::Value>>>, Memory>
+    ) -> Result<Went<Job<R>, R::Key>, Memory>
         requires demand { IsDemand self.old.request.want }
         requires idle { out_at self.old.top ≡ None }
+        requires first_stale { self.old.top ≡ Empty → IsStale (R.machine memos.old.rules) inputs.now.revision (HasIn (memo_at R.Key.cmp memos.old.places)) self.old.request }
         requires current { self.old.started ≡ inputs.now.revision }
         requires kept { KeptOver R.Key.cmp (R.machine memos.old.rules) inputs.now memos.old.places }
         requires run_kept { RunKept R.Key.cmp (R.machine memos.old.rules) inputs.now (memo_at R.Key.cmp memos.old.places) self.old }
@@ -250,13 +214,13 @@ impl<R: Rules> Run<R> {
         ensures stale { AreStale (R.machine memos.old.rules) inputs.now.revision (memo_at R.Key.cmp memos.new.places) (run_keys self.new.stack self.new.top) }
         ensures waits { WaitStands R.Key.cmp (R.machine memos.old.rules) inputs.now (memo_at R.Key.cmp memos.new.places) claims.new id self.new.top }
         ensures written { OthersUnwritten claims.old id (memo_at R.Key.cmp memos.old.places) (memo_at R.Key.cmp memos.new.places) }
-        ensures looked { IfOk result (λ l. HasLooked R.Key.cmp (R.machine memos.old.rules) memos.old.rules inputs.now (memo_at R.Key.cmp memos.old.places) claims.new id self.old.request self.new.top l) }
+        ensures advanced { IfOk result (λ w. HasAdvanced R.Key.cmp (R.machine memos.old.rules) memos.old.rules inputs.now (memo_at R.Key.cmp memos.old.places) claims.new id self.new.top w) }
         ensures refused { OnErr result (out_at self.new.top ≡ None) }
         ensures begun { KeepsBegun (R.machine memos.old.rules) inputs.now.revision (memo_at R.Key.cmp memos.new.places) self.old.stack self.old.top self.new.stack self.new.top }
-        ensures first { IfOk result (λ l. LooksFirst self.old.stack self.old.top l) }
+        ensures first { IfOk result (λ w. AdvancesFirst self.old.stack self.old.top w) }
     {
         match replace(&mut self.frames.top, Top::Empty) {
-            Top::At(frame) => self.advance(alloc, id, memos, claims, inputs, frame),
+            Top::At(frame) => self.frames.advance(alloc, id, memos, claims, inputs, frame),
             Top::Empty => self.begin(alloc, id, memos, claims, inputs),
             Top::Away(_) => unreachable!(),
         }

@@ -1,101 +1,28 @@
-//! Steps and ends of runs.
+//! The calls of a store for one run: its request, its next step, the result of its work, and its end
+//! where an allocation failed.
 //!
-//! A run that was overtaken is stopped before anything else, so that a want of memory never hides
-//! it.
-ghost use Rattle.std.specs.Prelude.{◌≡◌, ◌≤◌, ◌<◌, ◌+◌, ◌⊎◌, ◌↔◌, length, ℕ, IsTrue, IfOk, IfErr, Some, None};
+//! `state_of` says what a run is at, `step` takes a step of it, and `end_by` ends it.
+ghost use Rattle.std.specs.Prelude.{◌≡◌, IfOk, IfErr};
 ghost use Rattle.pq_memo.specs.Table.{memo_at};
 ghost use Rattle.pq_memo.specs.Demand.{NoneLost};
-ghost use Rattle.pq_core.specs.Replies.{IsFair};
 ghost use Rattle.pq_core.specs.Ledger.{Ledger};
 ghost use Rattle.pq_core.specs.Moves.{Looks, Gives, Starves, IsMade, IsRequestOf};
 ghost use Rattle.pq_core.specs.Stores.{StandsFor, HandsOut, HasCause, NamesHolder, Goes};
 ghost use Rattle.pq_core.specs.Told.{Told};
-ghost use Rattle.pq_core.specs.Truth.{IsTrueReply};
 ghost use Rattle.pq_core.specs.Starts.{IsCountedIn, Log, log_moved_in, log_starved_in};
-ghost use Rattle.pq_core.specs.aux.Rising.{found, IsAbove};
-ghost use Rattle.pq_core.specs.aux.Changes.{IsSetAt, IsSameMap};
-ghost use Rattle.pq_core.specs.Accounts.{AccountView, IsStage, with_stage};
-ghost use Rattle.pq_core.specs.declared.account.Stage.TheVariants.{Running, Made};
-ghost use Rattle.pq_core.specs.declared.outcome.Outcome.TheVariants.{Cancelled, Starved, Answered};
 
-use crate::account::Account;
-use crate::closing::close_ring;
 use crate::fault::{GiveFault, GiveRefused, LookFault};
+use crate::frames::Went;
 use crate::ids::{ClientId, Number};
-use crate::in_accounts::finish_in;
 use crate::moves::Move;
-use crate::outcome::Outcome;
-use crate::reply::Reply;
-use crate::rising::Rising;
-use crate::run::{Looked, Run};
+use crate::run_end::Ending;
+use crate::run_state::RunState;
 use crate::stamp::Stamp;
 use crate::store::Store;
 use crate::work::{Done, Work};
-use pq_claims::{RunId, claims_are_sound};
-use pq_inputs::Revision;
-use pq_memo::look_is_right;
+use pq_claims::RunId;
 use pq_rules::Rules;
 use std::alloc::Global;
-
-/// Whether `run` was overtaken: an edit was accepted since its start, or its client was closed.
-fn is_overtaken<R: Rules, M: Stamp>(
-    accounts: &Rising<Account<R, M>>,
-    run: &Run<R>,
-    now: Revision,
-) -> bool
-    ensures { IsTrue result ↔ ((run.now.started < now) ⊎ (found accounts.now.items run.now.client ≡ None)) }
-{
-    if run.started < now {
-        return true;
-    }
-    accounts.get(run.client).is_none()
-}
-
-/// Makes the reply of `outcome` to the request of `run`, which is over, if its client is open.
-fn end_run<R: Rules, M: Stamp>(
-    accounts: &mut Rising<Account<R, M>>,
-    run: Run<R>,
-    revision: Revision,
-    outcome: Outcome<R::Key, R::Value, M>,
-)
-    requires fair { IsFair revision outcome }
-    requires told { IsTrueReply R.Key.cmp R.machine M.point (record { client = run.client; number = run.number; request = run.request; revision = revision; outcome = outcome }) }
-    requires running { (account : AccountView R.Key R.Value M) → found accounts.old.items run.client ≡ Some account → (accepted : ℕ) × IsStage account run.number (Running accepted) }
-    ensures open { (account : AccountView R.Key R.Value M) → found accounts.old.items run.client ≡ Some account
-        → (accepted : ℕ) × IsStage account run.number (Running accepted)
-        × IsSetAt accounts.old accounts.new run.client (Some (with_stage account run.number (Made (record { reply = record { client = run.client; number = run.number; request = run.request; revision = revision; outcome = outcome }; accepted = accepted })))) }
-    ensures closed { found accounts.old.items run.client ≡ None → IsSameMap accounts.old accounts.new }
-    ensures above { (m : ℕ) → IsAbove m accounts.old.items → IsAbove m accounts.new.items }
-{
-    let client = run.client;
-    let number = run.number;
-    let reply = Reply::new(
-        ClientId::new(client),
-        Number::new(number),
-        run.request,
-        revision,
-        outcome,
-    );
-    finish_in(accounts, client, number, reply);
-}
-
-/// Ends `run`, which was overtaken. It is cancelled at the revision `seen`, if its client is open.
-fn stop_run<R: Rules, M: Stamp>(accounts: &mut Rising<Account<R, M>>, run: Run<R>, seen: Revision)
-    requires ruled { R }
-    requires overtaken { (run.started < seen) ⊎ (found accounts.old.items run.client ≡ None) }
-    requires running { (account : AccountView R.Key R.Value M) → found accounts.old.items run.client ≡ Some account → (accepted : ℕ) × IsStage account run.number (Running accepted) }
-    ensures open { (account : AccountView R.Key R.Value M) → found accounts.old.items run.client ≡ Some account
-        → (accepted : ℕ) × IsStage account run.number (Running accepted)
-        × IsSetAt accounts.old accounts.new run.client (Some (with_stage account run.number (Made (record { reply = record { client = run.client; number = run.number; request = run.request; revision = seen; outcome = Cancelled run.started seen }; accepted = accepted })))) }
-    ensures closed { found accounts.old.items run.client ≡ None → IsSameMap accounts.old accounts.new }
-    ensures above { (m : ℕ) → IsAbove m accounts.old.items → IsAbove m accounts.new.items }
-{
-    let started = run.started;
-    if started < seen {
-        end_run(accounts, run, seen, Outcome::Cancelled { started, seen });
-        return;
-    }
-}
 
 impl<R: Rules, M: Stamp> Store<R, M> {
     /// The client and the number of the request of `run`, if it exists.
@@ -123,79 +50,32 @@ impl<R: Rules, M: Stamp> Store<R, M> {
         ensures cause { IfOk result (HasCause R.Key.cmp (R.machine self.old.rules) self.old) }
         ensures counted { (log : Log R.Key) → IsCountedIn R.Key.cmp (R.machine self.old.rules) self.old log → IsCountedIn R.Key.cmp (R.machine self.old.rules) self.new (log_moved_in self.old run result log) }
     {
-        look_is_right(&self.memos);
-        claims_are_sound(&self.claims);
-        let who = run;
-        let id = run.number();
-        let now = self.inputs.now();
-        match self.runs.take(id) {
-            None => return Err(LookFault::NoRun),
-            Some(taken) => {
-                let mut run = taken;
-                if is_overtaken(&self.accounts, &run, now) {
-                    self.claims.release_all(who);
-                    stop_run(&mut self.accounts, run, now);
+        match self.state_of(alloc, run) {
+            Err(_) => return Err(LookFault::Memory),
+            Ok(state) => match state {
+                RunState::Gone => return Err(LookFault::NoRun),
+                RunState::Overtaken => {
+                    self.end_by(run, Ending::Stopped);
                     return Ok(Move::Stopped);
                 }
-                if run.is_out() {
-                    self.runs.put_back(id, run);
-                    return Ok(Move::Blocked(who));
+                RunState::Away => return Ok(Move::Blocked(run)),
+                RunState::Answered(answer, stamp) => {
+                    self.end_by(run, Ending::Answered(answer, stamp));
+                    return Ok(Move::Answered);
                 }
-                let stamp = match self.stamp.again().ok() {
-                    Some(stamp) => stamp,
-                    None => {
-                        self.runs.put_back(id, run);
-                        return Err(LookFault::Memory);
-                    }
-                };
-                let looked = run.look(alloc, who, &mut self.memos, &mut self.claims, &self.inputs);
-                claims_are_sound(&self.claims);
-                match looked {
-                    Ok(looked) => match looked {
-                        Looked::Carry(work) => {
-                            self.runs.put_back(id, run);
-                            return Ok(Move::Carry(Work::new(work, stamp)));
-                        }
-                        Looked::Stepped => {
-                            self.runs.put_back(id, run);
-                            return Ok(Move::Stepped);
-                        }
-                        Looked::Blocked(other) => {
-                            self.runs.put_back(id, run);
-                            return Ok(Move::Blocked(other));
-                        }
-                        Looked::Ring(ring) => {
-                            self.runs.put_back(id, run);
-                            match close_ring(
-                                alloc,
-                                &mut self.memos,
-                                &mut self.claims,
-                                &mut self.runs,
-                                &self.inputs,
-                                who,
-                                &ring,
-                            ) {
-                                Ok(()) => return Ok(Move::Stepped),
-                                Err(_) => return Err(LookFault::Memory),
-                            }
-                        }
-                        Looked::Answered(answer) => {
-                            self.claims.release_all(who);
-                            end_run(
-                                &mut self.accounts,
-                                run,
-                                now,
-                                Outcome::Answered(answer, stamp),
-                            );
-                            return Ok(Move::Answered);
-                        }
+                RunState::Ready(stamp) => match self.step(alloc, run) {
+                    Err(_) => return Err(LookFault::Memory),
+                    Ok(went) => match went {
+                        Went::Carry(job) => return Ok(Move::Carry(Work::new(job, stamp))),
+                        Went::Stepped => return Ok(Move::Stepped),
+                        Went::Blocked(other) => return Ok(Move::Blocked(other)),
+                        Went::Ring(ring) => match self.close(alloc, run, &ring) {
+                            Ok(()) => return Ok(Move::Stepped),
+                            Err(_) => return Err(LookFault::Memory),
+                        },
                     },
-                    Err(_) => {
-                        self.runs.put_back(id, run);
-                        return Err(LookFault::Memory);
-                    }
-                }
-            }
+                },
+            },
         }
     }
 
@@ -219,49 +99,21 @@ impl<R: Rules, M: Stamp> Store<R, M> {
         ensures moved { Goes R.Key.cmp (R.machine self.old.rules) M.point self.old self.new (Gives run done result) }
         ensures counted { (log : Log R.Key) → IsCountedIn R.Key.cmp (R.machine self.old.rules) self.old log → IsCountedIn R.Key.cmp (R.machine self.old.rules) self.new (log_moved_in self.old run result log) }
     {
-        claims_are_sound(&self.claims);
-        let who = run;
-        let id = run.number();
-        let now = self.inputs.now();
-        match self.runs.take(id) {
-            None => {
-                let fault = GiveFault::NotThisRun;
+        if !self.fits(run, &done.made) {
+            let fault = GiveFault::NotThisRun;
+            return Err(GiveRefused { fault, done });
+        }
+        if self.is_late(run) {
+            self.end_by(run, Ending::Stopped);
+            return Ok(Move::Stopped);
+        }
+        let Done { made, stamp } = done;
+        match self.take_result(alloc, run, made) {
+            Ok(()) => return Ok(Move::Stepped),
+            Err(made) => {
+                let fault = GiveFault::Memory;
+                let done = Done { made, stamp };
                 return Err(GiveRefused { fault, done });
-            }
-            Some(taken) => {
-                let mut run = taken;
-                if !run.fits(self.memos.rules(), who, &done.made) {
-                    self.runs.put_back(id, run);
-                    let fault = GiveFault::NotThisRun;
-                    return Err(GiveRefused { fault, done });
-                }
-                if is_overtaken(&self.accounts, &run, now) {
-                    self.claims.release_all(who);
-                    stop_run(&mut self.accounts, run, now);
-                    return Ok(Move::Stopped);
-                }
-                let Done { made, stamp } = done;
-                let given = run.give(
-                    alloc,
-                    who,
-                    &mut self.memos,
-                    &mut self.claims,
-                    &self.inputs,
-                    made,
-                );
-                claims_are_sound(&self.claims);
-                match given {
-                    Ok(()) => {
-                        self.runs.put_back(id, run);
-                        return Ok(Move::Stepped);
-                    }
-                    Err(made) => {
-                        self.runs.put_back(id, run);
-                        let fault = GiveFault::Memory;
-                        let done = Done { made, stamp };
-                        return Err(GiveRefused { fault, done });
-                    }
-                }
             }
         }
     }
@@ -274,14 +126,10 @@ impl<R: Rules, M: Stamp> Store<R, M> {
         ensures moved { Goes R.Key.cmp (R.machine self.old.rules) M.point self.old self.new (Starves run result) }
         ensures counted { (log : Log R.Key) → IsCountedIn R.Key.cmp (R.machine self.old.rules) self.old log → IsCountedIn R.Key.cmp (R.machine self.old.rules) self.new (log_starved_in self.old run result log) }
     {
-        let now = self.inputs.now();
-        match self.runs.take(run.number()) {
-            Some(taken) => {
-                self.claims.release_all(run);
-                end_run(&mut self.accounts, taken, now, Outcome::Starved);
-                return true;
-            }
-            None => return false,
+        if !self.has_run(run) {
+            return false;
         }
+        self.end_by(run, Ending::Starved);
+        true
     }
 }

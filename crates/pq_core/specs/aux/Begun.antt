@@ -13,8 +13,6 @@ use Rattle.pq_core.specs.declared.frames.Top.{Top}
 use Rattle.pq_core.specs.declared.frames.Top.TheVariants.{Away}
 use Rattle.pq_core.specs.declared.frames.Went.{Went}
 use Rattle.pq_core.specs.declared.frames.Went.TheVariants.{Carry as WentCarry, Stepped as WentStepped, Blocked as WentBlocked, Ring as WentRing}
-use Rattle.pq_core.specs.declared.run.Looked.{Looked}
-use Rattle.pq_core.specs.declared.run.Looked.TheVariants.{Carry, Stepped, Blocked, Ring, Answered}
 use Rattle.pq_core.specs.declared.rising.Place.{Place}
 use Rattle.pq_core.specs.aux.Rising.{found}
 use Rattle.pq_core.specs.aux.Runs.{RunView}
@@ -55,11 +53,3 @@ AdvancesFirst stack top (WentCarry work) = IsFirst stack top work.done.key work.
 AdvancesFirst stack top WentStepped = Unit {0}
 AdvancesFirst stack top (WentBlocked other) = Unit {0}
 AdvancesFirst stack top (WentRing ring) = Unit {0}
-
--- `LooksFirst stack top looked` is this of a look; and that a run that answers had begun no rule
-abbrev pub LooksFirst : {R K P V A : Type 0} → List (Frame K P) → Top K P → Looked (WorkView R K P V) K A → Type 0
-LooksFirst stack top (Carry work) = IsFirst stack top work.done.key work.why
-LooksFirst stack top Stepped = Unit {0}
-LooksFirst stack top (Blocked other) = Unit {0}
-LooksFirst stack top (Ring ring) = Unit {0}
-LooksFirst {R} {K} stack top (Answered answer) = (k : K) → IsBegun stack top k → ⊥

@@ -32,8 +32,6 @@ use Rattle.pq_core.specs.declared.frames.Top.{Top}
 use Rattle.pq_core.specs.declared.frames.Top.TheVariants.{Empty, At, Away}
 use Rattle.pq_core.specs.declared.frames.Went.{Went}
 use Rattle.pq_core.specs.declared.frames.Went.TheVariants.{Carry as WentCarry, Stepped as WentStepped, Blocked as WentBlocked, Ring as WentRing}
-use Rattle.pq_core.specs.declared.run.Looked.{Looked}
-use Rattle.pq_core.specs.declared.run.Looked.TheVariants.{Carry, Stepped, Blocked, Ring, Answered}
 use Rattle.pq_core.specs.declared.rising.Place.{Place}
 use Rattle.pq_core.specs.aux.Rising.{found}
 
@@ -247,17 +245,6 @@ IsAnswer {K} order m inputs request answer = (key : K) × (request.want ≡ Dema
 -- `IsStale m now Has request` is that the key of `request` is not up to date
 abbrev pub IsStale : {K P V : Type 0} → Machine K P V → ℕ → (K → Memo K V → Type 0) → Request K → Type 0
 IsStale {K} m now Has request = (key : K) → request.want ≡ Demand key → IsUpToDate m now Has key → ⊥
-
--- `HasLooked order m rules inputs table claims run request top looked` is that a look handed out
--- work, went on, found that another run holds the key that it needs, or that a wait for that key would
--- close a ring, or found the answer of the request's key at the sources now
-abbrev pub HasLooked : {R K P V : Type 0} → (K → K → Ordering) → Machine K P V → R → Table → (K → Option (Memo K V)) → List (ℕ × Hold K) → ℕ → Request K → Top K P
-    → Looked (WorkView R K P V) K (Answer K V) → Type 0
-HasLooked order m rules inputs table claims run request top (Carry work) = HandedOut m rules inputs table run top work
-HasLooked order m rules inputs table claims run request top Stepped = out_at top ≡ None
-HasLooked order m rules inputs table claims run request top (Blocked other) = (out_at top ≡ None) × IsHeldUp claims run other
-HasLooked order m rules inputs table claims run request top (Ring ring) = (out_at top ≡ None) × ClosesRing order m inputs table claims run top ring.items
-HasLooked order m rules inputs table claims run request top (Answered answer) = IsAnswer order m inputs request answer × (out_at top ≡ None)
 
 -- `RunsKept order m inputs table claims runs` is what holds of `runs` and their `claims` between any
 -- two steps

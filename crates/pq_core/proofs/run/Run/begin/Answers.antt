@@ -6,29 +6,33 @@ use Rattle.pq_core.specs.aux.Runs.{out_at}
 use Rattle.pq_core.proofs.Claiming.{claimed_others, got_keys, held_keys, held_up, others_then}
 use Rattle.pq_core.proofs.Stepping.{empty_stands, none_closed, unwritten_then}
 use Rattle.pq_core.proofs.Beginning.{first_held, first_kept, first_stale, none_held}
-use Rattle.pq_core.proofs.RulesBegun.{none_begun, none_looks}
+use Rattle.pq_core.proofs.RulesBegun.{none_begun, none_advances}
 use Rattle.pq_core.proofs.run.Run.begin.Goals as goal
 
-pub advance-requires-clause-frames_kept : goal.advance-requires-clause-frames_kept
-advance-requires-clause-frames_kept g c =
-    first_kept g.R.Key.Ord.cmp (g.R.Rules.machine c.args.memos.now.rules) c.args.inputs.now (memo_at g.R.Key.Ord.cmp c.args.memos.now.places)
-    c.args.self.now.stack c.args.self.now.stack c.args.self.now.request c.in_ok-key.key
-    c.requires.empty.0
-    refl (c.in_ok-key.ensures {u = tt}) (rw c.in_default.is at (c.in_ok-answer.ensures {u = tt}).stale)
+pub advance-requires-clause-below : goal.advance-requires-clause-below
+advance-requires-clause-below g c =
+    let kept = first_kept g.R.Key.Ord.cmp (g.R.Rules.machine c.args.memos.now.rules) c.args.inputs.now (memo_at g.R.Key.Ord.cmp c.args.memos.now.places)
+    c.args.self.now.stack c.args.self.now.stack c.args.self.now.request c.in_ok-key.key c.requires.empty.0 refl (c.in_ok-key.ensures {u = tt}) c.requires.stale in
+    (rw (← c.self.view_is) at kept).0
+
+pub advance-requires-clause-can : goal.advance-requires-clause-can
+advance-requires-clause-can g c =
+    (first_kept g.R.Key.Ord.cmp (g.R.Rules.machine c.args.memos.now.rules) c.args.inputs.now (memo_at g.R.Key.Ord.cmp c.args.memos.now.places)
+    c.args.self.now.stack c.args.self.now.stack c.args.self.now.request c.in_ok-key.key c.requires.empty.0 refl (c.in_ok-key.ensures {u = tt}) c.requires.stale).1
 
 pub advance-requires-clause-claimed : goal.advance-requires-clause-claimed
 advance-requires-clause-claimed g c =
-    first_held (hold_of c.args.claims.now c.args.id).keys (hold_of c.claim.new.self c.args.id).keys c.args.self.now.stack c.in_ok-key.key
+    let held = first_held (hold_of c.args.claims.now c.args.id).keys (hold_of c.claim.new.self c.args.id).keys c.args.self.now.stack c.in_ok-key.key
     c.requires.empty.0
     (none_held (hold_of c.args.claims.now c.args.id).keys c.args.self.now.stack c.args.self.now.top c.requires.empty.0 c.requires.empty.1 c.requires.claimed)
-    (got_keys c.args.id c.args.claims.now c.claim.new.self g.R.Key.Ord.cmp c.in_ok-key.key (rw c.in-Got.is at (c.in_ok-claim.ensures {u = tt}).claimed))
+    (got_keys c.args.id c.args.claims.now c.claim.new.self g.R.Key.Ord.cmp c.in_ok-key.key (rw c.in-Got.is at (c.in_ok-claim.ensures {u = tt}).claimed)) in
+    rw (← c.self.view_is) at held
 
 pub advance-requires-clause-stale : goal.advance-requires-clause-stale
 advance-requires-clause-stale g c =
-    first_stale (g.R.Rules.machine c.args.memos.now.rules) c.args.inputs.now.revision (memo_at g.R.Key.Ord.cmp c.args.memos.now.places)
-    c.args.self.now.stack c.args.self.now.request c.in_ok-key.key
-    c.requires.empty.0
-    (c.in_ok-key.ensures {u = tt}) (rw c.in_default.is at (c.in_ok-answer.ensures {u = tt}).stale)
+    let stale = first_stale (g.R.Rules.machine c.args.memos.now.rules) c.args.inputs.now.revision (memo_at g.R.Key.Ord.cmp c.args.memos.now.places)
+    c.args.self.now.stack c.args.self.now.request c.in_ok-key.key c.requires.empty.0 (c.in_ok-key.ensures {u = tt}) c.requires.stale in
+    rw (← c.self.view_is) at stale
 
 pub returns-in-Got-clause-others : goal.returns-in-Got-clause-others
 returns-in-Got-clause-others g c =
@@ -55,8 +59,8 @@ returns-in-HeldBy-clause-waits g c =
     empty_stands g.R.Key.Ord.cmp (g.R.Rules.machine c.args.memos.now.rules) c.args.inputs.now (memo_at g.R.Key.Ord.cmp c.args.memos.now.places) c.claim.new.self c.args.id c.args.self.now.top
     c.requires.empty.1
 
-pub returns-in-HeldBy-clause-looked : goal.returns-in-HeldBy-clause-looked
-returns-in-HeldBy-clause-looked g c =
+pub returns-in-HeldBy-clause-advanced : goal.returns-in-HeldBy-clause-advanced
+returns-in-HeldBy-clause-advanced g c =
     let told = rw c.in-HeldBy.is at (c.in_ok-claim.ensures {u = tt}).claimed in (
       ap (λ (t : Top g.row.R-Key.Denot g.row.R-Part.Denot). out_at t) c.requires.empty.1,
       held_up c.args.id c.args.claims.now c.claim.new.self g.R.Key.Ord.cmp c.in_ok-key.key c.in-HeldBy.other told,
@@ -67,12 +71,6 @@ unreachable-requires g c =
     let told = rw c.in-Ring.is at (c.in_ok-claim.ensures {u = tt}).claimed in
     none_closed g.R.Key.Ord.cmp c.args.claims.now c.args.id c.in_ok-key.key c.in-Ring.field-0.items
     (none_held (hold_of c.args.claims.now c.args.id).keys c.args.self.now.stack c.args.self.now.top c.requires.empty.0 c.requires.empty.1 c.requires.claimed) told.0
-
-pub returns-in_err-answer-clause-begun : goal.returns-in_err-answer-clause-begun
-returns-in_err-answer-clause-begun g c = λ k b. absurd (none_begun c.args.self.now.stack c.args.self.now.top c.requires.empty.0 c.requires.empty.1 k b)
-
-pub returns-in-Some-clause-begun : goal.returns-in-Some-clause-begun
-returns-in-Some-clause-begun g c = λ k b. absurd (none_begun c.args.self.now.stack c.args.self.now.top c.requires.empty.0 c.requires.empty.1 k b)
 
 pub returns-in_err-key-clause-begun : goal.returns-in_err-key-clause-begun
 returns-in_err-key-clause-begun g c = λ k b. absurd (none_begun c.args.self.now.stack c.args.self.now.top c.requires.empty.0 c.requires.empty.1 k b)
@@ -86,8 +84,5 @@ returns-in-Got-clause-begun g c = λ k b. absurd (none_begun c.args.self.now.sta
 pub returns-in-HeldBy-clause-begun : goal.returns-in-HeldBy-clause-begun
 returns-in-HeldBy-clause-begun g c = λ k b. absurd (none_begun c.args.self.now.stack c.args.self.now.top c.requires.empty.0 c.requires.empty.1 k b)
 
-pub returns-in-Some-clause-first : goal.returns-in-Some-clause-first
-returns-in-Some-clause-first g c = λ k b. none_begun c.args.self.now.stack c.args.self.now.top c.requires.empty.0 c.requires.empty.1 k b
-
 pub returns-in-Got-clause-first : goal.returns-in-Got-clause-first
-returns-in-Got-clause-first g c = none_looks c.args.self.now.stack c.args.self.now.top c.requires.empty.0 c.requires.empty.1 c.advance.result
+returns-in-Got-clause-first g c = none_advances c.args.self.now.stack c.args.self.now.top c.requires.empty.0 c.requires.empty.1 c.advance.result

@@ -1,4 +1,4 @@
-use Rattle.pq_core.proofs.running.end_run.Goals as goal
+use Rattle.pq_core.proofs.run_end.end_run.Goals as goal
 
 pub finish_in-requires-clause-running : goal.finish_in-requires-clause-running
 finish_in-requires-clause-running g c = rw (← c.run.view_is) at c.requires.running
