@@ -6,17 +6,17 @@
 //! that was not up to date, so every write is of such a key.
 ghost use Rattle.std.specs.Prelude.{◌≡◌, ◌↔◌, [], length, None, Some, IsTrue, IsSome, IfOk, IfErr, IfSome, IfNone, OnOk, OnErr};
 ghost use Rattle.pq_memo.specs.Table.{memo_at, HasIn, KeptOver};
-ghost use Rattle.pq_claims.specs.Claims.{hold_of};
 ghost use Rattle.pq_core.specs.Kept.{IsDemand};
 ghost use Rattle.pq_core.specs.Moves.{out_of};
-ghost use Rattle.pq_core.specs.aux.Runs.{AreStale, FramesKept, HasLooked, IsAnswer, IsSameRun, IsStale, OthersHold, Renewed, RunKept, WaitStands, OthersUnwritten, out_at, run_keys};
-ghost use Rattle.pq_core.specs.aux.Begun.{KeepsBegun, LooksFirst};
-ghost use Rattle.pq_core.specs.declared.frames.Top.TheVariants.{Empty, At};
+ghost use Rattle.pq_core.specs.aux.Runs.{HasLooked, IsAnswer, IsSameRun, IsStale, out_at};
+ghost use Rattle.pq_core.specs.aux.Begun.{LooksFirst};
+ghost use Rattle.pq_core.specs.aux.RunSteps.{RunReady, RunStepped, run_state};
+ghost use Rattle.pq_core.specs.declared.frames.Top.TheVariants.{Empty};
 ghost use Rattle.pq_core.specs.declared.request.Want.TheVariants.{Demand};
 
 use crate::fault::Memory;
-use crate::frames::{Frames, Pending, Top, Went};
-use crate::job::{Job, Made};
+use crate::frames::{Frames, Look, Looked, Pending, Top};
+use crate::job::Made;
 use crate::request::{Request, Want};
 use pq_claims::{Claim, Claims, RunId};
 use pq_inputs::{Inputs, Revision};
@@ -25,21 +25,6 @@ use pq_rules::{Answer, Rules, Shared, is_same_key};
 use std::alloc::Global;
 use std::marker::Model;
 use std::mem::replace;
-
-/// What a look comes to. `W` is the work that it may hand out, `K` the type of keys, `A` that of answers.
-#[derive(Drop)]
-pub(crate) enum Looked<W, K, A> {
-    /// This work is handed out.
-    Carry(W),
-    /// The run went on.
-    Stepped,
-    /// The run waits for this other run.
-    Blocked(RunId),
-    /// The top frame waits for a key, and a wait of the run for it would close the ring of these keys.
-    Ring(Vec<K>),
-    /// This is the answer of the request's key.
-    Answered(A),
-}
 
 /// A request, and how far its key is.
 #[derive(Drop)]
@@ -140,46 +125,6 @@ impl<R: Rules> Run<R> {
         }
     }
 
-    /// Takes one step of `frame`, which was the top.
-    fn advance(
-        &mut self,
-        alloc: Global,
-        id: RunId,
-        memos: &mut Memos<R>,
-        claims: &mut Claims<R>,
-        inputs: &Inputs,
-        frame: Frame<R::Key, R::Part>,
-    ) -> Result<Looked<Job<R>, R::Key, Shared<Answer<R::Key, R::Value>>>, Memory>
-        requires kept { KeptOver R.Key.cmp (R.machine memos.old.rules) inputs.now memos.old.places }
-        requires frames_kept { FramesKept R.Key.cmp (R.machine memos.old.rules) inputs.now (memo_at R.Key.cmp memos.old.places) self.old.stack (At frame) }
-        requires claimed { (hold_of claims.old id).keys ≡ run_keys self.old.stack (At frame) }
-        requires stale { AreStale (R.machine memos.old.rules) inputs.now.revision (memo_at R.Key.cmp memos.old.places) (run_keys self.old.stack (At frame)) }
-        ensures rules { memos.new.rules ≡ memos.old.rules }
-        ensures kept { KeptOver R.Key.cmp (R.machine memos.old.rules) inputs.now memos.new.places }
-        ensures renewed { Renewed (R.machine memos.old.rules) inputs.now.revision (memo_at R.Key.cmp memos.old.places) (memo_at R.Key.cmp memos.new.places) }
-        ensures same { IsSameRun self.old self.new }
-        ensures run_kept { RunKept R.Key.cmp (R.machine memos.old.rules) inputs.now (memo_at R.Key.cmp memos.new.places) self.new }
-        ensures claimed { (hold_of claims.new id).keys ≡ run_keys self.new.stack self.new.top }
-        ensures others { OthersHold id claims.old claims.new }
-        ensures stale { AreStale (R.machine memos.old.rules) inputs.now.revision (memo_at R.Key.cmp memos.new.places) (run_keys self.new.stack self.new.top) }
-        ensures waits { WaitStands R.Key.cmp (R.machine memos.old.rules) inputs.now (memo_at R.Key.cmp memos.new.places) claims.new id self.new.top }
-        ensures written { OthersUnwritten claims.old id (memo_at R.Key.cmp memos.old.places) (memo_at R.Key.cmp memos.new.places) }
-        ensures looked { IfOk result (λ l. HasLooked R.Key.cmp (R.machine memos.old.rules) memos.old.rules inputs.now (memo_at R.Key.cmp memos.old.places) claims.new id self.old.request self.new.top l) }
-        ensures refused { OnErr result (out_at self.new.top ≡ None) }
-        ensures begun { KeepsBegun (R.machine memos.old.rules) inputs.now.revision (memo_at R.Key.cmp memos.new.places) self.old.stack (At frame) self.new.stack self.new.top }
-        ensures first { IfOk result (λ l. LooksFirst self.old.stack (At frame) l) }
-    {
-        match self
-            .frames
-            .advance(alloc, id, memos, claims, inputs, frame)?
-        {
-            Went::Carry(work) => Ok(Looked::Carry(work)),
-            Went::Stepped => Ok(Looked::Stepped),
-            Went::Blocked(other) => Ok(Looked::Blocked(other)),
-            Went::Ring(ring) => Ok(Looked::Ring(ring)),
-        }
-    }
-
     /// Takes the first step: finds the answer of the request's key, or claims it and begins with
     /// it.
     fn begin(
@@ -189,24 +134,14 @@ impl<R: Rules> Run<R> {
         memos: &mut Memos<R>,
         claims: &mut Claims<R>,
         inputs: &Inputs,
-    ) -> Result<Looked<Job<R>, R::Key, Shared<Answer<R::Key, R::Value>>>, Memory>
+    ) -> Result<Look<R>, Memory>
         requires demand { IsDemand self.old.request.want }
         requires empty { (self.old.stack ≡ []) × (self.old.top ≡ Empty) }
-        requires kept { KeptOver R.Key.cmp (R.machine memos.old.rules) inputs.now memos.old.places }
-        requires claimed { (hold_of claims.old id).keys ≡ run_keys self.old.stack self.old.top }
-        ensures rules { memos.new.rules ≡ memos.old.rules }
-        ensures kept { KeptOver R.Key.cmp (R.machine memos.old.rules) inputs.now memos.new.places }
-        ensures renewed { Renewed (R.machine memos.old.rules) inputs.now.revision (memo_at R.Key.cmp memos.old.places) (memo_at R.Key.cmp memos.new.places) }
+        requires ready { RunReady R.Key.cmp (R.machine memos.old.rules) inputs.now id (run_state memos.old claims.old self.old.stack self.old.top) }
         ensures same { IsSameRun self.old self.new }
-        ensures run_kept { RunKept R.Key.cmp (R.machine memos.old.rules) inputs.now (memo_at R.Key.cmp memos.new.places) self.new }
-        ensures claimed { (hold_of claims.new id).keys ≡ run_keys self.new.stack self.new.top }
-        ensures others { OthersHold id claims.old claims.new }
-        ensures stale { AreStale (R.machine memos.old.rules) inputs.now.revision (memo_at R.Key.cmp memos.new.places) (run_keys self.new.stack self.new.top) }
-        ensures waits { WaitStands R.Key.cmp (R.machine memos.old.rules) inputs.now (memo_at R.Key.cmp memos.new.places) claims.new id self.new.top }
-        ensures written { OthersUnwritten claims.old id (memo_at R.Key.cmp memos.old.places) (memo_at R.Key.cmp memos.new.places) }
-        ensures looked { IfOk result (λ l. HasLooked R.Key.cmp (R.machine memos.old.rules) memos.old.rules inputs.now (memo_at R.Key.cmp memos.old.places) claims.new id self.old.request self.new.top l) }
+        ensures stepped { RunStepped R.Key.cmp R.machine inputs.now id (run_state memos.old claims.old self.old.stack self.old.top) (run_state memos.new claims.new self.new.stack self.new.top) }
+        ensures looked { IfOk result (λ l. HasLooked R.Key.cmp R.machine inputs.now memos.old claims.new id (IsAnswer R.Key.cmp (R.machine memos.old.rules) inputs.now self.old.request) self.new.top l) }
         ensures refused { OnErr result (out_at self.new.top ≡ None) }
-        ensures begun { KeepsBegun (R.machine memos.old.rules) inputs.now.revision (memo_at R.Key.cmp memos.new.places) self.old.stack self.old.top self.new.stack self.new.top }
         ensures first { IfOk result (λ l. LooksFirst self.old.stack self.old.top l) }
     {
         if let Some(answer) = self.answer(alloc, memos, inputs)? {
@@ -216,7 +151,8 @@ impl<R: Rules> Run<R> {
         match claims.claim(alloc, id, &key)? {
             Claim::Got => {
                 let stage = Stage::Walking(0);
-                self.advance(alloc, id, memos, claims, inputs, Frame { key, stage })
+                let frame = Frame { key, stage };
+                self.frames.advance(alloc, id, memos, claims, inputs, frame)
             }
             Claim::HeldBy(other) => Ok(Looked::Blocked(other)),
             Claim::Ring(_) => unreachable!(),
@@ -232,31 +168,19 @@ impl<R: Rules> Run<R> {
         memos: &mut Memos<R>,
         claims: &mut Claims<R>,
         inputs: &Inputs,
-    ) -> Result<Looked<Job<R>, R::Key, Shared<Answer<R::Key, R::Value>>>, Memory>
+    ) -> Result<Look<R>, Memory>
         requires demand { IsDemand self.old.request.want }
         requires idle { out_at self.old.top ≡ None }
         requires current { self.old.started ≡ inputs.now.revision }
-        requires kept { KeptOver R.Key.cmp (R.machine memos.old.rules) inputs.now memos.old.places }
-        requires run_kept { RunKept R.Key.cmp (R.machine memos.old.rules) inputs.now (memo_at R.Key.cmp memos.old.places) self.old }
-        requires claimed { (hold_of claims.old id).keys ≡ run_keys self.old.stack self.old.top }
-        requires stale { AreStale (R.machine memos.old.rules) inputs.now.revision (memo_at R.Key.cmp memos.old.places) (run_keys self.old.stack self.old.top) }
-        ensures rules { memos.new.rules ≡ memos.old.rules }
-        ensures kept { KeptOver R.Key.cmp (R.machine memos.old.rules) inputs.now memos.new.places }
-        ensures renewed { Renewed (R.machine memos.old.rules) inputs.now.revision (memo_at R.Key.cmp memos.old.places) (memo_at R.Key.cmp memos.new.places) }
+        requires ready { RunReady R.Key.cmp (R.machine memos.old.rules) inputs.now id (run_state memos.old claims.old self.old.stack self.old.top) }
         ensures same { IsSameRun self.old self.new }
-        ensures run_kept { RunKept R.Key.cmp (R.machine memos.old.rules) inputs.now (memo_at R.Key.cmp memos.new.places) self.new }
-        ensures claimed { (hold_of claims.new id).keys ≡ run_keys self.new.stack self.new.top }
-        ensures others { OthersHold id claims.old claims.new }
-        ensures stale { AreStale (R.machine memos.old.rules) inputs.now.revision (memo_at R.Key.cmp memos.new.places) (run_keys self.new.stack self.new.top) }
-        ensures waits { WaitStands R.Key.cmp (R.machine memos.old.rules) inputs.now (memo_at R.Key.cmp memos.new.places) claims.new id self.new.top }
-        ensures written { OthersUnwritten claims.old id (memo_at R.Key.cmp memos.old.places) (memo_at R.Key.cmp memos.new.places) }
-        ensures looked { IfOk result (λ l. HasLooked R.Key.cmp (R.machine memos.old.rules) memos.old.rules inputs.now (memo_at R.Key.cmp memos.old.places) claims.new id self.old.request self.new.top l) }
+        ensures stepped { RunStepped R.Key.cmp R.machine inputs.now id (run_state memos.old claims.old self.old.stack self.old.top) (run_state memos.new claims.new self.new.stack self.new.top) }
+        ensures looked { IfOk result (λ l. HasLooked R.Key.cmp R.machine inputs.now memos.old claims.new id (IsAnswer R.Key.cmp (R.machine memos.old.rules) inputs.now self.old.request) self.new.top l) }
         ensures refused { OnErr result (out_at self.new.top ≡ None) }
-        ensures begun { KeepsBegun (R.machine memos.old.rules) inputs.now.revision (memo_at R.Key.cmp memos.new.places) self.old.stack self.old.top self.new.stack self.new.top }
         ensures first { IfOk result (λ l. LooksFirst self.old.stack self.old.top l) }
     {
         match replace(&mut self.frames.top, Top::Empty) {
-            Top::At(frame) => self.advance(alloc, id, memos, claims, inputs, frame),
+            Top::At(frame) => self.frames.advance(alloc, id, memos, claims, inputs, frame),
             Top::Empty => self.begin(alloc, id, memos, claims, inputs),
             Top::Away(_) => unreachable!(),
         }
@@ -277,25 +201,12 @@ impl<R: Rules> Run<R> {
         requires rules { done.rules ≡ memos.old.rules }
         requires files { done.files ≡ inputs.now.files }
         requires current { self.old.started ≡ inputs.now.revision }
-        requires kept { KeptOver R.Key.cmp (R.machine memos.old.rules) inputs.now memos.old.places }
-        requires run_kept { RunKept R.Key.cmp (R.machine memos.old.rules) inputs.now (memo_at R.Key.cmp memos.old.places) self.old }
-        requires claimed { (hold_of claims.old id).keys ≡ run_keys self.old.stack self.old.top }
-        requires stale { AreStale (R.machine memos.old.rules) inputs.now.revision (memo_at R.Key.cmp memos.old.places) (run_keys self.old.stack self.old.top) }
-        requires waits { WaitStands R.Key.cmp (R.machine memos.old.rules) inputs.now (memo_at R.Key.cmp memos.old.places) claims.old id self.old.top }
-        ensures rules { memos.new.rules ≡ memos.old.rules }
-        ensures kept { KeptOver R.Key.cmp (R.machine memos.old.rules) inputs.now memos.new.places }
-        ensures renewed { Renewed (R.machine memos.old.rules) inputs.now.revision (memo_at R.Key.cmp memos.old.places) (memo_at R.Key.cmp memos.new.places) }
+        requires ready { RunReady R.Key.cmp (R.machine memos.old.rules) inputs.now id (run_state memos.old claims.old self.old.stack self.old.top) }
         ensures same { IsSameRun self.old self.new }
-        ensures run_kept { RunKept R.Key.cmp (R.machine memos.old.rules) inputs.now (memo_at R.Key.cmp memos.new.places) self.new }
-        ensures claimed { (hold_of claims.new id).keys ≡ run_keys self.new.stack self.new.top }
-        ensures others { OthersHold id claims.old claims.new }
-        ensures stale { AreStale (R.machine memos.old.rules) inputs.now.revision (memo_at R.Key.cmp memos.new.places) (run_keys self.new.stack self.new.top) }
-        ensures waits { WaitStands R.Key.cmp (R.machine memos.old.rules) inputs.now (memo_at R.Key.cmp memos.new.places) claims.new id self.new.top }
-        ensures written { OthersUnwritten claims.old id (memo_at R.Key.cmp memos.old.places) (memo_at R.Key.cmp memos.new.places) }
+        ensures stepped { RunStepped R.Key.cmp R.machine inputs.now id (run_state memos.old claims.old self.old.stack self.old.top) (run_state memos.new claims.new self.new.stack self.new.top) }
         ensures taken { OnOk result (out_at self.new.top ≡ None) }
         ensures back { IfErr result (λ d. d ≡ done) }
         ensures refused { OnErr result (out_at self.new.top ≡ Some (out_of done)) }
-        ensures begun { KeepsBegun (R.machine memos.old.rules) inputs.now.revision (memo_at R.Key.cmp memos.new.places) self.old.stack self.old.top self.new.stack self.new.top }
     {
         match replace(&mut self.frames.top, Top::Empty) {
             Top::Away(pending) => self

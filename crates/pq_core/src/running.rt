@@ -21,13 +21,14 @@ ghost use Rattle.pq_core.specs.declared.outcome.Outcome.TheVariants.{Cancelled, 
 use crate::account::Account;
 use crate::closing::close_ring;
 use crate::fault::{GiveFault, GiveRefused, LookFault};
+use crate::frames::Looked;
 use crate::ids::{ClientId, Number};
 use crate::in_accounts::finish_in;
 use crate::moves::Move;
 use crate::outcome::Outcome;
 use crate::reply::Reply;
 use crate::rising::Rising;
-use crate::run::{Looked, Run};
+use crate::run::Run;
 use crate::stamp::Stamp;
 use crate::store::Store;
 use crate::work::{Done, Work};

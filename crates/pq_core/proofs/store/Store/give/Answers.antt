@@ -7,7 +7,7 @@ use Rattle.pq_core.specs.Works.{DoneView}
 use Rattle.pq_core.specs.Moves.{IsMade, ended, out_of}
 use Rattle.pq_core.specs.aux.Runs.{out_at}
 use Rattle.pq_core.specs.declared.outcome.Outcome.TheVariants.{Cancelled}
-use Rattle.pq_core.proofs.RunsKept.{back_runs, own_claimed, own_stale, same_runs, stepped_runs, stopped_runs}
+use Rattle.pq_core.proofs.RunsKept.{back_runs, own_ready, same_runs, stepped_runs, stopped_runs}
 use Rattle.pq_core.proofs.Changing.{none_taken, set_back}
 use Rattle.pq_core.proofs.StoreOpening.{unmoved}
 use Rattle.pq_core.proofs.StoreAccepting.{false_true, run_past}
@@ -179,14 +179,14 @@ give-given-requires-clause-current g c =
     let now = (current g.R.Key.Ord.cmp (g.R.Rules.machine c.self.inside.memos.rules) g.M.Stamp.point told_puts (held (record { rules = c.self.inside.memos.rules; places = c.self.inside.memos.places; inputs = c.self.inside.inputs; accounts = c.self.inside.accounts; opened = c.self.inside.opened; clients = c.self.inside.clients; waiting = c.self.inside.waiting.items; runs = c.self.inside.runs; started = c.self.inside.started; claims = c.self.inside.claims })) c.self.invariant.ledger.0 c.args.run c.in-Some.taken c.self.invariant.ledger.1 x (λ o. false_true (sym c.if-is_overtaken.false ∙ c.is_overtaken.ensures.1 (rw c.now-now.ensures.now o)))).1 in
     now
 
-pub give-given-requires-clause-run_kept : goal.give-given-requires-clause-run_kept
-give-given-requires-clause-run_kept g c =
+pub give-given-requires-clause-ready : goal.give-given-requires-clause-ready
+give-given-requires-clause-ready g c =
     let here = sym (rw c.number-id.ensures at (c.in-Some.ensures {u = tt}).value) in
     let made = subst (λ (v : StoreView g.row.R.Denot g.row.R-Key.Denot g.row.R-Part.Denot g.row.R-Value.Denot g.row.M.Denot). IsMade v.rules v.inputs c.args.done) (sym c.self.view_is) c.requires in
     let fit = (rw c.done.view_is at (c.fits.ensures.0 c.if-not-fits.false)) in
     let x = run_here g.R.Key.Ord.cmp (g.R.Rules.machine c.self.inside.memos.rules) g.M.Stamp.point told_puts (held (record { rules = c.self.inside.memos.rules; places = c.self.inside.memos.places; inputs = c.self.inside.inputs; accounts = c.self.inside.accounts; opened = c.self.inside.opened; clients = c.self.inside.clients; waiting = c.self.inside.waiting.items; runs = c.self.inside.runs; started = c.self.inside.started; claims = c.self.inside.claims })) c.self.invariant.ledger.0 c.args.run c.in-Some.taken c.self.invariant.ledger.1 here in
     let now = (current g.R.Key.Ord.cmp (g.R.Rules.machine c.self.inside.memos.rules) g.M.Stamp.point told_puts (held (record { rules = c.self.inside.memos.rules; places = c.self.inside.memos.places; inputs = c.self.inside.inputs; accounts = c.self.inside.accounts; opened = c.self.inside.opened; clients = c.self.inside.clients; waiting = c.self.inside.waiting.items; runs = c.self.inside.runs; started = c.self.inside.started; claims = c.self.inside.claims })) c.self.invariant.ledger.0 c.args.run c.in-Some.taken c.self.invariant.ledger.1 x (λ o. false_true (sym c.if-is_overtaken.false ∙ c.is_overtaken.ensures.1 (rw c.now-now.ensures.now o)))).1 in
-    c.self.invariant.runs.current c.args.run c.in-Some.taken here now
+    own_ready _ _ c.self.inside.inputs _ _ _ c.args.run c.in-Some.taken here now c.self.invariant.kept c.self.invariant.runs
 
 pub invariant_of-self-in-Ok : goal.invariant_of-self-in-Ok
 invariant_of-self-in-Ok g c =
@@ -195,10 +195,10 @@ invariant_of-self-in-Ok g c =
     let set = set_back c.self.inside.runs c.take.new.self c.put_back-in-Ok.new.self c.args.run c.give-given.new.self (rw c.number-id.ensures at c.take.ensures.found) c.take.ensures.above
     (rw c.in-Some.is at c.take.ensures.more_room) (rw c.number-id.ensures at c.put_back-in-Ok.ensures.found) c.put_back-in-Ok.ensures.room c.put_back-in-Ok.ensures.above in
     let moved = give_moved g.R.Key.Ord.cmp (g.R.Rules.machine c.self.inside.memos.rules) g.M.Stamp.point told_puts c.self.inside.memos.rules (held (record { rules = c.self.inside.memos.rules; places = c.self.inside.memos.places; inputs = c.self.inside.inputs; accounts = c.self.inside.accounts; opened = c.self.inside.opened; clients = c.self.inside.clients; waiting = c.self.inside.waiting.items; runs = c.self.inside.runs; started = c.self.inside.started; claims = c.self.inside.claims })) (record { inputs = c.self.inside.inputs; accounts = c.self.inside.accounts.items; opened = c.self.inside.opened; clients = c.self.inside.clients; runs = c.put_back-in-Ok.new.self.items; started = c.self.inside.started }) w.ledger.0 c.args.run c.in-Some.taken c.give-given.new.self c.args.done w.ledger.1 here (λ o. false_true (sym c.if-is_overtaken.false ∙ c.is_overtaken.ensures.1 (rw c.now-now.ensures.now o))) (rw c.done.view_is at (c.fits.ensures.0 c.if-not-fits.false)) c.give-given.ensures.same (c.in-Ok.ensures {u = tt}).taken set.found (λ k. refl) (record { inputs = refl; opened = refl; clients = refl; started = refl }) in
-    rw c.give-given.ensures.rules
+    rw c.give-given.ensures.stepped.rules
     (record {
       stamped = c.self.invariant.stamped;
-      kept = c.give-given.ensures.kept;
+      kept = c.give-given.ensures.stepped.ready.kept;
       accounts_above = w.accounts_above;
       runs_above = set.above c.self.inside.started w.runs_above;
       queue = w.queue;
@@ -209,15 +209,14 @@ invariant_of-self-in-Ok g c =
       runs = stepped_runs _ _ c.self.inside.inputs _ _ _ _ _ _ c.args.run c.in-Some.taken c.give-given.new.self here set.found c.give-given.ensures.same
           ((current g.R.Key.Ord.cmp (g.R.Rules.machine c.self.inside.memos.rules) g.M.Stamp.point told_puts (held (record { rules = c.self.inside.memos.rules; places = c.self.inside.memos.places; inputs = c.self.inside.inputs; accounts = c.self.inside.accounts; opened = c.self.inside.opened; clients = c.self.inside.clients; waiting = c.self.inside.waiting.items; runs = c.self.inside.runs; started = c.self.inside.started; claims = c.self.inside.claims })) w.ledger.0 c.args.run c.in-Some.taken w.ledger.1 (run_here g.R.Key.Ord.cmp (g.R.Rules.machine c.self.inside.memos.rules) g.M.Stamp.point told_puts (held (record { rules = c.self.inside.memos.rules; places = c.self.inside.memos.places; inputs = c.self.inside.inputs; accounts = c.self.inside.accounts; opened = c.self.inside.opened; clients = c.self.inside.clients; waiting = c.self.inside.waiting.items; runs = c.self.inside.runs; started = c.self.inside.started; claims = c.self.inside.claims })) w.ledger.0 c.args.run c.in-Some.taken w.ledger.1 here) (λ o. false_true (sym c.if-is_overtaken.false ∙ c.is_overtaken.ensures.1 (rw c.now-now.ensures.now o)))).1)
           (λ s y h. run_past g.R.Key.Ord.cmp (g.R.Rules.machine c.self.inside.memos.rules) g.M.Stamp.point told_puts (held (record { rules = c.self.inside.memos.rules; places = c.self.inside.memos.places; inputs = c.self.inside.inputs; accounts = c.self.inside.accounts; opened = c.self.inside.opened; clients = c.self.inside.clients; waiting = c.self.inside.waiting.items; runs = c.self.inside.runs; started = c.self.inside.started; claims = c.self.inside.claims })) w.ledger.0 s y w.ledger.1 h)
-          c.claims_are_sound.ensures.sound c.claims_are_sound-in-Some.ensures.sound c.give-given.ensures.renewed c.give-given.ensures.written
-          c.give-given.ensures.run_kept c.give-given.ensures.claimed c.give-given.ensures.others c.give-given.ensures.stale c.give-given.ensures.waits w.runs;
+          c.claims_are_sound.ensures.sound c.claims_are_sound-in-Some.ensures.sound c.give-given.ensures.stepped w.runs;
       ledger = (moved.0, moved.2);
     })
 
 pub returns-in-Ok-clause-none_lost : goal.returns-in-Ok-clause-none_lost
 returns-in-Ok-clause-none_lost g c = rw (← c.self.view_is)
     (renewed_none_lost (g.R.Rules.machine c.self.inside.memos.rules) c.self.inside.inputs.revision (memo_at g.R.Key.Ord.cmp c.self.inside.memos.places)
-    (memo_at g.R.Key.Ord.cmp c.give-given.new.memos.places) c.give-given.ensures.renewed)
+    (memo_at g.R.Key.Ord.cmp c.give-given.new.memos.places) c.give-given.ensures.stepped.renewed)
 
 pub returns-in-Ok-clause-moved : goal.returns-in-Ok-clause-moved
 returns-in-Ok-clause-moved g c =
@@ -235,10 +234,10 @@ invariant_of-self-in-Err g c =
     let set = set_back c.self.inside.runs c.take.new.self c.put_back-in-Err.new.self c.args.run c.give-given.new.self (rw c.number-id.ensures at c.take.ensures.found) c.take.ensures.above
     (rw c.in-Some.is at c.take.ensures.more_room) (rw c.number-id.ensures at c.put_back-in-Err.ensures.found) c.put_back-in-Err.ensures.room c.put_back-in-Err.ensures.above in
     let fit = (rw c.done.view_is at (c.fits.ensures.0 c.if-not-fits.false)) in
-    rw c.give-given.ensures.rules
+    rw c.give-given.ensures.stepped.rules
     (record {
       stamped = c.self.invariant.stamped;
-      kept = c.give-given.ensures.kept;
+      kept = c.give-given.ensures.stepped.ready.kept;
       accounts_above = w.accounts_above;
       runs_above = set.above c.self.inside.started w.runs_above;
       queue = w.queue;
@@ -249,15 +248,14 @@ invariant_of-self-in-Err g c =
       runs = stepped_runs _ _ c.self.inside.inputs _ _ _ _ _ _ c.args.run c.in-Some.taken c.give-given.new.self here set.found c.give-given.ensures.same
           ((current g.R.Key.Ord.cmp (g.R.Rules.machine c.self.inside.memos.rules) g.M.Stamp.point told_puts (held (record { rules = c.self.inside.memos.rules; places = c.self.inside.memos.places; inputs = c.self.inside.inputs; accounts = c.self.inside.accounts; opened = c.self.inside.opened; clients = c.self.inside.clients; waiting = c.self.inside.waiting.items; runs = c.self.inside.runs; started = c.self.inside.started; claims = c.self.inside.claims })) w.ledger.0 c.args.run c.in-Some.taken w.ledger.1 (run_here g.R.Key.Ord.cmp (g.R.Rules.machine c.self.inside.memos.rules) g.M.Stamp.point told_puts (held (record { rules = c.self.inside.memos.rules; places = c.self.inside.memos.places; inputs = c.self.inside.inputs; accounts = c.self.inside.accounts; opened = c.self.inside.opened; clients = c.self.inside.clients; waiting = c.self.inside.waiting.items; runs = c.self.inside.runs; started = c.self.inside.started; claims = c.self.inside.claims })) w.ledger.0 c.args.run c.in-Some.taken w.ledger.1 here) (λ o. false_true (sym c.if-is_overtaken.false ∙ c.is_overtaken.ensures.1 (rw c.now-now.ensures.now o)))).1)
           (λ s y h. run_past g.R.Key.Ord.cmp (g.R.Rules.machine c.self.inside.memos.rules) g.M.Stamp.point told_puts (held (record { rules = c.self.inside.memos.rules; places = c.self.inside.memos.places; inputs = c.self.inside.inputs; accounts = c.self.inside.accounts; opened = c.self.inside.opened; clients = c.self.inside.clients; waiting = c.self.inside.waiting.items; runs = c.self.inside.runs; started = c.self.inside.started; claims = c.self.inside.claims })) w.ledger.0 s y w.ledger.1 h)
-          c.claims_are_sound.ensures.sound c.claims_are_sound-in-Some.ensures.sound c.give-given.ensures.renewed c.give-given.ensures.written
-          c.give-given.ensures.run_kept c.give-given.ensures.claimed c.give-given.ensures.others c.give-given.ensures.stale c.give-given.ensures.waits w.runs;
+          c.claims_are_sound.ensures.sound c.claims_are_sound-in-Some.ensures.sound c.give-given.ensures.stepped w.runs;
       ledger = (w.ledger.0, back_moved g.R.Key.Ord.cmp (g.R.Rules.machine c.self.inside.memos.rules) g.M.Stamp.point told_puts (held (record { rules = c.self.inside.memos.rules; places = c.self.inside.memos.places; inputs = c.self.inside.inputs; accounts = c.self.inside.accounts; opened = c.self.inside.opened; clients = c.self.inside.clients; waiting = c.self.inside.waiting.items; runs = c.self.inside.runs; started = c.self.inside.started; claims = c.self.inside.claims })) (record { inputs = c.self.inside.inputs; accounts = c.self.inside.accounts.items; opened = c.self.inside.opened; clients = c.self.inside.clients; runs = c.put_back-in-Err.new.self.items; started = c.self.inside.started }) w.ledger.0 c.args.run c.in-Some.taken c.give-given.new.self w.ledger.1 here c.give-given.ensures.same ((c.in-Err.ensures {u = tt}).refused ∙ sym (c.fits.ensures.0 c.if-not-fits.false).2) set.found (λ k. refl) (record { inputs = refl; opened = refl; clients = refl; started = refl }));
     })
 
 pub returns-in-Err-clause-none_lost : goal.returns-in-Err-clause-none_lost
 returns-in-Err-clause-none_lost g c = rw (← c.self.view_is)
     (renewed_none_lost (g.R.Rules.machine c.self.inside.memos.rules) c.self.inside.inputs.revision (memo_at g.R.Key.Ord.cmp c.self.inside.memos.places)
-    (memo_at g.R.Key.Ord.cmp c.give-given.new.memos.places) c.give-given.ensures.renewed)
+    (memo_at g.R.Key.Ord.cmp c.give-given.new.memos.places) c.give-given.ensures.stepped.renewed)
 
 pub returns-in-Err-clause-moved : goal.returns-in-Err-clause-moved
 returns-in-Err-clause-moved g c =
@@ -272,23 +270,6 @@ returns-in-Err-clause-moved g c =
       ((c.in-Err.ensures {u = tt}).back ∙ c.done.view_is, give_refused g.R.Key.Ord.cmp (g.R.Rules.machine c.self.inside.memos.rules) g.M.Stamp.point told_puts c.self.inside.memos.rules (held (record { rules = c.self.inside.memos.rules; places = c.self.inside.memos.places; inputs = c.self.inside.inputs; accounts = c.self.inside.accounts; opened = c.self.inside.opened; clients = c.self.inside.clients; waiting = c.self.inside.waiting.items; runs = c.self.inside.runs; started = c.self.inside.started; claims = c.self.inside.claims })) l c.args.run c.in-Some.taken c.args.done s here (λ o. false_true (sym c.if-is_overtaken.false ∙ c.is_overtaken.ensures.1 (rw c.now-now.ensures.now o))) fit, refl),
       back_moved g.R.Key.Ord.cmp (g.R.Rules.machine c.self.inside.memos.rules) g.M.Stamp.point told_puts (held (record { rules = c.self.inside.memos.rules; places = c.self.inside.memos.places; inputs = c.self.inside.inputs; accounts = c.self.inside.accounts; opened = c.self.inside.opened; clients = c.self.inside.clients; waiting = c.self.inside.waiting.items; runs = c.self.inside.runs; started = c.self.inside.started; claims = c.self.inside.claims })) (record { inputs = c.self.inside.inputs; accounts = c.self.inside.accounts.items; opened = c.self.inside.opened; clients = c.self.inside.clients; runs = c.put_back-in-Err.new.self.items; started = c.self.inside.started }) l c.args.run c.in-Some.taken c.give-given.new.self s here c.give-given.ensures.same ((c.in-Err.ensures {u = tt}).refused ∙ sym (c.fits.ensures.0 c.if-not-fits.false).2) set.found (λ k. refl) (record { inputs = refl; opened = refl; clients = refl; started = refl }),
     )))
-
-pub give-given-requires-clause-claimed : goal.give-given-requires-clause-claimed
-give-given-requires-clause-claimed g c =
-    let here = sym (rw c.number-id.ensures at (c.in-Some.ensures {u = tt}).value) in
-    own_claimed _ _ _ _ _ _ c.args.run c.in-Some.taken here c.self.invariant.runs
-
-pub give-given-requires-clause-stale : goal.give-given-requires-clause-stale
-give-given-requires-clause-stale g c =
-    let here = sym (rw c.number-id.ensures at (c.in-Some.ensures {u = tt}).value) in
-    own_stale _ _ _ _ _ _ c.args.run c.in-Some.taken here c.self.invariant.runs
-
-pub give-given-requires-clause-waits : goal.give-given-requires-clause-waits
-give-given-requires-clause-waits g c =
-    let w = c.self.invariant in
-    let here = sym (rw c.number-id.ensures at (c.in-Some.ensures {u = tt}).value) in
-    w.runs.waits c.args.run c.in-Some.taken here
-    ((current g.R.Key.Ord.cmp (g.R.Rules.machine c.self.inside.memos.rules) g.M.Stamp.point told_puts (held (record { rules = c.self.inside.memos.rules; places = c.self.inside.memos.places; inputs = c.self.inside.inputs; accounts = c.self.inside.accounts; opened = c.self.inside.opened; clients = c.self.inside.clients; waiting = c.self.inside.waiting.items; runs = c.self.inside.runs; started = c.self.inside.started; claims = c.self.inside.claims })) w.ledger.0 c.args.run c.in-Some.taken w.ledger.1 (run_here g.R.Key.Ord.cmp (g.R.Rules.machine c.self.inside.memos.rules) g.M.Stamp.point told_puts (held (record { rules = c.self.inside.memos.rules; places = c.self.inside.memos.places; inputs = c.self.inside.inputs; accounts = c.self.inside.accounts; opened = c.self.inside.opened; clients = c.self.inside.clients; waiting = c.self.inside.waiting.items; runs = c.self.inside.runs; started = c.self.inside.started; claims = c.self.inside.claims })) w.ledger.0 c.args.run c.in-Some.taken w.ledger.1 here) (λ o. false_true (sym c.if-is_overtaken.false ∙ c.is_overtaken.ensures.1 (rw c.now-now.ensures.now o)))).1)
 
 pub returns-in-None-clause-counted : goal.returns-in-None-clause-counted
 returns-in-None-clause-counted g c =
@@ -318,7 +299,7 @@ returns-in-Ok-clause-counted g c =
     let here = sym (rw c.number-id.ensures at (c.in-Some.ensures {u = tt}).value) in
     let set = set_back c.self.inside.runs c.take.new.self c.put_back-in-Ok.new.self c.args.run c.give-given.new.self (rw c.number-id.ensures at c.take.ensures.found) c.take.ensures.above
     (rw c.in-Some.is at c.take.ensures.more_room) (rw c.number-id.ensures at c.put_back-in-Ok.ensures.found) c.put_back-in-Ok.ensures.room c.put_back-in-Ok.ensures.above in
-    rw (← c.self.view_is) (λ log x. stepped_counted g.R.Key.Ord.cmp exact (g.R.Rules.machine c.self.inside.memos.rules) c.self.inside.inputs log (memo_at g.R.Key.Ord.cmp c.self.inside.memos.places) (memo_at g.R.Key.Ord.cmp c.give-given.new.memos.places) c.self.inside.runs.items c.put_back-in-Ok.new.self.items c.args.run c.in-Some.taken here c.give-given.new.self c.give-given.ensures.renewed set.found c.give-given.ensures.same c.give-given.ensures.begun x)
+    rw (← c.self.view_is) (λ log x. stepped_counted g.R.Key.Ord.cmp exact (g.R.Rules.machine c.self.inside.memos.rules) c.self.inside.inputs log (memo_at g.R.Key.Ord.cmp c.self.inside.memos.places) (memo_at g.R.Key.Ord.cmp c.give-given.new.memos.places) c.self.inside.runs.items c.put_back-in-Ok.new.self.items c.args.run c.in-Some.taken here c.give-given.new.self c.give-given.ensures.stepped.renewed set.found c.give-given.ensures.same c.give-given.ensures.stepped.begun x)
 
 pub returns-in-Err-clause-counted : goal.returns-in-Err-clause-counted
 returns-in-Err-clause-counted g c =
@@ -326,4 +307,4 @@ returns-in-Err-clause-counted g c =
     let here = sym (rw c.number-id.ensures at (c.in-Some.ensures {u = tt}).value) in
     let set = set_back c.self.inside.runs c.take.new.self c.put_back-in-Err.new.self c.args.run c.give-given.new.self (rw c.number-id.ensures at c.take.ensures.found) c.take.ensures.above
     (rw c.in-Some.is at c.take.ensures.more_room) (rw c.number-id.ensures at c.put_back-in-Err.ensures.found) c.put_back-in-Err.ensures.room c.put_back-in-Err.ensures.above in
-    rw (← c.self.view_is) (λ log x. stepped_counted g.R.Key.Ord.cmp exact (g.R.Rules.machine c.self.inside.memos.rules) c.self.inside.inputs log (memo_at g.R.Key.Ord.cmp c.self.inside.memos.places) (memo_at g.R.Key.Ord.cmp c.give-given.new.memos.places) c.self.inside.runs.items c.put_back-in-Err.new.self.items c.args.run c.in-Some.taken here c.give-given.new.self c.give-given.ensures.renewed set.found c.give-given.ensures.same c.give-given.ensures.begun x)
+    rw (← c.self.view_is) (λ log x. stepped_counted g.R.Key.Ord.cmp exact (g.R.Rules.machine c.self.inside.memos.rules) c.self.inside.inputs log (memo_at g.R.Key.Ord.cmp c.self.inside.memos.places) (memo_at g.R.Key.Ord.cmp c.give-given.new.memos.places) c.self.inside.runs.items c.put_back-in-Err.new.self.items c.args.run c.in-Some.taken here c.give-given.new.self c.give-given.ensures.stepped.renewed set.found c.give-given.ensures.same c.give-given.ensures.stepped.begun x)

@@ -13,7 +13,7 @@ use Rattle.pq_core.specs.aux.Runs.{out_at}
 use Rattle.pq_core.specs.declared.outcome.Outcome.TheVariants.{Cancelled, Answered}
 use Rattle.pq_core.proofs.Lists.{of_ok}
 use Rattle.pq_core.proofs.Claiming.{holder_there}
-use Rattle.pq_core.proofs.RunsKept.{back_runs, closes_still, ended_runs, own_claimed, own_stale, past_stepped, same_runs, stepped_runs, stopped_runs}
+use Rattle.pq_core.proofs.RunsKept.{back_runs, closes_still, ended_runs, own_ready, past_stepped, same_runs, stepped_runs, stopped_runs}
 use Rattle.pq_core.proofs.Changing.{if_at, none_taken, set_back}
 use Rattle.pq_core.proofs.StoreOpening.{unmoved}
 use Rattle.pq_core.proofs.StoreStepping.{step_whole}
@@ -175,12 +175,12 @@ look-looked-requires-clause-current g c =
     let now = (current g.R.Key.Ord.cmp (g.R.Rules.machine c.self.inside.memos.rules) g.M.Stamp.point told_puts (held (record { rules = c.self.inside.memos.rules; places = c.self.inside.memos.places; inputs = c.self.inside.inputs; accounts = c.self.inside.accounts; opened = c.self.inside.opened; clients = c.self.inside.clients; waiting = c.self.inside.waiting.items; runs = c.self.inside.runs; started = c.self.inside.started; claims = c.self.inside.claims })) c.self.invariant.ledger.0 c.args.run c.in-Some.taken c.self.invariant.ledger.1 x (λ o. false_true (sym c.if-is_overtaken.false ∙ c.is_overtaken.ensures.1 (rw c.now-now.ensures.now o)))).1 in
     now
 
-pub look-looked-requires-clause-run_kept : goal.look-looked-requires-clause-run_kept
-look-looked-requires-clause-run_kept g c =
+pub look-looked-requires-clause-ready : goal.look-looked-requires-clause-ready
+look-looked-requires-clause-ready g c =
     let here = sym (rw c.number-id.ensures at (c.in-Some.ensures {u = tt}).value) in
     let x = run_here g.R.Key.Ord.cmp (g.R.Rules.machine c.self.inside.memos.rules) g.M.Stamp.point told_puts (held (record { rules = c.self.inside.memos.rules; places = c.self.inside.memos.places; inputs = c.self.inside.inputs; accounts = c.self.inside.accounts; opened = c.self.inside.opened; clients = c.self.inside.clients; waiting = c.self.inside.waiting.items; runs = c.self.inside.runs; started = c.self.inside.started; claims = c.self.inside.claims })) c.self.invariant.ledger.0 c.args.run c.in-Some.taken c.self.invariant.ledger.1 here in
     let now = (current g.R.Key.Ord.cmp (g.R.Rules.machine c.self.inside.memos.rules) g.M.Stamp.point told_puts (held (record { rules = c.self.inside.memos.rules; places = c.self.inside.memos.places; inputs = c.self.inside.inputs; accounts = c.self.inside.accounts; opened = c.self.inside.opened; clients = c.self.inside.clients; waiting = c.self.inside.waiting.items; runs = c.self.inside.runs; started = c.self.inside.started; claims = c.self.inside.claims })) c.self.invariant.ledger.0 c.args.run c.in-Some.taken c.self.invariant.ledger.1 x (λ o. false_true (sym c.if-is_overtaken.false ∙ c.is_overtaken.ensures.1 (rw c.now-now.ensures.now o)))).1 in
-    c.self.invariant.runs.current c.args.run c.in-Some.taken here now
+    own_ready _ _ c.self.inside.inputs _ _ _ c.args.run c.in-Some.taken here now c.self.invariant.kept c.self.invariant.runs
 
 pub invariant_of-self-in-Carry : goal.invariant_of-self-in-Carry
 invariant_of-self-in-Carry g c =
@@ -189,19 +189,18 @@ invariant_of-self-in-Carry g c =
     let set = set_back c.self.inside.runs c.take.new.self c.put_back-in-Carry.new.self c.args.run c.look-looked.new.self (rw c.number-id.ensures at c.take.ensures.found) c.take.ensures.above
     (rw c.in-Some.is at c.take.ensures.more_room) (rw c.number-id.ensures at c.put_back-in-Carry.ensures.found) c.put_back-in-Carry.ensures.room c.put_back-in-Carry.ensures.above in
     let moved = carry_moved g.R.Key.Ord.cmp (g.R.Rules.machine c.self.inside.memos.rules) g.M.Stamp.point told_puts c.self.inside.memos.rules (held (record { rules = c.self.inside.memos.rules; places = c.self.inside.memos.places; inputs = c.self.inside.inputs; accounts = c.self.inside.accounts; opened = c.self.inside.opened; clients = c.self.inside.clients; waiting = c.self.inside.waiting.items; runs = c.self.inside.runs; started = c.self.inside.started; claims = c.self.inside.claims })) (record { inputs = c.self.inside.inputs; accounts = c.self.inside.accounts.items; opened = c.self.inside.opened; clients = c.self.inside.clients; runs = c.put_back-in-Carry.new.self.items; started = c.self.inside.started }) w.ledger.0 c.args.run c.in-Some.taken c.look-looked.new.self c.in-Carry.work (memo_at g.R.Key.Ord.cmp c.self.inside.memos.places) w.ledger.1 here (λ o. false_true (sym c.if-is_overtaken.false ∙ c.is_overtaken.ensures.1 (rw c.now-now.ensures.now o))) (none_of (out_at c.in-Some.taken.top) (λ e. false_true (sym c.if-is_out.false ∙ c.is_out.ensures.1 e))) c.look-looked.ensures.same (rw c.in-Carry.is at (c.in-Ok.ensures {u = tt}).looked) set.found (λ k. refl) (record { inputs = refl; opened = refl; clients = refl; started = refl }) in
-    rw c.look-looked.ensures.rules
-    (step_whole _ _ _ _ _ _ _ _ w c.look-looked.ensures.kept (set.above c.self.inside.started) set.room
+    rw c.look-looked.ensures.stepped.rules
+    (step_whole _ _ _ _ _ _ _ _ w c.look-looked.ensures.stepped.ready.kept (set.above c.self.inside.started) set.room
     (stepped_runs _ _ c.self.inside.inputs _ _ _ _ _ _ c.args.run c.in-Some.taken c.look-looked.new.self here set.found c.look-looked.ensures.same
     ((current g.R.Key.Ord.cmp (g.R.Rules.machine c.self.inside.memos.rules) g.M.Stamp.point told_puts (held (record { rules = c.self.inside.memos.rules; places = c.self.inside.memos.places; inputs = c.self.inside.inputs; accounts = c.self.inside.accounts; opened = c.self.inside.opened; clients = c.self.inside.clients; waiting = c.self.inside.waiting.items; runs = c.self.inside.runs; started = c.self.inside.started; claims = c.self.inside.claims })) w.ledger.0 c.args.run c.in-Some.taken w.ledger.1 (run_here g.R.Key.Ord.cmp (g.R.Rules.machine c.self.inside.memos.rules) g.M.Stamp.point told_puts (held (record { rules = c.self.inside.memos.rules; places = c.self.inside.memos.places; inputs = c.self.inside.inputs; accounts = c.self.inside.accounts; opened = c.self.inside.opened; clients = c.self.inside.clients; waiting = c.self.inside.waiting.items; runs = c.self.inside.runs; started = c.self.inside.started; claims = c.self.inside.claims })) w.ledger.0 c.args.run c.in-Some.taken w.ledger.1 here) (λ o. false_true (sym c.if-is_overtaken.false ∙ c.is_overtaken.ensures.1 (rw c.now-now.ensures.now o)))).1)
     (λ s y h. run_past g.R.Key.Ord.cmp (g.R.Rules.machine c.self.inside.memos.rules) g.M.Stamp.point told_puts (held (record { rules = c.self.inside.memos.rules; places = c.self.inside.memos.places; inputs = c.self.inside.inputs; accounts = c.self.inside.accounts; opened = c.self.inside.opened; clients = c.self.inside.clients; waiting = c.self.inside.waiting.items; runs = c.self.inside.runs; started = c.self.inside.started; claims = c.self.inside.claims })) w.ledger.0 s y w.ledger.1 h)
-    c.claims_are_sound.ensures.sound c.claims_are_sound-in-Some.ensures.sound c.look-looked.ensures.renewed c.look-looked.ensures.written
-    c.look-looked.ensures.run_kept c.look-looked.ensures.claimed c.look-looked.ensures.others c.look-looked.ensures.stale c.look-looked.ensures.waits w.runs)
+    c.claims_are_sound.ensures.sound c.claims_are_sound-in-Some.ensures.sound c.look-looked.ensures.stepped w.runs)
     (moved.0, moved.2))
 
 pub returns-in-Carry-clause-none_lost : goal.returns-in-Carry-clause-none_lost
 returns-in-Carry-clause-none_lost g c = rw (← c.self.view_is)
     (renewed_none_lost (g.R.Rules.machine c.self.inside.memos.rules) c.self.inside.inputs.revision (memo_at g.R.Key.Ord.cmp c.self.inside.memos.places)
-    (memo_at g.R.Key.Ord.cmp c.look-looked.new.memos.places) c.look-looked.ensures.renewed)
+    (memo_at g.R.Key.Ord.cmp c.look-looked.new.memos.places) c.look-looked.ensures.stepped.renewed)
 
 pub returns-in-Carry-clause-moved : goal.returns-in-Carry-clause-moved
 returns-in-Carry-clause-moved g c =
@@ -236,19 +235,18 @@ invariant_of-self-in-Stepped g c =
     let here = sym (rw c.number-id.ensures at (c.in-Some.ensures {u = tt}).value) in
     let set = set_back c.self.inside.runs c.take.new.self c.put_back-in-Stepped.new.self c.args.run c.look-looked.new.self (rw c.number-id.ensures at c.take.ensures.found) c.take.ensures.above
     (rw c.in-Some.is at c.take.ensures.more_room) (rw c.number-id.ensures at c.put_back-in-Stepped.ensures.found) c.put_back-in-Stepped.ensures.room c.put_back-in-Stepped.ensures.above in
-    rw c.look-looked.ensures.rules
-    (step_whole _ _ _ _ _ _ _ _ w c.look-looked.ensures.kept (set.above c.self.inside.started) set.room
+    rw c.look-looked.ensures.stepped.rules
+    (step_whole _ _ _ _ _ _ _ _ w c.look-looked.ensures.stepped.ready.kept (set.above c.self.inside.started) set.room
     (stepped_runs _ _ c.self.inside.inputs _ _ _ _ _ _ c.args.run c.in-Some.taken c.look-looked.new.self here set.found c.look-looked.ensures.same
     ((current g.R.Key.Ord.cmp (g.R.Rules.machine c.self.inside.memos.rules) g.M.Stamp.point told_puts (held (record { rules = c.self.inside.memos.rules; places = c.self.inside.memos.places; inputs = c.self.inside.inputs; accounts = c.self.inside.accounts; opened = c.self.inside.opened; clients = c.self.inside.clients; waiting = c.self.inside.waiting.items; runs = c.self.inside.runs; started = c.self.inside.started; claims = c.self.inside.claims })) w.ledger.0 c.args.run c.in-Some.taken w.ledger.1 (run_here g.R.Key.Ord.cmp (g.R.Rules.machine c.self.inside.memos.rules) g.M.Stamp.point told_puts (held (record { rules = c.self.inside.memos.rules; places = c.self.inside.memos.places; inputs = c.self.inside.inputs; accounts = c.self.inside.accounts; opened = c.self.inside.opened; clients = c.self.inside.clients; waiting = c.self.inside.waiting.items; runs = c.self.inside.runs; started = c.self.inside.started; claims = c.self.inside.claims })) w.ledger.0 c.args.run c.in-Some.taken w.ledger.1 here) (λ o. false_true (sym c.if-is_overtaken.false ∙ c.is_overtaken.ensures.1 (rw c.now-now.ensures.now o)))).1)
     (λ s y h. run_past g.R.Key.Ord.cmp (g.R.Rules.machine c.self.inside.memos.rules) g.M.Stamp.point told_puts (held (record { rules = c.self.inside.memos.rules; places = c.self.inside.memos.places; inputs = c.self.inside.inputs; accounts = c.self.inside.accounts; opened = c.self.inside.opened; clients = c.self.inside.clients; waiting = c.self.inside.waiting.items; runs = c.self.inside.runs; started = c.self.inside.started; claims = c.self.inside.claims })) w.ledger.0 s y w.ledger.1 h)
-    c.claims_are_sound.ensures.sound c.claims_are_sound-in-Some.ensures.sound c.look-looked.ensures.renewed c.look-looked.ensures.written
-    c.look-looked.ensures.run_kept c.look-looked.ensures.claimed c.look-looked.ensures.others c.look-looked.ensures.stale c.look-looked.ensures.waits w.runs)
+    c.claims_are_sound.ensures.sound c.claims_are_sound-in-Some.ensures.sound c.look-looked.ensures.stepped w.runs)
     (w.ledger.0, back_moved g.R.Key.Ord.cmp (g.R.Rules.machine c.self.inside.memos.rules) g.M.Stamp.point told_puts (held (record { rules = c.self.inside.memos.rules; places = c.self.inside.memos.places; inputs = c.self.inside.inputs; accounts = c.self.inside.accounts; opened = c.self.inside.opened; clients = c.self.inside.clients; waiting = c.self.inside.waiting.items; runs = c.self.inside.runs; started = c.self.inside.started; claims = c.self.inside.claims })) (record { inputs = c.self.inside.inputs; accounts = c.self.inside.accounts.items; opened = c.self.inside.opened; clients = c.self.inside.clients; runs = c.put_back-in-Stepped.new.self.items; started = c.self.inside.started }) w.ledger.0 c.args.run c.in-Some.taken c.look-looked.new.self w.ledger.1 here c.look-looked.ensures.same ((rw c.in-Stepped.is at (c.in-Ok.ensures {u = tt}).looked) ∙ sym (none_of (out_at c.in-Some.taken.top) (λ e. false_true (sym c.if-is_out.false ∙ c.is_out.ensures.1 e)))) set.found (λ k. refl) (record { inputs = refl; opened = refl; clients = refl; started = refl })))
 
 pub returns-in-Stepped-clause-none_lost : goal.returns-in-Stepped-clause-none_lost
 returns-in-Stepped-clause-none_lost g c = rw (← c.self.view_is)
     (renewed_none_lost (g.R.Rules.machine c.self.inside.memos.rules) c.self.inside.inputs.revision (memo_at g.R.Key.Ord.cmp c.self.inside.memos.places)
-    (memo_at g.R.Key.Ord.cmp c.look-looked.new.memos.places) c.look-looked.ensures.renewed)
+    (memo_at g.R.Key.Ord.cmp c.look-looked.new.memos.places) c.look-looked.ensures.stepped.renewed)
 
 pub returns-in-Stepped-clause-moved : goal.returns-in-Stepped-clause-moved
 returns-in-Stepped-clause-moved g c =
@@ -267,19 +265,18 @@ invariant_of-self-in-Blocked g c =
     let here = sym (rw c.number-id.ensures at (c.in-Some.ensures {u = tt}).value) in
     let set = set_back c.self.inside.runs c.take.new.self c.put_back-in-Blocked.new.self c.args.run c.look-looked.new.self (rw c.number-id.ensures at c.take.ensures.found) c.take.ensures.above
     (rw c.in-Some.is at c.take.ensures.more_room) (rw c.number-id.ensures at c.put_back-in-Blocked.ensures.found) c.put_back-in-Blocked.ensures.room c.put_back-in-Blocked.ensures.above in
-    rw c.look-looked.ensures.rules
-    (step_whole _ _ _ _ _ _ _ _ w c.look-looked.ensures.kept (set.above c.self.inside.started) set.room
+    rw c.look-looked.ensures.stepped.rules
+    (step_whole _ _ _ _ _ _ _ _ w c.look-looked.ensures.stepped.ready.kept (set.above c.self.inside.started) set.room
     (stepped_runs _ _ c.self.inside.inputs _ _ _ _ _ _ c.args.run c.in-Some.taken c.look-looked.new.self here set.found c.look-looked.ensures.same
     ((current g.R.Key.Ord.cmp (g.R.Rules.machine c.self.inside.memos.rules) g.M.Stamp.point told_puts (held (record { rules = c.self.inside.memos.rules; places = c.self.inside.memos.places; inputs = c.self.inside.inputs; accounts = c.self.inside.accounts; opened = c.self.inside.opened; clients = c.self.inside.clients; waiting = c.self.inside.waiting.items; runs = c.self.inside.runs; started = c.self.inside.started; claims = c.self.inside.claims })) w.ledger.0 c.args.run c.in-Some.taken w.ledger.1 (run_here g.R.Key.Ord.cmp (g.R.Rules.machine c.self.inside.memos.rules) g.M.Stamp.point told_puts (held (record { rules = c.self.inside.memos.rules; places = c.self.inside.memos.places; inputs = c.self.inside.inputs; accounts = c.self.inside.accounts; opened = c.self.inside.opened; clients = c.self.inside.clients; waiting = c.self.inside.waiting.items; runs = c.self.inside.runs; started = c.self.inside.started; claims = c.self.inside.claims })) w.ledger.0 c.args.run c.in-Some.taken w.ledger.1 here) (λ o. false_true (sym c.if-is_overtaken.false ∙ c.is_overtaken.ensures.1 (rw c.now-now.ensures.now o)))).1)
     (λ s y h. run_past g.R.Key.Ord.cmp (g.R.Rules.machine c.self.inside.memos.rules) g.M.Stamp.point told_puts (held (record { rules = c.self.inside.memos.rules; places = c.self.inside.memos.places; inputs = c.self.inside.inputs; accounts = c.self.inside.accounts; opened = c.self.inside.opened; clients = c.self.inside.clients; waiting = c.self.inside.waiting.items; runs = c.self.inside.runs; started = c.self.inside.started; claims = c.self.inside.claims })) w.ledger.0 s y w.ledger.1 h)
-    c.claims_are_sound.ensures.sound c.claims_are_sound-in-Some.ensures.sound c.look-looked.ensures.renewed c.look-looked.ensures.written
-    c.look-looked.ensures.run_kept c.look-looked.ensures.claimed c.look-looked.ensures.others c.look-looked.ensures.stale c.look-looked.ensures.waits w.runs)
+    c.claims_are_sound.ensures.sound c.claims_are_sound-in-Some.ensures.sound c.look-looked.ensures.stepped w.runs)
     (w.ledger.0, back_moved g.R.Key.Ord.cmp (g.R.Rules.machine c.self.inside.memos.rules) g.M.Stamp.point told_puts (held (record { rules = c.self.inside.memos.rules; places = c.self.inside.memos.places; inputs = c.self.inside.inputs; accounts = c.self.inside.accounts; opened = c.self.inside.opened; clients = c.self.inside.clients; waiting = c.self.inside.waiting.items; runs = c.self.inside.runs; started = c.self.inside.started; claims = c.self.inside.claims })) (record { inputs = c.self.inside.inputs; accounts = c.self.inside.accounts.items; opened = c.self.inside.opened; clients = c.self.inside.clients; runs = c.put_back-in-Blocked.new.self.items; started = c.self.inside.started }) w.ledger.0 c.args.run c.in-Some.taken c.look-looked.new.self w.ledger.1 here c.look-looked.ensures.same ((rw c.in-Blocked.is at (c.in-Ok.ensures {u = tt}).looked).0 ∙ sym (none_of (out_at c.in-Some.taken.top) (λ e. false_true (sym c.if-is_out.false ∙ c.is_out.ensures.1 e)))) set.found (λ k. refl) (record { inputs = refl; opened = refl; clients = refl; started = refl })))
 
 pub returns-in-Blocked-clause-none_lost : goal.returns-in-Blocked-clause-none_lost
 returns-in-Blocked-clause-none_lost g c = rw (← c.self.view_is)
     (renewed_none_lost (g.R.Rules.machine c.self.inside.memos.rules) c.self.inside.inputs.revision (memo_at g.R.Key.Ord.cmp c.self.inside.memos.places)
-    (memo_at g.R.Key.Ord.cmp c.look-looked.new.memos.places) c.look-looked.ensures.renewed)
+    (memo_at g.R.Key.Ord.cmp c.look-looked.new.memos.places) c.look-looked.ensures.stepped.renewed)
 
 pub returns-in-Blocked-clause-moved : goal.returns-in-Blocked-clause-moved
 returns-in-Blocked-clause-moved g c =
@@ -291,7 +288,7 @@ returns-in-Blocked-clause-moved g c =
     (λ l s.
     let told = rw c.in-Blocked.is at (c.in-Ok.ensures {u = tt}).looked in
     let there = holder_there c.self.inside.claims c.self.inside.runs.items c.in-Blocked.other told.1.1.0 c.self.invariant.runs.claimed
-    (subst (λ (ks : List g.row.R-Key.Denot). In told.1.1.0 ks) (c.look-looked.ensures.others c.in-Blocked.other told.1.0).0 told.1.1.2) in
+    (subst (λ (ks : List g.row.R-Key.Denot). In told.1.1.0 ks) (c.look-looked.ensures.stepped.others c.in-Blocked.other told.1.0).0 told.1.1.2) in
     let b = look_held g.R.Key.Ord.cmp (g.R.Rules.machine c.self.inside.memos.rules) g.M.Stamp.point told_puts c.self.inside.memos.rules (held (record { rules = c.self.inside.memos.rules; places = c.self.inside.memos.places; inputs = c.self.inside.inputs; accounts = c.self.inside.accounts; opened = c.self.inside.opened; clients = c.self.inside.clients; waiting = c.self.inside.waiting.items; runs = c.self.inside.runs; started = c.self.inside.started; claims = c.self.inside.claims })) l c.args.run c.in-Some.taken c.in-Blocked.other there.0 s here (λ o. false_true (sym c.if-is_overtaken.false ∙ c.is_overtaken.ensures.1 (rw c.now-now.ensures.now o))) (none_of (out_at c.in-Some.taken.top) (λ e. false_true (sym c.if-is_out.false ∙ c.is_out.ensures.1 e))) told.1.0 there.1 in
     (l, (b.0, b.1, b.2, b.3, refl), back_moved g.R.Key.Ord.cmp (g.R.Rules.machine c.self.inside.memos.rules) g.M.Stamp.point told_puts (held (record { rules = c.self.inside.memos.rules; places = c.self.inside.memos.places; inputs = c.self.inside.inputs; accounts = c.self.inside.accounts; opened = c.self.inside.opened; clients = c.self.inside.clients; waiting = c.self.inside.waiting.items; runs = c.self.inside.runs; started = c.self.inside.started; claims = c.self.inside.claims })) (record { inputs = c.self.inside.inputs; accounts = c.self.inside.accounts.items; opened = c.self.inside.opened; clients = c.self.inside.clients; runs = c.put_back-in-Blocked.new.self.items; started = c.self.inside.started }) l c.args.run c.in-Some.taken c.look-looked.new.self s here c.look-looked.ensures.same ((rw c.in-Blocked.is at (c.in-Ok.ensures {u = tt}).looked).0 ∙ sym (none_of (out_at c.in-Some.taken.top) (λ e. false_true (sym c.if-is_out.false ∙ c.is_out.ensures.1 e)))) set.found (λ k. refl) (record { inputs = refl; opened = refl; clients = refl; started = refl }))))
 
@@ -322,10 +319,10 @@ invariant_of-self-in-Answered g c =
     (ended_as (held (record { rules = c.self.inside.memos.rules; places = c.self.inside.memos.places; inputs = c.self.inside.inputs; accounts = c.self.inside.accounts; opened = c.self.inside.opened; clients = c.self.inside.clients; waiting = c.self.inside.waiting.items; runs = c.self.inside.runs; started = c.self.inside.started; claims = c.self.inside.claims })) (record { inputs = c.self.inside.inputs; accounts = c.end_run.new.accounts.items; opened = c.self.inside.opened; clients = c.self.inside.clients; runs = c.take.new.self.items; started = c.self.inside.started }) c.in-Some.taken c.look-looked.new.self c.self.inside.inputs.revision (Answered c.in-Answered.answer c.in-Some-ok.stamp) c.look-looked.ensures.same
     (λ account h. ends_of (rw c.now-now.ensures.now at (c.end_run.ensures.«open» account h))))
     (λ h k. (c.end_run.ensures.closed (ap (λ (n : ℕ). found c.self.inside.accounts.items n) c.look-looked.ensures.same.client ∙ h)).found k) (record { inputs = refl; opened = refl; clients = refl; started = refl }) in
-    rw c.look-looked.ensures.rules
+    rw c.look-looked.ensures.stepped.rules
     (record {
       stamped = c.self.invariant.stamped;
-      kept = c.look-looked.ensures.kept;
+      kept = c.look-looked.ensures.stepped.ready.kept;
       accounts_above = c.end_run.ensures.above c.self.inside.clients w.accounts_above;
       runs_above = c.take.ensures.above c.self.inside.started w.runs_above;
       queue = end_queue _ _ _ c.look-looked.new.self.client c.look-looked.new.self.number _
@@ -334,14 +331,14 @@ invariant_of-self-in-Answered g c =
           let a : length c.self.inside.waiting.items ≤ c.self.inside.runs.room = w.room in
           let b = c.take.ensures.room in
           omega (arith, a, b);
-      runs = ended_runs _ _ _ _ _ _ _ _ _ c.args.run c.look-looked.new.claims runs c.look-looked.ensures.renewed c.look-looked.ensures.written c.look-looked.ensures.others c.release_all-in-Answered.ensures.released w.runs;
+      runs = ended_runs _ _ _ _ _ _ _ _ _ c.args.run c.look-looked.new.claims runs c.look-looked.ensures.stepped.renewed c.look-looked.ensures.stepped.written c.look-looked.ensures.stepped.others c.release_all-in-Answered.ensures.released w.runs;
       ledger = (moved.0, moved.2);
     })
 
 pub returns-in-Answered-clause-none_lost : goal.returns-in-Answered-clause-none_lost
 returns-in-Answered-clause-none_lost g c = rw (← c.self.view_is)
     (renewed_none_lost (g.R.Rules.machine c.self.inside.memos.rules) c.self.inside.inputs.revision (memo_at g.R.Key.Ord.cmp c.self.inside.memos.places)
-    (memo_at g.R.Key.Ord.cmp c.look-looked.new.memos.places) c.look-looked.ensures.renewed)
+    (memo_at g.R.Key.Ord.cmp c.look-looked.new.memos.places) c.look-looked.ensures.stepped.renewed)
 
 pub returns-in-Answered-clause-moved : goal.returns-in-Answered-clause-moved
 returns-in-Answered-clause-moved g c =
@@ -362,19 +359,18 @@ invariant_of-self-in-Err g c =
     let here = sym (rw c.number-id.ensures at (c.in-Some.ensures {u = tt}).value) in
     let set = set_back c.self.inside.runs c.take.new.self c.put_back-in-Err.new.self c.args.run c.look-looked.new.self (rw c.number-id.ensures at c.take.ensures.found) c.take.ensures.above
     (rw c.in-Some.is at c.take.ensures.more_room) (rw c.number-id.ensures at c.put_back-in-Err.ensures.found) c.put_back-in-Err.ensures.room c.put_back-in-Err.ensures.above in
-    rw c.look-looked.ensures.rules
-    (step_whole _ _ _ _ _ _ _ _ w c.look-looked.ensures.kept (set.above c.self.inside.started) set.room
+    rw c.look-looked.ensures.stepped.rules
+    (step_whole _ _ _ _ _ _ _ _ w c.look-looked.ensures.stepped.ready.kept (set.above c.self.inside.started) set.room
     (stepped_runs _ _ c.self.inside.inputs _ _ _ _ _ _ c.args.run c.in-Some.taken c.look-looked.new.self here set.found c.look-looked.ensures.same
     ((current g.R.Key.Ord.cmp (g.R.Rules.machine c.self.inside.memos.rules) g.M.Stamp.point told_puts (held (record { rules = c.self.inside.memos.rules; places = c.self.inside.memos.places; inputs = c.self.inside.inputs; accounts = c.self.inside.accounts; opened = c.self.inside.opened; clients = c.self.inside.clients; waiting = c.self.inside.waiting.items; runs = c.self.inside.runs; started = c.self.inside.started; claims = c.self.inside.claims })) w.ledger.0 c.args.run c.in-Some.taken w.ledger.1 (run_here g.R.Key.Ord.cmp (g.R.Rules.machine c.self.inside.memos.rules) g.M.Stamp.point told_puts (held (record { rules = c.self.inside.memos.rules; places = c.self.inside.memos.places; inputs = c.self.inside.inputs; accounts = c.self.inside.accounts; opened = c.self.inside.opened; clients = c.self.inside.clients; waiting = c.self.inside.waiting.items; runs = c.self.inside.runs; started = c.self.inside.started; claims = c.self.inside.claims })) w.ledger.0 c.args.run c.in-Some.taken w.ledger.1 here) (λ o. false_true (sym c.if-is_overtaken.false ∙ c.is_overtaken.ensures.1 (rw c.now-now.ensures.now o)))).1)
     (λ s y h. run_past g.R.Key.Ord.cmp (g.R.Rules.machine c.self.inside.memos.rules) g.M.Stamp.point told_puts (held (record { rules = c.self.inside.memos.rules; places = c.self.inside.memos.places; inputs = c.self.inside.inputs; accounts = c.self.inside.accounts; opened = c.self.inside.opened; clients = c.self.inside.clients; waiting = c.self.inside.waiting.items; runs = c.self.inside.runs; started = c.self.inside.started; claims = c.self.inside.claims })) w.ledger.0 s y w.ledger.1 h)
-    c.claims_are_sound.ensures.sound c.claims_are_sound-in-Some.ensures.sound c.look-looked.ensures.renewed c.look-looked.ensures.written
-    c.look-looked.ensures.run_kept c.look-looked.ensures.claimed c.look-looked.ensures.others c.look-looked.ensures.stale c.look-looked.ensures.waits w.runs)
+    c.claims_are_sound.ensures.sound c.claims_are_sound-in-Some.ensures.sound c.look-looked.ensures.stepped w.runs)
     (w.ledger.0, back_moved g.R.Key.Ord.cmp (g.R.Rules.machine c.self.inside.memos.rules) g.M.Stamp.point told_puts (held (record { rules = c.self.inside.memos.rules; places = c.self.inside.memos.places; inputs = c.self.inside.inputs; accounts = c.self.inside.accounts; opened = c.self.inside.opened; clients = c.self.inside.clients; waiting = c.self.inside.waiting.items; runs = c.self.inside.runs; started = c.self.inside.started; claims = c.self.inside.claims })) (record { inputs = c.self.inside.inputs; accounts = c.self.inside.accounts.items; opened = c.self.inside.opened; clients = c.self.inside.clients; runs = c.put_back-in-Err.new.self.items; started = c.self.inside.started }) w.ledger.0 c.args.run c.in-Some.taken c.look-looked.new.self w.ledger.1 here c.look-looked.ensures.same ((c.in-Err.ensures {u = tt}).refused ∙ sym (none_of (out_at c.in-Some.taken.top) (λ e. false_true (sym c.if-is_out.false ∙ c.is_out.ensures.1 e)))) set.found (λ k. refl) (record { inputs = refl; opened = refl; clients = refl; started = refl })))
 
 pub returns-in-Err-clause-none_lost : goal.returns-in-Err-clause-none_lost
 returns-in-Err-clause-none_lost g c = rw (← c.self.view_is)
     (renewed_none_lost (g.R.Rules.machine c.self.inside.memos.rules) c.self.inside.inputs.revision (memo_at g.R.Key.Ord.cmp c.self.inside.memos.places)
-    (memo_at g.R.Key.Ord.cmp c.look-looked.new.memos.places) c.look-looked.ensures.renewed)
+    (memo_at g.R.Key.Ord.cmp c.look-looked.new.memos.places) c.look-looked.ensures.stepped.renewed)
 
 pub returns-in-Err-clause-moved : goal.returns-in-Err-clause-moved
 returns-in-Err-clause-moved g c =
@@ -387,19 +383,9 @@ returns-in-Err-clause-moved g c =
     let b = goes_on g.R.Key.Ord.cmp (g.R.Rules.machine c.self.inside.memos.rules) g.M.Stamp.point told_puts c.self.inside.memos.rules (held (record { rules = c.self.inside.memos.rules; places = c.self.inside.memos.places; inputs = c.self.inside.inputs; accounts = c.self.inside.accounts; opened = c.self.inside.opened; clients = c.self.inside.clients; waiting = c.self.inside.waiting.items; runs = c.self.inside.runs; started = c.self.inside.started; claims = c.self.inside.claims })) l c.args.run c.in-Some.taken s here (λ o. false_true (sym c.if-is_overtaken.false ∙ c.is_overtaken.ensures.1 (rw c.now-now.ensures.now o))) (none_of (out_at c.in-Some.taken.top) (λ e. false_true (sym c.if-is_out.false ∙ c.is_out.ensures.1 e))) in
     (l, (b.0, b.1, refl), back_moved g.R.Key.Ord.cmp (g.R.Rules.machine c.self.inside.memos.rules) g.M.Stamp.point told_puts (held (record { rules = c.self.inside.memos.rules; places = c.self.inside.memos.places; inputs = c.self.inside.inputs; accounts = c.self.inside.accounts; opened = c.self.inside.opened; clients = c.self.inside.clients; waiting = c.self.inside.waiting.items; runs = c.self.inside.runs; started = c.self.inside.started; claims = c.self.inside.claims })) (record { inputs = c.self.inside.inputs; accounts = c.self.inside.accounts.items; opened = c.self.inside.opened; clients = c.self.inside.clients; runs = c.put_back-in-Err.new.self.items; started = c.self.inside.started }) l c.args.run c.in-Some.taken c.look-looked.new.self s here c.look-looked.ensures.same ((c.in-Err.ensures {u = tt}).refused ∙ sym (none_of (out_at c.in-Some.taken.top) (λ e. false_true (sym c.if-is_out.false ∙ c.is_out.ensures.1 e)))) set.found (λ k. refl) (record { inputs = refl; opened = refl; clients = refl; started = refl }))))
 
-pub look-looked-requires-clause-claimed : goal.look-looked-requires-clause-claimed
-look-looked-requires-clause-claimed g c =
-    let here = sym (rw c.number-id.ensures at (c.in-Some.ensures {u = tt}).value) in
-    own_claimed _ _ _ _ _ _ c.args.run c.in-Some.taken here c.self.invariant.runs
-
-pub look-looked-requires-clause-stale : goal.look-looked-requires-clause-stale
-look-looked-requires-clause-stale g c =
-    let here = sym (rw c.number-id.ensures at (c.in-Some.ensures {u = tt}).value) in
-    own_stale _ _ _ _ _ _ c.args.run c.in-Some.taken here c.self.invariant.runs
-
 pub close_ring-requires-clause-kept : goal.close_ring-requires-clause-kept
 close_ring-requires-clause-kept g c =
-    rw c.look-looked.ensures.rules c.look-looked.ensures.kept
+    rw c.look-looked.ensures.stepped.rules c.look-looked.ensures.stepped.ready.kept
 
 pub close_ring-requires-clause-runs_kept : goal.close_ring-requires-clause-runs_kept
 close_ring-requires-clause-runs_kept g c =
@@ -407,12 +393,11 @@ close_ring-requires-clause-runs_kept g c =
     let here = sym (rw c.number-id.ensures at (c.in-Some.ensures {u = tt}).value) in
     let set = set_back c.self.inside.runs c.take.new.self c.put_back-in-Ring.new.self c.args.run c.look-looked.new.self (rw c.number-id.ensures at c.take.ensures.found) c.take.ensures.above
     (rw c.in-Some.is at c.take.ensures.more_room) (rw c.number-id.ensures at c.put_back-in-Ring.ensures.found) c.put_back-in-Ring.ensures.room c.put_back-in-Ring.ensures.above in
-    rw c.look-looked.ensures.rules
+    rw c.look-looked.ensures.stepped.rules
     (stepped_runs _ _ c.self.inside.inputs _ _ _ _ _ _ c.args.run c.in-Some.taken c.look-looked.new.self here set.found c.look-looked.ensures.same
     ((current g.R.Key.Ord.cmp (g.R.Rules.machine c.self.inside.memos.rules) g.M.Stamp.point told_puts (held (record { rules = c.self.inside.memos.rules; places = c.self.inside.memos.places; inputs = c.self.inside.inputs; accounts = c.self.inside.accounts; opened = c.self.inside.opened; clients = c.self.inside.clients; waiting = c.self.inside.waiting.items; runs = c.self.inside.runs; started = c.self.inside.started; claims = c.self.inside.claims })) w.ledger.0 c.args.run c.in-Some.taken w.ledger.1 (run_here g.R.Key.Ord.cmp (g.R.Rules.machine c.self.inside.memos.rules) g.M.Stamp.point told_puts (held (record { rules = c.self.inside.memos.rules; places = c.self.inside.memos.places; inputs = c.self.inside.inputs; accounts = c.self.inside.accounts; opened = c.self.inside.opened; clients = c.self.inside.clients; waiting = c.self.inside.waiting.items; runs = c.self.inside.runs; started = c.self.inside.started; claims = c.self.inside.claims })) w.ledger.0 c.args.run c.in-Some.taken w.ledger.1 here) (λ o. false_true (sym c.if-is_overtaken.false ∙ c.is_overtaken.ensures.1 (rw c.now-now.ensures.now o)))).1)
     (λ s y h. run_past g.R.Key.Ord.cmp (g.R.Rules.machine c.self.inside.memos.rules) g.M.Stamp.point told_puts (held (record { rules = c.self.inside.memos.rules; places = c.self.inside.memos.places; inputs = c.self.inside.inputs; accounts = c.self.inside.accounts; opened = c.self.inside.opened; clients = c.self.inside.clients; waiting = c.self.inside.waiting.items; runs = c.self.inside.runs; started = c.self.inside.started; claims = c.self.inside.claims })) w.ledger.0 s y w.ledger.1 h)
-    c.claims_are_sound.ensures.sound c.claims_are_sound-in-Some.ensures.sound c.look-looked.ensures.renewed c.look-looked.ensures.written
-    c.look-looked.ensures.run_kept c.look-looked.ensures.claimed c.look-looked.ensures.others c.look-looked.ensures.stale c.look-looked.ensures.waits w.runs)
+    c.claims_are_sound.ensures.sound c.claims_are_sound-in-Some.ensures.sound c.look-looked.ensures.stepped w.runs)
 
 pub close_ring-requires-clause-within : goal.close_ring-requires-clause-within
 close_ring-requires-clause-within g c =
@@ -430,12 +415,12 @@ close_ring-requires-clause-closes g c =
     let set = set_back c.self.inside.runs c.take.new.self c.put_back-in-Ring.new.self c.args.run c.look-looked.new.self (rw c.number-id.ensures at c.take.ensures.found) c.take.ensures.above
     (rw c.in-Some.is at c.take.ensures.more_room) (rw c.number-id.ensures at c.put_back-in-Ring.ensures.found) c.put_back-in-Ring.ensures.room c.put_back-in-Ring.ensures.above in
     let told = rw c.in-Ring.is at (c.in-Ok.ensures {u = tt}).looked in
-    rw c.look-looked.ensures.rules
+    rw c.look-looked.ensures.stepped.rules
     (rw c.deref.ensures.value (
       c.look-looked.new.self,
       set.found c.args.run ∙ if_at c.args.run (Some c.look-looked.new.self) (found c.self.inside.runs.items c.args.run),
       c.look-looked.ensures.same.started ∙ (current g.R.Key.Ord.cmp (g.R.Rules.machine c.self.inside.memos.rules) g.M.Stamp.point told_puts (held (record { rules = c.self.inside.memos.rules; places = c.self.inside.memos.places; inputs = c.self.inside.inputs; accounts = c.self.inside.accounts; opened = c.self.inside.opened; clients = c.self.inside.clients; waiting = c.self.inside.waiting.items; runs = c.self.inside.runs; started = c.self.inside.started; claims = c.self.inside.claims })) w.ledger.0 c.args.run c.in-Some.taken w.ledger.1 (run_here g.R.Key.Ord.cmp (g.R.Rules.machine c.self.inside.memos.rules) g.M.Stamp.point told_puts (held (record { rules = c.self.inside.memos.rules; places = c.self.inside.memos.places; inputs = c.self.inside.inputs; accounts = c.self.inside.accounts; opened = c.self.inside.opened; clients = c.self.inside.clients; waiting = c.self.inside.waiting.items; runs = c.self.inside.runs; started = c.self.inside.started; claims = c.self.inside.claims })) w.ledger.0 c.args.run c.in-Some.taken w.ledger.1 here) (λ o. false_true (sym c.if-is_overtaken.false ∙ c.is_overtaken.ensures.1 (rw c.now-now.ensures.now o)))).1,
-      closes_still g.R.Key.Ord.cmp (g.R.Rules.machine c.self.inside.memos.rules) c.self.inside.inputs _ _ c.look-looked.new.claims c.args.run c.look-looked.new.self.stack c.look-looked.new.self.top _ c.look-looked.ensures.renewed c.look-looked.ensures.stale told.1,
+      closes_still g.R.Key.Ord.cmp (g.R.Rules.machine c.self.inside.memos.rules) c.self.inside.inputs _ _ c.look-looked.new.claims c.args.run c.look-looked.new.self.stack c.look-looked.new.self.top _ c.look-looked.ensures.stepped.renewed c.look-looked.ensures.stepped.ready.stale told.1,
     ))
 
 pub invariant_of-self-in-Ok-close_ring : goal.invariant_of-self-in-Ok-close_ring
@@ -445,9 +430,9 @@ invariant_of-self-in-Ok-close_ring g c =
     let set = set_back c.self.inside.runs c.take.new.self c.put_back-in-Ring.new.self c.args.run c.look-looked.new.self (rw c.number-id.ensures at c.take.ensures.found) c.take.ensures.above
     (rw c.in-Some.is at c.take.ensures.more_room) (rw c.number-id.ensures at c.put_back-in-Ring.ensures.found) c.put_back-in-Ring.ensures.room c.put_back-in-Ring.ensures.above in
     let told = rw c.in-Ring.is at (c.in-Ok.ensures {u = tt}).looked in
-    rw (c.close_ring.ensures.rules ∙ c.look-looked.ensures.rules)
-    (step_whole _ _ _ _ _ _ _ _ w (rw c.look-looked.ensures.rules at c.close_ring.ensures.kept) (λ a. c.close_ring.ensures.above c.self.inside.started (set.above c.self.inside.started a)) (let b = set.room in let d = c.close_ring.ensures.room in omega (arith, b, d))
-    (rw c.look-looked.ensures.rules at c.close_ring.ensures.runs_kept) (
+    rw (c.close_ring.ensures.rules ∙ c.look-looked.ensures.stepped.rules)
+    (step_whole _ _ _ _ _ _ _ _ w (rw c.look-looked.ensures.stepped.rules at c.close_ring.ensures.kept) (λ a. c.close_ring.ensures.above c.self.inside.started (set.above c.self.inside.started a)) (let b = set.room in let d = c.close_ring.ensures.room in omega (arith, b, d))
+    (rw c.look-looked.ensures.stepped.rules at c.close_ring.ensures.runs_kept) (
       w.ledger.0,
       seen_moved g.R.Key.Ord.cmp (g.R.Rules.machine c.self.inside.memos.rules) g.M.Stamp.point told_puts (record { inputs = c.self.inside.inputs; accounts = c.self.inside.accounts.items; opened = c.self.inside.opened; clients = c.self.inside.clients; runs = c.put_back-in-Ring.new.self.items; started = c.self.inside.started }) (record { inputs = c.self.inside.inputs; accounts = c.self.inside.accounts.items; opened = c.self.inside.opened; clients = c.self.inside.clients; runs = c.close_ring.new.runs.items; started = c.self.inside.started }) w.ledger.0 c.close_ring.ensures.seen (λ k. refl) (record { inputs = refl; opened = refl; clients = refl; started = refl })
           (back_moved g.R.Key.Ord.cmp (g.R.Rules.machine c.self.inside.memos.rules) g.M.Stamp.point told_puts (held (record { rules = c.self.inside.memos.rules; places = c.self.inside.memos.places; inputs = c.self.inside.inputs; accounts = c.self.inside.accounts; opened = c.self.inside.opened; clients = c.self.inside.clients; waiting = c.self.inside.waiting.items; runs = c.self.inside.runs; started = c.self.inside.started; claims = c.self.inside.claims })) (record { inputs = c.self.inside.inputs; accounts = c.self.inside.accounts.items; opened = c.self.inside.opened; clients = c.self.inside.clients; runs = c.put_back-in-Ring.new.self.items; started = c.self.inside.started }) w.ledger.0 c.args.run c.in-Some.taken c.look-looked.new.self w.ledger.1 here c.look-looked.ensures.same (told.0 ∙ sym (none_of (out_at c.in-Some.taken.top) (λ e. false_true (sym c.if-is_out.false ∙ c.is_out.ensures.1 e)))) set.found (λ k. refl) (record { inputs = refl; opened = refl; clients = refl; started = refl })),
@@ -459,7 +444,7 @@ returns-in-Ok-close_ring-clause-none_lost g c =
     (renewed_none_lost (g.R.Rules.machine c.self.inside.memos.rules) c.self.inside.inputs.revision (memo_at g.R.Key.Ord.cmp c.self.inside.memos.places)
     (memo_at g.R.Key.Ord.cmp c.close_ring.new.memos.places)
     (renewed_then (g.R.Rules.machine c.self.inside.memos.rules) c.self.inside.inputs.revision (memo_at g.R.Key.Ord.cmp c.self.inside.memos.places)
-    (memo_at g.R.Key.Ord.cmp c.look-looked.new.memos.places) (memo_at g.R.Key.Ord.cmp c.close_ring.new.memos.places) c.look-looked.ensures.renewed (rw c.look-looked.ensures.rules at c.close_ring.ensures.renewed)))
+    (memo_at g.R.Key.Ord.cmp c.look-looked.new.memos.places) (memo_at g.R.Key.Ord.cmp c.close_ring.new.memos.places) c.look-looked.ensures.stepped.renewed (rw c.look-looked.ensures.stepped.rules at c.close_ring.ensures.renewed)))
 
 pub returns-in-Ok-close_ring-clause-moved : goal.returns-in-Ok-close_ring-clause-moved
 returns-in-Ok-close_ring-clause-moved g c =
@@ -484,9 +469,9 @@ invariant_of-self-in-Err-close_ring g c =
     let set = set_back c.self.inside.runs c.take.new.self c.put_back-in-Ring.new.self c.args.run c.look-looked.new.self (rw c.number-id.ensures at c.take.ensures.found) c.take.ensures.above
     (rw c.in-Some.is at c.take.ensures.more_room) (rw c.number-id.ensures at c.put_back-in-Ring.ensures.found) c.put_back-in-Ring.ensures.room c.put_back-in-Ring.ensures.above in
     let told = rw c.in-Ring.is at (c.in-Ok.ensures {u = tt}).looked in
-    rw (c.close_ring.ensures.rules ∙ c.look-looked.ensures.rules)
-    (step_whole _ _ _ _ _ _ _ _ w (rw c.look-looked.ensures.rules at c.close_ring.ensures.kept) (λ a. c.close_ring.ensures.above c.self.inside.started (set.above c.self.inside.started a)) (let b = set.room in let d = c.close_ring.ensures.room in omega (arith, b, d))
-    (rw c.look-looked.ensures.rules at c.close_ring.ensures.runs_kept) (
+    rw (c.close_ring.ensures.rules ∙ c.look-looked.ensures.stepped.rules)
+    (step_whole _ _ _ _ _ _ _ _ w (rw c.look-looked.ensures.stepped.rules at c.close_ring.ensures.kept) (λ a. c.close_ring.ensures.above c.self.inside.started (set.above c.self.inside.started a)) (let b = set.room in let d = c.close_ring.ensures.room in omega (arith, b, d))
+    (rw c.look-looked.ensures.stepped.rules at c.close_ring.ensures.runs_kept) (
       w.ledger.0,
       seen_moved g.R.Key.Ord.cmp (g.R.Rules.machine c.self.inside.memos.rules) g.M.Stamp.point told_puts (record { inputs = c.self.inside.inputs; accounts = c.self.inside.accounts.items; opened = c.self.inside.opened; clients = c.self.inside.clients; runs = c.put_back-in-Ring.new.self.items; started = c.self.inside.started }) (record { inputs = c.self.inside.inputs; accounts = c.self.inside.accounts.items; opened = c.self.inside.opened; clients = c.self.inside.clients; runs = c.close_ring.new.runs.items; started = c.self.inside.started }) w.ledger.0 c.close_ring.ensures.seen (λ k. refl) (record { inputs = refl; opened = refl; clients = refl; started = refl })
           (back_moved g.R.Key.Ord.cmp (g.R.Rules.machine c.self.inside.memos.rules) g.M.Stamp.point told_puts (held (record { rules = c.self.inside.memos.rules; places = c.self.inside.memos.places; inputs = c.self.inside.inputs; accounts = c.self.inside.accounts; opened = c.self.inside.opened; clients = c.self.inside.clients; waiting = c.self.inside.waiting.items; runs = c.self.inside.runs; started = c.self.inside.started; claims = c.self.inside.claims })) (record { inputs = c.self.inside.inputs; accounts = c.self.inside.accounts.items; opened = c.self.inside.opened; clients = c.self.inside.clients; runs = c.put_back-in-Ring.new.self.items; started = c.self.inside.started }) w.ledger.0 c.args.run c.in-Some.taken c.look-looked.new.self w.ledger.1 here c.look-looked.ensures.same (told.0 ∙ sym (none_of (out_at c.in-Some.taken.top) (λ e. false_true (sym c.if-is_out.false ∙ c.is_out.ensures.1 e)))) set.found (λ k. refl) (record { inputs = refl; opened = refl; clients = refl; started = refl })),
@@ -498,7 +483,7 @@ returns-in-Err-close_ring-clause-none_lost g c =
     (renewed_none_lost (g.R.Rules.machine c.self.inside.memos.rules) c.self.inside.inputs.revision (memo_at g.R.Key.Ord.cmp c.self.inside.memos.places)
     (memo_at g.R.Key.Ord.cmp c.close_ring.new.memos.places)
     (renewed_then (g.R.Rules.machine c.self.inside.memos.rules) c.self.inside.inputs.revision (memo_at g.R.Key.Ord.cmp c.self.inside.memos.places)
-    (memo_at g.R.Key.Ord.cmp c.look-looked.new.memos.places) (memo_at g.R.Key.Ord.cmp c.close_ring.new.memos.places) c.look-looked.ensures.renewed (rw c.look-looked.ensures.rules at c.close_ring.ensures.renewed)))
+    (memo_at g.R.Key.Ord.cmp c.look-looked.new.memos.places) (memo_at g.R.Key.Ord.cmp c.close_ring.new.memos.places) c.look-looked.ensures.stepped.renewed (rw c.look-looked.ensures.stepped.rules at c.close_ring.ensures.renewed)))
 
 pub returns-in-Err-close_ring-clause-moved : goal.returns-in-Err-close_ring-clause-moved
 returns-in-Err-close_ring-clause-moved g c =
@@ -564,7 +549,7 @@ returns-in-Stepped-clause-counted g c =
     let here = sym (rw c.number-id.ensures at (c.in-Some.ensures {u = tt}).value) in
     let set = set_back c.self.inside.runs c.take.new.self c.put_back-in-Stepped.new.self c.args.run c.look-looked.new.self (rw c.number-id.ensures at c.take.ensures.found) c.take.ensures.above
     (rw c.in-Some.is at c.take.ensures.more_room) (rw c.number-id.ensures at c.put_back-in-Stepped.ensures.found) c.put_back-in-Stepped.ensures.room c.put_back-in-Stepped.ensures.above in
-    rw (← c.self.view_is) (λ log x. stepped_counted g.R.Key.Ord.cmp exact (g.R.Rules.machine c.self.inside.memos.rules) c.self.inside.inputs log (memo_at g.R.Key.Ord.cmp c.self.inside.memos.places) (memo_at g.R.Key.Ord.cmp c.look-looked.new.memos.places) c.self.inside.runs.items c.put_back-in-Stepped.new.self.items c.args.run c.in-Some.taken here c.look-looked.new.self c.look-looked.ensures.renewed set.found c.look-looked.ensures.same c.look-looked.ensures.begun x)
+    rw (← c.self.view_is) (λ log x. stepped_counted g.R.Key.Ord.cmp exact (g.R.Rules.machine c.self.inside.memos.rules) c.self.inside.inputs log (memo_at g.R.Key.Ord.cmp c.self.inside.memos.places) (memo_at g.R.Key.Ord.cmp c.look-looked.new.memos.places) c.self.inside.runs.items c.put_back-in-Stepped.new.self.items c.args.run c.in-Some.taken here c.look-looked.new.self c.look-looked.ensures.stepped.renewed set.found c.look-looked.ensures.same c.look-looked.ensures.stepped.begun x)
 
 pub returns-in-Blocked-clause-counted : goal.returns-in-Blocked-clause-counted
 returns-in-Blocked-clause-counted g c =
@@ -572,7 +557,7 @@ returns-in-Blocked-clause-counted g c =
     let here = sym (rw c.number-id.ensures at (c.in-Some.ensures {u = tt}).value) in
     let set = set_back c.self.inside.runs c.take.new.self c.put_back-in-Blocked.new.self c.args.run c.look-looked.new.self (rw c.number-id.ensures at c.take.ensures.found) c.take.ensures.above
     (rw c.in-Some.is at c.take.ensures.more_room) (rw c.number-id.ensures at c.put_back-in-Blocked.ensures.found) c.put_back-in-Blocked.ensures.room c.put_back-in-Blocked.ensures.above in
-    rw (← c.self.view_is) (λ log x. stepped_counted g.R.Key.Ord.cmp exact (g.R.Rules.machine c.self.inside.memos.rules) c.self.inside.inputs log (memo_at g.R.Key.Ord.cmp c.self.inside.memos.places) (memo_at g.R.Key.Ord.cmp c.look-looked.new.memos.places) c.self.inside.runs.items c.put_back-in-Blocked.new.self.items c.args.run c.in-Some.taken here c.look-looked.new.self c.look-looked.ensures.renewed set.found c.look-looked.ensures.same c.look-looked.ensures.begun x)
+    rw (← c.self.view_is) (λ log x. stepped_counted g.R.Key.Ord.cmp exact (g.R.Rules.machine c.self.inside.memos.rules) c.self.inside.inputs log (memo_at g.R.Key.Ord.cmp c.self.inside.memos.places) (memo_at g.R.Key.Ord.cmp c.look-looked.new.memos.places) c.self.inside.runs.items c.put_back-in-Blocked.new.self.items c.args.run c.in-Some.taken here c.look-looked.new.self c.look-looked.ensures.stepped.renewed set.found c.look-looked.ensures.same c.look-looked.ensures.stepped.begun x)
 
 pub returns-in-Err-clause-counted : goal.returns-in-Err-clause-counted
 returns-in-Err-clause-counted g c =
@@ -580,7 +565,7 @@ returns-in-Err-clause-counted g c =
     let here = sym (rw c.number-id.ensures at (c.in-Some.ensures {u = tt}).value) in
     let set = set_back c.self.inside.runs c.take.new.self c.put_back-in-Err.new.self c.args.run c.look-looked.new.self (rw c.number-id.ensures at c.take.ensures.found) c.take.ensures.above
     (rw c.in-Some.is at c.take.ensures.more_room) (rw c.number-id.ensures at c.put_back-in-Err.ensures.found) c.put_back-in-Err.ensures.room c.put_back-in-Err.ensures.above in
-    rw (← c.self.view_is) (λ log x. stepped_counted g.R.Key.Ord.cmp exact (g.R.Rules.machine c.self.inside.memos.rules) c.self.inside.inputs log (memo_at g.R.Key.Ord.cmp c.self.inside.memos.places) (memo_at g.R.Key.Ord.cmp c.look-looked.new.memos.places) c.self.inside.runs.items c.put_back-in-Err.new.self.items c.args.run c.in-Some.taken here c.look-looked.new.self c.look-looked.ensures.renewed set.found c.look-looked.ensures.same c.look-looked.ensures.begun x)
+    rw (← c.self.view_is) (λ log x. stepped_counted g.R.Key.Ord.cmp exact (g.R.Rules.machine c.self.inside.memos.rules) c.self.inside.inputs log (memo_at g.R.Key.Ord.cmp c.self.inside.memos.places) (memo_at g.R.Key.Ord.cmp c.look-looked.new.memos.places) c.self.inside.runs.items c.put_back-in-Err.new.self.items c.args.run c.in-Some.taken here c.look-looked.new.self c.look-looked.ensures.stepped.renewed set.found c.look-looked.ensures.same c.look-looked.ensures.stepped.begun x)
 
 pub returns-in-Carry-clause-counted : goal.returns-in-Carry-clause-counted
 returns-in-Carry-clause-counted g c =
@@ -592,8 +577,8 @@ returns-in-Carry-clause-counted g c =
     (run_here g.R.Key.Ord.cmp (g.R.Rules.machine c.self.inside.memos.rules) g.M.Stamp.point told_puts (held (record { rules = c.self.inside.memos.rules; places = c.self.inside.memos.places; inputs = c.self.inside.inputs; accounts = c.self.inside.accounts; opened = c.self.inside.opened; clients = c.self.inside.clients; waiting = c.self.inside.waiting.items; runs = c.self.inside.runs; started = c.self.inside.started; claims = c.self.inside.claims })) c.self.invariant.ledger.0 c.args.run c.in-Some.taken c.self.invariant.ledger.1 here) (λ o. false_true (sym c.if-is_overtaken.false ∙ c.is_overtaken.ensures.1 (rw c.now-now.ensures.now o)))).1 in
     let handed = rw c.in-Carry.is at (c.in-Ok.ensures {u = tt}).looked in
     let first = rw c.in-Carry.is at (c.in-Ok.ensures {u = tt}).first in
-    rw (← c.self.view_is) (rw c.new.ensures (λ log x. carried_counted g.R.Key.Ord.cmp exact (g.R.Rules.machine c.self.inside.memos.rules) c.self.inside.inputs log (memo_at g.R.Key.Ord.cmp c.self.inside.memos.places) (memo_at g.R.Key.Ord.cmp c.look-looked.new.memos.places) c.self.inside.runs.items c.put_back-in-Carry.new.self.items c.args.run c.in-Some.taken here c.look-looked.new.self c.look-looked.ensures.renewed set.found c.look-looked.ensures.same c.look-looked.ensures.begun
-    c.self.inside.claims c.look-looked.new.claims began c.claims_are_sound-in-Some.ensures.sound c.self.invariant.runs.claimed c.look-looked.ensures.others c.look-looked.ensures.claimed c.look-looked.ensures.stale (out_of c.in-Carry.work.done) c.in-Carry.work.why handed.out first x))
+    rw (← c.self.view_is) (rw c.new.ensures (λ log x. carried_counted g.R.Key.Ord.cmp exact (g.R.Rules.machine c.self.inside.memos.rules) c.self.inside.inputs log (memo_at g.R.Key.Ord.cmp c.self.inside.memos.places) (memo_at g.R.Key.Ord.cmp c.look-looked.new.memos.places) c.self.inside.runs.items c.put_back-in-Carry.new.self.items c.args.run c.in-Some.taken here c.look-looked.new.self c.look-looked.ensures.stepped.renewed set.found c.look-looked.ensures.same c.look-looked.ensures.stepped.begun
+    c.self.inside.claims c.look-looked.new.claims began c.claims_are_sound-in-Some.ensures.sound c.self.invariant.runs.claimed c.look-looked.ensures.stepped.others c.look-looked.ensures.stepped.ready.claimed c.look-looked.ensures.stepped.ready.stale (out_of c.in-Carry.work.done) c.in-Carry.work.why handed.out first x))
 
 pub returns-in-Answered-clause-counted : goal.returns-in-Answered-clause-counted
 returns-in-Answered-clause-counted g c =
@@ -601,7 +586,7 @@ returns-in-Answered-clause-counted g c =
     let here = sym (rw c.number-id.ensures at (c.in-Some.ensures {u = tt}).value) in
     let runs = rw c.number-id.ensures at c.take.ensures.found in
     let none = rw c.in-Answered.is at (c.in-Ok.ensures {u = tt}).first in
-    rw (← c.self.view_is) (λ log x. answered_counted g.R.Key.Ord.cmp exact (g.R.Rules.machine c.self.inside.memos.rules) c.self.inside.inputs log (memo_at g.R.Key.Ord.cmp c.self.inside.memos.places) (memo_at g.R.Key.Ord.cmp c.look-looked.new.memos.places) c.self.inside.runs.items c.take.new.self.items c.args.run c.in-Some.taken here c.look-looked.ensures.renewed runs none x)
+    rw (← c.self.view_is) (λ log x. answered_counted g.R.Key.Ord.cmp exact (g.R.Rules.machine c.self.inside.memos.rules) c.self.inside.inputs log (memo_at g.R.Key.Ord.cmp c.self.inside.memos.places) (memo_at g.R.Key.Ord.cmp c.look-looked.new.memos.places) c.self.inside.runs.items c.take.new.self.items c.args.run c.in-Some.taken here c.look-looked.ensures.stepped.renewed runs none x)
 
 pub returns-in-Ok-close_ring-clause-counted : goal.returns-in-Ok-close_ring-clause-counted
 returns-in-Ok-close_ring-clause-counted g c =
@@ -609,9 +594,9 @@ returns-in-Ok-close_ring-clause-counted g c =
     let here = sym (rw c.number-id.ensures at (c.in-Some.ensures {u = tt}).value) in
     let set = set_back c.self.inside.runs c.take.new.self c.put_back-in-Ring.new.self c.args.run c.look-looked.new.self (rw c.number-id.ensures at c.take.ensures.found) c.take.ensures.above
     (rw c.in-Some.is at c.take.ensures.more_room) (rw c.number-id.ensures at c.put_back-in-Ring.ensures.found) c.put_back-in-Ring.ensures.room c.put_back-in-Ring.ensures.above in
-    let again = rw c.look-looked.ensures.rules at c.close_ring.ensures.renewed in
-    let begun = rw c.look-looked.ensures.rules at c.close_ring.ensures.begun in
-    rw (← c.self.view_is) (λ log x. ring_counted g.R.Key.Ord.cmp exact (g.R.Rules.machine c.self.inside.memos.rules) c.self.inside.inputs log (memo_at g.R.Key.Ord.cmp c.self.inside.memos.places) (memo_at g.R.Key.Ord.cmp c.look-looked.new.memos.places) c.self.inside.runs.items c.put_back-in-Ring.new.self.items c.args.run c.in-Some.taken here (memo_at g.R.Key.Ord.cmp c.close_ring.new.memos.places) c.close_ring.new.runs.items c.look-looked.new.self c.look-looked.ensures.renewed set.found c.look-looked.ensures.same c.look-looked.ensures.begun again begun x)
+    let again = rw c.look-looked.ensures.stepped.rules at c.close_ring.ensures.renewed in
+    let begun = rw c.look-looked.ensures.stepped.rules at c.close_ring.ensures.begun in
+    rw (← c.self.view_is) (λ log x. ring_counted g.R.Key.Ord.cmp exact (g.R.Rules.machine c.self.inside.memos.rules) c.self.inside.inputs log (memo_at g.R.Key.Ord.cmp c.self.inside.memos.places) (memo_at g.R.Key.Ord.cmp c.look-looked.new.memos.places) c.self.inside.runs.items c.put_back-in-Ring.new.self.items c.args.run c.in-Some.taken here (memo_at g.R.Key.Ord.cmp c.close_ring.new.memos.places) c.close_ring.new.runs.items c.look-looked.new.self c.look-looked.ensures.stepped.renewed set.found c.look-looked.ensures.same c.look-looked.ensures.stepped.begun again begun x)
 
 pub returns-in-Err-close_ring-clause-counted : goal.returns-in-Err-close_ring-clause-counted
 returns-in-Err-close_ring-clause-counted g c =
@@ -619,9 +604,9 @@ returns-in-Err-close_ring-clause-counted g c =
     let here = sym (rw c.number-id.ensures at (c.in-Some.ensures {u = tt}).value) in
     let set = set_back c.self.inside.runs c.take.new.self c.put_back-in-Ring.new.self c.args.run c.look-looked.new.self (rw c.number-id.ensures at c.take.ensures.found) c.take.ensures.above
     (rw c.in-Some.is at c.take.ensures.more_room) (rw c.number-id.ensures at c.put_back-in-Ring.ensures.found) c.put_back-in-Ring.ensures.room c.put_back-in-Ring.ensures.above in
-    let again = rw c.look-looked.ensures.rules at c.close_ring.ensures.renewed in
-    let begun = rw c.look-looked.ensures.rules at c.close_ring.ensures.begun in
-    rw (← c.self.view_is) (λ log x. ring_counted g.R.Key.Ord.cmp exact (g.R.Rules.machine c.self.inside.memos.rules) c.self.inside.inputs log (memo_at g.R.Key.Ord.cmp c.self.inside.memos.places) (memo_at g.R.Key.Ord.cmp c.look-looked.new.memos.places) c.self.inside.runs.items c.put_back-in-Ring.new.self.items c.args.run c.in-Some.taken here (memo_at g.R.Key.Ord.cmp c.close_ring.new.memos.places) c.close_ring.new.runs.items c.look-looked.new.self c.look-looked.ensures.renewed set.found c.look-looked.ensures.same c.look-looked.ensures.begun again begun x)
+    let again = rw c.look-looked.ensures.stepped.rules at c.close_ring.ensures.renewed in
+    let begun = rw c.look-looked.ensures.stepped.rules at c.close_ring.ensures.begun in
+    rw (← c.self.view_is) (λ log x. ring_counted g.R.Key.Ord.cmp exact (g.R.Rules.machine c.self.inside.memos.rules) c.self.inside.inputs log (memo_at g.R.Key.Ord.cmp c.self.inside.memos.places) (memo_at g.R.Key.Ord.cmp c.look-looked.new.memos.places) c.self.inside.runs.items c.put_back-in-Ring.new.self.items c.args.run c.in-Some.taken here (memo_at g.R.Key.Ord.cmp c.close_ring.new.memos.places) c.close_ring.new.runs.items c.look-looked.new.self c.look-looked.ensures.stepped.renewed set.found c.look-looked.ensures.same c.look-looked.ensures.stepped.begun again begun x)
 
 pub end_run-requires-clause-told : goal.end_run-requires-clause-told
 end_run-requires-clause-told g c =
