@@ -18,10 +18,10 @@ use Rattle.pq_core.proofs.Stepping.{stale_more}
 
 -- a key that is not up to date becomes the top of a run without frames
 pub first_kept : {K P V : Type 0} (order : K → K → Ordering) (m : Machine K P V) (inputs : Table) (table : K → Option (Memo K V))
-    (stack before : List (Frame K P)) (request : Request K) (key : K) → before ≡ [] → stack ≡ before → request.want ≡ Demand key
+    (stack : List (Frame K P)) (request : Request K) (key : K) → stack ≡ [] → request.want ≡ Demand key
     → IsStale m inputs.revision (HasIn table) request → FramesKept order m inputs table stack (At (record { key = key; stage = Walking 0 }))
-first_kept order m inputs table stack before request key none same wants stale =
-    (none_below order m inputs table stack key (same ∙ none), inr (walked order m inputs table key (stale key wants)))
+first_kept order m inputs table stack request key none wants stale =
+    (none_below order m inputs table stack key none, inr (walked order m inputs table key (stale key wants)))
 
 -- a run without frames holds no key
 pub none_held : {K P : Type 0} (keys : List K) (stack : List (Frame K P)) (top : Top K P) → stack ≡ [] → top ≡ Empty → keys ≡ run_keys stack top → keys ≡ []

@@ -12,7 +12,7 @@ use Rattle.pq_memo.specs.Writes.{IsConfirmed}
 use Rattle.pq_memo.proofs.Confirming.{green_stale}
 use Rattle.pq_memo.proofs.Wrote.{wrote_marked}
 use Rattle.pq_claims.specs.Claims.{Hold, Holds, hold_of}
-use Rattle.pq_core.specs.aux.Runs.{AreStale, HasMarked, HeldUnwritten, OthersHold, OthersUnwritten, Renewed}
+use Rattle.pq_core.specs.aux.Runs.{AreStale, HasMarked, HeldUnwritten, Renewed}
 use Rattle.pq_core.proofs.Renewed.{renewed_finished, renewed_same, renewed_then}
 
 module _ {R K P V : Type 0} (order : K → K → Ordering) (machine : R → Machine K P V) (inputs : Table) (claims : List (ℕ × Hold K)) where
@@ -68,12 +68,6 @@ module _ {R K P V : Type 0} (order : K → K → Ordering) (machine : R → Mach
       → IsConfirmed order (machine b.rules) inputs b.places number c.places → HasMarked order machine inputs claims a c
   marked_next exact number a b c first rules kept free confirmed =
       marked_then a b c first (marked_one exact number b c rules (still_kept a b first) kept free confirmed)
-
-module _ {K V : Type 0} where
-  -- nor was a key written that another run than `run` had before
-  pub unwritten_others : (run : ℕ) (a b : List (ℕ × Hold K)) (before after : K → Option (Memo K V)) → OthersHold run a b → HeldUnwritten b before after
-      → OthersUnwritten a run before after
-  unwritten_others run a b before after others unwritten r k ne holds = unwritten r k (subst (λ (ks : List K). In k ks) (sym (others r ne).0) holds)
 
 -- what a run holds is not up to date
 pub held_stale : {K P V : Type 0} (m : Machine K P V) (now : ℕ) (before after : K → Option (Memo K V)) (claims : List (ℕ × Hold K)) (run : ℕ) (ks : List K)

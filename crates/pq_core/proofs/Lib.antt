@@ -27,6 +27,7 @@ pub mod OneTurn
 pub mod Renewed
 pub mod Stepping
 pub mod Confirmed
+pub mod Stepped
 pub mod Rounds
 pub mod RingFrames
 pub mod RingRuns

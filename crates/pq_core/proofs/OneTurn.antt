@@ -15,7 +15,7 @@ use Rattle.pq_memo.specs.Frames.{Came}
 use Rattle.pq_memo.proofs.Reading.{now_files}
 use Rattle.pq_memo.specs.Look.{IsUpToDate}
 use Rattle.pq_core.specs.declared.frames.Pending.{Pending}
-use Rattle.pq_core.specs.Works.{IsDue}
+use Rattle.pq_core.specs.Works.{DoneView, IsDue}
 use Rattle.pq_core.specs.aux.Runs.{CanTake}
 
 asked_long : {K V : Type 0} (es : Trace K V) → length (asked_keys es) ≡ length es
@@ -46,7 +46,7 @@ module _ {K P V : Type 0} (s : Instance K P V) (strict : Strict s.order) where
 module _ {K P V : Type 0} (order : K → K → Ordering) (strict : Strict order) (m : Machine K P V) (inputs : Table)
     (latest : slice_get inputs.history inputs.revision ≡ Some inputs.files) (table : K → Option (Memo K V)) where
   -- the turn of the work's result is the one to which the rule of the run's key came
-  pub came_to : (k q : K) (turn other : Turn K P V) (reads front : List K) (files : Sources) → k ≡ q → files ≡ inputs.files → length reads ≡ length front
+  came_to : (k q : K) (turn other : Turn K P V) (reads front : List K) (files : Sources) → k ≡ q → files ≡ inputs.files → length reads ≡ length front
       → Came order m inputs.history inputs.revision (HasIn table) k turn reads → IsDue order m files q front other
       → Came order m inputs.history inputs.revision (HasIn table) k other reads
   came_to k q turn other reads front files key same long came due =
@@ -62,11 +62,19 @@ module _ {K P V : Type 0} (order : K → K → Ordering) (strict : Strict order)
       turns : turn ≡ other
       turns = one_comes (at order m inputs.history inputs.revision) strict k came.run due.run turn other came.comes here counts
 
-  -- so it is where the key of the run's work is not up to date
-  pub took : (p : Pending K) (q : K) (turn : Turn K P V) (front : List K) (files : Sources) → p.key ≡ q → files ≡ inputs.files → length p.reads.items ≡ length front
-      → (IsUpToDate m inputs.revision (HasIn table) p.key → ⊥) → CanTake order m inputs table p → IsDue order m files q front turn
-      → Came order m inputs.history inputs.revision (HasIn table) p.key turn p.reads.items
-  took p q turn front files key same long stale can due = elim can [
-    | inl up ↦ absurd (stale up)
-    | inr came ↦ came_to p.key q came.0 turn p.reads.items front files key same long came.1 due
-  ]
+-- so it is where the key of the run's work is not up to date, by the view of the result
+pub took : {R K P V : Type 0} (order : K → K → Ordering) → Strict order → (machine : R → Machine K P V) (inputs : Table) → slice_get inputs.history inputs.revision ≡ Some inputs.files
+    → (table : K → Option (Memo K V)) (rules : R) (p : Pending K) (inside done : DoneView R K P V) (turn : Turn K P V) → inside ≡ done → inside.turn ≡ turn
+    → IsDue order (machine inside.rules) inside.files inside.key inside.front inside.turn → done.rules ≡ rules → done.files ≡ inputs.files → p.key ≡ done.key
+    → length p.reads.items ≡ length done.front → (IsUpToDate (machine rules) inputs.revision (HasIn table) p.key → ⊥) → CanTake order (machine rules) inputs table p
+    → Came order (machine rules) inputs.history inputs.revision (HasIn table) p.key turn p.reads.items
+took {R} {K} {P} {V} order strict machine inputs latest table rules p inside done turn viewed comes due same files key long stale can =
+    subst (λ (t : Turn K P V). Came order (machine rules) inputs.history inputs.revision (HasIn table) p.key t p.reads.items) (sym (ap (λ (v : DoneView R K P V). v.turn) viewed) ∙ comes)
+    (elim can [
+      | inl up ↦ absurd (stale up)
+      | inr came ↦ came_to order strict (machine rules) inputs latest table p.key done.key came.0 done.turn p.reads.items done.front done.files key files long came.1 mine
+    ])
+  where
+    mine : IsDue order (machine rules) done.files done.key done.front done.turn
+    mine = subst (λ (r : R). IsDue order (machine r) done.files done.key done.front done.turn) same
+        (subst (λ (v : DoneView R K P V). IsDue order (machine v.rules) v.files v.key v.front v.turn) viewed due)

@@ -24,11 +24,11 @@ use Rattle.pq_core.specs.Works.{WorkView}
 use Rattle.pq_core.specs.declared.frames.Pending.{Pending}
 use Rattle.pq_core.specs.declared.frames.Top.{Top}
 use Rattle.pq_core.specs.declared.frames.Top.TheVariants.{Empty, At, Away}
-use Rattle.pq_core.specs.declared.frames.Went.{Went}
-use Rattle.pq_core.specs.declared.frames.Went.TheVariants.{Carry as WentCarry, Stepped as WentStepped, Blocked as WentBlocked, Ring as WentRing}
-use Rattle.pq_core.specs.aux.Runs.{Enters, IsLowered, out_at}
+use Rattle.pq_core.specs.declared.frames.Looked.{Looked}
+use Rattle.pq_core.specs.declared.frames.Looked.TheVariants.{Carry, Stepped, Blocked, Ring}
+use Rattle.pq_core.specs.aux.Runs.{Enters, IsLowered, out_at, top_keys}
 use Rattle.pq_core.specs.aux.Rings.{IsFrameOf}
-use Rattle.pq_core.specs.aux.Begun.{AdvancesFirst, HandsNothing, IsBegun, IsFirst, KeepsBegun}
+use Rattle.pq_core.specs.aux.Begun.{IsBegun, IsFirst, KeepsBegun, LooksFirst}
 use Rattle.pq_core.proofs.Lists.{some_one}
 use Rattle.pq_core.proofs.RingRuns.{in_key}
 
@@ -71,6 +71,13 @@ module _ {K P : Type 0} where
     | inr e ↦ absurd (away_at (Away p) p b.0 refl e)
   ]
   of_away stack p k (inr b) = inr (sym (ap (λ (q : Pending K). q.key) (away_one (Away p) p b.0 refl b.1)) ∙ b.2)
+
+  -- by a run whose top has a key: by a frame below, or by the top
+  of_top : (stack : List (Frame K P)) (top : Top K P) (key k : K) → top_keys top ≡ key ∷ [] → IsBegun stack top k
+      → ((f : Frame K P) × In f stack × (IsWalking f.stage → ⊥) × (f.key ≡ k)) ⊎ (key ≡ k)
+  of_top stack Empty key k e b = absurd (cc)
+  of_top stack (At f) key k e b = elim (of_at stack f k b) [ inl c ↦ inl c | inr c ↦ inr (let same : f.key ≡ key = cc in sym same ∙ c.1) ]
+  of_top stack (Away p) key k e b = elim (of_away stack p k b) [ inl c ↦ inl c | inr c ↦ inr (let same : p.key ≡ key = cc in sym same ∙ c) ]
 
   -- a run without frames has begun no rule
   pub none_begun : (stack : List (Frame K P)) (top : Top K P) → stack ≡ [] → top ≡ Empty → (k : K) → IsBegun stack top k → ⊥
@@ -149,13 +156,13 @@ module _ {K P : Type 0} where
   empty_first stack top bare empty k None = tt
   empty_first stack top bare empty k (Some why) = λ b. none_begun stack top bare empty k b
 
-  pub none_advances : {R V E : Type 0} (stack : List (Frame K P)) (top : Top K P) → stack ≡ [] → top ≡ Empty → (answer : Result (Went (WorkView R K P V) K) E)
-      → IfOk answer (λ w. AdvancesFirst stack top w)
-  none_advances stack top bare empty (Ok (WentCarry work)) = empty_first stack top bare empty work.done.key work.why
-  none_advances stack top bare empty (Ok WentStepped) = tt
-  none_advances stack top bare empty (Ok (WentBlocked other)) = tt
-  none_advances stack top bare empty (Ok (WentRing ring)) = tt
-  none_advances stack top bare empty (Err failure) = tt
+  pub none_looks : {R V E : Type 0} (stack : List (Frame K P)) (top : Top K P) → stack ≡ [] → top ≡ Empty → (answer : Result (Looked (WorkView R K P V) K) E)
+      → IfOk answer (λ l. LooksFirst stack top l)
+  none_looks stack top bare empty (Ok (Carry work)) = empty_first stack top bare empty work.done.key work.why
+  none_looks stack top bare empty (Ok Stepped) = tt
+  none_looks stack top bare empty (Ok (Blocked other)) = tt
+  none_looks stack top bare empty (Ok (Ring ring)) = tt
+  none_looks stack top bare empty (Err failure) = tt
 
   -- the key of the work that is out
   pub out_key : (top : Top K P) (key : K) (out : Out K) → (p : Pending K) × (top ≡ Away p) × (p.key ≡ key) → out_at top ≡ Some out → out.key ≡ key
@@ -170,31 +177,14 @@ module _ {K P : Type 0} where
     | inr c ↦ (f, in_append_right f stack (f ∷ []) (inl refl), c.0, c.1)
   ]
 
-  pub entered_begun : {W E : Type 0} (order : K → K → Ordering) (claims : List (ℕ × Hold K)) (run : ℕ) (next : K) (answer : Result (Went W K) E) (stack : List (Frame K P)) (f : Frame K P)
+  pub entered_begun : {W E : Type 0} (order : K → K → Ordering) (claims : List (ℕ × Hold K)) (run : ℕ) (next : K) (answer : Result (Looked W K) E) (stack : List (Frame K P)) (f : Frame K P)
       (after : List (Frame K P)) (top : Top K P) → Enters order claims run next answer (stack ++ f ∷ []) after top → (k : K) → IsBegun stack (At f) k → IsBegun after top k
-  entered_begun order claims run next (Ok (WentCarry work)) stack f after top e k b = absurd e
-  entered_begun order claims run next (Ok WentStepped) stack f after top e k b =
+  entered_begun order claims run next (Ok (Carry work)) stack f after top e k b = absurd e
+  entered_begun order claims run next (Ok Stepped) stack f after top e k b =
       let p = pushed stack f k b in inl (p.0, inl (subst (λ (l : List (Frame K P)). In p.0 l) (sym e.0) p.1), p.2, p.3)
-  entered_begun order claims run next (Ok (WentBlocked other)) stack f after top e k b = lowered_begun (stack ++ f ∷ []) after top e.0 k (pushed stack f k b)
-  entered_begun order claims run next (Ok (WentRing ring)) stack f after top e k b = lowered_begun (stack ++ f ∷ []) after top e.0 k (pushed stack f k b)
+  entered_begun order claims run next (Ok (Blocked other)) stack f after top e k b = lowered_begun (stack ++ f ∷ []) after top e.0 k (pushed stack f k b)
+  entered_begun order claims run next (Ok (Ring ring)) stack f after top e k b = lowered_begun (stack ++ f ∷ []) after top e.0 k (pushed stack f k b)
   entered_begun order claims run next (Err failure) stack f after top e k b = lowered_begun (stack ++ f ∷ []) after top e.0 k (pushed stack f k b)
-
-  -- no work is handed out
-  pub entered_none : {W E : Type 0} (order : K → K → Ordering) (claims : List (ℕ × Hold K)) (run : ℕ) (next : K) (answer : Result (Went W K) E) (before after : List (Frame K P))
-      (top : Top K P) → Enters order claims run next answer before after top → IfOk answer (λ w. HandsNothing w)
-  entered_none order claims run next (Ok (WentCarry work)) before after top e = e
-  entered_none order claims run next (Ok WentStepped) before after top e = tt
-  entered_none order claims run next (Ok (WentBlocked other)) before after top e = tt
-  entered_none order claims run next (Ok (WentRing ring)) before after top e = tt
-  entered_none order claims run next (Err failure) before after top e = tt
-
-  pub waited_first : {R V E : Type 0} (stack : List (Frame K P)) (top : Top K P) (answer : Result (Went (WorkView R K P V) K) E) → IfOk answer (λ w. HandsNothing w)
-      → IfOk answer (λ w. AdvancesFirst stack top w)
-  waited_first stack top (Ok (WentCarry work)) n = absurd n
-  waited_first stack top (Ok WentStepped) n = tt
-  waited_first stack top (Ok (WentBlocked other)) n = tt
-  waited_first stack top (Ok (WentRing ring)) n = tt
-  waited_first stack top (Err failure) n = tt
 
 -- ---- the top leaves
 
@@ -203,20 +193,12 @@ module _ {K P V : Type 0} (m : Machine K P V) (now : ℕ) (before after : K → 
   pub written_up : (k : K) → Wrote now before after (k ∷ []) → IsUpToDate m now (HasIn after) k
   written_up k wrote = let n = wrote.news k (inl refl) in inr (n.0, n.1, n.2)
 
-  -- a frame left
-  pub left_begun : (stack rest : List (Frame K P)) (f : Frame K P) (top : Top K P) → IsLowered stack rest top → Wrote now before after (f.key ∷ [])
-      → KeepsBegun m now after stack (At f) rest top
-  left_begun stack rest f top low wrote k b = elim (of_at stack f k b) [
+  -- the top left
+  pub left_begun : (stack rest : List (Frame K P)) (old top : Top K P) (key : K) → top_keys old ≡ key ∷ [] → IsLowered stack rest top → Wrote now before after (key ∷ [])
+      → KeepsBegun m now after stack old rest top
+  left_begun stack rest old top key mine low wrote k b = elim (of_top stack old key k mine b) [
     | inl c ↦ inl (lowered_begun stack rest top low k c)
-    | inr c ↦ inr (subst (λ (q : K). IsUpToDate m now (HasIn after) q) c.1 (written_up f.key wrote))
-  ]
-
-  -- work that was away was finished
-  pub taken_begun : (stack rest : List (Frame K P)) (p : Pending K) (top : Top K P) → IsLowered stack rest top → Wrote now before after (p.key ∷ [])
-      → KeepsBegun m now after stack (Away p) rest top
-  taken_begun stack rest p top low wrote k b = elim (of_away stack p k b) [
-    | inl c ↦ inl (lowered_begun stack rest top low k c)
-    | inr c ↦ inr (subst (λ (q : K). IsUpToDate m now (HasIn after) q) c (written_up p.key wrote))
+    | inr e ↦ inr (subst (λ (q : K). IsUpToDate m now (HasIn after) q) e (written_up key wrote))
   ]
 
 -- work that was away came back with a question, or its result could not be taken

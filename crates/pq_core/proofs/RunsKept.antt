@@ -13,13 +13,14 @@ use Rattle.pq_memo.specs.declared.frame.Frame.{Frame}
 use Rattle.pq_memo.specs.Sound.{Memo}
 use Rattle.pq_memo.specs.Look.{IsUpToDate}
 use Rattle.pq_memo.specs.Kept.{Kept}
-use Rattle.pq_memo.specs.Table.{HasIn}
+use Rattle.pq_memo.specs.Table.{View, HasIn, KeptOver, memo_at}
 use Rattle.pq_memo.specs.Frames.{frame_keys}
 use Rattle.pq_claims.specs.Claims.{Hold, hold_of, Holds, AreSound, WaitsFor, ReleasesAll}
 use Rattle.pq_core.specs.declared.rising.Place.{Place}
 use Rattle.pq_core.specs.declared.frames.Top.{Top}
 use Rattle.pq_core.specs.declared.frames.Top.TheVariants.{Empty, At, Away}
 use Rattle.pq_core.specs.aux.Rising.{found}
+use Rattle.pq_core.specs.aux.RunSteps.{RunReady, RunStepped, run_state}
 use Rattle.pq_core.specs.aux.Runs.{RunView, RunKept, RunsKept, IsSameRun, AreStale, ClosesRing, OthersHold, Renewed, TopAwaits, WaitStands, OthersUnwritten, claimed_keys, run_keys}
 use Rattle.pq_core.proofs.Lists.{none_some, some_one}
 use Rattle.pq_core.proofs.Claiming.{all_others, all_released, by_run, not_same, others_same, others_then, same_claimed}
@@ -62,14 +63,10 @@ module _ {K P V : Type 0} (order : K → K → Ordering) (m : Machine K P V) (in
     no_later = λ r s x y held h i. w.no_later r s x y held (sym (same r) ∙ h) (sym (same s) ∙ i);
   }
 
-  -- a run holds the keys of its frames, and none of these is up to date
-  pub own_claimed : (runs : List (Place (RunView K P))) (r : ℕ) (run : RunView K P) → found runs r ≡ Some run → RunsKept order m inputs table claims runs
+  -- a run holds the keys of its frames
+  own_claimed : (runs : List (Place (RunView K P))) (r : ℕ) (run : RunView K P) → found runs r ≡ Some run → RunsKept order m inputs table claims runs
       → (hold_of claims r).keys ≡ run_keys run.stack run.top
   own_claimed runs r run here w = w.claimed r ∙ ap (λ (o : Option (RunView K P)). claimed_keys o) here
-
-  pub own_stale : (runs : List (Place (RunView K P))) (r : ℕ) (run : RunView K P) → found runs r ≡ Some run → RunsKept order m inputs table claims runs
-      → AreStale m inputs.revision table (run_keys run.stack run.top)
-  own_stale runs r run here w k i = w.stale r k (subst (λ (ks : List K). In k ks) (sym (own_claimed runs r run here w)) i)
 
   -- no run, and no claim
   pub no_runs : (runs : List (Place (RunView K P))) → ((r : ℕ) → (hold_of claims r).keys ≡ []) → ((r : ℕ) → found runs r ≡ None) → RunsKept order m inputs table claims runs
@@ -148,40 +145,6 @@ module _ {K P V : Type 0} (order : K → K → Ordering) (m : Machine K P V) (in
       same_started : (x y : RunView K P) → x ≡ y → y.started ≤ x.started
       same_started x y e = let f : x.started ≡ y.started = ap (λ (v : RunView K P). v.started) e in omega arith
 
-  -- a run that is current took a step
-  pub stepped_runs : (was run : RunView K P) → found b r ≡ Some was → ((k : ℕ) → found a k ≡ (if k == r then Some run else found b k))
-      → IsSameRun was run → was.started ≡ inputs.revision → ((s : ℕ) (y : RunView K P) → found b s ≡ Some y → y.started ≤ inputs.revision)
-      → AreSound before → AreSound after → Renewed m inputs.revision tb ta → OthersUnwritten before r tb ta
-      → RunKept order m inputs ta run → (hold_of after r).keys ≡ run_keys run.stack run.top → OthersHold r before after
-      → AreStale m inputs.revision ta (run_keys run.stack run.top) → WaitStands order m inputs ta after r run.top
-      → RunsKept order m inputs tb before b → RunsKept order m inputs ta after a
-  stepped_runs was run here set is now past sound sound_after renewed written kept mine others stale waits w =
-      one_changed (Some run) set mine others renewed written
-      (λ x e s. (subst (λ (v : RunView K P). RunKept order m inputs ta v) (some_one run x e) kept, subst (λ (v : RunView K P). WaitStands order m inputs ta after r v.top) (some_one run x e) waits))
-      stale
-      (λ x e s y ne h.
-      let first : run.started ≡ x.started = ap (λ (v : RunView K P). v.started) (some_one run x e) in
-      let second : run.started ≡ was.started = is.started in
-      let third : y.started ≤ inputs.revision = past s y h in
-      omega (arith, first, second, now, third))
-      (λ x e p y ne h held.
-      let first : run.started ≡ x.started = ap (λ (v : RunView K P). v.started) (some_one run x e) in
-      let second : run.started ≡ was.started = is.started in
-      let third : was.started ≤ y.started = longer p y ne h held in
-      omega (arith, first, second, third))
-      w
-    where
-      -- who waits for a key of `r` waited for it before: no other run gave it to `r`
-      longer : (p : ℕ) (y : RunView K P) → p ≢ r → found b p ≡ Some y → WaitsFor after p r → was.started ≤ y.started
-      longer p y ne h held =
-          let wait : (hold_of before p).wait ≡ Some held.0 = (others p ne).1 held.0 held.1 in
-          let holder = sound.held p held.0 wait in
-          elim (same_or_not holder.0 r) [
-            | inl e ↦ w.no_later p r y was (held.0, wait, subst (λ (i : ℕ). Holds before i held.0) e holder.1) h here
-            | inr other ↦
-                absurd (other (sound_after.one_holder holder.0 r held.0 (subst (λ (ks : List K). In held.0 ks) (sym (others holder.0 other).0) holder.1) held.2))
-          ]
-
   -- a run that may have taken a step has ended, and released its keys
   pub ended_runs : (middle : List (ℕ × Hold K)) → ((k : ℕ) → found a k ≡ (if k == r then None else found b k))
       → Renewed m inputs.revision tb ta → OthersUnwritten before r tb ta → OthersHold r before middle → ReleasesAll r middle after
@@ -189,6 +152,58 @@ module _ {K P V : Type 0} (order : K → K → Ordering) (m : Machine K P V) (in
   ended_runs middle set renewed written others ends w =
       one_changed None set (all_released r middle after ends) (others_then r before middle after others (all_others r middle after ends)) renewed written
       (λ x e s. absurd (none_some x e)) (λ k i up. i) (λ x e s y ne h. absurd (none_some x e)) (λ x e p y ne h held. absurd (none_some x e)) w
+
+-- a run that is current is ready for a step
+pub own_ready : {R K P V : Type 0} (order : K → K → Ordering) (m : Machine K P V) (inputs : Table) (memos : View R K V) (claims : List (ℕ × Hold K)) (runs : List (Place (RunView K P)))
+    (r : ℕ) (run : RunView K P) → found runs r ≡ Some run → run.started ≡ inputs.revision → KeptOver order m inputs memos.places
+    → RunsKept order m inputs (memo_at order memos.places) claims runs → RunReady order m inputs r (run_state memos claims run.stack run.top)
+own_ready {R} {K} order m inputs memos claims runs r run here now kept w = record {
+  kept = kept;
+  frames_kept = w.current r run here now;
+  claimed = own;
+  stale = λ k i. w.stale r k (subst (λ (ks : List K). In k ks) (sym own) i);
+  waits = w.waits r run here now;
+}
+  where
+    own : (hold_of claims r).keys ≡ run_keys run.stack run.top
+    own = own_claimed order m inputs (memo_at order memos.places) claims runs r run here w
+
+-- a run that is current took a step
+pub stepped_runs : {R K P V : Type 0} (order : K → K → Ordering) (machine : R → Machine K P V) (inputs : Table) (old new : View R K V) (before after : List (ℕ × Hold K))
+    (b a : List (Place (RunView K P))) (r : ℕ) (was run : RunView K P) → found b r ≡ Some was → ((k : ℕ) → found a k ≡ (if k == r then Some run else found b k))
+    → IsSameRun was run → was.started ≡ inputs.revision → ((s : ℕ) (y : RunView K P) → found b s ≡ Some y → y.started ≤ inputs.revision)
+    → AreSound before → AreSound after → RunStepped order machine inputs r (run_state old before was.stack was.top) (run_state new after run.stack run.top)
+    → RunsKept order (machine old.rules) inputs (memo_at order old.places) before b → RunsKept order (machine old.rules) inputs (memo_at order new.places) after a
+stepped_runs {R} {K} {P} {V} order machine inputs old new before after b a r was run here set is now past sound sound_after stepped w =
+    one_changed order (machine old.rules) inputs (memo_at order old.places) (memo_at order new.places) before after b a r (Some run) set stepped.ready.claimed stepped.others stepped.renewed
+    stepped.written
+    (λ x e s. (
+      subst (λ (v : RunView K P). RunKept order (machine old.rules) inputs (memo_at order new.places) v) (some_one run x e) stepped.ready.frames_kept,
+      subst (λ (v : RunView K P). WaitStands order (machine old.rules) inputs (memo_at order new.places) after r v.top) (some_one run x e) stepped.ready.waits,
+    ))
+    stepped.ready.stale
+    (λ x e s y ne h.
+    let first : run.started ≡ x.started = ap (λ (v : RunView K P). v.started) (some_one run x e) in
+    let second : run.started ≡ was.started = is.started in
+    let third : y.started ≤ inputs.revision = past s y h in
+    omega (arith, first, second, now, third))
+    (λ x e p y ne h held.
+    let first : run.started ≡ x.started = ap (λ (v : RunView K P). v.started) (some_one run x e) in
+    let second : run.started ≡ was.started = is.started in
+    let third : was.started ≤ y.started = longer p y ne h held in
+    omega (arith, first, second, third))
+    w
+  where
+    -- who waits for a key of `r` waited for it before: no other run gave it to `r`
+    longer : (p : ℕ) (y : RunView K P) → p ≢ r → found b p ≡ Some y → WaitsFor after p r → was.started ≤ y.started
+    longer p y ne h held =
+        let wait : (hold_of before p).wait ≡ Some held.0 = (stepped.others p ne).1 held.0 held.1 in
+        let holder = sound.held p held.0 wait in
+        elim (same_or_not holder.0 r) [
+          | inl e ↦ w.no_later p r y was (held.0, wait, subst (λ (i : ℕ). Holds before i held.0) e holder.1) h here
+          | inr other ↦
+              absurd (other (sound_after.one_holder holder.0 r held.0 (subst (λ (ks : List K). In held.0 ks) (sym (stepped.others holder.0 other).0) holder.1) held.2))
+        ]
 
 module _ {K P V : Type 0} (order : K → K → Ordering) (m : Machine K P V) (inputs : Table) (table : K → Option (Memo K V)) (claims : List (ℕ × Hold K))
     (b a : List (Place (RunView K P))) (r : ℕ) where

@@ -11,25 +11,26 @@ use Rattle.pq_rules.specs.Relations.{In}
 use Rattle.pq_memo.specs.Sound.{Memo}
 use Rattle.pq_memo.specs.Steps.{IsWhy}
 use Rattle.pq_memo.specs.Cause.{IsCause}
-use Rattle.pq_memo.specs.Table.{memo_at, HasIn}
+use Rattle.pq_memo.specs.Table.{View, memo_at, HasIn}
 use Rattle.pq_memo.specs.declared.look.Why.{Why}
-use Rattle.pq_claims.specs.Claims.{AreSound, hold_of}
+use Rattle.pq_claims.specs.Claims.{AreSound, Hold, hold_of}
 use Rattle.pq_core.specs.Points.{Point}
-use Rattle.pq_core.specs.Replies.{ReplyView}
 use Rattle.pq_core.specs.Ledger.{Ledger, Out}
 use Rattle.pq_core.specs.Moves.{Gives, GoesOn, IsOf, Looks, RunAt, Runs, Starves, Stops, out_of, with_out}
 use Rattle.pq_core.specs.RightReply.{answer_by}
 use Rattle.pq_core.specs.Starts.{IsCounted, IsCountedIn, Log}
-use Rattle.pq_core.specs.Stores.{Goes, Held, StandsFor, StandsOf, StoreView, held, run_seen}
+use Rattle.pq_core.specs.Stores.{Goes, IsWhole, StandsFor, StandsOf, StoreView, held, run_seen}
 use Rattle.pq_core.specs.Told.{Told, told_puts}
 use Rattle.pq_core.specs.Works.{DoneView, WorkView}
 use Rattle.pq_core.specs.Accounts.{AccountView}
 use Rattle.pq_core.specs.aux.Rising.{Slots, found}
-use Rattle.pq_core.specs.aux.Runs.{AreClaimed, AreStale, ClosesRing, HandedOut, HasAdvanced, IsSameRun, OthersHold, Renewed, RunView, out_at, run_keys}
-use Rattle.pq_core.specs.aux.Begun.{AdvancesFirst}
+use Rattle.pq_core.specs.aux.Runs.{AreClaimed, AreStale, ClosesRing, HandedOut, HasLooked, IsSameRun, OthersHold, Renewed, RunView, out_at, run_keys}
+use Rattle.pq_core.specs.aux.Begun.{LooksFirst}
+use Rattle.pq_core.specs.aux.Changes.{IsSetAt}
+use Rattle.pq_core.specs.aux.RunSteps.{RunStepped, run_state}
 use Rattle.pq_core.specs.aux.RunStates.{IsCurrentRun, IsReady, SameClients, Steps, StepsTo, log_stepped}
-use Rattle.pq_core.specs.declared.frames.Went.{Went}
-use Rattle.pq_core.specs.declared.frames.Went.TheVariants.{Carry, Stepped, Blocked, Ring}
+use Rattle.pq_core.specs.declared.frames.Looked.{Looked}
+use Rattle.pq_core.specs.declared.frames.Looked.TheVariants.{Carry, Stepped, Blocked, Ring}
 use Rattle.pq_core.specs.declared.moves.Move.TheVariants.{Carry as MoveCarry, Stepped as MoveStepped, Stopped as MoveStopped}
 use Rattle.pq_core.specs.declared.fault.GiveFault.TheVariants.{Memory as GiveMemory}
 use Rattle.pq_core.proofs.Changing.{if_at}
@@ -38,9 +39,11 @@ use Rattle.pq_core.proofs.Keeping.{kept_out}
 use Rattle.pq_core.proofs.Renewed.{renewed_then}
 use Rattle.pq_core.proofs.Lists.{some_one}
 use Rattle.pq_core.proofs.Making.{all_same, goes_by}
-use Rattle.pq_core.proofs.RunsKept.{closes_still}
+use Rattle.pq_core.proofs.RunsKept.{closes_still, stepped_runs}
+use Rattle.pq_core.proofs.StoreAccepting.{run_past}
+use Rattle.pq_core.proofs.StoreStepping.{step_whole}
 use Rattle.pq_core.proofs.StoreCounting.{Taken, carried_counted, stepped_counted}
-use Rattle.pq_core.proofs.StoreRunning.{RunHere, SameBut, back_moved, carry_moved, fits_of, give_moved, give_refused, goes_on, no_run, not_fitting, out_moved, run_here, run_is, seen_moved, why_then}
+use Rattle.pq_core.proofs.StoreRunning.{RunHere, SameBut, back_moved, carry_moved, current, fits_of, give_moved, give_refused, goes_on, no_run, not_fitting, out_moved, run_here, run_is, seen_moved, why_then}
 
 module _ {R K P V M : Type 0} (store : StoreView R K P V M) (r : ℕ) (run kept : RunView K P) where
   -- the run that is current is the one that is there
@@ -74,16 +77,54 @@ module _ {R K P V M : Type 0} (b a : StoreView R K P V M) (c : SameClients b a) 
   pub same_but : SameBut (held b) (held a)
   same_but = record { inputs = c.inputs; opened = c.opened; clients = c.clients; started = c.started }
 
-module _ {K P V M O : Type 0} (order : K → K → Ordering) (m : Machine K P V) (point : M → Point) (puts : O → List (ReplyView K V M)) where
-  -- some ledger is that of the store after a run was put back as another
-  pub back_stands : (b a : Held K P V M) (l : Ledger K V M O) (r : ℕ) (was run : RunView K P) → StandsOf order m point puts b l → found b.runs r ≡ Some was → IsSameRun was run
-      → ((k : ℕ) → found a.runs k ≡ (if k == r then Some run else found b.runs k)) → ((k : ℕ) → found a.accounts k ≡ found b.accounts k) → SameBut b a
-      → (n : Ledger K V M O) × StandsOf order m point puts a n
-  back_stands b a l r was run s here same set accounts but =
-      let x = run_here order m point puts b l r was s here in (
-        with_out l r x.at (out_at run.top),
-        out_moved order m point puts b a l r was run x s here same set accounts but (kept_out (answer_by order m point) puts l r x.at (out_at run.top) s.kept x.runs),
-      )
+module _ {R K P V M : Type 0} (order : K → K → Ordering) (m : Machine K P V) (point : M → Point) (stamp : M) (b : StoreView R K P V M) (w : IsWhole order m point stamp b) (r : ℕ) (was : RunView K P)
+    (current_was : IsCurrentRun b r was) where
+  -- a run that is current was started now
+  pub began_now : was.started ≡ b.inputs.revision
+  began_now =
+      (current order m point told_puts (held b) w.ledger.0 r was w.ledger.1 (run_here order m point told_puts (held b) w.ledger.0 r was w.ledger.1 current_was.here) current_was.early).1
+
+module _ {R K P V M : Type 0} (order : K → K → Ordering) (machine : R → Machine K P V) (point : M → Point) (stamp : M) (b : StoreView R K P V M) (w : IsWhole order (machine b.rules) point stamp b)
+    (memos : View R K V) (runs : Slots (RunView K P)) (claims : List (ℕ × Hold K)) (r : ℕ) (was run : RunView K P) (current_was : IsCurrentRun b r was) (set : IsSetAt b.runs runs r (Some run))
+    (same : IsSameRun was run)
+    (stepped : RunStepped order machine b.inputs r (run_state (record { rules = b.rules; places = b.places }) b.claims was.stack was.top) (run_state memos claims run.stack run.top)) where
+  -- the store after the run was put back
+  abbrev pub left : StoreView R K P V M
+  left = record b { rules = memos.rules; places = memos.places; runs = runs; claims = claims }
+
+  -- the step
+  abbrev pub the_steps : Steps order (machine b.rules) b r left
+  the_steps = record {
+    was = was;
+    current = current_was;
+    now = began_now order (machine b.rules) point stamp b w r was current_was;
+    run = run;
+    set = set.found;
+    same = same;
+    begun = stepped.begun;
+    renewed = stepped.renewed;
+    clients = record { rules = stepped.rules; inputs = refl; accounts = refl; opened = refl; clients = refl; started = refl };
+  }
+
+  -- and the invariant after it
+  pub still_whole : AreSound b.claims → AreSound claims → IsWhole order (machine memos.rules) point stamp left
+  still_whole sound sound_after =
+      subst (λ (x : R). IsWhole order (machine x) point stamp (record b { rules = x; places = memos.places; runs = runs; claims = claims })) (sym stepped.rules)
+      (step_whole order (machine b.rules) point stamp b memos.places runs claims w stepped.ready.kept (set.above b.started) set.room
+      (stepped_runs order machine b.inputs (record { rules = b.rules; places = b.places }) memos b.claims claims b.runs.items runs.items r was run current_was.here set.found same
+      (began_now order (machine b.rules) point stamp b w r was current_was)
+      (λ s y h. run_past order (machine b.rules) point told_puts (held b) w.ledger.0 s y w.ledger.1 h) sound sound_after stepped w.runs)
+      (some_ledger w.ledger.0 w.ledger.1))
+    where
+      some_ledger : (l : Ledger K V M (Told K V M)) → StandsFor order (machine b.rules) point b l
+          → (n : Ledger K V M (Told K V M)) × StandsOf order (machine b.rules) point told_puts (record (held b) { runs = runs.items }) n
+      some_ledger l s =
+          let x = run_here order (machine b.rules) point told_puts (held b) l r was s current_was.here in (
+            with_out l r x.at (out_at run.top),
+            out_moved order (machine b.rules) point told_puts (held b) (record (held b) { runs = runs.items }) l r was run x s current_was.here same set.found (λ k. refl)
+                (record { inputs = refl; opened = refl; clients = refl; started = refl })
+                (kept_out (answer_by order (machine b.rules) point) told_puts l r x.at (out_at run.top) s.kept x.runs),
+          )
 
 module _ {R K P V M : Type 0} (order : K → K → Ordering) (m : Machine K P V) where
   -- the run that is ready is the one that is there
@@ -93,35 +134,36 @@ module _ {R K P V M : Type 0} (order : K → K → Ordering) (m : Machine K P V)
   pub was_idle : (b a : StoreView R K P V M) (r : ℕ) (kept : RunView K P) → IsReady order m b r kept → (s : Steps order m b r a) → out_at s.was.top ≡ None
   was_idle b a r kept ready s = (ready_here b r s.was kept ready s.current.here).idle
 
+module _ {R K P V M : Type 0} (order : K → K → Ordering) (machine : R → Machine K P V) where
   -- what the step comes to
-  pub step_went : {E : Type 0} (b a : StoreView R K P V M) (r : ℕ) (s : Steps order m b r a) (answer : Result (Went (WorkView R K P V) K) E)
-      → ((k : K) (why : Why K) → IsWhy m b.inputs.history b.inputs.revision (HasIn (memo_at order b.places)) k why → IsCause order m b.inputs.history b.inputs.revision (HasIn (memo_at order b.places)) k why)
-      → AreClaimed b.claims b.runs.items → OthersHold r b.claims a.claims → AreStale m b.inputs.revision (memo_at order a.places) (run_keys s.run.stack s.run.top)
-      → IfOk answer (λ w. HasAdvanced order m b.rules b.inputs (memo_at order b.places) a.claims r s.run.top w) → IfOk answer (λ w. StepsTo order m b r a w)
-  step_went b a r s (Ok (Carry work)) cause claimed others stale x =
+  pub step_looked : {E : Type 0} (b a : StoreView R K P V M) (r : ℕ) (s : Steps order (machine b.rules) b r a) (answer : Result (Looked (WorkView R K P V) K) E)
+      → ((k : K) (why : Why K) → IsWhy (machine b.rules) b.inputs.history b.inputs.revision (HasIn (memo_at order b.places)) k why → IsCause order (machine b.rules) b.inputs.history b.inputs.revision (HasIn (memo_at order b.places)) k why)
+      → AreClaimed b.claims b.runs.items → OthersHold r b.claims a.claims → AreStale (machine b.rules) b.inputs.revision (memo_at order a.places) (run_keys s.run.stack s.run.top)
+      → IfOk answer (λ w. HasLooked order machine b.inputs (record { rules = b.rules; places = b.places }) a.claims r s.run.top w) → IfOk answer (λ w. StepsTo order (machine b.rules) b r a w)
+  step_looked b a r s (Ok (Carry work)) cause claimed others stale x =
       (s, x, why_then _ _ work.done.front work.why x.why (λ why w. cause work.done.key why w))
-  step_went b a r s (Ok Stepped) cause claimed others stale x = (s, x)
-  step_went b a r s (Ok (Blocked other)) cause claimed others stale x =
+  step_looked b a r s (Ok Stepped) cause claimed others stale x = (s, x)
+  step_looked b a r s (Ok (Blocked other)) cause claimed others stale x =
       let there = holder_there b.claims b.runs.items other x.1.1.0 claimed (subst (λ (ks : List K). In x.1.1.0 ks) (others other x.1.0).0 x.1.1.2) in
       (s, x.0, x.1, (there.0, there.1))
-  step_went b a r s (Ok (Ring ring)) cause claimed others stale x =
-      (s, x.0, closes_still order m b.inputs (memo_at order b.places) (memo_at order a.places) a.claims r s.run.stack s.run.top ring.items s.renewed stale x.1)
-  step_went b a r s (Err failure) cause claimed others stale x = tt
+  step_looked b a r s (Ok (Ring ring)) cause claimed others stale x =
+      (s, x.0, closes_still order (machine b.rules) b.inputs (memo_at order b.places) (memo_at order a.places) a.claims r s.run.stack s.run.top ring.items s.renewed stale x.1)
+  step_looked b a r s (Err failure) cause claimed others stale x = tt
 
   -- a step that starts no rule
-  pub went_on : (exact : Exact order) (b a : StoreView R K P V M) (r : ℕ) (s : Steps order m b r a) (log : Log K) → IsCountedIn order m b log
-      → IsCounted order b.inputs.revision (λ k. Taken m b.inputs.revision (memo_at order a.places) a.runs.items k) log
+  pub went_on : (exact : Exact order) (b a : StoreView R K P V M) (r : ℕ) (s : Steps order (machine b.rules) b r a) (log : Log K) → IsCountedIn order (machine b.rules) b log
+      → IsCounted order b.inputs.revision (λ k. Taken (machine b.rules) b.inputs.revision (memo_at order a.places) a.runs.items k) log
   went_on exact b a r s log counted =
-      stepped_counted order exact m b.inputs log (memo_at order b.places) (memo_at order a.places) b.runs.items a.runs.items r s.was s.current.here s.run s.renewed s.set s.same s.begun counted
+      stepped_counted order exact (machine b.rules) b.inputs log (memo_at order b.places) (memo_at order a.places) b.runs.items a.runs.items r s.was s.current.here s.run s.renewed s.set s.same s.begun counted
 
   -- the starts are bounded still
-  pub step_counted : {E : Type 0} (exact : Exact order) (b a : StoreView R K P V M) (r : ℕ) (s : Steps order m b r a) (answer : Result (Went (WorkView R K P V) K) E) (log : Log K)
+  pub step_counted : {E : Type 0} (exact : Exact order) (b a : StoreView R K P V M) (r : ℕ) (s : Steps order (machine b.rules) b r a) (answer : Result (Looked (WorkView R K P V) K) E) (log : Log K)
       → AreSound a.claims → AreClaimed b.claims b.runs.items → OthersHold r b.claims a.claims
-      → (hold_of a.claims r).keys ≡ run_keys s.run.stack s.run.top → AreStale m b.inputs.revision (memo_at order a.places) (run_keys s.run.stack s.run.top)
-      → IfOk answer (λ w. HasAdvanced order m b.rules b.inputs (memo_at order b.places) a.claims r s.run.top w) → IfOk answer (λ w. AdvancesFirst s.was.stack s.was.top w)
-      → IsCountedIn order m b log → IsCounted order b.inputs.revision (λ k. Taken m b.inputs.revision (memo_at order a.places) a.runs.items k) (log_stepped b r answer log)
+      → (hold_of a.claims r).keys ≡ run_keys s.run.stack s.run.top → AreStale (machine b.rules) b.inputs.revision (memo_at order a.places) (run_keys s.run.stack s.run.top)
+      → IfOk answer (λ w. HasLooked order machine b.inputs (record { rules = b.rules; places = b.places }) a.claims r s.run.top w) → IfOk answer (λ w. LooksFirst s.was.stack s.was.top w)
+      → IsCountedIn order (machine b.rules) b log → IsCounted order b.inputs.revision (λ k. Taken (machine b.rules) b.inputs.revision (memo_at order a.places) a.runs.items k) (log_stepped b r answer log)
   step_counted exact b a r s (Ok (Carry work)) log sound claimed others mine stale x first counted =
-      carried_counted order exact m b.inputs log (memo_at order b.places) (memo_at order a.places) b.runs.items a.runs.items r s.was s.current.here s.run s.renewed s.set s.same s.begun
+      carried_counted order exact (machine b.rules) b.inputs log (memo_at order b.places) (memo_at order a.places) b.runs.items a.runs.items r s.was s.current.here s.run s.renewed s.set s.same s.begun
       b.claims a.claims s.now sound claimed others mine stale (out_of work.done) work.why x.out first counted
   step_counted exact b a r s (Ok Stepped) log sound claimed others mine stale x first counted = went_on exact b a r s log counted
   step_counted exact b a r s (Ok (Blocked other)) log sound claimed others mine stale x first counted = went_on exact b a r s log counted

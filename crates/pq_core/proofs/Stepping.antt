@@ -4,6 +4,7 @@ use Rattle.std.proofs.Common.{◌≡◌, ℕ, ◌==◌, if◌then◌else◌, ◌
 use Rattle.std.proofs.lemmas.Bool.{eqb-true}
 use Rattle.std.specs.declared.cmp.Ordering.{Ordering}
 use Rattle.pq_inputs.specs.Sources.{Table}
+use Rattle.pq_rules.specs.declared.turn.Answer.{Answer}
 use Rattle.pq_rules.specs.Turns.{Machine}
 use Rattle.pq_rules.specs.Relations.{In, Chain, IsRing}
 use Rattle.pq_rules.specs.aux.Lists.{in_append, in_append_left, in_append_right}
@@ -11,19 +12,18 @@ use Rattle.pq_memo.specs.declared.frame.Frame.{Frame}
 use Rattle.pq_memo.specs.declared.frame.Stage.TheVariants.{Walking}
 use Rattle.pq_memo.specs.Sound.{Memo}
 use Rattle.pq_memo.specs.Look.{IsUpToDate}
-use Rattle.pq_memo.specs.Table.{HasIn}
-use Rattle.pq_memo.specs.Frames.{Awaits, frame_keys}
+use Rattle.pq_memo.specs.Table.{View, HasIn, memo_at}
+use Rattle.pq_memo.specs.Frames.{Awaits, IsFrame, frame_keys}
 use Rattle.pq_memo.specs.aux.Demand.{Wrote}
 use Rattle.pq_memo.proofs.Stacked.{keys_append}
 use Rattle.pq_claims.specs.declared.claim.Claim.TheVariants.{Got, HeldBy}
 use Rattle.pq_claims.specs.Claims.{AreSame, AreSound, Claimed, ComesNext, Hold, Holds, IsClosed, IsLast, IsSet, Precedes, hold_of}
 use Rattle.pq_core.specs.Works.{WorkView}
-use Rattle.pq_core.specs.declared.frames.Pending.{Pending}
 use Rattle.pq_core.specs.declared.frames.Top.{Top}
 use Rattle.pq_core.specs.declared.frames.Top.TheVariants.{Empty, At, Away}
-use Rattle.pq_core.specs.declared.frames.Went.{Went}
-use Rattle.pq_core.specs.declared.frames.Went.TheVariants.{Carry, Stepped, Blocked, Ring}
-use Rattle.pq_core.specs.aux.Runs.{AreStale, Enters, FramesKept, HasAdvanced, IsLowered, KeptBelow, OthersHold, OthersUnwritten, WaitStands, out_at, run_keys}
+use Rattle.pq_core.specs.declared.frames.Looked.{Looked}
+use Rattle.pq_core.specs.declared.frames.Looked.TheVariants.{Carry, Stepped, Blocked, Ring}
+use Rattle.pq_core.specs.aux.Runs.{AreStale, CanGoOn, Enters, FramesKept, HasLooked, IsLowered, KeptBelow, OthersUnwritten, WaitStands, out_at, run_keys}
 use Rattle.pq_core.proofs.Claiming.{lowered_keys, set_own}
 use Rattle.pq_core.proofs.Framed.{kept_as, lowered, lowered_idle, pushed_keys, pushed_waits, walked}
 use Rattle.pq_core.proofs.Lists.{none_some}
@@ -94,10 +94,6 @@ none_closed order claims run key ring e w = some_last w.is_last.0 w.last (sym w.
 
 -- ---- the wait of a run
 
-none_of : {A : Type 0} (o : Option A) → ((x : A) → o ≡ Some x → ⊥) → o ≡ None
-none_of None f = refl
-none_of (Some x) f = absurd (f x refl)
-
 some_same : {A : Type 0} (o : Option A) (x y : A) → o ≡ Some x → o ≡ Some y → y ≡ x
 some_same o x y e f = cc
 
@@ -110,10 +106,6 @@ module _ {K P V : Type 0} (order : K → K → Ordering) (m : Machine K P V) (in
   pub woken_stands : (before : List (ℕ × Hold K)) (top : Top K P) → (hold_of before run).wait ≡ None
       → ((k : K) → (hold_of claims run).wait ≡ Some k → (hold_of before run).wait ≡ Some k) → WaitStands order m inputs table claims run top
   woken_stands before top awake less k w = absurd (none_some k (sym awake ∙ less k w))
-
-  -- a run whose work is out waits for no key
-  pub away_awake : (top : Top K P) (p : Pending K) → top ≡ Away p → WaitStands order m inputs table claims run top → (hold_of claims run).wait ≡ None
-  away_awake top p is stands = none_of (hold_of claims run).wait (subst (λ (t : Top K P). WaitStands order m inputs table claims run t) is stands)
 
   -- a run without frames may wait for any key
   pub empty_stands : (top : Top K P) → top ≡ Empty → WaitStands order m inputs table claims run top
@@ -153,11 +145,11 @@ module _ {K P V : Type 0} (m : Machine K P V) (now : ℕ) where
     pub stale_lowered : (before after : List (Frame K P)) (top : Top K P) → IsLowered before after top → AreStale m now table (frame_keys before) → AreStale m now table (run_keys after top)
     stale_lowered before after top low stale = subst (λ (ks : List K). AreStale m now table ks) (lowered_keys before after top low) stale
 
--- the top is of the same key, and no memo was written
-pub handed_stale : {K P V : Type 0} (m : Machine K P V) (now : ℕ) (before after : K → Option (Memo K V)) (stack : List (Frame K P)) (k q : K)
-    → q ≡ k → ((x : K) → after x ≡ before x) → AreStale m now before (frame_keys stack ++ k ∷ []) → AreStale m now after (frame_keys stack ++ q ∷ [])
-handed_stale {K} m now before after stack k q e same stale =
-    stale_as m now before after (frame_keys stack ++ q ∷ []) (λ x i. same x) (subst (λ (x : K). AreStale m now before (frame_keys stack ++ x ∷ [])) (sym e) stale)
+-- a frame whose key is not up to date can go on from its stage
+pub goes_on : {K P V : Type 0} (order : K → K → Ordering) (m : Machine K P V) (inputs : Table) (table : K → Option (Memo K V)) (stack : List (Frame K P)) (f : Frame K P)
+    → AreStale m inputs.revision table (frame_keys stack ++ f.key ∷ []) → CanGoOn order m inputs table f → IsFrame order m inputs.history inputs.revision (HasIn table) f.key f.stage
+goes_on order m inputs table stack f stale (inl up) = absurd (stale_last m inputs.revision table (frame_keys stack) f.key stale up)
+goes_on order m inputs table stack f stale (inr frame) = frame
 
 -- the memo of the top was written, and the top left
 pub left_stale : {K P V : Type 0} (m : Machine K P V) (now : ℕ) (before after : K → Option (Memo K V)) (k : K) (stack rest : List (Frame K P)) (top : Top K P)
@@ -182,12 +174,6 @@ holds_last {K} claims run ks k e = subst (λ (l : List K). In k l) (sym e) (in_a
 pub same_unwritten : {K V : Type 0} (claims : List (ℕ × Hold K)) (run : ℕ) (before after : K → Option (Memo K V)) → ((k : K) → after k ≡ before k)
     → OthersUnwritten claims run before after
 same_unwritten claims run before after same r k ne holds = same k
-
--- the run claimed or waited before it wrote
-pub unwritten_then : {K V : Type 0} (run : ℕ) (a b : List (ℕ × Hold K)) (before after : K → Option (Memo K V)) → OthersHold run a b
-    → OthersUnwritten b run before after → OthersUnwritten a run before after
-unwritten_then {K} run a b before after others unwritten r k ne holds =
-    unwritten r k ne (subst (λ (ks : List K). In k ks) (sym (others r ne).0) holds)
 
 -- ---- a key is entered
 
@@ -217,7 +203,7 @@ top_again stack after f (Away p) low = absurd low
 module _ {K P V : Type 0} (order : K → K → Ordering) (m : Machine K P V) (inputs : Table) (table : K → Option (Memo K V)) (stack : List (Frame K P)) (f : Frame K P) (next : K)
     (below : KeptBelow order m inputs table stack f.key) (awaits : Awaits order m inputs.history inputs.revision (HasIn table) f.key f.stage next)
     (needed : IsUpToDate m inputs.revision (HasIn table) next → ⊥) (claims : List (ℕ × Hold K)) (run : ℕ) (after : List (Frame K P)) (top : Top K P) where
-  pub entered_kept : {W E : Type 0} (answer : Result (Went W K) E) → Enters order claims run next answer (stack ++ f ∷ []) after top → FramesKept order m inputs table after top
+  pub entered_kept : {W E : Type 0} (answer : Result (Looked W K) E) → Enters order claims run next answer (stack ++ f ∷ []) after top → FramesKept order m inputs table after top
   entered_kept (Ok (Carry work)) e = absurd e
   entered_kept (Ok Stepped) e =
       kept_as order m inputs table after (At (record { key = next; stage = Walking 0 })) top (sym e.1) (
@@ -235,7 +221,7 @@ module _ {K P V : Type 0} (order : K → K → Ordering) (m : Machine K P V) (in
   pushed_stale : AreStale m inputs.revision table (frame_keys stack ++ f.key ∷ []) → AreStale m inputs.revision table (frame_keys (stack ++ f ∷ []))
   pushed_stale stale = subst (λ (ks : List K). AreStale m inputs.revision table ks) (sym (keys_append stack (f ∷ []))) stale
 
-  pub entered_stale : {W E : Type 0} (answer : Result (Went W K) E) → Enters order claims run next answer (stack ++ f ∷ []) after top
+  pub entered_stale : {W E : Type 0} (answer : Result (Looked W K) E) → Enters order claims run next answer (stack ++ f ∷ []) after top
       → AreStale m inputs.revision table (frame_keys stack ++ f.key ∷ []) → AreStale m inputs.revision table (run_keys after top)
   entered_stale (Ok (Carry work)) e stale = absurd e
   entered_stale (Ok Stepped) e stale =
@@ -247,7 +233,7 @@ module _ {K P V : Type 0} (order : K → K → Ordering) (m : Machine K P V) (in
   entered_stale (Err failure) e stale = stale_lowered m inputs.revision table (stack ++ f ∷ []) after top e.0 (pushed_stale stale)
 
   -- the run waits for the key for which its top waits, or for none
-  pub entered_stands : {W E : Type 0} (answer : Result (Went W K) E) → Enters order claims run next answer (stack ++ f ∷ []) after top
+  pub entered_stands : {W E : Type 0} (answer : Result (Looked W K) E) → Enters order claims run next answer (stack ++ f ∷ []) after top
       → WaitStands order m inputs table claims run top
   entered_stands (Ok (Carry work)) e = absurd e
   entered_stands (Ok Stepped) e = awake_stands order m inputs table claims run top e.2
@@ -257,19 +243,22 @@ module _ {K P V : Type 0} (order : K → K → Ordering) (m : Machine K P V) (in
   entered_stands (Ok (Ring ring)) e = awake_stands order m inputs table claims run top e.2
   entered_stands (Err failure) e = awake_stands order m inputs table claims run top e.1
 
-  pub entered_went : {R E : Type 0} (rules : R) (answer : Result (Went (WorkView R K P V) K) E) → Enters order claims run next answer (stack ++ f ∷ []) after top
-      → IfOk answer (λ w. HasAdvanced order m rules inputs table claims run top w)
-  entered_went rules (Ok (Carry work)) e = absurd e
-  entered_went rules (Ok Stepped) e = ap (λ (t : Top K P). out_at t) e.1
-  entered_went rules (Ok (Blocked other)) e = (lowered_idle (stack ++ f ∷ []) after top e.0, e.1)
-  entered_went rules (Ok (Ring ring)) e = (
-    lowered_idle (stack ++ f ∷ []) after top e.0,
-    record { frame = f; is_top = top_again stack after f top e.0; next = next; awaits = awaits; closed = e.1 },
-  )
-  entered_went rules (Err failure) e = tt
+-- what it came to
+pub entered_looked : {R K P V E : Type 0} (order : K → K → Ordering) (machine : R → Machine K P V) (inputs : Table) (memos : View R K V) (stack : List (Frame K P)) (f : Frame K P) (next : K)
+    → Awaits order (machine memos.rules) inputs.history inputs.revision (HasIn (memo_at order memos.places)) f.key f.stage next → (claims : List (ℕ × Hold K)) (run : ℕ)
+    (after : List (Frame K P)) (top : Top K P) (answer : Result (Looked (WorkView R K P V) K) E)
+    → Enters order claims run next answer (stack ++ f ∷ []) after top → IfOk answer (λ l. HasLooked order machine inputs memos claims run top l)
+entered_looked order machine inputs memos stack f next awaits claims run after top (Ok (Carry work)) e = absurd e
+entered_looked {R} {K} {P} order machine inputs memos stack f next awaits claims run after top (Ok Stepped) e = ap (λ (t : Top K P). out_at t) e.1
+entered_looked order machine inputs memos stack f next awaits claims run after top (Ok (Blocked other)) e = (lowered_idle (stack ++ f ∷ []) after top e.0, e.1)
+entered_looked order machine inputs memos stack f next awaits claims run after top (Ok (Ring ring)) e = (
+  lowered_idle (stack ++ f ∷ []) after top e.0,
+  record { frame = f; is_top = top_again stack after f top e.0; next = next; awaits = awaits; closed = e.1 },
+)
+entered_looked order machine inputs memos stack f next awaits claims run after top (Err failure) e = tt
 
 -- no work is out
-pub entered_idle : {W E K P : Type 0} (order : K → K → Ordering) (claims : List (ℕ × Hold K)) (run : ℕ) (next : K) (answer : Result (Went W K) E) (before after : List (Frame K P)) (top : Top K P)
+pub entered_idle : {W E K P : Type 0} (order : K → K → Ordering) (claims : List (ℕ × Hold K)) (run : ℕ) (next : K) (answer : Result (Looked W K) E) (before after : List (Frame K P)) (top : Top K P)
     → Enters order claims run next answer before after top → out_at top ≡ None
 entered_idle order claims run next (Ok (Carry work)) before after top e = absurd e
 entered_idle {W} {E} {K} {P} order claims run next (Ok Stepped) before after top e = ap (λ (t : Top K P). out_at t) e.1

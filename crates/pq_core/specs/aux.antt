@@ -12,6 +12,7 @@ pub mod Passing
 pub mod Runs
 pub mod Rings
 pub mod Begun
+pub mod RunSteps
 pub mod Accepting
 pub mod Queue
 pub mod Resting

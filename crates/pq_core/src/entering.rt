@@ -3,18 +3,17 @@
 //! A key that another run holds is not entered: the run waits for it, and is blocked. A key whose wait
 //! would close a ring is not entered either: a key of the run's own stack, or one that is held by a run
 //! that waits, in the end, for this one.
-ghost use Rattle.std.specs.Prelude.{◌≡◌, ◌++◌, ◌∷◌, [], IfOk, Some, None};
+ghost use Rattle.std.specs.Prelude.{◌≡◌, IfOk, Some, None};
 ghost use Rattle.pq_memo.specs.Look.{IsUpToDate};
 ghost use Rattle.pq_memo.specs.Table.{memo_at, HasIn};
 ghost use Rattle.pq_memo.specs.Frames.{Awaits, frame_keys};
 ghost use Rattle.pq_claims.specs.Claims.{hold_of};
-ghost use Rattle.pq_core.specs.aux.Begun.{HandsNothing, IsBegun};
 ghost use Rattle.pq_core.specs.declared.frames.Top.TheVariants.{At};
-ghost use Rattle.pq_core.specs.aux.Runs.{AreStale, Enters, FramesKept, HasAdvanced, HoldsBelow, IsLowered, KeptBelow, OthersHold, WaitStands, out_at, run_keys};
+ghost use Rattle.pq_core.specs.aux.Runs.{Enters, HasLooked, HoldsBelow, IsLowered, OthersHold, out_at, run_keys};
+ghost use Rattle.pq_core.specs.aux.RunSteps.{RunReady, RunStepped, run_state};
 
 use crate::fault::Memory;
-use crate::frames::{Frames, Top, Went};
-use crate::job::Job;
+use crate::frames::{Frames, Look, Looked, Top};
 use pq_claims::{Claim, Claims, RunId};
 use pq_inputs::Inputs;
 use pq_memo::{Frame, Memos, Stage};
@@ -43,7 +42,7 @@ impl<R: Rules> Frames<R> {
         id: RunId,
         claims: &mut Claims<R>,
         next: R::Key,
-    ) -> Result<Went<Job<R>, R::Key>, Memory>
+    ) -> Result<Look<R>, Memory>
         requires claimed { (hold_of claims.old id).keys ≡ frame_keys self.old.stack }
         requires awake { (hold_of claims.old id).wait ≡ None }
         ensures entered { Enters R.Key.cmp claims.new id next result self.old.stack self.new.stack self.new.top }
@@ -55,15 +54,15 @@ impl<R: Rules> Frames<R> {
                 Claim::Got => {
                     let stage = Stage::Walking(0);
                     self.top = Top::At(Frame { key: next, stage });
-                    Ok(Went::Stepped)
+                    Ok(Looked::Stepped)
                 }
                 Claim::HeldBy(other) => {
                     self.lower();
-                    Ok(Went::Blocked(other))
+                    Ok(Looked::Blocked(other))
                 }
                 Claim::Ring(ring) => {
                     self.lower();
-                    Ok(Went::Ring(ring))
+                    Ok(Looked::Ring(ring))
                 }
             },
             Err(_) => {
@@ -84,22 +83,14 @@ impl<R: Rules> Frames<R> {
         inputs: &Inputs,
         frame: Frame<R::Key, R::Part>,
         next: R::Key,
-    ) -> Result<Went<Job<R>, R::Key>, Memory>
-        requires below { KeptBelow R.Key.cmp (R.machine memos.now.rules) inputs.now (memo_at R.Key.cmp memos.now.places) self.old.stack frame.key }
+    ) -> Result<Look<R>, Memory>
+        requires ready { RunReady R.Key.cmp (R.machine memos.now.rules) inputs.now id (run_state memos.now claims.old self.old.stack (At frame)) }
         requires awaits { Awaits R.Key.cmp (R.machine memos.now.rules) inputs.now.history inputs.now.revision (HasIn (memo_at R.Key.cmp memos.now.places)) frame.key frame.stage next }
         requires needed { IsUpToDate (R.machine memos.now.rules) inputs.now.revision (HasIn (memo_at R.Key.cmp memos.now.places)) next → ⊥ }
-        requires stale { AreStale (R.machine memos.now.rules) inputs.now.revision (memo_at R.Key.cmp memos.now.places) (frame_keys self.old.stack ++ frame.key ∷ []) }
-        requires claimed { (hold_of claims.old id).keys ≡ frame_keys self.old.stack ++ frame.key ∷ [] }
         requires awake { (hold_of claims.old id).wait ≡ None }
-        ensures frames_kept { FramesKept R.Key.cmp (R.machine memos.now.rules) inputs.now (memo_at R.Key.cmp memos.now.places) self.new.stack self.new.top }
-        ensures claimed { (hold_of claims.new id).keys ≡ run_keys self.new.stack self.new.top }
-        ensures others { OthersHold id claims.old claims.new }
-        ensures stale { AreStale (R.machine memos.now.rules) inputs.now.revision (memo_at R.Key.cmp memos.now.places) (run_keys self.new.stack self.new.top) }
-        ensures waits { WaitStands R.Key.cmp (R.machine memos.now.rules) inputs.now (memo_at R.Key.cmp memos.now.places) claims.new id self.new.top }
-        ensures went { IfOk result (λ w. HasAdvanced R.Key.cmp (R.machine memos.now.rules) memos.now.rules inputs.now (memo_at R.Key.cmp memos.now.places) claims.new id self.new.top w) }
+        ensures stepped { RunStepped R.Key.cmp R.machine inputs.now id (run_state memos.now claims.old self.old.stack (At frame)) (run_state memos.now claims.new self.new.stack self.new.top) }
+        ensures looked { IfOk result (λ l. HasLooked R.Key.cmp R.machine inputs.now memos.now claims.new id self.new.top l) }
         ensures idle { out_at self.new.top ≡ None }
-        ensures begun { (k : R.Key) → IsBegun self.old.stack (At frame) k → IsBegun self.new.stack self.new.top k }
-        ensures none { IfOk result (λ w. HandsNothing w) }
     {
         match self.stack.put(alloc, memos.rules(), frame) {
             Ok(()) => self.enter(alloc, id, claims, next),

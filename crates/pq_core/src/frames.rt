@@ -13,12 +13,13 @@
 ghost use Rattle.std.specs.Prelude.{◌≡◌, ◌≢◌, ◌++◌, ◌∷◌, [], length, None, IfOk, IfErr, OnOk, OnErr};
 ghost use Rattle.pq_memo.specs.Table.{memo_at, HasIn, IsSameTable, KeptOver};
 ghost use Rattle.pq_memo.specs.Writes.{IsPublished};
-ghost use Rattle.pq_memo.specs.Frames.{Came, IsFrame, frame_keys};
+ghost use Rattle.pq_memo.specs.Frames.{Came, frame_keys};
 ghost use Rattle.pq_memo.specs.Steps.{IsWhy};
 ghost use Rattle.pq_claims.specs.Claims.{hold_of};
 ghost use Rattle.pq_core.specs.Moves.{out_of};
-ghost use Rattle.pq_core.specs.aux.Runs.{AreStale, FramesKept, HandedOut, HasAdvanced, IsLowered, KeptBelow, CanGoOn, CanTake, OthersHold, Renewed, WaitStands, OthersUnwritten, out_at, run_keys};
-ghost use Rattle.pq_core.specs.aux.Begun.{AdvancesFirst, KeepsBegun};
+ghost use Rattle.pq_core.specs.aux.Runs.{FramesKept, HandedOut, HasLooked, IsLowered, KeptBelow, out_at, run_keys};
+ghost use Rattle.pq_core.specs.aux.Begun.{LooksFirst};
+ghost use Rattle.pq_core.specs.aux.RunSteps.{RunReady, RunStepped, run_state};
 ghost use Rattle.pq_core.specs.declared.frames.Pending.{Pending};
 ghost use Rattle.pq_core.specs.declared.frames.Top.TheVariants.{Empty, At, Away};
 
@@ -49,9 +50,9 @@ pub(crate) enum Top<K, P> {
     Away(Pending<K>),
 }
 
-/// What a step of a run came to. `W` is the work that it may hand out, `K` the type of keys.
+/// What a look at a run came to. `W` is the work that it may hand out, `K` the type of keys.
 #[derive(Drop)]
-pub(crate) enum Went<W, K> {
+pub(crate) enum Looked<W, K> {
     /// This work is handed out.
     Carry(W),
     /// The run went on.
@@ -61,6 +62,9 @@ pub(crate) enum Went<W, K> {
     /// The top waits for a key, and a wait of the run for it would close the ring of these keys.
     Ring(Vec<K>),
 }
+
+/// What a look at a run of the rules `R` came to.
+pub(crate) type Look<R> = Looked<Job<R>, <R as Rules>::Key>;
 
 /// The frames of a run.
 #[derive(Drop)]
@@ -223,42 +227,29 @@ impl<R: Rules> Frames<R> {
         inputs: &Inputs,
         frame: Frame<R::Key, R::Part>,
         copy: R::Key,
-    ) -> Result<Went<Job<R>, R::Key>, Memory>
-        requires kept { KeptOver R.Key.cmp (R.machine memos.old.rules) inputs.now memos.old.places }
-        requires below { KeptBelow R.Key.cmp (R.machine memos.old.rules) inputs.now (memo_at R.Key.cmp memos.old.places) self.old.stack frame.key }
-        requires stale { AreStale (R.machine memos.old.rules) inputs.now.revision (memo_at R.Key.cmp memos.old.places) (frame_keys self.old.stack ++ frame.key ∷ []) }
+    ) -> Result<Look<R>, Memory>
+        requires ready { RunReady R.Key.cmp (R.machine memos.old.rules) inputs.now id (run_state memos.old claims.old self.old.stack (At frame)) }
         requires awake { (hold_of claims.old id).wait ≡ None }
-        requires frame { IsFrame R.Key.cmp (R.machine memos.old.rules) inputs.now.history inputs.now.revision (HasIn (memo_at R.Key.cmp memos.old.places)) frame.key frame.stage }
         requires copied { copy ≡ frame.key }
-        requires claimed { (hold_of claims.old id).keys ≡ frame_keys self.old.stack ++ frame.key ∷ [] }
-        ensures rules { memos.new.rules ≡ memos.old.rules }
-        ensures kept { KeptOver R.Key.cmp (R.machine memos.old.rules) inputs.now memos.new.places }
-        ensures renewed { Renewed (R.machine memos.old.rules) inputs.now.revision (memo_at R.Key.cmp memos.old.places) (memo_at R.Key.cmp memos.new.places) }
-        ensures frames_kept { FramesKept R.Key.cmp (R.machine memos.old.rules) inputs.now (memo_at R.Key.cmp memos.new.places) self.new.stack self.new.top }
-        ensures claimed { (hold_of claims.new id).keys ≡ run_keys self.new.stack self.new.top }
-        ensures others { OthersHold id claims.old claims.new }
-        ensures stale { AreStale (R.machine memos.old.rules) inputs.now.revision (memo_at R.Key.cmp memos.new.places) (run_keys self.new.stack self.new.top) }
-        ensures waits { WaitStands R.Key.cmp (R.machine memos.old.rules) inputs.now (memo_at R.Key.cmp memos.new.places) claims.new id self.new.top }
-        ensures written { OthersUnwritten claims.old id (memo_at R.Key.cmp memos.old.places) (memo_at R.Key.cmp memos.new.places) }
-        ensures advanced { IfOk result (λ w. HasAdvanced R.Key.cmp (R.machine memos.old.rules) memos.old.rules inputs.now (memo_at R.Key.cmp memos.old.places) claims.new id self.new.top w) }
+        ensures stepped { RunStepped R.Key.cmp R.machine inputs.now id (run_state memos.old claims.old self.old.stack (At frame)) (run_state memos.new claims.new self.new.stack self.new.top) }
+        ensures looked { IfOk result (λ l. HasLooked R.Key.cmp R.machine inputs.now memos.old claims.new id self.new.top l) }
         ensures refused { OnErr result (out_at self.new.top ≡ None) }
-        ensures begun { KeepsBegun (R.machine memos.old.rules) inputs.now.revision (memo_at R.Key.cmp memos.new.places) self.old.stack (At frame) self.new.stack self.new.top }
-        ensures first { IfOk result (λ w. AdvancesFirst self.old.stack (At frame) w) }
+        ensures first { IfOk result (λ l. LooksFirst self.old.stack (At frame) l) }
     {
         match memos.step(alloc, frame, inputs) {
             Ok(Step::Finished) => {
                 claims_are_sound(claims);
                 self.leave(id, claims);
-                Ok(Went::Stepped)
+                Ok(Looked::Stepped)
             }
             Ok(Step::Needs(frame, next)) => {
                 self.wait(alloc, id, memos, claims, inputs, frame, next)
             }
             Ok(Step::Starts(key, why)) => {
-                Ok(Went::Carry(self.start(alloc, id, memos, inputs, key, copy, why)))
+                Ok(Looked::Carry(self.start(alloc, id, memos, inputs, key, copy, why)))
             }
             Ok(Step::GoesOn(key, part, answer, reads)) => {
-                Ok(Went::Carry(self.go_on(id, memos, inputs, key, copy, part, answer, reads)))
+                Ok(Looked::Carry(self.go_on(id, memos, inputs, key, copy, part, answer, reads)))
             }
             Err(frame) => {
                 self.top = Top::At(frame);
@@ -277,32 +268,19 @@ impl<R: Rules> Frames<R> {
         claims: &mut Claims<R>,
         inputs: &Inputs,
         frame: Frame<R::Key, R::Part>,
-    ) -> Result<Went<Job<R>, R::Key>, Memory>
-        requires kept { KeptOver R.Key.cmp (R.machine memos.old.rules) inputs.now memos.old.places }
-        requires below { KeptBelow R.Key.cmp (R.machine memos.old.rules) inputs.now (memo_at R.Key.cmp memos.old.places) self.old.stack frame.key }
-        requires can { CanGoOn R.Key.cmp (R.machine memos.old.rules) inputs.now (memo_at R.Key.cmp memos.old.places) frame }
-        requires stale { AreStale (R.machine memos.old.rules) inputs.now.revision (memo_at R.Key.cmp memos.old.places) (frame_keys self.old.stack ++ frame.key ∷ []) }
-        requires claimed { (hold_of claims.old id).keys ≡ frame_keys self.old.stack ++ frame.key ∷ [] }
-        ensures rules { memos.new.rules ≡ memos.old.rules }
-        ensures kept { KeptOver R.Key.cmp (R.machine memos.old.rules) inputs.now memos.new.places }
-        ensures renewed { Renewed (R.machine memos.old.rules) inputs.now.revision (memo_at R.Key.cmp memos.old.places) (memo_at R.Key.cmp memos.new.places) }
-        ensures frames_kept { FramesKept R.Key.cmp (R.machine memos.old.rules) inputs.now (memo_at R.Key.cmp memos.new.places) self.new.stack self.new.top }
-        ensures claimed { (hold_of claims.new id).keys ≡ run_keys self.new.stack self.new.top }
-        ensures others { OthersHold id claims.old claims.new }
-        ensures stale { AreStale (R.machine memos.old.rules) inputs.now.revision (memo_at R.Key.cmp memos.new.places) (run_keys self.new.stack self.new.top) }
-        ensures waits { WaitStands R.Key.cmp (R.machine memos.old.rules) inputs.now (memo_at R.Key.cmp memos.new.places) claims.new id self.new.top }
-        ensures written { OthersUnwritten claims.old id (memo_at R.Key.cmp memos.old.places) (memo_at R.Key.cmp memos.new.places) }
-        ensures advanced { IfOk result (λ w. HasAdvanced R.Key.cmp (R.machine memos.old.rules) memos.old.rules inputs.now (memo_at R.Key.cmp memos.old.places) claims.new id self.new.top w) }
+    ) -> Result<Look<R>, Memory>
+        requires ready { RunReady R.Key.cmp (R.machine memos.old.rules) inputs.now id (run_state memos.old claims.old self.old.stack (At frame)) }
+        ensures stepped { RunStepped R.Key.cmp R.machine inputs.now id (run_state memos.old claims.old self.old.stack (At frame)) (run_state memos.new claims.new self.new.stack self.new.top) }
+        ensures looked { IfOk result (λ l. HasLooked R.Key.cmp R.machine inputs.now memos.old claims.new id self.new.top l) }
         ensures refused { OnErr result (out_at self.new.top ≡ None) }
-        ensures begun { KeepsBegun (R.machine memos.old.rules) inputs.now.revision (memo_at R.Key.cmp memos.new.places) self.old.stack (At frame) self.new.stack self.new.top }
-        ensures first { IfOk result (λ w. AdvancesFirst self.old.stack (At frame) w) }
+        ensures first { IfOk result (λ l. LooksFirst self.old.stack (At frame) l) }
     {
         claims.end_wait(id);
         match first_free(&mut self.trail, memos, claims, inputs, &frame) {
             Some(first) => {
                 confirm(&mut self.trail, memos, claims, inputs, first);
                 self.top = Top::At(frame);
-                return Ok(Went::Stepped);
+                return Ok(Looked::Stepped);
             }
             None => {}
         }
@@ -327,29 +305,15 @@ impl<R: Rules> Frames<R> {
         pending: Pending<R::Key>,
         done: Made<R>,
     ) -> Result<(), Made<R>>
-        requires kept { KeptOver R.Key.cmp (R.machine memos.old.rules) inputs.now memos.old.places }
-        requires below { KeptBelow R.Key.cmp (R.machine memos.old.rules) inputs.now (memo_at R.Key.cmp memos.old.places) self.old.stack pending.key }
-        requires can { CanTake R.Key.cmp (R.machine memos.old.rules) inputs.now (memo_at R.Key.cmp memos.old.places) pending }
-        requires stale { AreStale (R.machine memos.old.rules) inputs.now.revision (memo_at R.Key.cmp memos.old.places) (frame_keys self.old.stack ++ pending.key ∷ []) }
-        requires awake { (hold_of claims.old id).wait ≡ None }
+        requires ready { RunReady R.Key.cmp (R.machine memos.old.rules) inputs.now id (run_state memos.old claims.old self.old.stack (Away pending)) }
         requires rules { done.rules ≡ memos.old.rules }
         requires files { done.files ≡ inputs.now.files }
         requires counted { length pending.reads.items ≡ length done.front }
         requires key { pending.key ≡ done.key }
-        requires claimed { (hold_of claims.old id).keys ≡ frame_keys self.old.stack ++ pending.key ∷ [] }
-        ensures rules { memos.new.rules ≡ memos.old.rules }
-        ensures kept { KeptOver R.Key.cmp (R.machine memos.old.rules) inputs.now memos.new.places }
-        ensures renewed { Renewed (R.machine memos.old.rules) inputs.now.revision (memo_at R.Key.cmp memos.old.places) (memo_at R.Key.cmp memos.new.places) }
-        ensures frames_kept { FramesKept R.Key.cmp (R.machine memos.old.rules) inputs.now (memo_at R.Key.cmp memos.new.places) self.new.stack self.new.top }
-        ensures claimed { (hold_of claims.new id).keys ≡ run_keys self.new.stack self.new.top }
-        ensures others { OthersHold id claims.old claims.new }
-        ensures stale { AreStale (R.machine memos.old.rules) inputs.now.revision (memo_at R.Key.cmp memos.new.places) (run_keys self.new.stack self.new.top) }
-        ensures waits { WaitStands R.Key.cmp (R.machine memos.old.rules) inputs.now (memo_at R.Key.cmp memos.new.places) claims.new id self.new.top }
-        ensures written { OthersUnwritten claims.old id (memo_at R.Key.cmp memos.old.places) (memo_at R.Key.cmp memos.new.places) }
+        ensures stepped { RunStepped R.Key.cmp R.machine inputs.now id (run_state memos.old claims.old self.old.stack (Away pending)) (run_state memos.new claims.new self.new.stack self.new.top) }
         ensures taken { OnOk result (out_at self.new.top ≡ None) }
         ensures back { IfErr result (λ d. d ≡ done) }
         ensures refused { OnErr result (out_at self.new.top ≡ Some (out_of done)) }
-        ensures begun { KeepsBegun (R.machine memos.old.rules) inputs.now.revision (memo_at R.Key.cmp memos.new.places) self.old.stack (Away pending) self.new.stack self.new.top }
     {
         let _latest = inputs.now();
         let Made {

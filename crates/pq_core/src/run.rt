@@ -6,17 +6,17 @@
 //! that was not up to date, so every write is of such a key.
 ghost use Rattle.std.specs.Prelude.{◌≡◌, ◌↔◌, [], length, None, Some, IsTrue, IsSome, IfOk, IfErr, IfSome, IfNone, OnOk, OnErr};
 ghost use Rattle.pq_memo.specs.Table.{memo_at, HasIn, KeptOver};
-ghost use Rattle.pq_claims.specs.Claims.{hold_of};
 ghost use Rattle.pq_core.specs.Kept.{IsDemand};
 ghost use Rattle.pq_core.specs.Moves.{out_of};
-ghost use Rattle.pq_core.specs.aux.Runs.{AreStale, HasAdvanced, IsAnswer, IsSameRun, IsStale, OthersHold, Renewed, RunKept, WaitStands, OthersUnwritten, out_at, run_keys};
-ghost use Rattle.pq_core.specs.aux.Begun.{AdvancesFirst, KeepsBegun};
-ghost use Rattle.pq_core.specs.declared.frames.Top.TheVariants.{Empty, At};
+ghost use Rattle.pq_core.specs.aux.Runs.{HasLooked, IsAnswer, IsSameRun, IsStale, out_at};
+ghost use Rattle.pq_core.specs.aux.Begun.{LooksFirst};
+ghost use Rattle.pq_core.specs.aux.RunSteps.{RunReady, RunStepped, run_state};
+ghost use Rattle.pq_core.specs.declared.frames.Top.TheVariants.{Empty};
 ghost use Rattle.pq_core.specs.declared.request.Want.TheVariants.{Demand};
 
 use crate::fault::Memory;
-use crate::frames::{Frames, Pending, Top, Went};
-use crate::job::{Job, Made};
+use crate::frames::{Frames, Look, Looked, Pending, Top};
+use crate::job::Made;
 use crate::request::{Request, Want};
 use pq_claims::{Claim, Claims, RunId};
 use pq_inputs::{Inputs, Revision};
@@ -153,35 +153,25 @@ impl<R: Rules> Run<R> {
         memos: &mut Memos<R>,
         claims: &mut Claims<R>,
         inputs: &Inputs,
-    ) -> Result<Went<Job<R>, R::Key>, Memory>
+    ) -> Result<Look<R>, Memory>
         requires demand { IsDemand self.old.request.want }
         requires empty { (self.old.stack ≡ []) × (self.old.top ≡ Empty) }
         requires stale { IsStale (R.machine memos.old.rules) inputs.now.revision (HasIn (memo_at R.Key.cmp memos.old.places)) self.old.request }
-        requires kept { KeptOver R.Key.cmp (R.machine memos.old.rules) inputs.now memos.old.places }
-        requires claimed { (hold_of claims.old id).keys ≡ run_keys self.old.stack self.old.top }
-        ensures rules { memos.new.rules ≡ memos.old.rules }
-        ensures kept { KeptOver R.Key.cmp (R.machine memos.old.rules) inputs.now memos.new.places }
-        ensures renewed { Renewed (R.machine memos.old.rules) inputs.now.revision (memo_at R.Key.cmp memos.old.places) (memo_at R.Key.cmp memos.new.places) }
+        requires ready { RunReady R.Key.cmp (R.machine memos.old.rules) inputs.now id (run_state memos.old claims.old self.old.stack self.old.top) }
         ensures same { IsSameRun self.old self.new }
-        ensures run_kept { RunKept R.Key.cmp (R.machine memos.old.rules) inputs.now (memo_at R.Key.cmp memos.new.places) self.new }
-        ensures claimed { (hold_of claims.new id).keys ≡ run_keys self.new.stack self.new.top }
-        ensures others { OthersHold id claims.old claims.new }
-        ensures stale { AreStale (R.machine memos.old.rules) inputs.now.revision (memo_at R.Key.cmp memos.new.places) (run_keys self.new.stack self.new.top) }
-        ensures waits { WaitStands R.Key.cmp (R.machine memos.old.rules) inputs.now (memo_at R.Key.cmp memos.new.places) claims.new id self.new.top }
-        ensures written { OthersUnwritten claims.old id (memo_at R.Key.cmp memos.old.places) (memo_at R.Key.cmp memos.new.places) }
-        ensures advanced { IfOk result (λ w. HasAdvanced R.Key.cmp (R.machine memos.old.rules) memos.old.rules inputs.now (memo_at R.Key.cmp memos.old.places) claims.new id self.new.top w) }
+        ensures stepped { RunStepped R.Key.cmp R.machine inputs.now id (run_state memos.old claims.old self.old.stack self.old.top) (run_state memos.new claims.new self.new.stack self.new.top) }
+        ensures looked { IfOk result (λ l. HasLooked R.Key.cmp R.machine inputs.now memos.old claims.new id self.new.top l) }
         ensures refused { OnErr result (out_at self.new.top ≡ None) }
-        ensures begun { KeepsBegun (R.machine memos.old.rules) inputs.now.revision (memo_at R.Key.cmp memos.new.places) self.old.stack self.old.top self.new.stack self.new.top }
-        ensures first { IfOk result (λ w. AdvancesFirst self.old.stack self.old.top w) }
+        ensures first { IfOk result (λ l. LooksFirst self.old.stack self.old.top l) }
     {
         let key = self.first_key(alloc, memos.rules())?;
         match claims.claim(alloc, id, &key)? {
             Claim::Got => {
                 let stage = Stage::Walking(0);
-                self.frames
-                    .advance(alloc, id, memos, claims, inputs, Frame { key, stage })
+                let frame = Frame { key, stage };
+                self.frames.advance(alloc, id, memos, claims, inputs, frame)
             }
-            Claim::HeldBy(other) => Ok(Went::Blocked(other)),
+            Claim::HeldBy(other) => Ok(Looked::Blocked(other)),
             Claim::Ring(_) => unreachable!(),
         }
     }
@@ -195,29 +185,17 @@ impl<R: Rules> Run<R> {
         memos: &mut Memos<R>,
         claims: &mut Claims<R>,
         inputs: &Inputs,
-    ) -> Result<Went<Job<R>, R::Key>, Memory>
+    ) -> Result<Look<R>, Memory>
         requires demand { IsDemand self.old.request.want }
         requires idle { out_at self.old.top ≡ None }
-        requires first_stale { self.old.top ≡ Empty → IsStale (R.machine memos.old.rules) inputs.now.revision (HasIn (memo_at R.Key.cmp memos.old.places)) self.old.request }
+        requires stale { self.old.top ≡ Empty → IsStale (R.machine memos.old.rules) inputs.now.revision (HasIn (memo_at R.Key.cmp memos.old.places)) self.old.request }
         requires current { self.old.started ≡ inputs.now.revision }
-        requires kept { KeptOver R.Key.cmp (R.machine memos.old.rules) inputs.now memos.old.places }
-        requires run_kept { RunKept R.Key.cmp (R.machine memos.old.rules) inputs.now (memo_at R.Key.cmp memos.old.places) self.old }
-        requires claimed { (hold_of claims.old id).keys ≡ run_keys self.old.stack self.old.top }
-        requires stale { AreStale (R.machine memos.old.rules) inputs.now.revision (memo_at R.Key.cmp memos.old.places) (run_keys self.old.stack self.old.top) }
-        ensures rules { memos.new.rules ≡ memos.old.rules }
-        ensures kept { KeptOver R.Key.cmp (R.machine memos.old.rules) inputs.now memos.new.places }
-        ensures renewed { Renewed (R.machine memos.old.rules) inputs.now.revision (memo_at R.Key.cmp memos.old.places) (memo_at R.Key.cmp memos.new.places) }
+        requires ready { RunReady R.Key.cmp (R.machine memos.old.rules) inputs.now id (run_state memos.old claims.old self.old.stack self.old.top) }
         ensures same { IsSameRun self.old self.new }
-        ensures run_kept { RunKept R.Key.cmp (R.machine memos.old.rules) inputs.now (memo_at R.Key.cmp memos.new.places) self.new }
-        ensures claimed { (hold_of claims.new id).keys ≡ run_keys self.new.stack self.new.top }
-        ensures others { OthersHold id claims.old claims.new }
-        ensures stale { AreStale (R.machine memos.old.rules) inputs.now.revision (memo_at R.Key.cmp memos.new.places) (run_keys self.new.stack self.new.top) }
-        ensures waits { WaitStands R.Key.cmp (R.machine memos.old.rules) inputs.now (memo_at R.Key.cmp memos.new.places) claims.new id self.new.top }
-        ensures written { OthersUnwritten claims.old id (memo_at R.Key.cmp memos.old.places) (memo_at R.Key.cmp memos.new.places) }
-        ensures advanced { IfOk result (λ w. HasAdvanced R.Key.cmp (R.machine memos.old.rules) memos.old.rules inputs.now (memo_at R.Key.cmp memos.old.places) claims.new id self.new.top w) }
+        ensures stepped { RunStepped R.Key.cmp R.machine inputs.now id (run_state memos.old claims.old self.old.stack self.old.top) (run_state memos.new claims.new self.new.stack self.new.top) }
+        ensures looked { IfOk result (λ l. HasLooked R.Key.cmp R.machine inputs.now memos.old claims.new id self.new.top l) }
         ensures refused { OnErr result (out_at self.new.top ≡ None) }
-        ensures begun { KeepsBegun (R.machine memos.old.rules) inputs.now.revision (memo_at R.Key.cmp memos.new.places) self.old.stack self.old.top self.new.stack self.new.top }
-        ensures first { IfOk result (λ w. AdvancesFirst self.old.stack self.old.top w) }
+        ensures first { IfOk result (λ l. LooksFirst self.old.stack self.old.top l) }
     {
         match replace(&mut self.frames.top, Top::Empty) {
             Top::At(frame) => self.frames.advance(alloc, id, memos, claims, inputs, frame),
@@ -241,25 +219,12 @@ impl<R: Rules> Run<R> {
         requires rules { done.rules ≡ memos.old.rules }
         requires files { done.files ≡ inputs.now.files }
         requires current { self.old.started ≡ inputs.now.revision }
-        requires kept { KeptOver R.Key.cmp (R.machine memos.old.rules) inputs.now memos.old.places }
-        requires run_kept { RunKept R.Key.cmp (R.machine memos.old.rules) inputs.now (memo_at R.Key.cmp memos.old.places) self.old }
-        requires claimed { (hold_of claims.old id).keys ≡ run_keys self.old.stack self.old.top }
-        requires stale { AreStale (R.machine memos.old.rules) inputs.now.revision (memo_at R.Key.cmp memos.old.places) (run_keys self.old.stack self.old.top) }
-        requires waits { WaitStands R.Key.cmp (R.machine memos.old.rules) inputs.now (memo_at R.Key.cmp memos.old.places) claims.old id self.old.top }
-        ensures rules { memos.new.rules ≡ memos.old.rules }
-        ensures kept { KeptOver R.Key.cmp (R.machine memos.old.rules) inputs.now memos.new.places }
-        ensures renewed { Renewed (R.machine memos.old.rules) inputs.now.revision (memo_at R.Key.cmp memos.old.places) (memo_at R.Key.cmp memos.new.places) }
+        requires ready { RunReady R.Key.cmp (R.machine memos.old.rules) inputs.now id (run_state memos.old claims.old self.old.stack self.old.top) }
         ensures same { IsSameRun self.old self.new }
-        ensures run_kept { RunKept R.Key.cmp (R.machine memos.old.rules) inputs.now (memo_at R.Key.cmp memos.new.places) self.new }
-        ensures claimed { (hold_of claims.new id).keys ≡ run_keys self.new.stack self.new.top }
-        ensures others { OthersHold id claims.old claims.new }
-        ensures stale { AreStale (R.machine memos.old.rules) inputs.now.revision (memo_at R.Key.cmp memos.new.places) (run_keys self.new.stack self.new.top) }
-        ensures waits { WaitStands R.Key.cmp (R.machine memos.old.rules) inputs.now (memo_at R.Key.cmp memos.new.places) claims.new id self.new.top }
-        ensures written { OthersUnwritten claims.old id (memo_at R.Key.cmp memos.old.places) (memo_at R.Key.cmp memos.new.places) }
+        ensures stepped { RunStepped R.Key.cmp R.machine inputs.now id (run_state memos.old claims.old self.old.stack self.old.top) (run_state memos.new claims.new self.new.stack self.new.top) }
         ensures taken { OnOk result (out_at self.new.top ≡ None) }
         ensures back { IfErr result (λ d. d ≡ done) }
         ensures refused { OnErr result (out_at self.new.top ≡ Some (out_of done)) }
-        ensures begun { KeepsBegun (R.machine memos.old.rules) inputs.now.revision (memo_at R.Key.cmp memos.new.places) self.old.stack self.old.top self.new.stack self.new.top }
     {
         match replace(&mut self.frames.top, Top::Empty) {
             Top::Away(pending) => self

@@ -11,8 +11,8 @@ ghost use Rattle.pq_core.specs.aux.RunStates.{IsCurrentRun, IsReady, SameClients
 
 use crate::closing::close_ring;
 use crate::fault::Memory;
-use crate::frames::Went;
-use crate::job::{Job, Made};
+use crate::frames::Look;
+use crate::job::Made;
 use crate::stamp::Stamp;
 use crate::store::Store;
 use pq_claims::{RunId, claims_are_sound};
@@ -23,9 +23,9 @@ use std::alloc::Global;
 impl<R: Rules, M: Stamp> Store<R, M> {
     /// Takes one step of `run`, which is current and has no work out. If an allocation fails, the run
     /// may have gone on all the same.
-    pub(crate) fn step(&mut self, alloc: Global, run: RunId) -> Result<Went<Job<R>, R::Key>, Memory>
+    pub(crate) fn step(&mut self, alloc: Global, run: RunId) -> Result<Look<R>, Memory>
         requires ready { (kept : RunView R.Key R.Part) × IsReady R.Key.cmp (R.machine self.old.rules) self.old run kept }
-        ensures went { IfOk result (λ went. StepsTo R.Key.cmp (R.machine self.old.rules) self.old run self.new went) }
+        ensures looked { IfOk result (λ looked. StepsTo R.Key.cmp (R.machine self.old.rules) self.old run self.new looked) }
         ensures refused { IfErr result (λ failure. (s : Steps R.Key.cmp (R.machine self.old.rules) self.old run self.new) × (out_at s.run.top ≡ None)) }
         ensures counted { (log : Log R.Key) → IsCountedIn R.Key.cmp (R.machine self.old.rules) self.old log → IsCountedIn R.Key.cmp (R.machine self.old.rules) self.new (log_stepped self.old run result log) }
     {
@@ -36,10 +36,10 @@ impl<R: Rules, M: Stamp> Store<R, M> {
             None => unreachable!(),
             Some(taken) => {
                 let mut kept = taken;
-                let went = kept.look(alloc, run, &mut self.memos, &mut self.claims, &self.inputs);
+                let looked = kept.look(alloc, run, &mut self.memos, &mut self.claims, &self.inputs);
                 claims_are_sound(&self.claims);
                 self.runs.put_back(run.number(), kept);
-                return went;
+                return looked;
             }
         }
     }

@@ -12,7 +12,7 @@ ghost use Rattle.pq_core.specs.Told.{Told};
 ghost use Rattle.pq_core.specs.Starts.{IsCountedIn, Log, log_moved_in, log_starved_in};
 
 use crate::fault::{GiveFault, GiveRefused, LookFault};
-use crate::frames::Went;
+use crate::frames::Looked;
 use crate::ids::{ClientId, Number};
 use crate::moves::Move;
 use crate::run_end::Ending;
@@ -65,11 +65,11 @@ impl<R: Rules, M: Stamp> Store<R, M> {
                 }
                 RunState::Ready(stamp) => match self.step(alloc, run) {
                     Err(_) => return Err(LookFault::Memory),
-                    Ok(went) => match went {
-                        Went::Carry(job) => return Ok(Move::Carry(Work::new(job, stamp))),
-                        Went::Stepped => return Ok(Move::Stepped),
-                        Went::Blocked(other) => return Ok(Move::Blocked(other)),
-                        Went::Ring(ring) => match self.close(alloc, run, &ring) {
+                    Ok(looked) => match looked {
+                        Looked::Carry(job) => return Ok(Move::Carry(Work::new(job, stamp))),
+                        Looked::Stepped => return Ok(Move::Stepped),
+                        Looked::Blocked(other) => return Ok(Move::Blocked(other)),
+                        Looked::Ring(ring) => match self.close(alloc, run, &ring) {
                             Ok(()) => return Ok(Move::Stepped),
                             Err(_) => return Err(LookFault::Memory),
                         },

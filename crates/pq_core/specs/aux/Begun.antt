@@ -11,8 +11,8 @@ use Rattle.pq_core.specs.Works.{WorkView}
 use Rattle.pq_core.specs.declared.frames.Pending.{Pending}
 use Rattle.pq_core.specs.declared.frames.Top.{Top}
 use Rattle.pq_core.specs.declared.frames.Top.TheVariants.{Away}
-use Rattle.pq_core.specs.declared.frames.Went.{Went}
-use Rattle.pq_core.specs.declared.frames.Went.TheVariants.{Carry as WentCarry, Stepped as WentStepped, Blocked as WentBlocked, Ring as WentRing}
+use Rattle.pq_core.specs.declared.frames.Looked.{Looked}
+use Rattle.pq_core.specs.declared.frames.Looked.TheVariants.{Carry, Stepped, Blocked, Ring}
 use Rattle.pq_core.specs.declared.rising.Place.{Place}
 use Rattle.pq_core.specs.aux.Rising.{found}
 use Rattle.pq_core.specs.aux.Runs.{RunView}
@@ -40,16 +40,9 @@ abbrev pub IsFirst : {K P : Type 0} → List (Frame K P) → Top K P → K → O
 IsFirst stack top k None = Unit {0}
 IsFirst stack top k (Some why) = IsBegun stack top k → ⊥
 
--- `HandsNothing went` is that a step hands out no work
-abbrev pub HandsNothing : {W K : Type 0} → Went W K → Type 0
-HandsNothing (WentCarry work) = ⊥
-HandsNothing WentStepped = Unit {0}
-HandsNothing (WentBlocked other) = Unit {0}
-HandsNothing (WentRing ring) = Unit {0}
-
--- `AdvancesFirst stack top went` is this of the work that a step hands out, if it does
-abbrev pub AdvancesFirst : {R K P V : Type 0} → List (Frame K P) → Top K P → Went (WorkView R K P V) K → Type 0
-AdvancesFirst stack top (WentCarry work) = IsFirst stack top work.done.key work.why
-AdvancesFirst stack top WentStepped = Unit {0}
-AdvancesFirst stack top (WentBlocked other) = Unit {0}
-AdvancesFirst stack top (WentRing ring) = Unit {0}
+-- `LooksFirst stack top looked` is this of the work that a look hands out, if it does
+abbrev pub LooksFirst : {R K P V : Type 0} → List (Frame K P) → Top K P → Looked (WorkView R K P V) K → Type 0
+LooksFirst stack top (Carry work) = IsFirst stack top work.done.key work.why
+LooksFirst stack top Stepped = Unit {0}
+LooksFirst stack top (Blocked other) = Unit {0}
+LooksFirst stack top (Ring ring) = Unit {0}

@@ -12,8 +12,8 @@ use Rattle.pq_core.specs.aux.Runs.{RunView, IsAnswer, IsStale, IsSameRun, IsHeld
 use Rattle.pq_core.specs.aux.Begun.{KeepsBegun}
 use Rattle.pq_core.specs.aux.RunEnds.{IsLateFor}
 use Rattle.pq_core.specs.declared.frames.Top.TheVariants.{Empty}
-use Rattle.pq_core.specs.declared.frames.Went.{Went}
-use Rattle.pq_core.specs.declared.frames.Went.TheVariants.{Carry, Stepped, Blocked, Ring}
+use Rattle.pq_core.specs.declared.frames.Looked.{Looked}
+use Rattle.pq_core.specs.declared.frames.Looked.TheVariants.{Carry, Stepped, Blocked, Ring}
 use Rattle.pq_core.specs.declared.run_state.RunState.{RunState}
 use Rattle.pq_core.specs.declared.run_state.RunState.TheVariants.{Gone, Overtaken, Away, Answered, Ready}
 
@@ -64,9 +64,9 @@ pub record Steps {R K P V M : Type 0} (order : K → K → Ordering) (m : Machin
   pub renewed : Renewed m before.inputs.revision (memo_at order before.places) (memo_at order after.places)
   pub clients : SameClients before after
 
--- `StepsTo order m before r after went` is that the step came to `went`: it hands out work, with its
+-- `StepsTo order m before r after looked` is that the step came to `looked`: it hands out work, with its
 -- cause; or it goes on; or it is held up by another run, which exists; or a ring closes
-abbrev pub StepsTo : {R K P V M : Type 0} → (K → K → Ordering) → Machine K P V → StoreView R K P V M → ℕ → StoreView R K P V M → Went (WorkView R K P V) K → Type 0
+abbrev pub StepsTo : {R K P V M : Type 0} → (K → K → Ordering) → Machine K P V → StoreView R K P V M → ℕ → StoreView R K P V M → Looked (WorkView R K P V) K → Type 0
 StepsTo order m before r after (Carry work) =
     (s : Steps order m before r after) × HandedOut m before.rules before.inputs (memo_at order before.places) r s.run.top work × NamesCause order m before work
 StepsTo order m before r after Stepped = (s : Steps order m before r after) × (out_at s.run.top ≡ None)
@@ -77,7 +77,7 @@ StepsTo order m before r after (Ring ring) =
 
 -- `log_stepped store run answer log` is `log` after a step of `run` that came to `answer`. `store` is the
 -- store before. Work that starts a rule adds a start at the revision now.
-abbrev pub log_stepped : {R K P V M E : Type 0} → StoreView R K P V M → ℕ → Result (Went (WorkView R K P V) K) E → Log K → Log K
+abbrev pub log_stepped : {R K P V M E : Type 0} → StoreView R K P V M → ℕ → Result (Looked (WorkView R K P V) K) E → Log K → Log K
 log_stepped store run (Ok (Carry work)) log = log_work (record { run = run; key = work.done.key; revision = store.inputs.revision }) work.why log
 log_stepped store run (Ok Stepped) log = log
 log_stepped store run (Ok (Blocked other)) log = log

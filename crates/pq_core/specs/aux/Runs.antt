@@ -30,8 +30,8 @@ use Rattle.pq_core.specs.declared.request.Want.TheVariants.{Demand}
 use Rattle.pq_core.specs.declared.frames.Pending.{Pending}
 use Rattle.pq_core.specs.declared.frames.Top.{Top}
 use Rattle.pq_core.specs.declared.frames.Top.TheVariants.{Empty, At, Away}
-use Rattle.pq_core.specs.declared.frames.Went.{Went}
-use Rattle.pq_core.specs.declared.frames.Went.TheVariants.{Carry as WentCarry, Stepped as WentStepped, Blocked as WentBlocked, Ring as WentRing}
+use Rattle.pq_core.specs.declared.frames.Looked.{Looked}
+use Rattle.pq_core.specs.declared.frames.Looked.TheVariants.{Carry, Stepped, Blocked, Ring}
 use Rattle.pq_core.specs.declared.rising.Place.{Place}
 use Rattle.pq_core.specs.aux.Rising.{found}
 
@@ -218,24 +218,15 @@ pub record ClosesRing {K P V : Type 0} (order : K → K → Ordering) (m : Machi
 -- claimed `next`, a key of none of them, which is the key of its top over `before`; or that another run
 -- holds it, or that a wait would close a ring, or that an allocation failed. Then the last of `before`
 -- is the top again.
-abbrev pub Enters : {W E K P : Type 0} → (K → K → Ordering) → List (ℕ × Hold K) → ℕ → K → Result (Went W K) E → (before after : List (Frame K P)) → Top K P → Type 0
-Enters order claims run next (Ok (WentCarry work)) before after top = ⊥
-Enters order claims run next (Ok WentStepped) before after top =
+abbrev pub Enters : {W E K P : Type 0} → (K → K → Ordering) → List (ℕ × Hold K) → ℕ → K → Result (Looked W K) E → (before after : List (Frame K P)) → Top K P → Type 0
+Enters order claims run next (Ok (Carry work)) before after top = ⊥
+Enters order claims run next (Ok Stepped) before after top =
     (after ≡ before) × (top ≡ At (record { key = next; stage = Walking 0 })) × ((hold_of claims run).wait ≡ None) × (In next (frame_keys before) → ⊥)
-Enters order claims run next (Ok (WentBlocked other)) before after top =
+Enters order claims run next (Ok (Blocked other)) before after top =
     IsLowered before after top × IsHeldUp claims run other × ((hold_of claims run).wait ≡ Some next)
-Enters order claims run next (Ok (WentRing ring)) before after top =
+Enters order claims run next (Ok (Ring ring)) before after top =
     IsLowered before after top × IsClosed order claims run next ring.items × ((hold_of claims run).wait ≡ None)
 Enters order claims run next (Err failure) before after top = IsLowered before after top × ((hold_of claims run).wait ≡ None)
-
--- `HasAdvanced order m rules inputs table claims run top went` is that a step handed out work, or went
--- on, or that another run holds the key that it needs, or that a wait for that key would close a ring
-abbrev pub HasAdvanced : {R K P V : Type 0} → (K → K → Ordering) → Machine K P V → R → Table → (K → Option (Memo K V)) → List (ℕ × Hold K) → ℕ → Top K P
-    → Went (WorkView R K P V) K → Type 0
-HasAdvanced order m rules inputs table claims run top (WentCarry work) = HandedOut m rules inputs table run top work
-HasAdvanced order m rules inputs table claims run top WentStepped = out_at top ≡ None
-HasAdvanced order m rules inputs table claims run top (WentBlocked other) = (out_at top ≡ None) × IsHeldUp claims run other
-HasAdvanced order m rules inputs table claims run top (WentRing ring) = (out_at top ≡ None) × ClosesRing order m inputs table claims run top ring.items
 
 -- `IsAnswer order m inputs request answer` is that `answer` is that of the key of `request` at the
 -- sources now
@@ -245,6 +236,16 @@ IsAnswer {K} order m inputs request answer = (key : K) × (request.want ≡ Dema
 -- `IsStale m now Has request` is that the key of `request` is not up to date
 abbrev pub IsStale : {K P V : Type 0} → Machine K P V → ℕ → (K → Memo K V → Type 0) → Request K → Type 0
 IsStale {K} m now Has request = (key : K) → request.want ≡ Demand key → IsUpToDate m now Has key → ⊥
+
+-- `HasLooked order machine inputs memos claims run top looked` is that a look at `run` came to `looked`.
+-- It handed out work, or the run went on, or another run holds the key that it needs, or a wait for
+-- that key would close a ring. `memos` are those before the look, `claims` and `top` those after it.
+abbrev pub HasLooked : {R K P V : Type 0} → (K → K → Ordering) → (R → Machine K P V) → Table → View R K V → List (ℕ × Hold K) → ℕ → Top K P → Looked (WorkView R K P V) K → Type 0
+HasLooked order machine inputs memos claims run top (Carry work) = HandedOut (machine memos.rules) memos.rules inputs (memo_at order memos.places) run top work
+HasLooked order machine inputs memos claims run top Stepped = out_at top ≡ None
+HasLooked order machine inputs memos claims run top (Blocked other) = (out_at top ≡ None) × IsHeldUp claims run other
+HasLooked order machine inputs memos claims run top (Ring ring) =
+    (out_at top ≡ None) × ClosesRing order (machine memos.rules) inputs (memo_at order memos.places) claims run top ring.items
 
 -- `RunsKept order m inputs table claims runs` is what holds of `runs` and their `claims` between any
 -- two steps

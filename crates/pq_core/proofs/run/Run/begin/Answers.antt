@@ -1,66 +1,56 @@
-use Rattle.std.proofs.Common.{refl, ap, ◌∙◌}
+use Rattle.std.proofs.Common.{ap}
 use Rattle.pq_memo.specs.Table.{memo_at}
-use Rattle.pq_claims.specs.Claims.{hold_of}
+use Rattle.pq_claims.specs.Claims.{Hold, hold_of}
 use Rattle.pq_core.specs.declared.frames.Top.{Top}
 use Rattle.pq_core.specs.aux.Runs.{out_at}
-use Rattle.pq_core.proofs.Claiming.{claimed_others, got_keys, held_keys, held_up, others_then}
-use Rattle.pq_core.proofs.Stepping.{empty_stands, none_closed, unwritten_then}
-use Rattle.pq_core.proofs.Beginning.{first_held, first_kept, first_stale, none_held}
-use Rattle.pq_core.proofs.RulesBegun.{none_begun, none_advances}
+use Rattle.pq_core.specs.aux.RunSteps.{run_state}
+use Rattle.pq_core.proofs.Claiming.{claimed_others, held_keys, held_up}
+use Rattle.pq_core.proofs.Stepping.{empty_stands, none_closed}
+use Rattle.pq_core.proofs.Stepped.{claims_stepped, first_stepped, ready_next, still_stepped, stepped_then}
+use Rattle.pq_core.proofs.Beginning.{none_held}
+use Rattle.pq_core.proofs.RulesBegun.{none_looks}
 use Rattle.pq_core.proofs.run.Run.begin.Goals as goal
 
-pub advance-requires-clause-below : goal.advance-requires-clause-below
-advance-requires-clause-below g c =
-    let kept = first_kept g.R.Key.Ord.cmp (g.R.Rules.machine c.args.memos.now.rules) c.args.inputs.now (memo_at g.R.Key.Ord.cmp c.args.memos.now.places)
-    c.args.self.now.stack c.args.self.now.stack c.args.self.now.request c.in_ok-key.key c.requires.empty.0 refl (c.in_ok-key.ensures {u = tt}) c.requires.stale in
-    (rw (← c.self.view_is) at kept).0
+pub returns-in_err-key-clause-stepped : goal.returns-in_err-key-clause-stepped
+returns-in_err-key-clause-stepped g c = still_stepped g.R.Key.Ord.cmp g.R.Rules.machine c.args.inputs.now c.args.id _ c.requires.ready
 
-pub advance-requires-clause-can : goal.advance-requires-clause-can
-advance-requires-clause-can g c =
-    (first_kept g.R.Key.Ord.cmp (g.R.Rules.machine c.args.memos.now.rules) c.args.inputs.now (memo_at g.R.Key.Ord.cmp c.args.memos.now.places)
-    c.args.self.now.stack c.args.self.now.stack c.args.self.now.request c.in_ok-key.key c.requires.empty.0 refl (c.in_ok-key.ensures {u = tt}) c.requires.stale).1
+pub returns-in_err-claim-clause-stepped : goal.returns-in_err-claim-clause-stepped
+returns-in_err-claim-clause-stepped g c =
+    claims_stepped g.R.Key.Ord.cmp g.R.Rules.machine c.args.inputs.now c.args.id _ c.claim.new.self
+    (ap (λ (h : Hold g.row.R-Key.Denot). h.keys) ((c.in_err-claim.ensures {u = tt}).claimed c.args.id))
+    (empty_stands g.R.Key.Ord.cmp (g.R.Rules.machine c.args.memos.now.rules) c.args.inputs.now (memo_at g.R.Key.Ord.cmp c.args.memos.now.places) c.claim.new.self c.args.id c.args.self.now.top
+    c.requires.empty.1)
+    (claimed_others c.args.id c.args.claims.now c.claim.new.self g.R.Key.Ord.cmp c.in_ok-key.key c.claim.result c.claim.ensures.claimed) c.requires.ready
 
-pub advance-requires-clause-claimed : goal.advance-requires-clause-claimed
-advance-requires-clause-claimed g c =
-    let held = first_held (hold_of c.args.claims.now c.args.id).keys (hold_of c.claim.new.self c.args.id).keys c.args.self.now.stack c.in_ok-key.key
-    c.requires.empty.0
-    (none_held (hold_of c.args.claims.now c.args.id).keys c.args.self.now.stack c.args.self.now.top c.requires.empty.0 c.requires.empty.1 c.requires.claimed)
-    (got_keys c.args.id c.args.claims.now c.claim.new.self g.R.Key.Ord.cmp c.in_ok-key.key (rw c.in-Got.is at (c.in_ok-claim.ensures {u = tt}).claimed)) in
-    rw (← c.self.view_is) at held
+pub advance-requires : goal.advance-requires
+advance-requires g c =
+    let first = first_stepped g.R.Key.Ord.cmp g.R.Rules.machine c.args.inputs.now c.args.id (run_state c.args.memos.now c.args.claims.now c.args.self.now.stack c.args.self.now.top) c.claim.new.self
+    c.args.self.now.request c.in_ok-key.key c.requires.empty.0 c.requires.empty.1 (c.in_ok-key.ensures {u = tt}) c.requires.stale
+    (rw c.in-Got.is at (c.in_ok-claim.ensures {u = tt}).claimed) c.requires.ready in
+    record { ready = rw (← c.self.view_is) at (ready_next _ _ _ _ _ _ first) }
 
-pub advance-requires-clause-stale : goal.advance-requires-clause-stale
-advance-requires-clause-stale g c =
-    let stale = first_stale (g.R.Rules.machine c.args.memos.now.rules) c.args.inputs.now.revision (memo_at g.R.Key.Ord.cmp c.args.memos.now.places)
-    c.args.self.now.stack c.args.self.now.request c.in_ok-key.key c.requires.empty.0 (c.in_ok-key.ensures {u = tt}) c.requires.stale in
-    rw (← c.self.view_is) at stale
+pub returns-in-Got-clause-stepped : goal.returns-in-Got-clause-stepped
+returns-in-Got-clause-stepped g c =
+    let first = first_stepped g.R.Key.Ord.cmp g.R.Rules.machine c.args.inputs.now c.args.id (run_state c.args.memos.now c.args.claims.now c.args.self.now.stack c.args.self.now.top) c.claim.new.self
+    c.args.self.now.request c.in_ok-key.key c.requires.empty.0 c.requires.empty.1 (c.in_ok-key.ensures {u = tt}) c.requires.stale
+    (rw c.in-Got.is at (c.in_ok-claim.ensures {u = tt}).claimed) c.requires.ready in
+    rw (← c.self.view_is)
+    (stepped_then _ _ _ _ _ _ (run_state c.advance.new.memos c.advance.new.claims c.advance.new.self.stack c.advance.new.self.top) (rw (← c.self.view_is) at first) c.advance.ensures.stepped)
 
-pub returns-in-Got-clause-others : goal.returns-in-Got-clause-others
-returns-in-Got-clause-others g c =
-    others_then c.args.id c.args.claims.now c.claim.new.self c.advance.new.claims
-    (claimed_others c.args.id c.args.claims.now c.claim.new.self g.R.Key.Ord.cmp c.in_ok-key.key c.claim.result c.claim.ensures.claimed) c.advance.ensures.others
+pub returns-in-Got-clause-first : goal.returns-in-Got-clause-first
+returns-in-Got-clause-first g c = none_looks c.args.self.now.stack c.args.self.now.top c.requires.empty.0 c.requires.empty.1 c.advance.result
 
-pub returns-in-Got-clause-written : goal.returns-in-Got-clause-written
-returns-in-Got-clause-written g c =
-    unwritten_then c.args.id c.args.claims.now c.claim.new.self (memo_at g.R.Key.Ord.cmp c.args.memos.now.places) (memo_at g.R.Key.Ord.cmp c.advance.new.memos.places)
-    (claimed_others c.args.id c.args.claims.now c.claim.new.self g.R.Key.Ord.cmp c.in_ok-key.key c.claim.result c.claim.ensures.claimed) c.advance.ensures.written
-
-pub returns-in-HeldBy-clause-claimed : goal.returns-in-HeldBy-clause-claimed
-returns-in-HeldBy-clause-claimed g c =
+pub returns-in-HeldBy-clause-stepped : goal.returns-in-HeldBy-clause-stepped
+returns-in-HeldBy-clause-stepped g c =
     let told = rw c.in-HeldBy.is at (c.in_ok-claim.ensures {u = tt}).claimed in
-    held_keys c.args.id c.args.claims.now c.claim.new.self g.R.Key.Ord.cmp c.in_ok-key.key c.in-HeldBy.other told
-    ∙ c.requires.claimed
+    claims_stepped g.R.Key.Ord.cmp g.R.Rules.machine c.args.inputs.now c.args.id _ c.claim.new.self
+    (held_keys c.args.id c.args.claims.now c.claim.new.self g.R.Key.Ord.cmp c.in_ok-key.key c.in-HeldBy.other told)
+    (empty_stands g.R.Key.Ord.cmp (g.R.Rules.machine c.args.memos.now.rules) c.args.inputs.now (memo_at g.R.Key.Ord.cmp c.args.memos.now.places) c.claim.new.self c.args.id c.args.self.now.top
+    c.requires.empty.1)
+    (claimed_others c.args.id c.args.claims.now c.claim.new.self g.R.Key.Ord.cmp c.in_ok-key.key c.claim.result c.claim.ensures.claimed) c.requires.ready
 
-pub returns-in-HeldBy-clause-others : goal.returns-in-HeldBy-clause-others
-returns-in-HeldBy-clause-others g c =
-    claimed_others c.args.id c.args.claims.now c.claim.new.self g.R.Key.Ord.cmp c.in_ok-key.key c.claim.result c.claim.ensures.claimed
-
-pub returns-in-HeldBy-clause-waits : goal.returns-in-HeldBy-clause-waits
-returns-in-HeldBy-clause-waits g c =
-    empty_stands g.R.Key.Ord.cmp (g.R.Rules.machine c.args.memos.now.rules) c.args.inputs.now (memo_at g.R.Key.Ord.cmp c.args.memos.now.places) c.claim.new.self c.args.id c.args.self.now.top
-    c.requires.empty.1
-
-pub returns-in-HeldBy-clause-advanced : goal.returns-in-HeldBy-clause-advanced
-returns-in-HeldBy-clause-advanced g c =
+pub returns-in-HeldBy-clause-looked : goal.returns-in-HeldBy-clause-looked
+returns-in-HeldBy-clause-looked g c =
     let told = rw c.in-HeldBy.is at (c.in_ok-claim.ensures {u = tt}).claimed in (
       ap (λ (t : Top g.row.R-Key.Denot g.row.R-Part.Denot). out_at t) c.requires.empty.1,
       held_up c.args.id c.args.claims.now c.claim.new.self g.R.Key.Ord.cmp c.in_ok-key.key c.in-HeldBy.other told,
@@ -70,19 +60,4 @@ pub unreachable-requires : goal.unreachable-requires
 unreachable-requires g c =
     let told = rw c.in-Ring.is at (c.in_ok-claim.ensures {u = tt}).claimed in
     none_closed g.R.Key.Ord.cmp c.args.claims.now c.args.id c.in_ok-key.key c.in-Ring.field-0.items
-    (none_held (hold_of c.args.claims.now c.args.id).keys c.args.self.now.stack c.args.self.now.top c.requires.empty.0 c.requires.empty.1 c.requires.claimed) told.0
-
-pub returns-in_err-key-clause-begun : goal.returns-in_err-key-clause-begun
-returns-in_err-key-clause-begun g c = λ k b. absurd (none_begun c.args.self.now.stack c.args.self.now.top c.requires.empty.0 c.requires.empty.1 k b)
-
-pub returns-in_err-claim-clause-begun : goal.returns-in_err-claim-clause-begun
-returns-in_err-claim-clause-begun g c = λ k b. absurd (none_begun c.args.self.now.stack c.args.self.now.top c.requires.empty.0 c.requires.empty.1 k b)
-
-pub returns-in-Got-clause-begun : goal.returns-in-Got-clause-begun
-returns-in-Got-clause-begun g c = λ k b. absurd (none_begun c.args.self.now.stack c.args.self.now.top c.requires.empty.0 c.requires.empty.1 k b)
-
-pub returns-in-HeldBy-clause-begun : goal.returns-in-HeldBy-clause-begun
-returns-in-HeldBy-clause-begun g c = λ k b. absurd (none_begun c.args.self.now.stack c.args.self.now.top c.requires.empty.0 c.requires.empty.1 k b)
-
-pub returns-in-Got-clause-first : goal.returns-in-Got-clause-first
-returns-in-Got-clause-first g c = none_advances c.args.self.now.stack c.args.self.now.top c.requires.empty.0 c.requires.empty.1 c.advance.result
+    (none_held (hold_of c.args.claims.now c.args.id).keys c.args.self.now.stack c.args.self.now.top c.requires.empty.0 c.requires.empty.1 c.requires.ready.claimed) told.0

@@ -46,28 +46,28 @@ returns-in-Answered-clause-none_lost g c =
 pub returns-in-Err-step-clause-moved : goal.returns-in-Err-step-clause-moved
 returns-in-Err-step-clause-moved g c =
     let ready = rw c.in-Ready.is at (c.in-Ok.ensures {u = tt}).at in
-    let went = (c.in-Err-step.ensures {u = tt}).refused in
-    step_goes g.R.Key.Ord.cmp (g.R.Rules.machine c.args.self.now.rules) g.M.Stamp.point c.args.self.now c.step.new.self c.args.run _ went.0 (went.1 ∙ sym (was_idle g.R.Key.Ord.cmp (g.R.Rules.machine c.args.self.now.rules) c.args.self.now c.step.new.self c.args.run ready.0 ready.1 went.0))
+    let looked = (c.in-Err-step.ensures {u = tt}).refused in
+    step_goes g.R.Key.Ord.cmp (g.R.Rules.machine c.args.self.now.rules) g.M.Stamp.point c.args.self.now c.step.new.self c.args.run _ looked.0 (looked.1 ∙ sym (was_idle g.R.Key.Ord.cmp (g.R.Rules.machine c.args.self.now.rules) c.args.self.now c.step.new.self c.args.run ready.0 ready.1 looked.0))
     (λ l x. let at = ready_goes_on g.R.Key.Ord.cmp (g.R.Rules.machine c.args.self.now.rules) g.M.Stamp.point c.args.self.now c.args.self.now.rules c.args.run ready.0 ready.1 l x in (at.0, at.1, refl))
 
 pub new-requires : goal.new-requires
 new-requires g c =
     let ready = rw c.in-Ready.is at (c.in-Ok.ensures {u = tt}).at in
-    let went = rw c.in-Carry.is at (c.in-Ok-step.ensures {u = tt}).went in
+    let looked = rw c.in-Carry.is at (c.in-Ok-step.ensures {u = tt}).looked in
     ready.2
-    ∙ (ap (λ (r : ℕ). record { revision = r; files = c.args.self.now.inputs.files }) (sym went.1.started)
-    ∙ ap (λ (x : Sources). record { revision = c.in-Carry.job.done.started; files = x }) (sym went.1.files))
+    ∙ (ap (λ (r : ℕ). record { revision = r; files = c.args.self.now.inputs.files }) (sym looked.1.started)
+    ∙ ap (λ (x : Sources). record { revision = c.in-Carry.job.done.started; files = x }) (sym looked.1.files))
 
 pub returns-in-Carry-clause-moved : goal.returns-in-Carry-clause-moved
 returns-in-Carry-clause-moved g c =
     let ready = rw c.in-Ready.is at (c.in-Ok.ensures {u = tt}).at in
-    let went = rw c.in-Carry.is at (c.in-Ok-step.ensures {u = tt}).went in
-    rw c.new.ensures (carry_goes g.R.Key.Ord.cmp (g.R.Rules.machine c.args.self.now.rules) g.M.Stamp.point c.args.self.now c.step.new.self c.args.run c.in-Carry.job went.0 (was_idle g.R.Key.Ord.cmp (g.R.Rules.machine c.args.self.now.rules) c.args.self.now c.step.new.self c.args.run ready.0 ready.1 went.0) went.1)
+    let looked = rw c.in-Carry.is at (c.in-Ok-step.ensures {u = tt}).looked in
+    rw c.new.ensures (carry_goes g.R.Key.Ord.cmp (g.R.Rules.machine c.args.self.now.rules) g.M.Stamp.point c.args.self.now c.step.new.self c.args.run c.in-Carry.job looked.0 (was_idle g.R.Key.Ord.cmp (g.R.Rules.machine c.args.self.now.rules) c.args.self.now c.step.new.self c.args.run ready.0 ready.1 looked.0) looked.1)
 
 pub returns-in-Carry-clause-cause : goal.returns-in-Carry-clause-cause
 returns-in-Carry-clause-cause g c =
-    let went = rw c.in-Carry.is at (c.in-Ok-step.ensures {u = tt}).went in
-    rw c.new.ensures went.2
+    let looked = rw c.in-Carry.is at (c.in-Ok-step.ensures {u = tt}).looked in
+    rw c.new.ensures looked.2
 
 pub returns-in-Carry-clause-counted : goal.returns-in-Carry-clause-counted
 returns-in-Carry-clause-counted g c =
@@ -76,8 +76,8 @@ returns-in-Carry-clause-counted g c =
 pub returns-in-Stepped-clause-moved : goal.returns-in-Stepped-clause-moved
 returns-in-Stepped-clause-moved g c =
     let ready = rw c.in-Ready.is at (c.in-Ok.ensures {u = tt}).at in
-    let went = rw c.in-Stepped.is at (c.in-Ok-step.ensures {u = tt}).went in
-    step_goes g.R.Key.Ord.cmp (g.R.Rules.machine c.args.self.now.rules) g.M.Stamp.point c.args.self.now c.step.new.self c.args.run _ went.0 (went.1 ∙ sym (was_idle g.R.Key.Ord.cmp (g.R.Rules.machine c.args.self.now.rules) c.args.self.now c.step.new.self c.args.run ready.0 ready.1 went.0))
+    let looked = rw c.in-Stepped.is at (c.in-Ok-step.ensures {u = tt}).looked in
+    step_goes g.R.Key.Ord.cmp (g.R.Rules.machine c.args.self.now.rules) g.M.Stamp.point c.args.self.now c.step.new.self c.args.run _ looked.0 (looked.1 ∙ sym (was_idle g.R.Key.Ord.cmp (g.R.Rules.machine c.args.self.now.rules) c.args.self.now c.step.new.self c.args.run ready.0 ready.1 looked.0))
     (λ l x. let at = ready_goes_on g.R.Key.Ord.cmp (g.R.Rules.machine c.args.self.now.rules) g.M.Stamp.point c.args.self.now c.args.self.now.rules c.args.run ready.0 ready.1 l x in (at.0, at.1, refl))
 
 pub returns-in-Stepped-clause-counted : goal.returns-in-Stepped-clause-counted
@@ -87,17 +87,17 @@ returns-in-Stepped-clause-counted g c =
 pub returns-in-Blocked-clause-moved : goal.returns-in-Blocked-clause-moved
 returns-in-Blocked-clause-moved g c =
     let ready = rw c.in-Ready.is at (c.in-Ok.ensures {u = tt}).at in
-    let went = rw c.in-Blocked.is at (c.in-Ok-step.ensures {u = tt}).went in
-    let idle = was_idle g.R.Key.Ord.cmp (g.R.Rules.machine c.args.self.now.rules) c.args.self.now c.step.new.self c.args.run ready.0 ready.1 went.0 in
-    step_goes g.R.Key.Ord.cmp (g.R.Rules.machine c.args.self.now.rules) g.M.Stamp.point c.args.self.now c.step.new.self c.args.run _ went.0 (went.1 ∙ sym idle)
+    let looked = rw c.in-Blocked.is at (c.in-Ok-step.ensures {u = tt}).looked in
+    let idle = was_idle g.R.Key.Ord.cmp (g.R.Rules.machine c.args.self.now.rules) c.args.self.now c.step.new.self c.args.run ready.0 ready.1 looked.0 in
+    step_goes g.R.Key.Ord.cmp (g.R.Rules.machine c.args.self.now.rules) g.M.Stamp.point c.args.self.now c.step.new.self c.args.run _ looked.0 (looked.1 ∙ sym idle)
     (λ l x.
-    let at = look_held g.R.Key.Ord.cmp (g.R.Rules.machine c.args.self.now.rules) g.M.Stamp.point told_puts c.args.self.now.rules (held c.args.self.now) l c.args.run went.0.was c.in-Blocked.other went.3.0 x went.0.current.here went.0.current.early idle went.2.0 went.3.1 in
+    let at = look_held g.R.Key.Ord.cmp (g.R.Rules.machine c.args.self.now.rules) g.M.Stamp.point told_puts c.args.self.now.rules (held c.args.self.now) l c.args.run looked.0.was c.in-Blocked.other looked.3.0 x looked.0.current.here looked.0.current.early idle looked.2.0 looked.3.1 in
     (at.0, at.1, at.2, at.3, refl))
 
 pub returns-in-Blocked-clause-holder : goal.returns-in-Blocked-clause-holder
 returns-in-Blocked-clause-holder g c =
-    let went = rw c.in-Blocked.is at (c.in-Ok-step.ensures {u = tt}).went in
-    inr went.2
+    let looked = rw c.in-Blocked.is at (c.in-Ok-step.ensures {u = tt}).looked in
+    inr looked.2
 
 pub returns-in-Away-clause-holder : goal.returns-in-Away-clause-holder
 returns-in-Away-clause-holder g c =
@@ -109,45 +109,45 @@ returns-in-Blocked-clause-counted g c =
 
 pub close-requires : goal.close-requires
 close-requires g c =
-    let went = rw c.in-Ring.is at (c.in-Ok-step.ensures {u = tt}).went in
-    rw c.deref.ensures.value (record { closes = closes_here g.R.Key.Ord.cmp g.R.Rules.machine c.args.self.now c.step.new.self c.args.run went.0 c.in-Ring.ring.items went.2 })
+    let looked = rw c.in-Ring.is at (c.in-Ok-step.ensures {u = tt}).looked in
+    rw c.deref.ensures.value (record { closes = closes_here g.R.Key.Ord.cmp g.R.Rules.machine c.args.self.now c.step.new.self c.args.run looked.0 c.in-Ring.ring.items looked.2 })
 
 pub returns-in-Ok-close-clause-none_lost : goal.returns-in-Ok-close-clause-none_lost
 returns-in-Ok-close-clause-none_lost g c =
-    let went = rw c.in-Ring.is at (c.in-Ok-step.ensures {u = tt}).went in
+    let looked = rw c.in-Ring.is at (c.in-Ok-step.ensures {u = tt}).looked in
     renewed_none_lost (g.R.Rules.machine c.args.self.now.rules) c.args.self.now.inputs.revision (memo_at g.R.Key.Ord.cmp c.args.self.now.places) (memo_at g.R.Key.Ord.cmp c.close.new.self.places)
-    (ring_renewed g.R.Key.Ord.cmp g.R.Rules.machine c.args.self.now c.step.new.self c.args.run went.0 (memo_at g.R.Key.Ord.cmp c.close.new.self.places) c.close.ensures.renewed)
+    (ring_renewed g.R.Key.Ord.cmp g.R.Rules.machine c.args.self.now c.step.new.self c.args.run looked.0 (memo_at g.R.Key.Ord.cmp c.close.new.self.places) c.close.ensures.renewed)
 
 pub returns-in-Ok-close-clause-moved : goal.returns-in-Ok-close-clause-moved
 returns-in-Ok-close-clause-moved g c =
     let ready = rw c.in-Ready.is at (c.in-Ok.ensures {u = tt}).at in
-    let went = rw c.in-Ring.is at (c.in-Ok-step.ensures {u = tt}).went in
-    ring_goes g.R.Key.Ord.cmp (g.R.Rules.machine c.args.self.now.rules) g.M.Stamp.point c.args.self.now c.step.new.self c.close.new.self c.args.run _ went.0 (went.1 ∙ sym (was_idle g.R.Key.Ord.cmp (g.R.Rules.machine c.args.self.now.rules) c.args.self.now c.step.new.self c.args.run ready.0 ready.1 went.0)) c.close.ensures.clients c.close.ensures.seen
+    let looked = rw c.in-Ring.is at (c.in-Ok-step.ensures {u = tt}).looked in
+    ring_goes g.R.Key.Ord.cmp (g.R.Rules.machine c.args.self.now.rules) g.M.Stamp.point c.args.self.now c.step.new.self c.close.new.self c.args.run _ looked.0 (looked.1 ∙ sym (was_idle g.R.Key.Ord.cmp (g.R.Rules.machine c.args.self.now.rules) c.args.self.now c.step.new.self c.args.run ready.0 ready.1 looked.0)) c.close.ensures.clients c.close.ensures.seen
     (λ l x. let at = ready_goes_on g.R.Key.Ord.cmp (g.R.Rules.machine c.args.self.now.rules) g.M.Stamp.point c.args.self.now c.args.self.now.rules c.args.run ready.0 ready.1 l x in (at.0, at.1, refl))
 
 pub returns-in-Ok-close-clause-counted : goal.returns-in-Ok-close-clause-counted
 returns-in-Ok-close-clause-counted g c =
-    let went = rw c.in-Ring.is at (c.in-Ok-step.ensures {u = tt}).went in
+    let looked = rw c.in-Ring.is at (c.in-Ok-step.ensures {u = tt}).looked in
     let first = rw c.in-Ring.is at (rw c.in-Ok-step.is at c.step.ensures.counted) in
-    let again = rw went.0.clients.rules at c.close.ensures.counted in
+    let again = rw looked.0.clients.rules at c.close.ensures.counted in
     λ log x. again log (first log x)
 
 pub returns-in-Err-close-clause-none_lost : goal.returns-in-Err-close-clause-none_lost
 returns-in-Err-close-clause-none_lost g c =
-    let went = rw c.in-Ring.is at (c.in-Ok-step.ensures {u = tt}).went in
+    let looked = rw c.in-Ring.is at (c.in-Ok-step.ensures {u = tt}).looked in
     renewed_none_lost (g.R.Rules.machine c.args.self.now.rules) c.args.self.now.inputs.revision (memo_at g.R.Key.Ord.cmp c.args.self.now.places) (memo_at g.R.Key.Ord.cmp c.close.new.self.places)
-    (ring_renewed g.R.Key.Ord.cmp g.R.Rules.machine c.args.self.now c.step.new.self c.args.run went.0 (memo_at g.R.Key.Ord.cmp c.close.new.self.places) c.close.ensures.renewed)
+    (ring_renewed g.R.Key.Ord.cmp g.R.Rules.machine c.args.self.now c.step.new.self c.args.run looked.0 (memo_at g.R.Key.Ord.cmp c.close.new.self.places) c.close.ensures.renewed)
 
 pub returns-in-Err-close-clause-moved : goal.returns-in-Err-close-clause-moved
 returns-in-Err-close-clause-moved g c =
     let ready = rw c.in-Ready.is at (c.in-Ok.ensures {u = tt}).at in
-    let went = rw c.in-Ring.is at (c.in-Ok-step.ensures {u = tt}).went in
-    ring_goes g.R.Key.Ord.cmp (g.R.Rules.machine c.args.self.now.rules) g.M.Stamp.point c.args.self.now c.step.new.self c.close.new.self c.args.run _ went.0 (went.1 ∙ sym (was_idle g.R.Key.Ord.cmp (g.R.Rules.machine c.args.self.now.rules) c.args.self.now c.step.new.self c.args.run ready.0 ready.1 went.0)) c.close.ensures.clients c.close.ensures.seen
+    let looked = rw c.in-Ring.is at (c.in-Ok-step.ensures {u = tt}).looked in
+    ring_goes g.R.Key.Ord.cmp (g.R.Rules.machine c.args.self.now.rules) g.M.Stamp.point c.args.self.now c.step.new.self c.close.new.self c.args.run _ looked.0 (looked.1 ∙ sym (was_idle g.R.Key.Ord.cmp (g.R.Rules.machine c.args.self.now.rules) c.args.self.now c.step.new.self c.args.run ready.0 ready.1 looked.0)) c.close.ensures.clients c.close.ensures.seen
     (λ l x. let at = ready_goes_on g.R.Key.Ord.cmp (g.R.Rules.machine c.args.self.now.rules) g.M.Stamp.point c.args.self.now c.args.self.now.rules c.args.run ready.0 ready.1 l x in (at.0, at.1, refl))
 
 pub returns-in-Err-close-clause-counted : goal.returns-in-Err-close-clause-counted
 returns-in-Err-close-clause-counted g c =
-    let went = rw c.in-Ring.is at (c.in-Ok-step.ensures {u = tt}).went in
+    let looked = rw c.in-Ring.is at (c.in-Ok-step.ensures {u = tt}).looked in
     let first = rw c.in-Ring.is at (rw c.in-Ok-step.is at c.step.ensures.counted) in
-    let again = rw went.0.clients.rules at c.close.ensures.counted in
+    let again = rw looked.0.clients.rules at c.close.ensures.counted in
     λ log x. again log (first log x)
