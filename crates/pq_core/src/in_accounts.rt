@@ -6,6 +6,7 @@ ghost use Rattle.pq_core.specs.aux.Rising.{found, IsAbove};
 ghost use Rattle.pq_core.specs.aux.Changes.{IsSetAt, IsSameMap};
 ghost use Rattle.pq_core.specs.aux.Queue.{WaitsIn};
 ghost use Rattle.pq_core.specs.declared.request.Request.{Request};
+ghost use Rattle.pq_core.specs.declared.account.Begun.{Begun};
 ghost use Rattle.pq_core.specs.declared.account.Stage.TheVariants.{Waiting, Running, Made};
 
 use crate::account::Account;
@@ -61,28 +62,33 @@ fn accept_at<R: Rules, M: Stamp>(
     }
 }
 
-/// Hands out the request `number` of `client`, which waits. It is in a run afterwards.
+/// Hands out the request `number` of `client`, which waits. It is in the run `run` afterwards.
 pub(crate) fn start_in<R: Rules, M: Stamp>(
     accounts: &mut Rising<Account<R, M>>,
     client: u64,
     number: u64,
+    run: u64,
 ) -> Request<R::Key>
     requires { (request : Request R.Key) × WaitsIn accounts.old.items client number request }
-    ensures { (w : WaitsIn accounts.old.items client number result) × IsSetAt accounts.old accounts.new client (Some (with_stage w.account number (Running w.accepted))) }
+    ensures { (w : WaitsIn accounts.old.items client number result) × IsSetAt accounts.old accounts.new client (Some (with_stage w.account number (Running (record { run = run; accepted = w.accepted })))) }
 {
     match accounts.index_of(client) {
-        Some(at) => start_at(&mut accounts.places[at].value, number),
+        Some(at) => start_at(&mut accounts.places[at].value, number, run),
         None => unreachable!(),
     }
 }
 
 /// Hands out the request `number` of an account, which waits.
-fn start_at<R: Rules, M: Stamp>(slot: &mut Option<Account<R, M>>, number: u64) -> Request<R::Key>
+fn start_at<R: Rules, M: Stamp>(
+    slot: &mut Option<Account<R, M>>,
+    number: u64,
+    run: u64,
+) -> Request<R::Key>
     requires { (account : AccountView R.Key R.Value M) × (slot.old ≡ Some account) × (request : Request R.Key) × (accepted : ℕ) × IsStage account number (Waiting request accepted) }
-    ensures { (account : AccountView R.Key R.Value M) × (slot.old ≡ Some account) × (accepted : ℕ) × IsStage account number (Waiting result accepted) × (slot.new ≡ Some (with_stage account number (Running accepted))) }
+    ensures { (account : AccountView R.Key R.Value M) × (slot.old ≡ Some account) × (accepted : ℕ) × IsStage account number (Waiting result accepted) × (slot.new ≡ Some (with_stage account number (Running (record { run = run; accepted = accepted })))) }
 {
     match slot {
-        Some(account) => account.start(number),
+        Some(account) => account.start(number, run),
         None => unreachable!(),
     }
 }
@@ -95,11 +101,11 @@ pub(crate) fn finish_in<R: Rules, M: Stamp>(
     number: u64,
     reply: Reply<R::Key, R::Value, M>,
 )
-    requires running { (account : AccountView R.Key R.Value M) → found accounts.old.items client ≡ Some account → (accepted : ℕ) × IsStage account number (Running accepted) }
+    requires running { (account : AccountView R.Key R.Value M) → found accounts.old.items client ≡ Some account → (begun : Begun) × IsStage account number (Running begun) }
     requires number { reply.number ≡ number }
     requires right { IsTrueReply R.Key.cmp R.machine M.point reply }
     ensures open { (account : AccountView R.Key R.Value M) → found accounts.old.items client ≡ Some account
-        → (accepted : ℕ) × IsStage account number (Running accepted) × IsSetAt accounts.old accounts.new client (Some (with_stage account number (Made (record { reply = reply; accepted = accepted })))) }
+        → (begun : Begun) × IsStage account number (Running begun) × IsSetAt accounts.old accounts.new client (Some (with_stage account number (Made (record { reply = reply; accepted = begun.accepted })))) }
     ensures closed { found accounts.old.items client ≡ None → IsSameMap accounts.old accounts.new }
     ensures above { (m : ℕ) → IsAbove m accounts.old.items → IsAbove m accounts.new.items }
 {
@@ -118,11 +124,11 @@ fn finish_at<R: Rules, M: Stamp>(
     number: u64,
     reply: Reply<R::Key, R::Value, M>,
 )
-    requires running { (account : AccountView R.Key R.Value M) → slot.old ≡ Some account → (accepted : ℕ) × IsStage account number (Running accepted) }
+    requires running { (account : AccountView R.Key R.Value M) → slot.old ≡ Some account → (begun : Begun) × IsStage account number (Running begun) }
     requires number { reply.number ≡ number }
     requires right { IsTrueReply R.Key.cmp R.machine M.point reply }
     ensures open { (account : AccountView R.Key R.Value M) → slot.old ≡ Some account
-        → (accepted : ℕ) × IsStage account number (Running accepted) × (slot.new ≡ Some (with_stage account number (Made (record { reply = reply; accepted = accepted })))) }
+        → (begun : Begun) × IsStage account number (Running begun) × (slot.new ≡ Some (with_stage account number (Made (record { reply = reply; accepted = begun.accepted })))) }
     ensures closed { slot.old ≡ None → slot.new ≡ None }
 {
     match slot {

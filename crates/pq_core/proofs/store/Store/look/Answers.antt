@@ -3,6 +3,7 @@ use Rattle.pq_inputs.specs.Sources.{Sources}
 use Rattle.pq_rules.specs.Relations.{In}
 use Rattle.pq_memo.specs.Table.{memo_at, HasIn}
 use Rattle.pq_core.specs.Accounts.{IsStage}
+use Rattle.pq_core.specs.declared.account.Begun.{Begun}
 use Rattle.pq_core.specs.declared.account.Stage.TheVariants.{Running}
 use Rattle.pq_core.proofs.Making.{goes_by, all_same}
 use Rattle.pq_core.specs.Told.{told_puts}
@@ -307,7 +308,7 @@ pub end_run-requires-clause-running : goal.end_run-requires-clause-running
 end_run-requires-clause-running g c =
     let here = sym (rw c.number-id.ensures at (c.in-Some.ensures {u = tt}).value) in
     λ account h.
-    subst (λ (n : ℕ). (accepted : ℕ) × IsStage account n (Running accepted)) (sym c.look-looked.ensures.same.number)
+    subst (λ (n : ℕ). (begun : Begun) × IsStage account n (Running begun)) (sym c.look-looked.ensures.same.number)
     (run_running g.R.Key.Ord.cmp (g.R.Rules.machine c.self.inside.memos.rules) g.M.Stamp.point told_puts (held (record { rules = c.self.inside.memos.rules; places = c.self.inside.memos.places; inputs = c.self.inside.inputs; accounts = c.self.inside.accounts; opened = c.self.inside.opened; clients = c.self.inside.clients; waiting = c.self.inside.waiting.items; runs = c.self.inside.runs; started = c.self.inside.started; claims = c.self.inside.claims })) c.self.invariant.ledger.0 c.args.run c.in-Some.taken account c.self.invariant.ledger.1 here
     (ap (λ (n : ℕ). found c.self.inside.accounts.items n) (sym c.look-looked.ensures.same.client) ∙ h))
 
