@@ -41,8 +41,8 @@ pub record AccountKept {K V M : Type 0} (account : AccountView K V M) (made : Li
 
 -- ---- the client of the ledger
 
--- `StageStands stage entry` is that `stage` represents `entry`: a reply that was collected is ready
--- until it is acknowledged as put
+-- `StageStands stage entry` is that `stage` represents `entry`: a request that runs is in the run of
+-- its stage, and a reply that was collected is ready until it is acknowledged as put
 abbrev pub StageStands : {K V M : Type 0} → Stage K (ReadyView K V M) → Entry K V M → Type 0
 StageStands (Waiting request accepted) entry = (entry.place ≡ PlaceWaiting) × (entry.request ≡ request) × (entry.accepted ≡ accepted)
 StageStands {K} {V} {M} (Running begun) entry = (started : ℕ) × (out : Option (Out K)) × (entry.place ≡ PlaceRunning begun.run started out) × (entry.accepted ≡ begun.accepted)
