@@ -57,7 +57,7 @@ module _ {K T : Type 0} where
 
   one_at_most : (stage : Stage K T) → made_one stage ≤ 1
   one_at_most (Waiting request accepted) = omega arith
-  one_at_most (Running accepted) = omega arith
+  one_at_most (Running begun) = omega arith
   one_at_most (Made ready) = omega arith
   one_at_most Collected = omega arith
 
@@ -104,7 +104,7 @@ module _ {K V M : Type 0} where
   -- `IsNumbered n stage` is that the reply, if it is made, has the number `n`
   abbrev pub IsNumbered : ℕ → Stage K (ReadyView K V M) → Type 0
   IsNumbered n (Waiting request accepted) = Unit {0}
-  IsNumbered n (Running accepted) = Unit {0}
+  IsNumbered n (Running begun) = Unit {0}
   IsNumbered n (Made ready) = ready.reply.number ≡ n
   IsNumbered n Collected = Unit {0}
 
@@ -237,7 +237,7 @@ module _ {K V M : Type 0} where
   -- a request is added
   pub request_kept : (a : AccountView K V M) (made : List ℕ) (room : ℕ) (t : Stage K (ReadyView K V M)) → AccountKept a made room → next_of a + 1 < 2 ^ 64 → length a.stages + 1 ≤ room → IsNumbered (next_of a) t → AccountKept (with_request a t) (noted made (next_of a) t) room
   request_kept a made room (Waiting request accepted) k bound fits number = plain_kept a made room (Waiting request accepted) k bound fits refl
-  request_kept a made room (Running accepted) k bound fits number = plain_kept a made room (Running accepted) k bound fits refl
+  request_kept a made room (Running begun) k bound fits number = plain_kept a made room (Running begun) k bound fits refl
   request_kept a made room (Made ready) k bound fits number = made_kept a made room ready k bound fits number
   request_kept a made room Collected k bound fits number = plain_kept a made room Collected k bound fits refl
 
@@ -436,7 +436,7 @@ module _ {K V M : Type 0} where
   all_or_not stages zero = inl (λ i less. absurd (omega arith))
   all_or_not [] (suc k) = inr (λ f. nothing_there Collected (f 0 (omega arith)))
   all_or_not (Waiting request accepted ∷ stages) (suc k) = inr (λ f. let e = some_one (Waiting request accepted) Collected (f 0 (omega arith)) in cc)
-  all_or_not (Running accepted ∷ stages) (suc k) = inr (λ f. let e = some_one (Running accepted) Collected (f 0 (omega arith)) in cc)
+  all_or_not (Running begun ∷ stages) (suc k) = inr (λ f. let e = some_one (Running begun) Collected (f 0 (omega arith)) in cc)
   all_or_not (Made ready ∷ stages) (suc k) = inr (λ f. let e = some_one (Made ready) Collected (f 0 (omega arith)) in cc)
   all_or_not (Collected ∷ stages) (suc k) = elim (all_or_not stages k) [
     | inl f ↦ inl (first_too f)

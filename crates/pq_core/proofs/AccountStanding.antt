@@ -1,5 +1,5 @@
 -- An account represents its client after each move.
-use Rattle.std.proofs.Common.{◌≡◌, ◌≢◌, ℕ, ◌+◌, ◌-◌, ◌<◌, ◌≤◌, false, List, [], ◌∷◌, ◌++◌, length, slice_get, slice_set, Option, Some, refl, sym, ◌∙◌, ap, subst, inl, inr, arith}
+use Rattle.std.proofs.Common.{◌≡◌, ◌≢◌, ℕ, ◌+◌, ◌-◌, ◌<◌, ◌≤◌, List, [], ◌∷◌, ◌++◌, length, slice_get, slice_set, Option, Some, refl, sym, ◌∙◌, ap, subst, inl, inr, arith}
 use Rattle.pq_inputs.specs.Sources.{Table}
 use Rattle.pq_rules.specs.declared.turn.Answer.{Answer}
 use Rattle.pq_core.specs.Points.{Point}
@@ -13,6 +13,7 @@ use Rattle.pq_core.specs.Kept.{PlaceKept, ClientKept}
 use Rattle.pq_core.specs.declared.request.Request.{Request}
 use Rattle.pq_core.specs.declared.request.Want.{Want}
 use Rattle.pq_core.specs.declared.request.Want.TheVariants.{Demand, Fixed}
+use Rattle.pq_core.specs.declared.account.Begun.{Begun}
 use Rattle.pq_core.specs.declared.account.Stage.{Stage}
 use Rattle.pq_core.specs.declared.account.Stage.TheVariants.{Waiting, Running, Made, Collected}
 use Rattle.pq_core.specs.aux.Accounts.{StageStands, StageAt, AccountStands}
@@ -39,19 +40,21 @@ first_stands V M c n revision request (Fixed text) = (refl, refl)
 -- the work of a run that is out changes
 out_stands : {K V M : Type 0} (stage : Stage K (ReadyView K V M)) (entry : Entry K V M) (run started : ℕ) (out new : Option (Out K)) → entry.place ≡ PlaceRunning run started out → StageStands stage entry → StageStands stage (moved_to entry (PlaceRunning run started new))
 out_stands (Waiting request accepted) entry run started out new is s = let e = s.0 in cc
-out_stands (Running accepted) entry run started out new is s = (run, started, new, refl, s.4)
+out_stands (Running begun) entry run started out new is s = (started, new, (let e = s.2 in cc), s.3)
 out_stands (Made ready) entry run started out new is s = let e = s.0 in cc
 out_stands Collected entry run started out new is s = let e = s.1 in cc
 
-running_stage : {K V M : Type 0} (stage : Stage K (ReadyView K V M)) (entry : Entry K V M) (run started : ℕ) (out : Option (Out K)) → entry.place ≡ PlaceRunning run started out → StageStands stage entry → stage ≡ Running entry.accepted
+running_stage : {K V M : Type 0} (stage : Stage K (ReadyView K V M)) (entry : Entry K V M) (run started : ℕ) (out : Option (Out K)) → entry.place ≡ PlaceRunning run started out → StageStands stage entry → stage ≡ Running (record { run = run; accepted = entry.accepted })
 running_stage (Waiting request accepted) entry run started out is s = let e = s.0 in cc
-running_stage (Running accepted) entry run started out is s = ap Running (sym s.4)
+running_stage (Running begun) entry run started out is s =
+    let same : begun.run ≡ run = (let e = s.2 in cc) in
+    ap (λ (r : ℕ). Running (record { run = r; accepted = begun.accepted })) same ∙ ap (λ (n : ℕ). Running (record { run = run; accepted = n })) (sym s.3)
 running_stage (Made ready) entry run started out is s = let e = s.0 in cc
 running_stage Collected entry run started out is s = let e = s.1 in cc
 
 waiting_stage : {K V M : Type 0} (stage : Stage K (ReadyView K V M)) (entry : Entry K V M) → entry.place ≡ PlaceWaiting → StageStands stage entry → stage ≡ Waiting entry.request entry.accepted
 waiting_stage (Waiting request accepted) entry is s = ap (λ r. Waiting r accepted) (sym s.1) ∙ ap (λ a. Waiting entry.request a) (sym s.2)
-waiting_stage (Running accepted) entry is s = let e = s.3 in cc
+waiting_stage (Running begun) entry is s = let e = s.2 in cc
 waiting_stage (Made ready) entry is s = let e = s.0 in cc
 waiting_stage Collected entry is s = let e = s.1 in cc
 
@@ -134,14 +137,14 @@ module _ {K V M O : Type 0} (puts : O → List (ReplyView K V M)) where
 
   -- after `start` of a request that waited, whose entry is `entry`
   pub started_stands : (account : AccountView K V M) (client : Client K V M O) (n accepted : ℕ) (request : Request K) (entry : Entry K V M) (run started : ℕ) (out : Option (Out K)) → AccountStands puts account client → IsStage account n (Waiting request accepted) → entry.accepted ≡ accepted
-      → AccountStands puts (with_stage account n (Running accepted)) (with_entry client n (moved_to entry (PlaceRunning run started out)))
+      → AccountStands puts (with_stage account n (Running (record { run = run; accepted = accepted }))) (with_entry client n (moved_to entry (PlaceRunning run started out)))
   started_stands account client n accepted request entry run started out h w e =
-      set_stands account client n (moved_to entry (PlaceRunning run started out)) (Waiting request accepted) (Running accepted) h w (run, started, out, refl, e)
+      set_stands account client n (moved_to entry (PlaceRunning run started out)) (Waiting request accepted) (Running (record { run = run; accepted = accepted })) h w (started, out, refl, e)
 
   -- after `finish`
-  pub finished_stands : (account : AccountView K V M) (client : Client K V M O) (n accepted : ℕ) (entry : Entry K V M) (reply : ReplyView K V M) → AccountStands puts account client → IsStage account n (Running accepted) → entry.place ≡ PlaceReady reply → entry.accepted ≡ accepted
-      → AccountStands puts (with_stage account n (Made (record { reply = reply; accepted = accepted }))) (with_entry client n entry)
-  finished_stands account client n accepted entry reply h w is e = set_stands account client n entry (Running accepted) (Made (record { reply = reply; accepted = accepted })) h w (is, e)
+  pub finished_stands : (account : AccountView K V M) (client : Client K V M O) (n : ℕ) (begun : Begun) (entry : Entry K V M) (reply : ReplyView K V M) → AccountStands puts account client → IsStage account n (Running begun) → entry.place ≡ PlaceReady reply → entry.accepted ≡ begun.accepted
+      → AccountStands puts (with_stage account n (Made (record { reply = reply; accepted = begun.accepted }))) (with_entry client n entry)
+  finished_stands account client n begun entry reply h w is e = set_stands account client n entry (Running begun) (Made (record { reply = reply; accepted = begun.accepted })) h w (is, e)
 
   -- after a change of the work of a run that is out
   out_at : (client : Client K V M O) (n k : ℕ) (entry : Entry K V M) (run started : ℕ) (out new : Option (Out K)) (it : Stage K (ReadyView K V M)) → slice_get client.entries n ≡ Some entry → entry.place ≡ PlaceRunning run started out → k ≡ n → StageAt client k it → StageAt (with_entry client n (moved_to entry (PlaceRunning run started new))) k it
@@ -209,10 +212,10 @@ module _ {K V M O : Type 0} (puts : O → List (ReplyView K V M)) where
       let w = stage_of means inputs c account client n entry kept h here (pending_as entry.place PlaceWaiting is tt) in
       stage_is account n w.stage (Waiting entry.request entry.accepted) (waiting_stage w.stage entry is w.stands) w.is_at
 
-  pub running_there : (means : M → Point → K → Answer K V → Type 0) (inputs : Table) (c : ℕ) (account : AccountView K V M) (client : Client K V M O) (n : ℕ) (entry : Entry K V M) (run started : ℕ) (out : Option (Out K)) → ClientKept means inputs (puts client.outbox) c client.entries → AccountStands puts account client → slice_get client.entries n ≡ Some entry → entry.place ≡ PlaceRunning run started out → IsStage account n (Running entry.accepted)
+  pub running_there : (means : M → Point → K → Answer K V → Type 0) (inputs : Table) (c : ℕ) (account : AccountView K V M) (client : Client K V M O) (n : ℕ) (entry : Entry K V M) (run started : ℕ) (out : Option (Out K)) → ClientKept means inputs (puts client.outbox) c client.entries → AccountStands puts account client → slice_get client.entries n ≡ Some entry → entry.place ≡ PlaceRunning run started out → IsStage account n (Running (record { run = run; accepted = entry.accepted }))
   running_there means inputs c account client n entry run started out kept h here is =
       let w = stage_of means inputs c account client n entry kept h here (pending_as entry.place (PlaceRunning run started out) is tt) in
-      stage_is account n w.stage (Running entry.accepted) (running_stage w.stage entry run started out is w.stands) w.is_at
+      stage_is account n w.stage (Running (record { run = run; accepted = entry.accepted })) (running_stage w.stage entry run started out is w.stands) w.is_at
 
   pub ready_there : (means : M → Point → K → Answer K V → Type 0) (inputs : Table) (c : ℕ) (account : AccountView K V M) (client : Client K V M O) (n : ℕ) (entry : Entry K V M) (reply : ReplyView K V M) → ClientKept means inputs (puts client.outbox) c client.entries → AccountStands puts account client → slice_get client.entries n ≡ Some entry → entry.place ≡ PlaceReady reply → StageOf account n entry
   ready_there means inputs c account client n entry reply kept h here is =

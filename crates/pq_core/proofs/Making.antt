@@ -35,14 +35,14 @@ use Rattle.pq_core.specs.aux.Stands.{IsOwedNothing}
 -- `NotReady stage` is that the reply is not made
 abbrev pub NotReady : {K T : Type 0} → Stage K T → Type 0
 NotReady (Waiting request accepted) = Unit {0}
-NotReady (Running accepted) = Unit {0}
+NotReady (Running begun) = Unit {0}
 NotReady (Made ready) = ⊥
 NotReady Collected = ⊥
 
 -- `NotCollected stage` is that the reply was not collected
 abbrev pub NotCollected : {K T : Type 0} → Stage K T → Type 0
 NotCollected (Waiting request accepted) = Unit {0}
-NotCollected (Running accepted) = Unit {0}
+NotCollected (Running begun) = Unit {0}
 NotCollected (Made ready) = Unit {0}
 NotCollected Collected = ⊥
 
@@ -161,7 +161,7 @@ module _ {K V M : Type 0} where
   pub made_or_collected : (stage : Stage K (ReadyView K V M)) (entry : Entry K V M) (reply : ReplyView K V M) → entry.place ≡ PlaceReady reply → StageStands stage entry
       → (stage ≡ Made (record { reply = reply; accepted = entry.accepted })) ⊎ (stage ≡ Collected)
   made_or_collected (Waiting request accepted) entry reply is s = let e = s.0 in absurd (cc)
-  made_or_collected (Running accepted) entry reply is s = let e = s.3 in absurd (cc)
+  made_or_collected (Running begun) entry reply is s = let e = s.2 in absurd (cc)
   made_or_collected (Made ready) entry reply is s =
       let e : ready.reply ≡ reply = (let f = s.0 in cc) in
       inl (ap (λ (r : ReplyView K V M). Made (record { reply = r; accepted = ready.accepted })) e ∙ ap (λ (n : ℕ). Made (record { reply = reply; accepted = n })) (sym s.1))
@@ -169,7 +169,7 @@ module _ {K V M : Type 0} where
 
   ready_not_unready : (stage : Stage K (ReadyView K V M)) (entry : Entry K V M) (reply : ReplyView K V M) → entry.place ≡ PlaceReady reply → StageStands stage entry → NotReady stage → ⊥
   ready_not_unready (Waiting request accepted) entry reply is s not = let e = s.0 in cc
-  ready_not_unready (Running accepted) entry reply is s not = let e = s.3 in cc
+  ready_not_unready (Running begun) entry reply is s not = let e = s.2 in cc
   ready_not_unready (Made ready) entry reply is s not = not
   ready_not_unready Collected entry reply is s not = not
 

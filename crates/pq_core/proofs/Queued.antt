@@ -14,6 +14,7 @@ use Rattle.pq_core.specs.declared.rising.Place.{Place}
 use Rattle.pq_core.specs.declared.request.Request.{Request}
 use Rattle.pq_core.specs.declared.request.Want.{Want}
 use Rattle.pq_core.specs.declared.request.Want.TheVariants.{Demand, Fixed}
+use Rattle.pq_core.specs.declared.account.Begun.{Begun}
 use Rattle.pq_core.specs.declared.account.Stage.{Stage}
 use Rattle.pq_core.specs.declared.account.Stage.TheVariants.{Waiting, Running, Made, Collected}
 use Rattle.pq_core.specs.Kept.{IsDemand}
@@ -125,8 +126,8 @@ WaitsNot {K} {T} stage = (request : Request K) (accepted : ℕ) → waits_stage 
 made_waits_not : {K T : Type 0} (ready : T) → WaitsNot {K = K} (Made ready)
 made_waits_not ready request accepted e = cc
 
-running_waits_not : {K T : Type 0} (accepted : ℕ) → WaitsNot {K = K} {T = T} (Running accepted)
-running_waits_not accepted request other e = cc
+running_waits_not : {K T : Type 0} (begun : Begun) → WaitsNot {K = K} {T = T} (Running begun)
+running_waits_not begun request accepted e = cc
 
 collected_waits_not : {K T : Type 0} → WaitsNot {K = K} {T = T} Collected
 collected_waits_not request accepted e = cc
@@ -226,10 +227,10 @@ module _ {K V M : Type 0} where
       q
 
   -- the reply to a request in a run is made
-  pub queue_finished : (b a : List (Place (AccountView K V M))) (queue : List (ℕ × ℕ)) (c n accepted : ℕ) (account : AccountView K V M) (ready : ReadyView K V M) → found b c ≡ Some account
-      → IsStage account n (Running accepted) → ((k : ℕ) → found a k ≡ (if k == c then Some (with_stage account n (Made ready)) else found b k)) → IsQueue b queue → IsQueue a queue
-  queue_finished b a queue c n accepted account ready here runs set q =
-      queue_staged b a queue c n account (Running accepted) (Made ready) here runs (running_waits_not accepted) (made_waits_not ready) set q
+  pub queue_finished : (b a : List (Place (AccountView K V M))) (queue : List (ℕ × ℕ)) (c n : ℕ) (begun : Begun) (account : AccountView K V M) (ready : ReadyView K V M) → found b c ≡ Some account
+      → IsStage account n (Running begun) → ((k : ℕ) → found a k ≡ (if k == c then Some (with_stage account n (Made ready)) else found b k)) → IsQueue b queue → IsQueue a queue
+  queue_finished b a queue c n begun account ready here runs set q =
+      queue_staged b a queue c n account (Running begun) (Made ready) here runs (running_waits_not begun) (made_waits_not ready) set q
 
   -- a reply is collected
   pub queue_collected : (b a : List (Place (AccountView K V M))) (queue : List (ℕ × ℕ)) (c n : ℕ) (account : AccountView K V M) (ready : ReadyView K V M) → found b c ≡ Some account
@@ -238,29 +239,29 @@ module _ {K V M : Type 0} where
       queue_staged b a queue c n account (Made ready) Collected here made (made_waits_not ready) collected_waits_not set q
 
   -- the first of the queue is in a run
-  pub queue_started : (b a : List (Place (AccountView K V M))) (rest : List (ℕ × ℕ)) (c n accepted : ℕ) (account : AccountView K V M) (request : Request K) → found b c ≡ Some account
-      → IsStage account n (Waiting request accepted) → ((k : ℕ) → found a k ≡ (if k == c then Some (with_stage account n (Running accepted)) else found b k)) → IsQueue b ((c, n) ∷ rest) → IsQueue a rest
+  pub queue_started : (b a : List (Place (AccountView K V M))) (rest : List (ℕ × ℕ)) (c n accepted : ℕ) (begun : Begun) (account : AccountView K V M) (request : Request K) → found b c ≡ Some account
+      → IsStage account n (Waiting request accepted) → ((k : ℕ) → found a k ≡ (if k == c then Some (with_stage account n (Running begun)) else found b k)) → IsQueue b ((c, n) ∷ rest) → IsQueue a rest
   unfolding IsOnce
-  queue_started b a rest c n accepted account request here at set q = record {
+  queue_started b a rest c n accepted begun account request here at set q = record {
     waits = λ k i w. (
         let x = q.waits k i (inr w) in
         elim (same_or_other k c) [
           | inl is ↦ (
             x.0,
-            waits_set b a c (with_stage account n (Running accepted)) set k i x.0 is
-                (stays_other account n i (Running accepted) x.0 at.past (λ v. q.once.0 (subst (λ (z : ℕ × ℕ). In z rest) (seat_one c n k i (is, v)) w))
+            waits_set b a c (with_stage account n (Running begun)) set k i x.0 is
+                (stays_other account n i (Running begun) x.0 at.past (λ v. q.once.0 (subst (λ (z : ℕ × ℕ). In z rest) (seat_one c n k i (is, v)) w))
                 (waits_account b c account here k i x.0 is x.1)),
           )
-          | inr ne ↦ (x.0, waits_other b a c (Some (with_stage account n (Running accepted))) set k i x.0 ne x.1)
+          | inr ne ↦ (x.0, waits_other b a c (Some (with_stage account n (Running begun))) set k i x.0 ne x.1)
         ]);
     queued = λ k i other w. elim (same_or_other k c) [
       | inl is ↦ (
-          let v = waited_before account n i (Running accepted) other at.past (running_waits_not accepted) (waits_there b a c (with_stage account n (Running accepted)) set k i other is w) in
+          let v = waited_before account n i (Running begun) other at.past (running_waits_not begun) (waits_there b a c (with_stage account n (Running begun)) set k i other is w) in
           after_first k i (λ e. v.0 (ap (λ (z : ℕ × ℕ). z.1) e))
           (q.queued k i other (record { account = account; here = ap (found b) is ∙ here; accepted = v.1.accepted; waits = v.1.waits })))
       | inr ne ↦
           after_first k i (λ e. ne (ap (λ (z : ℕ × ℕ). z.0) e))
-          (q.queued k i other (waits_before b a c (Some (with_stage account n (Running accepted))) set k i other ne w))
+          (q.queued k i other (waits_before b a c (Some (with_stage account n (Running begun))) set k i other ne w))
     ];
     once = q.once.1;
   }

@@ -39,6 +39,7 @@ use Rattle.pq_core.specs.Truth.{IsTrueReply}
 use Rattle.pq_core.specs.aux.Accounts.{AccountStands}
 use Rattle.pq_core.specs.aux.Rising.{Slots}
 use Rattle.pq_core.specs.aux.Changes.{IsSetAt}
+use Rattle.pq_core.specs.declared.account.Begun.{Begun}
 use Rattle.pq_core.specs.declared.account.Stage.{Stage}
 use Rattle.pq_core.specs.Lanes.{ReadyView}
 use Rattle.pq_core.specs.declared.request.Request.{Request}
@@ -53,6 +54,10 @@ use Rattle.pq_core.specs.declared.moves.Move.TheVariants.{Carry, Stepped, Answer
 -- `at_seen at` is what the ledger knows of the run `at`
 abbrev pub at_seen : {K V M O : Type 0} → RunAt K V M O → RunSeen K
 at_seen at = record { client = at.c; number = at.n; request = at.entry.request; started = at.started; out = at.out }
+
+-- `begun_at r at` is what the account of its client keeps of the run `r`, which is `at`
+abbrev pub begun_at : {K V M O : Type 0} → ℕ → RunAt K V M O → Begun
+begun_at r at = record { run = r; accepted = at.entry.accepted }
 
 -- `RunHere l r run` is that `run` is the run `r` of the ledger
 pub record RunHere {K P V M O : Type 0} (l : Ledger K V M O) (r : ℕ) (run : RunView K P) : Type 0 where
@@ -71,15 +76,15 @@ cancelled_as started seen = Cancelled started seen
 -- `EndsIn b a account c n reply` is that in the accounts `b`, which are `a` afterwards, the request `n`
 -- of the account `account` of the client `c` was in a run, and that `reply` is made
 pub record EndsIn {K V M : Type 0} (b a : List (Place (AccountView K V M))) (account : AccountView K V M) (c n : ℕ) (reply : ReplyView K V M) : Type 0 where
-  pub accepted : ℕ
-  pub was : IsStage account n (Running accepted)
-  pub set : (k : ℕ) → found a k ≡ (if k == c then Some (with_stage account n (Made (record { reply = reply; accepted = accepted }))) else found b k)
+  pub begun : Begun
+  pub was : IsStage account n (Running begun)
+  pub set : (k : ℕ) → found a k ≡ (if k == c then Some (with_stage account n (Made (record { reply = reply; accepted = begun.accepted }))) else found b k)
 
 module _ {K V M : Type 0} where
   pub ends_of : {b a : Slots (AccountView K V M)} {account : AccountView K V M} {c n : ℕ} {reply : ReplyView K V M}
-      → ((accepted : ℕ) × IsStage account n (Running accepted) × IsSetAt b a c (Some (with_stage account n (Made (record { reply = reply; accepted = accepted })))))
+      → ((begun : Begun) × IsStage account n (Running begun) × IsSetAt b a c (Some (with_stage account n (Made (record { reply = reply; accepted = begun.accepted })))))
       → EndsIn b.items a.items account c n reply
-  ends_of h = record { accepted = h.0; was = h.1; set = h.2.found }
+  ends_of h = record { begun = h.0; was = h.1; set = h.2.found }
 
   -- the queue after a run has ended
   pub end_queue : (b a : List (Place (AccountView K V M))) (queue : List (ℕ × ℕ)) (c n : ℕ) (reply : ReplyView K V M)
@@ -89,7 +94,7 @@ module _ {K V M : Type 0} where
   end_queue b a queue c n reply set same q = by_account (found b c) refl
     where
       by_account : (account : Option (AccountView K V M)) → found b c ≡ account → IsQueue a queue
-      by_account (Some account) here = let e = set account here in queue_finished b a queue c n e.accepted account (record { reply = reply; accepted = e.accepted }) here e.was e.set q
+      by_account (Some account) here = let e = set account here in queue_finished b a queue c n e.begun account (record { reply = reply; accepted = e.begun.accepted }) here e.was e.set q
       by_account None none = queue_same b a queue (same none) q
 
   -- the accounts after a run has ended
@@ -100,13 +105,13 @@ module _ {K V M : Type 0} where
   end_advances b a c n reply set same = by_account (found b c) refl
     where
       by_account : (account : Option (AccountView K V M)) → found b c ≡ account → AllAdvance b a
-      by_account (Some account) here = let e = set account here in all_set b a c account _ here e.set (advances_staged account n (Running e.accepted) _ e.was tt tt)
+      by_account (Some account) here = let e = set account here in all_set b a c account _ here e.set (advances_staged account n (Running e.begun) _ e.was tt tt)
       by_account None none = all_same b a (same none)
 
-  abbrev running_as : ℕ → Stage K (ReadyView K V M)
-  running_as n = Running n
+  abbrev running_as : Begun → Stage K (ReadyView K V M)
+  running_as begun = Running begun
 
-  running_one : (i j : ℕ) → running_as i ≡ running_as j → i ≡ j
+  running_one : (i j : Begun) → running_as i ≡ running_as j → i ≡ j
   running_one i j e = cc
 
 -- the reply of a run that answers is right at its stamp
@@ -144,14 +149,14 @@ module _ {K P V M O : Type 0} (order : K → K → Ordering) (m : Machine K P V)
 
   -- a run's request is in a run in its account
   pub run_running : (b : Held K P V M) (l : Ledger K V M O) (r : ℕ) (run : RunView K P) (account : AccountView K V M) → StandsOf order m point puts b l → found b.runs r ≡ Some run
-      → found b.accounts run.client ≡ Some account → (accepted : ℕ) × IsStage account run.number (Running accepted)
+      → found b.accounts run.client ≡ Some account → (begun : Begun) × IsStage account run.number (Running begun)
   run_running b l r run account s h there =
       let x = run_here b l r run s h in
       let c_is : run.client ≡ x.at.c = ap (λ (y : RunSeen K). y.client) x.same in
       let n_is : run.number ≡ x.at.n = ap (λ (y : RunSeen K). y.number) x.same in
       let w = seat_open (AccountStands puts) (answer_by order m point) puts (fields_of b) l x.at.c x.at.client account s x.runs.is_entry.client_here (ap (λ (c : ℕ). found b.accounts c) (sym c_is) ∙ there) in (
-        x.at.entry.accepted,
-        subst (λ (n : ℕ). IsStage account n (Running x.at.entry.accepted)) (sym n_is)
+        begun_at r x.at,
+        subst (λ (n : ℕ). IsStage account n (Running (begun_at r x.at))) (sym n_is)
             (running_there puts (answer_by order m point) l.inputs x.at.c account x.at.client x.at.n x.at.entry r x.at.started x.at.out
             (s.kept.clients x.at.c x.at.client x.runs.is_entry.client_here) w.1 x.runs.is_entry.here x.runs.runs),
       )
@@ -250,14 +255,14 @@ module _ {K P V M O : Type 0} (order : K → K → Ordering) (m : Machine K P V)
           let w = seat_open (AccountStands puts) (answer_by order m point) puts (fields_of b) l x.at.c x.at.client account s x.runs.is_entry.client_here (ap (λ (c : ℕ). found b.accounts c) (sym c_is) ∙ e) in
           let there = running_there puts (answer_by order m point) l.inputs x.at.c account x.at.client x.at.n x.at.entry r x.at.started x.at.out
           (s.kept.clients x.at.c x.at.client x.runs.is_entry.client_here) w.1 x.runs.is_entry.here x.runs.runs in
-          let was : IsStage account x.at.n (Running ends.accepted) = subst (λ (n : ℕ). IsStage account n (Running ends.accepted)) n_is ends.was in
-          let accepted : x.at.entry.accepted ≡ ends.accepted =
-          running_one {K = K} {V = V} {M = M} x.at.entry.accepted ends.accepted (one_stage account x.at.n (Running x.at.entry.accepted) (Running ends.accepted) there was) in (
-            with_stage account run.number (Made (record { reply = run_reply run b.inputs.revision outcome; accepted = ends.accepted })),
+          let was : IsStage account x.at.n (Running ends.begun) = subst (λ (n : ℕ). IsStage account n (Running ends.begun)) n_is ends.was in
+          let accepted : x.at.entry.accepted ≡ ends.begun.accepted =
+          ap (λ (y : Begun). y.accepted) (running_one {K = K} {V = V} {M = M} (begun_at r x.at) ends.begun (one_stage account x.at.n (Running (begun_at r x.at)) (Running ends.begun) there was)) in (
+            with_stage account run.number (Made (record { reply = run_reply run b.inputs.revision outcome; accepted = ends.begun.accepted })),
             ap (λ (c : ℕ). found a.accounts c) (sym c_is) ∙ (ends.set run.client ∙ if_at run.client (Some _) (found b.accounts run.client)),
-            subst (λ (n : ℕ). AccountStands puts (with_stage account n (Made (record { reply = run_reply run b.inputs.revision outcome; accepted = ends.accepted }))) (with_entry x.at.client x.at.n (ended_entry l x.at fate outcome))) (sym n_is)
-                (subst (λ (y : ReplyView K V M). AccountStands puts (with_stage account x.at.n (Made (record { reply = y; accepted = ends.accepted }))) (with_entry x.at.client x.at.n (ended_entry l x.at fate outcome))) (sym reply_is)
-                (finished_stands puts account x.at.client x.at.n ends.accepted (ended_entry l x.at fate outcome) (reply_at l x.at outcome) w.1 was
+            subst (λ (n : ℕ). AccountStands puts (with_stage account n (Made (record { reply = run_reply run b.inputs.revision outcome; accepted = ends.begun.accepted }))) (with_entry x.at.client x.at.n (ended_entry l x.at fate outcome))) (sym n_is)
+                (subst (λ (y : ReplyView K V M). AccountStands puts (with_stage account x.at.n (Made (record { reply = y; accepted = ends.begun.accepted }))) (with_entry x.at.client x.at.n (ended_entry l x.at fate outcome))) (sym reply_is)
+                (finished_stands puts account x.at.client x.at.n ends.begun (ended_entry l x.at fate outcome) (reply_at l x.at outcome) w.1 was
                 (ap (λ (f : Bool). place_ended f (reply_at l x.at outcome)) o) accepted)),
           )
 

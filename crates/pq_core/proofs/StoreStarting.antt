@@ -40,7 +40,7 @@ module _ {K P V M O : Type 0} (order : K → K → Ordering) (m : Machine K P V)
   -- a request that waits is started
   pub start_moved : (b a : Held K P V M) (c n accepted : ℕ) (account : AccountView K V M) (request : Request K) (made : RunView K P) (l : Ledger K V M O)
       → found b.accounts c ≡ Some account → IsStage account n (Waiting request accepted)
-      → ((k : ℕ) → found a.accounts k ≡ (if k == c then Some (with_stage account n (Running accepted)) else found b.accounts k))
+      → ((k : ℕ) → found a.accounts k ≡ (if k == c then Some (with_stage account n (Running (record { run = b.started; accepted = accepted }))) else found b.accounts k))
       → ((k : ℕ) → found a.runs k ≡ (if k == b.started then Some made else found b.runs k))
       → run_seen made ≡ seen_of c n request b.inputs.revision
       → a.inputs ≡ b.inputs → a.opened ≡ b.opened → a.clients ≡ b.clients → a.started ≡ b.started + 1
@@ -53,7 +53,7 @@ module _ {K P V M O : Type 0} (order : K → K → Ordering) (m : Machine K P V)
       let move : Starts (Some b.started) l after = (c, client, n, entry, x.2, sym s.started, refl) in (
         after,
         move,
-        start_stands (AccountStands puts) (answer_by order m point) puts (fields_of b) (fields_of a) l after c n client entry (with_stage account n (Running accepted)) s x.4 x.2
+        start_stands (AccountStands puts) (answer_by order m point) puts (fields_of b) (fields_of a) l after c n client entry (with_stage account n (Running (record { run = b.started; accepted = accepted }))) s x.4 x.2
             (record {
               here = accounts c ∙ if_at c (Some _) (found b.accounts c);
               others = λ k ne. accounts k ∙ if_other k c (Some _) (found b.accounts k) ne;

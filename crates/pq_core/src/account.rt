@@ -11,6 +11,7 @@ ghost use Rattle.pq_core.specs.Moves.{window};
 ghost use Rattle.pq_core.specs.Accounts.{no_requests, next_of, IsStage, with_stage, with_request, first_stage, Collects, Sees};
 ghost use Rattle.pq_core.specs.aux.Accounts.{noted};
 ghost use Rattle.pq_core.specs.declared.request.Request.{Request};
+ghost use Rattle.pq_core.specs.declared.account.Begun.{Begun};
 ghost use Rattle.pq_core.specs.declared.account.Stage.TheVariants.{Waiting, Running, Made, Collected};
 
 use crate::ids::{ClientId, Number};
@@ -26,13 +27,20 @@ use std::collections::VecDeque;
 use std::marker::Model;
 use std::mem;
 
+/// The run of a request, by its number, and the revision at which the request was accepted.
+#[derive(Clone, Copy)]
+pub(crate) struct Begun {
+    run: u64,
+    accepted: Revision,
+}
+
 /// How far a request is that was accepted, as the store knows. `T` is a reply that is made.
 #[derive(Drop)]
 pub(crate) enum Stage<K, T> {
     /// It waits for a run. It was accepted at this revision.
     Waiting(Request<K>, Revision),
-    /// It is in a run, which keeps the request. It was accepted at this revision.
-    Running(Revision),
+    /// It is in this run, which keeps the request.
+    Running(Begun),
     /// Its reply is made, and was not collected.
     Made(T),
     /// Its reply was collected.
@@ -60,27 +68,27 @@ impl<R: Rules, M: Stamp> Model for Account<R, M> {
 }
 
 impl<K: Drop, T: Drop> Stage<K, T> {
-    /// Hands out the request, which waits. It is in a run afterwards.
-    fn start(&mut self) -> Request<K>
+    /// Hands out the request, which waits. It is in the run `run` afterwards.
+    fn start(&mut self, run: u64) -> Request<K>
         requires { (request : Request K) × (accepted : ℕ) × (self.old ≡ Waiting request accepted) }
-        ensures { (accepted : ℕ) × (self.old ≡ Waiting result accepted) × (self.new ≡ Running accepted) }
+        ensures { (accepted : ℕ) × (self.old ≡ Waiting result accepted) × (self.new ≡ Running (record { run = run; accepted = accepted })) }
     {
         match mem::replace(self, Stage::Collected) {
             Stage::Waiting(request, accepted) => {
-                *self = Stage::Running(accepted);
+                *self = Stage::Running(Begun { run, accepted });
                 request
             }
             _ => unreachable!(),
         }
     }
 
-    /// The revision at which the request, which is in a run, was accepted.
-    fn accepted(&self) -> Revision
-        requires { (accepted : ℕ) × (self.now ≡ Running accepted) }
+    /// The run of the request, which is in a run, and the revision of its acceptance.
+    fn begun(&self) -> Begun
+        requires { (begun : Begun) × (self.now ≡ Running begun) }
         ensures { self.now ≡ Running result }
     {
         match self {
-            Stage::Running(accepted) => *accepted,
+            Stage::Running(begun) => *begun,
             _ => unreachable!(),
         }
     }
@@ -168,25 +176,25 @@ impl<R: Rules, M: Stamp> Account<R, M> {
         }
     }
 
-    /// Hands out the request `number`, which waits. It is in a run afterwards.
-    pub(crate) fn start(&mut self, number: u64) -> Request<R::Key>
+    /// Hands out the request `number`, which waits. It is in the run `run` afterwards.
+    pub(crate) fn start(&mut self, number: u64, run: u64) -> Request<R::Key>
         requires { (request : Request R.Key) × (accepted : ℕ) × IsStage self.old number (Waiting request accepted) }
-        ensures { (accepted : ℕ) × IsStage self.old number (Waiting result accepted) × (self.new ≡ with_stage self.old number (Running accepted)) }
+        ensures { (accepted : ℕ) × IsStage self.old number (Waiting result accepted) × (self.new ≡ with_stage self.old number (Running (record { run = run; accepted = accepted }))) }
     {
-        self.stages[(number - self.seen) as usize].start()
+        self.stages[(number - self.seen) as usize].start(run)
     }
 
     /// Makes `reply` to the request `number`, which is in a run.
     pub(crate) fn finish(&mut self, number: u64, reply: Reply<R::Key, R::Value, M>)
-        requires running { (accepted : ℕ) × IsStage self.old number (Running accepted) }
+        requires running { (begun : Begun) × IsStage self.old number (Running begun) }
         requires number { reply.number ≡ number }
         requires right { IsTrueReply R.Key.cmp R.machine M.point reply }
-        ensures { (accepted : ℕ) × IsStage self.old number (Running accepted) × (self.new ≡ with_stage self.old number (Made (record { reply = reply; accepted = accepted }))) }
+        ensures { (begun : Begun) × IsStage self.old number (Running begun) × (self.new ≡ with_stage self.old number (Made (record { reply = reply; accepted = begun.accepted }))) }
     {
         let place = (number - self.seen) as usize;
-        let accepted = self.stages[place].accepted();
+        let begun = self.stages[place].begun();
         self.made.push_back_reserved(number);
-        self.stages[place].make(Ready::new(reply, accepted));
+        self.stages[place].make(Ready::new(reply, begun.accepted));
     }
 
     /// Takes out one reply that is made. It takes no memory.

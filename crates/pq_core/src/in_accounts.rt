@@ -6,6 +6,7 @@ ghost use Rattle.pq_core.specs.aux.Rising.{found, IsAbove};
 ghost use Rattle.pq_core.specs.aux.Changes.{IsSetAt, IsSameMap};
 ghost use Rattle.pq_core.specs.aux.Queue.{WaitsIn};
 ghost use Rattle.pq_core.specs.declared.request.Request.{Request};
+ghost use Rattle.pq_core.specs.declared.account.Begun.{Begun};
 ghost use Rattle.pq_core.specs.declared.account.Stage.TheVariants.{Waiting, Running, Made};
 
 use crate::account::Account;
@@ -18,8 +19,7 @@ use crate::stamp::Stamp;
 use pq_inputs::Revision;
 use pq_rules::Rules;
 
-/// Accepts `request` in the account of `client`. It comes back if the client has no account or an
-/// allocation fails.
+/// Accepts `request` in the account of `client`. It comes back if an allocation fails.
 pub(crate) fn accept_in<R: Rules, M: Stamp>(
     accounts: &mut Rising<Account<R, M>>,
     client: ClientId,
@@ -27,62 +27,37 @@ pub(crate) fn accept_in<R: Rules, M: Stamp>(
     revision: Revision,
 ) -> Result<Number, Request<R::Key>>
     requires ruled { R }
+    requires open { (account : AccountView R.Key R.Value M) × (found accounts.old.items client ≡ Some account) }
     requires numbers { (account : AccountView R.Key R.Value M) → found accounts.old.items client ≡ Some account → next_of account + 1 < 2 ^ 64 }
     ensures accepted { IfOk result (λ n. (account : AccountView R.Key R.Value M) × (found accounts.old.items client ≡ Some account) × (n ≡ next_of account)
         × IsSetAt accounts.old accounts.new client (Some (with_request account (first_stage client n request revision request.want)))) }
     ensures refused { OnErr result (IsSameMap accounts.old accounts.new) }
     ensures back { IfErr result (λ back. back ≡ request) }
 {
-    match accounts.index_of(client.number()) {
-        Some(at) => accept_at(&mut accounts.places[at].value, client, request, revision),
-        None => Err(request),
-    }
-}
-
-/// Accepts `request` in an account, if there is one.
-fn accept_at<R: Rules, M: Stamp>(
-    slot: &mut Option<Account<R, M>>,
-    client: ClientId,
-    request: Request<R::Key>,
-    revision: Revision,
-) -> Result<Number, Request<R::Key>>
-    requires ruled { R }
-    requires numbers { (account : AccountView R.Key R.Value M) → slot.old ≡ Some account → next_of account + 1 < 2 ^ 64 }
-    ensures accepted { IfOk result (λ n. (account : AccountView R.Key R.Value M) × (slot.old ≡ Some account) × (n ≡ next_of account)
-        × (slot.new ≡ Some (with_request account (first_stage client n request revision request.want)))) }
-    ensures refused { OnErr result (slot.new ≡ slot.old) }
-    ensures back { IfErr result (λ back. back ≡ request) }
-    ensures open { (account : AccountView R.Key R.Value M) → slot.old ≡ Some account → (after : AccountView R.Key R.Value M) × (slot.new ≡ Some after) }
-    ensures closed { slot.old ≡ None → slot.new ≡ None }
-{
-    match slot {
-        Some(account) => account.accept(client, request, revision),
-        None => Err(request),
-    }
-}
-
-/// Hands out the request `number` of `client`, which waits. It is in a run afterwards.
-pub(crate) fn start_in<R: Rules, M: Stamp>(
-    accounts: &mut Rising<Account<R, M>>,
-    client: u64,
-    number: u64,
-) -> Request<R::Key>
-    requires { (request : Request R.Key) × WaitsIn accounts.old.items client number request }
-    ensures { (w : WaitsIn accounts.old.items client number result) × IsSetAt accounts.old accounts.new client (Some (with_stage w.account number (Running w.accepted))) }
-{
-    match accounts.index_of(client) {
-        Some(at) => start_at(&mut accounts.places[at].value, number),
+    match accounts.update(
+        client.number(),
+        move |account: &mut Account<R, M>| account.accept(client, request, revision),
+    ) {
+        Some(accepted) => accepted,
         None => unreachable!(),
     }
 }
 
-/// Hands out the request `number` of an account, which waits.
-fn start_at<R: Rules, M: Stamp>(slot: &mut Option<Account<R, M>>, number: u64) -> Request<R::Key>
-    requires { (account : AccountView R.Key R.Value M) × (slot.old ≡ Some account) × (request : Request R.Key) × (accepted : ℕ) × IsStage account number (Waiting request accepted) }
-    ensures { (account : AccountView R.Key R.Value M) × (slot.old ≡ Some account) × (accepted : ℕ) × IsStage account number (Waiting result accepted) × (slot.new ≡ Some (with_stage account number (Running accepted))) }
+/// Hands out the request `number` of `client`, which waits. It is in the run `run` afterwards.
+pub(crate) fn start_in<R: Rules, M: Stamp>(
+    accounts: &mut Rising<Account<R, M>>,
+    client: u64,
+    number: u64,
+    run: u64,
+) -> Request<R::Key>
+    requires { (request : Request R.Key) × WaitsIn accounts.old.items client number request }
+    ensures { (w : WaitsIn accounts.old.items client number result) × IsSetAt accounts.old accounts.new client (Some (with_stage w.account number (Running (record { run = run; accepted = w.accepted })))) }
 {
-    match slot {
-        Some(account) => account.start(number),
+    match accounts.update(
+        client,
+        |account: &mut Account<R, M>| account.start(number, run),
+    ) {
+        Some(request) => request,
         None => unreachable!(),
     }
 }
@@ -95,43 +70,18 @@ pub(crate) fn finish_in<R: Rules, M: Stamp>(
     number: u64,
     reply: Reply<R::Key, R::Value, M>,
 )
-    requires running { (account : AccountView R.Key R.Value M) → found accounts.old.items client ≡ Some account → (accepted : ℕ) × IsStage account number (Running accepted) }
+    requires running { (account : AccountView R.Key R.Value M) → found accounts.old.items client ≡ Some account → (begun : Begun) × IsStage account number (Running begun) }
     requires number { reply.number ≡ number }
     requires right { IsTrueReply R.Key.cmp R.machine M.point reply }
     ensures open { (account : AccountView R.Key R.Value M) → found accounts.old.items client ≡ Some account
-        → (accepted : ℕ) × IsStage account number (Running accepted) × IsSetAt accounts.old accounts.new client (Some (with_stage account number (Made (record { reply = reply; accepted = accepted })))) }
+        → (begun : Begun) × IsStage account number (Running begun) × IsSetAt accounts.old accounts.new client (Some (with_stage account number (Made (record { reply = reply; accepted = begun.accepted })))) }
     ensures closed { found accounts.old.items client ≡ None → IsSameMap accounts.old accounts.new }
     ensures above { (m : ℕ) → IsAbove m accounts.old.items → IsAbove m accounts.new.items }
 {
-    match accounts.index_of(client) {
-        Some(at) => {
-            finish_at(&mut accounts.places[at].value, number, reply);
-            return;
-        }
-        None => return,
-    }
-}
-
-/// Makes `reply` the reply to the request `number` of an account, if there is one.
-fn finish_at<R: Rules, M: Stamp>(
-    slot: &mut Option<Account<R, M>>,
-    number: u64,
-    reply: Reply<R::Key, R::Value, M>,
-)
-    requires running { (account : AccountView R.Key R.Value M) → slot.old ≡ Some account → (accepted : ℕ) × IsStage account number (Running accepted) }
-    requires number { reply.number ≡ number }
-    requires right { IsTrueReply R.Key.cmp R.machine M.point reply }
-    ensures open { (account : AccountView R.Key R.Value M) → slot.old ≡ Some account
-        → (accepted : ℕ) × IsStage account number (Running accepted) × (slot.new ≡ Some (with_stage account number (Made (record { reply = reply; accepted = accepted })))) }
-    ensures closed { slot.old ≡ None → slot.new ≡ None }
-{
-    match slot {
-        Some(account) => {
-            account.finish(number, reply);
-            return;
-        }
-        None => return,
-    }
+    accounts.update(
+        client,
+        move |account: &mut Account<R, M>| account.finish(number, reply),
+    );
 }
 
 /// Takes out one reply to `client` that is made, if the client is open.
@@ -143,19 +93,8 @@ pub(crate) fn collect_in<R: Rules, M: Stamp>(
         → (after : AccountView R.Key R.Value M) × Collects result account after × IsSetAt accounts.old accounts.new client (Some after) }
     ensures closed { found accounts.old.items client ≡ None → (result ≡ None) × IsSameMap accounts.old accounts.new }
 {
-    match accounts.index_of(client) {
-        Some(at) => return collect_at(&mut accounts.places[at].value),
-        None => return None,
-    }
-}
-
-/// Takes out one reply of an account that is made, if there is an account.
-fn collect_at<R: Rules, M: Stamp>(slot: &mut Option<Account<R, M>>) -> Option<Ready<R, M>>
-    ensures open { (account : AccountView R.Key R.Value M) → slot.old ≡ Some account → (after : AccountView R.Key R.Value M) × Collects result account after × (slot.new ≡ Some after) }
-    ensures closed { slot.old ≡ None → (result ≡ None) × (slot.new ≡ None) }
-{
-    match slot {
-        Some(account) => return account.collect(),
+    match accounts.update(client, |account: &mut Account<R, M>| account.collect()) {
+        Some(ready) => return ready,
         None => return None,
     }
 }
@@ -171,25 +110,5 @@ pub(crate) fn see_in<R: Rules, M: Stamp>(
         → (after : AccountView R.Key R.Value M) × Sees number account after × IsSetAt accounts.old accounts.new client (Some after) }
     ensures closed { found accounts.old.items client ≡ None → IsSameMap accounts.old accounts.new }
 {
-    match accounts.index_of(client) {
-        Some(at) => {
-            see_at(&mut accounts.places[at].value, number);
-            return;
-        }
-        None => return,
-    }
-}
-
-/// Acknowledges to an account, if there is one, that all numbers below `number` were put.
-fn see_at<R: Rules, M: Stamp>(slot: &mut Option<Account<R, M>>, number: Number)
-    ensures open { (account : AccountView R.Key R.Value M) → slot.old ≡ Some account → (after : AccountView R.Key R.Value M) × Sees number account after × (slot.new ≡ Some after) }
-    ensures closed { slot.old ≡ None → slot.new ≡ None }
-{
-    match slot {
-        Some(account) => {
-            account.see(number);
-            return;
-        }
-        None => return,
-    }
+    accounts.update(client, |account: &mut Account<R, M>| account.see(number));
 }

@@ -1,6 +1,5 @@
 //! Passing a reply on from a store to the lane of its client.
-ghost use Rattle.std.specs.Prelude.{◌≡◌, Some, None, IfSome, IfNone};
-ghost use Rattle.pq_core.specs.Lanes.{Tray, HasPlace, placed_in};
+ghost use Rattle.std.specs.Prelude.{◌≡◌, Some, IfSome, IfNone};
 ghost use Rattle.pq_core.specs.Ledger.{Ledger};
 ghost use Rattle.pq_core.specs.Told.{Told};
 ghost use Rattle.pq_core.specs.Stores.{StandsFor};
@@ -24,31 +23,10 @@ fn fill_in<R: Rules, M: Stamp, O: Outbox<R, M> + Drop>(
 )
     ensures { FillsIn client (Some ready) lanes.old lanes.new }
 {
-    match lanes.index_of(client.number()) {
-        None => return,
-        Some(at) => {
-            fill_at(&mut lanes.places[at].value, ready);
-            return;
-        }
-    }
-}
-
-/// Fills `ready` into a lane, if there is one and it takes it.
-fn fill_at<R: Rules, M: Stamp, O: Outbox<R, M> + Drop>(
-    slot: &mut Option<Lane<R, M, O>>,
-    ready: Ready<R, M>,
-)
-    ensures filled { (tray : Tray R.Key R.Value M O) → slot.old ≡ Some tray → HasPlace tray ready → slot.new ≡ Some (placed_in tray ready) }
-    ensures open { (tray : Tray R.Key R.Value M O) → slot.old ≡ Some tray → (after : Tray R.Key R.Value M O) × (slot.new ≡ Some after) }
-    ensures closed { slot.old ≡ None → slot.new ≡ None }
-{
-    match slot {
-        None => return,
-        Some(lane) => {
-            let _filled = lane.fill(ready);
-            return;
-        }
-    }
+    let _filled = lanes.update(
+        client.number(),
+        move |lane: &mut Lane<R, M, O>| lane.fill(ready),
+    );
 }
 
 /// Passes one reply to `client` that is made, if there is one, on to its lane. It takes no memory.

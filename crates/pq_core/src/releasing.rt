@@ -34,24 +34,6 @@ fn has_ready<R: Rules, M: Stamp, O: Outbox<R, M> + Drop>(lanes: &Rising<Lane<R, 
     false
 }
 
-/// Releases a lane, if there is one. Returns what came of it, and the number of its next reply.
-fn release_at<R: Rules, M: Stamp, O: Outbox<R, M> + Drop>(
-    slot: &mut Option<Lane<R, M, O>>,
-) -> Option<(Released, Number)>
-    ensures some { IfSome result (λ r. (tray : Tray R.Key R.Value M O) × (slot.old ≡ Some tray) × (after : Tray R.Key R.Value M O) × LetsOutOf O.puts O.takes O.was_full O.was_gone r.0 tray after × (r.1 ≡ after.put) × (slot.new ≡ Some after)) }
-    ensures none { IfNone result ((slot.old ≡ None) × (slot.new ≡ None)) }
-    ensures open { (tray : Tray R.Key R.Value M O) → slot.old ≡ Some tray → (after : Tray R.Key R.Value M O) × (slot.new ≡ Some after) }
-    ensures closed { slot.old ≡ None → slot.new ≡ None }
-{
-    match slot {
-        None => return None,
-        Some(lane) => {
-            let released = lane.release();
-            return Some((released, lane.put()));
-        }
-    }
-}
-
 /// Releases the lane of `client`, if there is one. Returns what came of it, and the number of its
 /// next reply.
 fn release_in<R: Rules, M: Stamp, O: Outbox<R, M> + Drop>(
@@ -61,25 +43,10 @@ fn release_in<R: Rules, M: Stamp, O: Outbox<R, M> + Drop>(
     ensures some { IfSome result (λ r. (tray : Tray R.Key R.Value M O) × (found lanes.old.items client ≡ Some tray) × (after : Tray R.Key R.Value M O) × LetsOutOf O.puts O.takes O.was_full O.was_gone r.0 tray after × (r.1 ≡ after.put) × IsSetAt lanes.old lanes.new client (Some after)) }
     ensures none { IfNone result ((found lanes.old.items client ≡ None) × IsSameMap lanes.old lanes.new) }
 {
-    match lanes.index_of(client.number()) {
-        None => return None,
-        Some(at) => return release_at(&mut lanes.places[at].value),
-    }
-}
-
-/// Takes from a lane, if there is one.
-fn take_at<R: Rules, M: Stamp, O: Taking<R, M> + Drop>(
-    slot: &mut Option<Lane<R, M, O>>,
-) -> Option<Result<bool, Memory>>
-    ensures some { IfSome result (λ taken. (tray : Tray R.Key R.Value M O) × (slot.old ≡ Some tray) × (after : Tray R.Key R.Value M O) × TakesOutOf O.puts O.takes taken tray after × (slot.new ≡ Some after)) }
-    ensures none { IfNone result ((slot.old ≡ None) × (slot.new ≡ None)) }
-    ensures open { (tray : Tray R.Key R.Value M O) → slot.old ≡ Some tray → (after : Tray R.Key R.Value M O) × (slot.new ≡ Some after) }
-    ensures closed { slot.old ≡ None → slot.new ≡ None }
-{
-    match slot {
-        None => return None,
-        Some(lane) => return Some(lane.take()),
-    }
+    lanes.update(client.number(), |lane: &mut Lane<R, M, O>| {
+        let released = lane.release();
+        (released, lane.put())
+    })
 }
 
 /// Takes from the lane of `client`, if there is one.
@@ -90,10 +57,7 @@ fn take_in<R: Rules, M: Stamp, O: Taking<R, M> + Drop>(
     ensures some { IfSome result (λ taken. (tray : Tray R.Key R.Value M O) × (found lanes.old.items client ≡ Some tray) × (after : Tray R.Key R.Value M O) × TakesOutOf O.puts O.takes taken tray after × IsSetAt lanes.old lanes.new client (Some after)) }
     ensures none { IfNone result ((found lanes.old.items client ≡ None) × IsSameMap lanes.old lanes.new) }
 {
-    match lanes.index_of(client.number()) {
-        None => return None,
-        Some(at) => return take_at(&mut lanes.places[at].value),
-    }
+    lanes.update(client.number(), |lane: &mut Lane<R, M, O>| lane.take())
 }
 
 impl<R: Rules, M: Stamp, O: Outbox<R, M> + Drop> Core<R, M, O> {

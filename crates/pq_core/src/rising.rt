@@ -6,7 +6,9 @@
 //! places is constant for each value, averaged over all calls.
 ghost use Rattle.std.specs.Prelude.{◌≡◌, ◌+◌, ◌<◌, ◌≤◌, ◌==◌, ◌↔◌, ℕ, IsTrue, if◌then◌else◌, length, filter, Some, None, slice_get, IfSome, IfNone, OnOk, ltb, vec_len, vec_capacity};
 ghost use Rattle.std.specs.Option.{option_copied};
+ghost use Rattle.std.specs.Fn.{FnOnceTakesAtMut, FnOnceReturnsAtMut};
 ghost use Rattle.pq_core.specs.aux.Rising.{found, IsVacant, IsAbove, Rises, has_value, live_count, SameFound, Compacts};
+ghost use Rattle.pq_core.specs.aux.Changes.{IsSetAt, IsSameMap};
 
 use crate::fault::Memory;
 use std::alloc::Global;
@@ -22,7 +24,7 @@ pub(crate) struct Place<T> {
 /// A map from rising numbers to values.
 #[derive(Drop)]
 pub(crate) struct Rising<T> {
-    pub(crate) places: Vec<Place<T>>,
+    places: Vec<Place<T>>,
     live: usize,
 }
 
@@ -124,12 +126,21 @@ impl<T: Drop> Rising<T> {
         }
     }
 
-    /// The index of the place of `number`, which may be vacant.
-    pub(crate) fn index_of(&self, number: u64) -> Option<usize>
-        ensures here { IfSome result (λ i. (i < length self.now.items) × ((p : Place T) → slice_get self.now.items i ≡ Some p → p.number ≡ number)) }
-        ensures none { IfNone result (found self.now.items number ≡ None) }
+    /// Changes the value of `number` by `f`, if there is one. Returns what `f` returned.
+    pub(crate) fn update<A, F: FnOnce(&mut T) -> A + Drop>(
+        &mut self,
+        number: u64,
+        f: F,
+    ) -> Option<A>
+        requires { (value : T) → found self.old.items number ≡ Some value → FnOnceTakesAtMut F.FnOnce f value }
+        ensures open { (value : T) → found self.old.items number ≡ Some value → (answer : A) × (after : T) × (result ≡ Some answer) × FnOnceReturnsAtMut F.FnOnce f value answer after × IsSetAt self.old self.new number (Some after) }
+        ensures closed { found self.old.items number ≡ None → (result ≡ None) × IsSameMap self.old self.new }
+        ensures above { (m : ℕ) → IsAbove m self.old.items → IsAbove m self.new.items }
     {
-        place_of(&self.places, number)
+        match place_of(&self.places, number) {
+            Some(at) => return change(&mut self.places[at].value, f),
+            None => return None,
+        }
     }
 
     /// Whether it has no value.
@@ -145,6 +156,18 @@ impl<T: Drop> Rising<T> {
         ensures rises { Rises self.now.items }
     {
         &self.places
+    }
+}
+
+/// Changes the value of a place by `f`, if there is one. Returns what `f` returned.
+fn change<T: Drop, A, F: FnOnce(&mut T) -> A + Drop>(slot: &mut Option<T>, f: F) -> Option<A>
+    requires { (value : T) → slot.old ≡ Some value → FnOnceTakesAtMut F.FnOnce f value }
+    ensures open { (value : T) → slot.old ≡ Some value → (answer : A) × (after : T) × (result ≡ Some answer) × FnOnceReturnsAtMut F.FnOnce f value answer after × (slot.new ≡ Some after) }
+    ensures closed { slot.old ≡ None → (result ≡ None) × (slot.new ≡ None) }
+{
+    match slot {
+        Some(value) => return Some(f(value)),
+        None => return None,
     }
 }
 

@@ -12,6 +12,7 @@ ghost use Rattle.pq_core.specs.Truth.{IsTrueReply};
 ghost use Rattle.pq_core.specs.aux.Changes.{IsSetAt, IsSameMap};
 ghost use Rattle.pq_core.specs.aux.RunEnds.{MayEnd, IsReplyDue, EndsBy, reply_by, log_ended_in};
 ghost use Rattle.pq_core.specs.aux.Rising.{found, IsAbove};
+ghost use Rattle.pq_core.specs.declared.account.Begun.{Begun};
 ghost use Rattle.pq_core.specs.declared.account.Stage.TheVariants.{Running, Made};
 ghost use Rattle.pq_core.specs.declared.outcome.Outcome.TheVariants.{Cancelled};
 
@@ -48,10 +49,10 @@ fn end_run<R: Rules, M: Stamp>(
 )
     requires fair { IsFair revision outcome }
     requires told { IsTrueReply R.Key.cmp R.machine M.point (record { client = run.client; number = run.number; request = run.request; revision = revision; outcome = outcome }) }
-    requires running { (account : AccountView R.Key R.Value M) → found accounts.old.items run.client ≡ Some account → (accepted : ℕ) × IsStage account run.number (Running accepted) }
+    requires running { (account : AccountView R.Key R.Value M) → found accounts.old.items run.client ≡ Some account → (begun : Begun) × IsStage account run.number (Running begun) }
     ensures open { (account : AccountView R.Key R.Value M) → found accounts.old.items run.client ≡ Some account
-        → (accepted : ℕ) × IsStage account run.number (Running accepted)
-        × IsSetAt accounts.old accounts.new run.client (Some (with_stage account run.number (Made (record { reply = record { client = run.client; number = run.number; request = run.request; revision = revision; outcome = outcome }; accepted = accepted })))) }
+        → (begun : Begun) × IsStage account run.number (Running begun)
+        × IsSetAt accounts.old accounts.new run.client (Some (with_stage account run.number (Made (record { reply = record { client = run.client; number = run.number; request = run.request; revision = revision; outcome = outcome }; accepted = begun.accepted })))) }
     ensures closed { found accounts.old.items run.client ≡ None → IsSameMap accounts.old accounts.new }
     ensures above { (m : ℕ) → IsAbove m accounts.old.items → IsAbove m accounts.new.items }
 {
@@ -72,10 +73,10 @@ fn end_run<R: Rules, M: Stamp>(
 fn stop_run<R: Rules, M: Stamp>(accounts: &mut Rising<Account<R, M>>, run: Run<R>, seen: Revision)
     requires ruled { R }
     requires overtaken { (run.started < seen) ⊎ (found accounts.old.items run.client ≡ None) }
-    requires running { (account : AccountView R.Key R.Value M) → found accounts.old.items run.client ≡ Some account → (accepted : ℕ) × IsStage account run.number (Running accepted) }
+    requires running { (account : AccountView R.Key R.Value M) → found accounts.old.items run.client ≡ Some account → (begun : Begun) × IsStage account run.number (Running begun) }
     ensures open { (account : AccountView R.Key R.Value M) → found accounts.old.items run.client ≡ Some account
-        → (accepted : ℕ) × IsStage account run.number (Running accepted)
-        × IsSetAt accounts.old accounts.new run.client (Some (with_stage account run.number (Made (record { reply = record { client = run.client; number = run.number; request = run.request; revision = seen; outcome = Cancelled run.started seen }; accepted = accepted })))) }
+        → (begun : Begun) × IsStage account run.number (Running begun)
+        × IsSetAt accounts.old accounts.new run.client (Some (with_stage account run.number (Made (record { reply = record { client = run.client; number = run.number; request = run.request; revision = seen; outcome = Cancelled run.started seen }; accepted = begun.accepted })))) }
     ensures closed { found accounts.old.items run.client ≡ None → IsSameMap accounts.old accounts.new }
     ensures above { (m : ℕ) → IsAbove m accounts.old.items → IsAbove m accounts.new.items }
 {
@@ -95,10 +96,10 @@ fn make_reply<R: Rules, M: Stamp>(
     ending: Ending<R::Key, R::Value, M>,
 )
     requires due { IsReplyDue R.Key.cmp R.machine M.point now accounts.old.items run ending }
-    requires running { (account : AccountView R.Key R.Value M) → found accounts.old.items run.client ≡ Some account → (accepted : ℕ) × IsStage account run.number (Running accepted) }
+    requires running { (account : AccountView R.Key R.Value M) → found accounts.old.items run.client ≡ Some account → (begun : Begun) × IsStage account run.number (Running begun) }
     ensures open { (account : AccountView R.Key R.Value M) → found accounts.old.items run.client ≡ Some account
-        → (accepted : ℕ) × IsStage account run.number (Running accepted)
-        × IsSetAt accounts.old accounts.new run.client (Some (with_stage account run.number (Made (record { reply = reply_by run ending now; accepted = accepted })))) }
+        → (begun : Begun) × IsStage account run.number (Running begun)
+        × IsSetAt accounts.old accounts.new run.client (Some (with_stage account run.number (Made (record { reply = reply_by run ending now; accepted = begun.accepted })))) }
     ensures closed { found accounts.old.items run.client ≡ None → IsSameMap accounts.old accounts.new }
     ensures above { (m : ℕ) → IsAbove m accounts.old.items → IsAbove m accounts.new.items }
 {

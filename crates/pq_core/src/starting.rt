@@ -28,7 +28,7 @@ impl<R: Rules, M: Stamp> Store<R, M> {
         match self.waiting.pop_front() {
             Some((client, number)) => {
                 let run = self.started;
-                let request = start_in(&mut self.accounts, client, number);
+                let request = start_in(&mut self.accounts, client, number, run);
                 let made = Run::new(self.alloc, client, number, request, revision);
                 self.runs.push_reserved(run, made);
                 self.started += 1;

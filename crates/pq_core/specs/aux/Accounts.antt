@@ -12,14 +12,14 @@ use Rattle.pq_core.specs.declared.account.Stage.TheVariants.{Waiting, Running, M
 -- `noted made n stage` is `made` with `n` if the reply in `stage` is made and not collected
 abbrev pub noted : {K T : Type 0} → List ℕ → ℕ → Stage K T → List ℕ
 noted made n (Waiting request accepted) = made
-noted made n (Running accepted) = made
+noted made n (Running begun) = made
 noted made n (Made ready) = made ++ n ∷ []
 noted made n Collected = made
 
 -- `made_one stage` is 1 if the reply is made and not collected, else 0
 abbrev pub made_one : {K T : Type 0} → Stage K T → ℕ
 made_one (Waiting request accepted) = 0
-made_one (Running accepted) = 0
+made_one (Running begun) = 0
 made_one (Made ready) = 1
 made_one Collected = 0
 
@@ -41,11 +41,11 @@ pub record AccountKept {K V M : Type 0} (account : AccountView K V M) (made : Li
 
 -- ---- the client of the ledger
 
--- `StageStands stage entry` is that `stage` represents `entry`: a reply that was collected is ready
--- until it is acknowledged as put
+-- `StageStands stage entry` is that `stage` represents `entry`: a request that runs is in the run of
+-- its stage, and a reply that was collected is ready until it is acknowledged as put
 abbrev pub StageStands : {K V M : Type 0} → Stage K (ReadyView K V M) → Entry K V M → Type 0
 StageStands (Waiting request accepted) entry = (entry.place ≡ PlaceWaiting) × (entry.request ≡ request) × (entry.accepted ≡ accepted)
-StageStands {K} {V} {M} (Running accepted) entry = (run : ℕ) × (started : ℕ) × (out : Option (Out K)) × (entry.place ≡ PlaceRunning run started out) × (entry.accepted ≡ accepted)
+StageStands {K} {V} {M} (Running begun) entry = (started : ℕ) × (out : Option (Out K)) × (entry.place ≡ PlaceRunning begun.run started out) × (entry.accepted ≡ begun.accepted)
 StageStands (Made ready) entry = (entry.place ≡ Ready ready.reply) × (entry.accepted ≡ ready.accepted)
 StageStands {K} {V} {M} Collected entry = (reply : ReplyView K V M) × (entry.place ≡ Ready reply)
 

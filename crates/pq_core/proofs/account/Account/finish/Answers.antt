@@ -9,8 +9,8 @@ index-requires g c =
     let ok = c.self.inside.stages.ok.0 in
     rw ok (get_within _ _ _ h.here)
 
-pub accepted-accepted-requires : goal.accepted-accepted-requires
-accepted-accepted-requires g c =
+pub begun-begun-requires : goal.begun-begun-requires
+begun-begun-requires g c =
     let h = rw (← c.self.view_is) at c.requires.running.1 in
     (c.requires.running.0, read_at c.self.inside.stages.items (c.args.number - c.self.inside.seen) _ _ h.here c.index.ensures)
 
@@ -44,4 +44,4 @@ pub returns : goal.returns
 returns g c =
     let h = rw (← c.self.view_is) at c.requires.running.1 in
     let e = read_at c.self.inside.stages.items (c.args.number - c.self.inside.seen) _ _ h.here c.index.ensures in
-    rw (← c.self.view_is) (c.accepted-accepted.result, rw (sym e ∙ c.accepted-accepted.ensures) at h, rw (c.make.ensures, c.new.ensures) refl)
+    rw (← c.self.view_is) (c.begun-begun.result, rw (sym e ∙ c.begun-begun.ensures) at h, rw (c.make.ensures, c.new.ensures) refl)
