@@ -4,7 +4,6 @@ use Rattle.std.specs.Prelude.{Ok, Err, Result, OnOk, is_err, unwrap_or}
 use Rattle.std.specs.Option.{option_map}
 use Rattle.std.specs.declared.cmp.Ordering.{Ordering}
 use Rattle.pq_inputs.specs.Sources.{Table}
-use Rattle.pq_inputs.specs.Refusal.{refusal}
 use Rattle.pq_rules.specs.Turns.{Machine}
 use Rattle.pq_core.proofs.Lists.{some_one}
 use Rattle.pq_core.proofs.Changing.{if_at, if_other}
@@ -17,7 +16,7 @@ use Rattle.pq_core.specs.Replies.{ReplyView}
 use Rattle.pq_core.specs.Changes.{ChangeView}
 use Rattle.pq_core.specs.Ledger.{Client, Ledger, with_client}
 use Rattle.pq_core.specs.RightReply.{answer_by}
-use Rattle.pq_core.specs.Moves.{Reaches, Accepts, Edits, AcceptRefusal, EditRefusal, InputRefusal, window, owed, first_place, new_entry, with_new, changed}
+use Rattle.pq_core.specs.Moves.{Reaches, Accepts, Edits, AcceptRefusal, EditRefusal, InputRefusal, window, owed, first_place, new_entry, with_new, file_of, refusal_of, changed}
 use Rattle.pq_core.specs.Stores.{Held, fields_of, run_seen as seen_of, StandsOf}
 use Rattle.pq_core.specs.aux.Stands.{Fields, EntryStands}
 use Rattle.pq_core.specs.aux.Rising.{found}
@@ -36,7 +35,6 @@ use Rattle.pq_inputs.specs.declared.fault.InputFault.TheVariants.{Memory as NoMe
 use Rattle.pq_inputs.specs.Sources.{with_file}
 use Rattle.pq_core.specs.aux.Runs.{RunView}
 use Rattle.pq_core.specs.aux.Stands.{RunSeen}
-use Rattle.pq_core.specs.Moves.{file_of}
 
 module _ {K P V M O : Type 0} (order : K → K → Ordering) (m : Machine K P V) (point : M → Point) (puts : O → List (ReplyView K V M)) where
   few_owed : (account : AccountView K V M) (client : Client K V M O) → AccountStands puts account client → length account.stages < window → owed puts client < window
@@ -115,7 +113,7 @@ module _ {K P V M O : Type 0} (order : K → K → Ordering) (m : Machine K P V)
 
   -- an edit is accepted
   pub edit_moved : (b a : Held K P V M) (c revision : ℕ) (change : ChangeView) (l : Ledger K V M O) → (account : AccountView K V M) × (found b.accounts c ≡ Some account)
-      → refusal b.inputs change.file change.text ≡ None → revision ≡ b.inputs.revision + 1 → a.inputs ≡ changed b.inputs change
+      → refusal_of b.inputs change ≡ None → revision ≡ b.inputs.revision + 1 → a.inputs ≡ changed b.inputs change
       → ((k : ℕ) → found a.accounts k ≡ found b.accounts k) → a.opened ≡ b.opened → a.clients ≡ b.clients
       → ((k : ℕ) → found a.runs k ≡ found b.runs k) → a.started ≡ b.started → StandsOf order m point puts b l
       → Reaches (Edits c change (Ok revision)) l (StandsOf order m point puts a)
@@ -125,7 +123,7 @@ module _ {K P V M O : Type 0} (order : K → K → Ordering) (m : Machine K P V)
       let move : Edits c change (Ok revision) l after = (
         w.0,
         w.1,
-        ap (λ (t : Table). refusal t change.file change.text) s.inputs ∙ accepted,
+        ap (λ (t : Table). refusal_of t change) s.inputs ∙ accepted,
         next ∙ ap (λ (t : Table). t.revision + 1) (sym s.inputs),
         refl,
       ) in (
@@ -138,10 +136,10 @@ module _ {K P V M O : Type 0} (order : K → K → Ordering) (m : Machine K P V)
 
   -- the inputs refused an edit
   pub edit_refused : (b : Held K P V M) (c : ℕ) (change : ChangeView) (fault : InputFault) (l : Ledger K V M O) → (account : AccountView K V M) × (found b.accounts c ≡ Some account)
-      → fault ≡ unwrap_or (refusal b.inputs change.file change.text) NoMemory → StandsOf order m point puts b l → EditRefusal l c change (Input fault)
+      → fault ≡ unwrap_or (refusal_of b.inputs change) NoMemory → StandsOf order m point puts b l → EditRefusal l c change (Input fault)
   edit_refused b c change fault l there e s =
       let w = open_of (AccountStands puts) (answer_by order m point) puts (fields_of b) l c there.0 s there.1 in
-      (w.0, w.1, so (refusal l.inputs change.file change.text) (e ∙ ap (λ (t : Table). unwrap_or (refusal t change.file change.text) NoMemory) (sym s.inputs)))
+      (w.0, w.1, so (refusal_of l.inputs change) (e ∙ ap (λ (t : Table). unwrap_or (refusal_of t change) NoMemory) (sym s.inputs)))
     where
       so : (r : Option InputFault) → fault ≡ unwrap_or r NoMemory → InputRefusal r fault
       so None x = x
@@ -174,9 +172,9 @@ pub false_true : false ≡ true → ⊥
 false_true e = cc
 
 -- the inputs after a change
-pub table_is : (t b : Table) (change : ChangeView) → t.files ≡ with_file b.files change.file (file_of change) → t.revision ≡ b.revision + 1 → t.history ≡ b.history ++ t.files ∷ []
+pub table_is : (t b : Table) (change : ChangeView) → t.files ≡ with_file b.files change.file (file_of b.files change) → t.revision ≡ b.revision + 1 → t.history ≡ b.history ++ t.files ∷ []
     → t ≡ changed b change
 table_is t b change f r h =
     ap (λ x. record { files = x; revision = t.revision; history = t.history }) f
-    ∙ (ap (λ x. record { files = with_file b.files change.file (file_of change); revision = x; history = t.history }) r
-    ∙ ap (λ x. record { files = with_file b.files change.file (file_of change); revision = b.revision + 1; history = x }) (h ∙ ap (λ x. b.history ++ x ∷ []) f))
+    ∙ (ap (λ x. record { files = with_file b.files change.file (file_of b.files change); revision = x; history = t.history }) r
+    ∙ ap (λ x. record { files = with_file b.files change.file (file_of b.files change); revision = b.revision + 1; history = x }) (h ∙ ap (λ x. b.history ++ x ∷ []) f))

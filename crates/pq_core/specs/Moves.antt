@@ -4,13 +4,13 @@
 -- ledger as it was and hands back what was handed in.
 use Rattle.std.specs.Prelude.{ℕ, ◌≡◌, ◌≢◌, ◌+◌, ◌-◌, ◌<◌, ◌≤◌, ◌^◌, ◌⊎◌, Bool, true, false, List, [], ◌∷◌, ◌++◌, length, slice_get, slice_set, Option, Some, None, Ok, Err, Result}
 use Rattle.std.specs.declared.cmp.Ordering.{Ordering}
-use Rattle.pq_inputs.specs.Sources.{File, Table, with_file}
+use Rattle.pq_inputs.specs.Sources.{File, Sources, Table, file_in, with_file}
 use Rattle.pq_inputs.specs.Refusal.{refusal}
 use Rattle.pq_inputs.specs.declared.fault.InputFault.{InputFault}
 use Rattle.pq_inputs.specs.declared.fault.InputFault.TheVariants.{Memory as NoMemory}
 use Rattle.pq_rules.specs.declared.turn.Answer.{Answer}
 use Rattle.pq_rules.specs.Turns.{Machine}
-use Rattle.pq_core.specs.Changes.{ChangeView}
+use Rattle.pq_core.specs.Changes.{ChangeView, text_after}
 use Rattle.pq_core.specs.Points.{Point}
 use Rattle.pq_core.specs.Replies.{ReplyView}
 use Rattle.pq_core.specs.Works.{DoneView, WorkView, IsWorkOf}
@@ -116,16 +116,20 @@ Accepts puts c request (Err refused) l m = (refused.request ≡ request) × Acce
 
 -- ---- edit
 
--- `file_of change` is the file after `change`
-abbrev pub file_of : ChangeView → File
-file_of change = record { text = change.text; durability = change.durability }
+-- `file_of files change` is the file of `change` after it, where the sources before are `files`
+abbrev pub file_of : Sources → ChangeView → File
+file_of files change = record { text = text_after (file_in files change.file).text change; durability = change.durability }
+
+-- `refusal_of inputs change` is the first reason of `inputs` to refuse `change`, or None
+abbrev pub refusal_of : Table → ChangeView → Option InputFault
+refusal_of inputs change = refusal inputs change.file (file_of inputs.files change).text
 
 -- `changed inputs change` is `inputs` after `change`, at the next revision
 abbrev pub changed : Table → ChangeView → Table
 changed inputs change = record {
-  files = with_file inputs.files change.file (file_of change);
+  files = with_file inputs.files change.file (file_of inputs.files change);
   revision = inputs.revision + 1;
-  history = inputs.history ++ with_file inputs.files change.file (file_of change) ∷ [];
+  history = inputs.history ++ with_file inputs.files change.file (file_of inputs.files change) ∷ [];
 }
 
 -- `inputs_after inputs change answer` is `inputs` after an edit that answered so: `change` is made
@@ -145,13 +149,13 @@ abbrev pub EditRefusal : {K V M O : Type 0} → Ledger K V M O → ℕ → Chang
 EditRefusal l c change EditNoClient = length l.clients ≤ c
 EditRefusal l c change EditClosed = IsClosed l c
 EditRefusal {K} {V} {M} {O} l c change (Input fault) =
-    (client : Client K V M O) × IsOpen l c client × InputRefusal (refusal l.inputs change.file change.text) fault
+    (client : Client K V M O) × IsOpen l c client × InputRefusal (refusal_of l.inputs change) fault
 
 -- `Edits c change answer l m` is that the open client `c` makes `change`, at the next revision
 abbrev pub Edits : {K V M O : Type 0} → ℕ → ChangeView → Result ℕ EditRefused → Ledger K V M O → Ledger K V M O → Type 0
 Edits {K} {V} {M} {O} c change (Ok revision) l m =
     (client : Client K V M O) × IsOpen l c client
-    × (refusal l.inputs change.file change.text ≡ None) × (revision ≡ l.inputs.revision + 1)
+    × (refusal_of l.inputs change ≡ None) × (revision ≡ l.inputs.revision + 1)
     × (m ≡ record { inputs = changed l.inputs change; clients = l.clients; runs = l.runs })
 Edits c change (Err refused) l m = (refused.change ≡ change) × EditRefusal l c change refused.fault × (m ≡ l)
 

@@ -9,6 +9,7 @@ use Rattle.pq_inputs.specs.declared.fault.InputFault.TheVariants.{TextTooLong, T
 use Rattle.pq_inputs.specs.declared.fault.InputFault.TheVariants as input
 use Rattle.pq_inputs.specs.Sources.{Table}
 use Rattle.pq_inputs.specs.Refusal.{refusal}
+use Rattle.pq_core.specs.Moves.{file_of}
 use Rattle.pq_session.specs.declared.fault.ScriptFault.{ScriptFault}
 use Rattle.pq_session.specs.declared.fault.ScriptFault.TheVariants.{Write, Memory, Frame, Cut, Edit, Read, TooManyReads}
 use Rattle.pq_frame.specs.Messages.{message_of}
@@ -39,7 +40,7 @@ never_edit (Some fault) other e = let same : fault ≡ input.Memory = cc e in ot
 never_meant : (state : ScriptState) (message : Meaning) (after : ScriptState) → RespondsTo state message (refuses input.Memory) after → ⊥
 never_meant state (asks label query) after (text, is, e, same) = absurd (cc e)
 never_meant state (says text) after (e, same) = absurd (cc e)
-never_meant state (edits name file) after (e, same) = never_edit (edit_refusal state name file) (never_refused (record { files = state.files; revision = state.revision; history = [] }) name file.text) (sym e)
+never_meant state (edits change) after (e, same) = never_edit (edit_refusal state change) (never_refused (record { files = state.files; revision = state.revision; history = [] }) change.file (file_of state.files change).text) (sym e)
 never_meant state ignores after (e, same) = absurd (cc e)
 never_meant state (ends status) after (e, same) = absurd (cc e)
 

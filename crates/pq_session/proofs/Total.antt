@@ -25,7 +25,7 @@ json_some bytes = json_by bytes (is_utf8 bytes) (read bytes) refl refl
 meant_some : (state : ScriptState) (message : Meaning) → (told : Response) × (after : ScriptState) × RespondsTo state message told after
 meant_some state (asks label key) = (replies (out_of_memory_text label), state, (out_of_memory_text label, inr refl, refl, refl))
 meant_some state (says text) = (replies text, state, (refl, refl))
-meant_some state (edits name file) = (edit_response (edit_refusal state name file), edited state name file (edit_refusal state name file), (refl, refl))
+meant_some state (edits change) = (edit_response (edit_refusal state change), edited state change (edit_refusal state change), (refl, refl))
 meant_some state ignores = (silent, state, (refl, refl))
 meant_some state (ends status) = (finishes status, state, (refl, refl))
 

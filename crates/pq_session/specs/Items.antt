@@ -34,7 +34,7 @@ answer_meaning request = want_meaning (label_model request.label) request.want
 abbrev pub item_meaning : Item ProtoKey → Meaning
 item_meaning (Ask request) = answer_meaning request
 item_meaning (Say request) = answer_meaning request
-item_meaning (Edit change) = edits change.file (record { text = change.text; durability = change.durability })
+item_meaning (Edit change) = edits change
 item_meaning Ignore = ignores
 item_meaning (End status) = ends status
 

@@ -5,9 +5,10 @@ use Rattle.pq_frame.specs.Json.{IsJson}
 use Rattle.pq_frame.specs.Labels.{LabelModel}
 use Rattle.pq_frame.specs.Messages.{message_of}
 use Rattle.pq_inputs.specs.declared.fault.InputFault.{InputFault}
-use Rattle.pq_inputs.specs.Sources.{File, Sources, with_file}
-use Rattle.pq_inputs.specs.Refusal.{refusal}
+use Rattle.pq_inputs.specs.Sources.{Sources, with_file}
 use Rattle.pq_rules.specs.declared.turn.Answer.{Answer}
+use Rattle.pq_core.specs.Changes.{ChangeView}
+use Rattle.pq_core.specs.Moves.{file_of, refusal_of}
 use Rattle.pq_proto.specs.Compile.{Compiles}
 use Rattle.pq_proto.specs.declared.key.ProtoKey.{ProtoKey}
 use Rattle.pq_proto.specs.declared.value.ProtoValue.{ProtoValue}
@@ -51,28 +52,27 @@ IsAnswer state label key text =
     ((answer : Answer ProtoKey ProtoValue) × Compiles state.files key answer × (text ≡ answer_text (root_of state) label state.revision answer))
     ⊎ (text ≡ out_of_memory_text label)
 
--- `edit_refusal state name file` is the error of the edit that makes the file `name` this `file`,
--- if it is refused.
-abbrev pub edit_refusal : ScriptState → List ℕ → File → Option InputFault
-edit_refusal state name file = refusal (record { files = state.files; revision = state.revision; history = [] }) name file.text
+-- `edit_refusal state change` is the error of an edit that makes `change`, if it is refused.
+abbrev pub edit_refusal : ScriptState → ChangeView → Option InputFault
+edit_refusal state change = refusal_of (record { files = state.files; revision = state.revision; history = [] }) change
 
 -- `edit_response refusal` is the response to an edit with this refusal: an accepted edit has none.
 abbrev pub edit_response : Option InputFault → Response
 edit_response None = silent
 edit_response (Some fault) = refuses fault
 
--- `edited state name file refusal` is the state after an edit. An accepted one makes a revision, in
--- which the file `name` is `file`.
-abbrev pub edited : ScriptState → List ℕ → File → Option InputFault → ScriptState
-edited state name file None = record { phase = state.phase; files = with_file state.files name file; revision = state.revision + 1 }
-edited state name file (Some fault) = state
+-- `edited state change refusal` is the state after an edit. An accepted one makes a revision, in
+-- which `change` is made.
+abbrev pub edited : ScriptState → ChangeView → Option InputFault → ScriptState
+edited state change None = record { phase = state.phase; files = with_file state.files change.file (file_of state.files change); revision = state.revision + 1 }
+edited state change (Some fault) = state
 
 -- `RespondsTo state meaning response after` is that a script in `state` may give `response` to a
 -- message of this meaning, and is then in the state `after`.
 abbrev pub RespondsTo : ScriptState → Meaning → Response → ScriptState → Type 0
 RespondsTo state (asks label key) response after = (text : List ℕ) × IsAnswer state label key text × (response ≡ replies text) × (after ≡ state)
 RespondsTo state (says text) response after = (response ≡ replies text) × (after ≡ state)
-RespondsTo state (edits name file) response after = (response ≡ edit_response (edit_refusal state name file)) × (after ≡ edited state name file (edit_refusal state name file))
+RespondsTo state (edits change) response after = (response ≡ edit_response (edit_refusal state change)) × (after ≡ edited state change (edit_refusal state change))
 RespondsTo state ignores response after = (response ≡ silent) × (after ≡ state)
 RespondsTo state (ends status) response after = (response ≡ finishes status) × (after ≡ state)
 

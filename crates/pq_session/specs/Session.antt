@@ -9,7 +9,7 @@ use Rattle.serde_json.specs.Find.{get, as_array, as_null, as_str, as_number, as_
 use Rattle.pq_frame.specs.Labels.{LabelModel, no_label}
 use Rattle.pq_frame.specs.Messages.{MessageModel, bad_json, invalid, ask, notice, response}
 use Rattle.pq_inputs.specs.declared.durability.Durability.TheVariants.{Low}
-use Rattle.pq_inputs.specs.Sources.{File}
+use Rattle.pq_core.specs.Changes.{ChangeView}
 use Rattle.pq_proto.specs.declared.key.Place.{Place}
 use Rattle.pq_proto.specs.declared.key.ProtoKey.{ProtoKey}
 use Rattle.pq_proto.specs.declared.key.ProtoKey.TheVariants as keys
@@ -31,8 +31,8 @@ pub data Meaning : Type 0 where
   asks : LabelModel → ProtoKey → Meaning
   -- The response has this text, whatever the sources are.
   says : List ℕ → Meaning
-  -- The file of this name becomes this file.
-  edits : List ℕ → File → Meaning
+  -- This change of the sources is made.
+  edits : ChangeView → Meaning
   ignores : Meaning
   -- The session ends with this status.
   ends : ℕ → Meaning
@@ -174,7 +174,7 @@ unreadable_parameters = 3
 -- Low durability. An edit whose URI names no file is ignored.
 abbrev pub edit_meaning : Option (List ℕ) → Option (List ℕ) → Meaning
 edit_meaning None text = ignores
-edit_meaning (Some file) text = edits file (record { text = text; durability = Low })
+edit_meaning (Some file) text = edits (record { file = file; text = text; durability = Low })
 
 -- `last_meaning file text` is the meaning of an edit to the last of some texts, or of one without
 -- texts, which is ignored.

@@ -4,7 +4,6 @@
 //! out: it answers a query by the engine, makes an edit, or ends the session.
 ghost use Rattle.std.specs.Prelude.{◌≡◌, IfOk, OnOk, IfErr, string_bytes, Some, None};
 ghost use Rattle.pq_session.specs.Labels.{label_model};
-ghost use Rattle.pq_inputs.specs.Sources.{File};
 ghost use Rattle.pq_proto.specs.Compile.{Compiles};
 ghost use Rattle.pq_session.specs.Session.{edits};
 ghost use Rattle.pq_session.specs.Items.{item_meaning, answer_meaning};
@@ -125,12 +124,8 @@ impl ServerState {
 
     /// Makes an edit. A refused edit leaves the sources as they were.
     fn edit(&mut self, change: Change) -> Result<(), ScriptFault>
-        ensures ok { let file : File = record { text = change.text; durability = change.durability } in
-            OnOk result (RespondsTo (state_of self.old) (edits change.file file)
-            silent (state_of self.new)) }
-        ensures err { let file : File = record { text = change.text; durability = change.durability } in
-            IfErr result (λ fault. RefusesMeaning (state_of self.old) (edits change.file file)
-            fault (state_of self.new)) }
+        ensures ok { OnOk result (RespondsTo (state_of self.old) (edits change) silent (state_of self.new)) }
+        ensures err { IfErr result (λ fault. RefusesMeaning (state_of self.old) (edits change) fault (state_of self.new)) }
     {
         let Change {
             file,

@@ -2,7 +2,7 @@
 //!
 //! Those of answered requests are in the stored sessions.
 use crate::checks::{check_text, check_that};
-use pq_core::{ClientId, Label, Number, PlainStamp, Reply, Request, Want};
+use pq_core::{ClientId, Label, Number, Outcome, PlainStamp, Reply, Request, Want};
 use pq_inputs::{Inputs, Revision};
 use pq_names::Text;
 use pq_proto::{ProtoKey, ProtoValue};
@@ -65,7 +65,8 @@ fn diagnostics(rt: &(impl Abort + AllocGlobal)) -> Request<ProtoKey> {
 /// The reply to a request that was stopped, if `seen` is after `started`.
 fn cancelled(request: Request<ProtoKey>, started: Revision, seen: Revision) -> Option<PlainReply> {
     if started < seen {
-        Some(Reply::cancelled(client(), number(), request, started, seen))
+        let outcome = Outcome::Cancelled { started, seen };
+        Some(Reply::new(client(), number(), request, seen, outcome))
     } else {
         None
     }
@@ -89,7 +90,8 @@ fn a_cancelled_request(rt: HostRuntime) {
 #[test]
 fn a_starved_request(rt: HostRuntime) {
     let inputs = no_files(&rt);
-    let reply: PlainReply = Reply::starved(client(), number(), diagnostics(&rt), inputs.now());
+    let request = diagnostics(&rt);
+    let reply: PlainReply = Reply::new(client(), number(), request, inputs.now(), Outcome::Starved);
     check_reply(
         &rt,
         &reply,

@@ -7,7 +7,7 @@ pub returns-in-Ok-clause-ok : goal.returns-in-Ok-clause-ok
 returns-in-Ok-clause-ok c =
     let made = c.in-Ok.ensures in
     rw (← c.change.view_is)
-    (edit_made c.args.self.now.session c.args.self.now.engine.inputs c.set.new.self.inputs c.change.inside.file (record { text = option_map string_bytes c.change.inside.text; durability = c.change.inside.durability }) (rw c.as_str.ensures.same at made.accepted) (rw c.as_str.ensures.same at made.files) (made.revision.1 ∙ made.revision.0))
+    (edit_made c.args.self.now.session c.args.self.now.engine.inputs c.set.new.self.inputs (record { file = c.change.inside.file; text = option_map string_bytes c.change.inside.text; durability = c.change.inside.durability }) (rw c.as_str.ensures.same at made.accepted) (rw c.as_str.ensures.same at made.files) (made.revision.1 ∙ made.revision.0))
 
 pub returns : goal.returns
 returns c =
@@ -15,5 +15,5 @@ returns c =
     record {
       ok = tt;
       err = rw (← c.change.view_is)
-          (edit_refused c.args.self.now.session c.args.self.now.engine.inputs c.set.new.self.inputs c.change.inside.file (record { text = option_map string_bytes c.change.inside.text; durability = c.change.inside.durability }) c.in-Err.refused.fault (rw c.as_str.ensures.same at refused.fault) c.in_default.not-Memory refused.refused);
+          (edit_refused c.args.self.now.session c.args.self.now.engine.inputs c.set.new.self.inputs (record { file = c.change.inside.file; text = option_map string_bytes c.change.inside.text; durability = c.change.inside.durability }) c.in-Err.refused.fault (rw c.as_str.ensures.same at refused.fault) c.in_default.not-Memory refused.refused);
     }
