@@ -1,16 +1,16 @@
--- A reply that a call of the store makes is passed on to its lane.
-use Rattle.std.proofs.Common.{◌≡◌, ℕ, ◌+◌, ◌-◌, ◌<◌, ◌≤◌, Bool, true, false, List, length, slice_get, slice_set, Option, Some, None, refl, sym, ◌∙◌, ap, subst, inl, inr, arith}
+-- The replies that a call of the store makes are passed on to their lanes.
+use Rattle.std.proofs.Common.{◌≡◌, ◌≢◌, ℕ, ◌+◌, ◌-◌, ◌<◌, ◌≤◌, true, false, List, length, slice_get, slice_set, Option, Some, None, refl, sym, ◌∙◌, ap, subst, inl, inr, arith}
 use Rattle.std.specs.Prelude.{Ok, Err, Result}
 use Rattle.std.specs.declared.cmp.Ordering.{Ordering}
 use Rattle.pq_rules.specs.declared.turn.Answer.{Answer}
 use Rattle.pq_rules.specs.Turns.{Machine}
-use Rattle.pq_core.proofs.Lists.{get_within, set_long, set_same, set_other}
+use Rattle.pq_core.proofs.Lists.{some_one, none_some, get_set, get_within, get_there, set_long, set_other, same_or_other}
 use Rattle.pq_core.proofs.Writes.{one_entry}
 use Rattle.pq_core.proofs.Changing.{set_here, set_others}
 use Rattle.pq_core.proofs.Slots.{above_more}
 use Rattle.pq_core.proofs.Calling.{open_of}
-use Rattle.pq_core.proofs.Told.{told_long, told_ready, ready_told, told_none, none_told, open_told, kept_told}
-use Rattle.pq_core.proofs.PlaceMoves.{Changes, after_here, ready_else, ready_move, only_there, none_at, has_place, stands_placed, lanes_write, lanes_same, lanes_still}
+use Rattle.pq_core.proofs.Told.{Lifts, told_long, told_ready, ready_told, told_none, open_told, kept_told}
+use Rattle.pq_core.proofs.PlaceMoves.{Changes, ready_else, ready_on, ready_move, none_at}
 use Rattle.pq_core.specs.Points.{Point}
 use Rattle.pq_core.specs.Replies.{ReplyView}
 use Rattle.pq_core.specs.Ledger.{Place, Ready, Entry, Client, Ledger, IsOpen, with_entry}
@@ -19,16 +19,17 @@ use Rattle.pq_core.specs.Kept.{PlaceKept, Kept}
 use Rattle.pq_core.specs.RightReply.{answer_by}
 use Rattle.pq_core.specs.Lanes.{ReadyView, Tray, HasPlace, placed_in, Fills}
 use Rattle.pq_core.specs.Told.{Told, told_puts, told_ledger, IsReadyAt, NoneReadyAt}
-use Rattle.pq_core.specs.Stores.{StoreView, held, fields_of, IsMadeIn, NoneMade, Makes, Collects}
+use Rattle.pq_core.specs.Stores.{StoreView, held, fields_of, IsMadeIn, NoneMade, Makes, Goes, Collects}
 use Rattle.pq_core.specs.Stores.{StandsFor as StoreStandsFor}
 use Rattle.pq_core.specs.Cores.{CoreView, core_of, StandsFor, IsWhole}
 use Rattle.pq_core.specs.Starts.{Log, IsCountedFor}
 use Rattle.pq_core.specs.declared.account.Stage.TheVariants.{Made}
 use Rattle.pq_core.specs.declared.rising.Place.{Place as Seat}
-use Rattle.pq_core.specs.aux.Rising.{Slots, IsAbove}
+use Rattle.pq_core.specs.aux.Rising.{Slots, found, IsAbove}
+use Rattle.pq_core.specs.aux.Changes.{IsSetAt}
 use Rattle.pq_core.specs.aux.Accounts.{AccountStands}
 use Rattle.pq_core.specs.aux.Places.{LaneStands, LanesStand}
-use Rattle.pq_core.specs.aux.Passing.{FillsIn, Passes}
+use Rattle.pq_core.specs.aux.Passing.{FillsIn, LaneAwaits, LanesAwait, PassesOn}
 
 -- `Lands order mach point puts Move lanes l after left` is that `Move` leads from `l` to a ledger that
 -- the core of `after` and `left` stands for, and that no reply is on its way
@@ -41,16 +42,21 @@ pub record Lands {R K P V M O : Type 0} (order : K → K → Ordering) (mach : M
   pub more : length l.clients ≤ length ledger.clients
   pub above : (b : ℕ) → IsAbove b lanes.items → length l.clients ≤ b → b ≤ length ledger.clients → IsAbove (length ledger.clients) left.items
 
--- `Turns puts l m c n` is that `m` differs from `l` in one request, `n` of the client `c`, which was
--- not ready
-pub record Turns {K V M O : Type 0} (puts : O → List (ReplyView K V M)) (l m : Ledger K V M O) (c n : ℕ) : Type 0 where
-  pub changes : Changes l m c n
-  pub outbox : changes.other.outbox ≡ changes.client.outbox
-  pub refused : changes.other.refused ≡ changes.client.refused
-  pub is_open : changes.other.is_open ≡ changes.client.is_open
-  pub few : length changes.client.entries ≤ length (puts changes.client.outbox) + window → length changes.other.entries ≤ length (puts changes.client.outbox) + window
-  pub none : NoneReadyAt l c n
-  pub within : n < length changes.other.entries
+-- `KeepsClient puts l c other` is that `other` is the client `c` of `l`, with the same outbox
+pub record KeepsClient {K V M O : Type 0} (puts : O → List (ReplyView K V M)) (l : Ledger K V M O) (c : ℕ) (other : Client K V M O) : Type 0 where
+  pub client : Client K V M O
+  pub here : slice_get l.clients c ≡ Some client
+  pub outbox : other.outbox ≡ client.outbox
+  pub refused : other.refused ≡ client.refused
+  pub is_open : other.is_open ≡ client.is_open
+  pub few : length client.entries ≤ length (puts client.outbox) + window → length other.entries ≤ length (puts client.outbox) + window
+
+-- `KeepsReady puts l m` is that `m` has the clients of `l`, and that each reply that is ready in
+-- `l` is so in `m`
+pub record KeepsReady {K V M O : Type 0} (puts : O → List (ReplyView K V M)) (l m : Ledger K V M O) : Type 0 where
+  pub more : length l.clients ≤ length m.clients
+  pub each : (c : ℕ) (other : Client K V M O) → slice_get m.clients c ≡ Some other → KeepsClient puts l c other
+  pub ready : (c n : ℕ) (entry : Entry K V M) (reply : ReplyView K V M) → IsReadyAt l c n entry reply → IsReadyAt m c n entry reply
 
 -- `Passed puts m after lanes left` is that nothing is on its way, and that the lanes stand
 pub record Passed {R K P V M O : Type 0} (puts : O → List (ReplyView K V M)) (m : Ledger K V M O) (after : StoreView R K P V M) (lanes left : Slots (Tray K V M O)) : Type 0 where
@@ -65,36 +71,44 @@ module _ {K V M O : Type 0} where
   fill_so ready (Err back) l m tray (other, none, is) same has = absurd (none (subst (λ (x : Tray K V M O). HasPlace x ready) (sym same) has))
 
 module _ {K V M O : Type 0} (puts : O → List (ReplyView K V M)) where
-  -- one request is written
-  pub turn_entry : (l m : Ledger K V M O) (c n : ℕ) (client : Client K V M O) (entry next : Entry K V M) → slice_get l.clients c ≡ Some client → slice_get client.entries n ≡ Some entry
-      → ((reply : ReplyView K V M) → entry.place ≡ Ready reply → ⊥) → m.clients ≡ slice_set l.clients c (with_entry client n next) → Turns puts l m c n
-  turn_entry l m c n client entry next here at none set = record {
-    changes = record { client = client; other = with_entry client n next; here = here; set = set; on = λ i ne. set_other client.entries n next i ne };
-    outbox = refl;
-    refused = refl;
-    is_open = refl;
-    few = λ h. (let e : length (slice_set client.entries n next) ≡ length client.entries = set_long client.entries n next in omega arith);
-    none = none_at l c n client entry here at none;
-    within = let e : length (slice_set client.entries n next) ≡ length client.entries = set_long client.entries n next in let lt : n < length client.entries = get_within client.entries n entry at in omega arith;
+  -- no client changed
+  pub keeps_same : (l m : Ledger K V M O) → m.clients ≡ l.clients → KeepsReady puts l m
+  keeps_same l m same = record {
+    more = let e : length m.clients ≡ length l.clients = ap (λ (xs : List (Client K V M O)). length xs) same in omega arith;
+    each = λ c other get. record {
+      client = other;
+      here = ap (λ (xs : List (Client K V M O)). slice_get xs c) (sym same) ∙ get;
+      outbox = refl;
+      refused = refl;
+      is_open = refl;
+      few = λ h. h;
+    };
+    ready = λ c n entry reply r. ready_else l m c n entry reply (ap (λ (xs : List (Client K V M O)). slice_get xs c) same) r;
   }
 
-  -- the request that was written is not ready
-  pub unready_entry : (l m : Ledger K V M O) (c n : ℕ) (client : Client K V M O) (entry next : Entry K V M) → slice_get l.clients c ≡ Some client → slice_get client.entries n ≡ Some entry
-      → m.clients ≡ slice_set l.clients c (with_entry client n next) → ((reply : ReplyView K V M) → next.place ≡ Ready reply → ⊥) → NoneReadyAt m c n
-  unready_entry l m c n client entry next here at set none =
-      none_at m c n (with_entry client n next) next (ap (λ (xs : List (Client K V M O)). slice_get xs c) set ∙ set_same l.clients c (with_entry client n next) (get_within l.clients c client here))
-      (set_same client.entries n next (get_within client.entries n entry at)) none
+  -- one request changed, which was not ready
+  pub keeps_one : (l m : Ledger K V M O) (c n : ℕ) (s : Changes l m c n) → s.other.outbox ≡ s.client.outbox → s.other.refused ≡ s.client.refused → s.other.is_open ≡ s.client.is_open
+      → (length s.client.entries ≤ length (puts s.client.outbox) + window → length s.other.entries ≤ length (puts s.client.outbox) + window) → NoneReadyAt l c n → KeepsReady puts l m
+  keeps_one l m c n s outbox refused is_open few none = record {
+    more =
+        let e : length m.clients ≡ length l.clients = ap (λ (xs : List (Client K V M O)). length xs) s.set ∙ set_long l.clients c s.other in
+        omega arith;
+    each = λ k x get. elim (get_set l.clients c s.other k x (ap (λ (xs : List (Client K V M O)). slice_get xs k) (sym s.set) ∙ get)) [
+      | inl w ↦
+          subst (λ (y : ℕ). KeepsClient puts l y x) (sym w.0)
+          (subst (λ (y : Client K V M O). KeepsClient puts l c y) (sym w.1) (record { client = s.client; here = s.here; outbox = outbox; refused = refused; is_open = is_open; few = few }))
+      | inr w ↦ record { client = x; here = w.1; outbox = refl; refused = refl; is_open = refl; few = λ h. h }
+    ];
+    ready = λ k i entry reply r. ready_on l m c n k i entry reply s (λ z. none entry reply (ready_move l k c i n entry reply z.0 z.1 r)) r;
+  }
 
-  few_in : (l m : Ledger K V M O) (c n : ℕ) (t : Turns puts l m c n) (tray : Tray K V M O) → LaneStands puts l c t.changes.client tray → length t.changes.other.entries ≤ tray.put + window
-  few_in l m c n t tray h =
-      let put : tray.put ≡ length (puts t.changes.client.outbox) = h.put in
-      let most : length t.changes.client.entries ≤ tray.put + window = h.few in
-      let few = t.few (omega arith) in
-      omega arith
-
-  still_lanes : (lanes : List (Seat (Tray K V M O))) (l m : Ledger K V M O) (c n : ℕ) (t : Turns puts l m c n) → NoneReadyAt m c n → LanesStand puts lanes l → LanesStand puts lanes m
-  still_lanes lanes l m c n t none h =
-      lanes_still puts lanes l m c n t.changes h t.outbox t.refused t.is_open (λ tray o x. few_in l m c n t tray x) t.none none
+  -- one request is written
+  pub keeps_entry : (l m : Ledger K V M O) (c n : ℕ) (client : Client K V M O) (entry next : Entry K V M) → slice_get l.clients c ≡ Some client → slice_get client.entries n ≡ Some entry
+      → ((reply : ReplyView K V M) → entry.place ≡ Ready reply → ⊥) → m.clients ≡ slice_set l.clients c (with_entry client n next) → KeepsReady puts l m
+  keeps_entry l m c n client entry next here at none set =
+      keeps_one l m c n (record { client = client; other = with_entry client n next; here = here; set = set; on = λ i ne. set_other client.entries n next i ne }) refl refl refl
+      (λ h. (let e : length (slice_set client.entries n next) ≡ length client.entries = set_long client.entries n next in omega arith))
+      (none_at l c n client entry here at none)
 
   -- what is ready is right
   ready_right : (means : M → Point → K → Answer K V → Type 0) (m : Ledger K V M O) (c n : ℕ) (entry : Entry K V M) (reply : ReplyView K V M) (k : Kept means puts m) (r : IsReadyAt m c n entry reply)
@@ -131,81 +145,200 @@ module _ {R K P V M : Type 0} (order : K → K → Ordering) (mach : Machine K P
     | inr w ↦ let r = made_ready after n c k ready s made in nothing c k r.0 ready.reply r.1 w
   ]
 
-module _ {R K P V M O : Type 0} (order : K → K → Ordering) (mach : Machine K P V) (point : M → Point) (puts : O → List (ReplyView K V M)) where
-  -- what was made is the request that changed
-  made_there : (before made : StoreView R K P V M) (l m : Ledger K V M O) (c n k i : ℕ) (ready : ReadyView K V M) → NoneMade before → StoreStandsFor order mach point made (told_ledger puts m)
-      → Makes before made (told_ledger puts l) (told_ledger puts m) → Changes l m c n → IsMadeIn made k i ready
-      → (k ≡ c) × (i ≡ n) × ((entry : Entry K V M) × IsReadyAt m c n entry ready.reply × (ready.accepted ≡ entry.accepted)) × ((client : Client K V M O) × IsOpen m c client)
-  made_there before made l m c n k i ready none s makes changes x = elim (makes.only k i ready x) [
-    | inl w ↦ absurd (none k i ready w)
-    | inr w ↦
-        let r = made_ready order mach point made (told_ledger puts m) k i ready s x in
-        let now = ready_told puts m k i r.0 ready.reply r.1 in
-        let at = only_there l m c n k i r.0 ready.reply changes now (none_told puts l k i w) in
-        let o = open_told puts m k r.3.0 r.3.1 in
-        (at.0, at.1, (r.0, ready_move m k c i n r.0 ready.reply at.0 at.1 now, r.2), (o.0, subst (λ (y : ℕ). IsOpen m y o.0) at.0 o.1))
-  ]
-
-  -- a call that makes nothing
-  pub stilled : (before made : StoreView R K P V M) (lanes : Slots (Tray K V M O)) (l m : Ledger K V M O) (c n : ℕ) → NoneMade before → StoreStandsFor order mach point made (told_ledger puts m)
-      → LanesStand puts lanes.items l → Makes before made (told_ledger puts l) (told_ledger puts m) → (t : Turns puts l m c n) → NoneReadyAt m c n → Passed puts m made lanes lanes
-  stilled before made lanes l m c n none s h makes t still = record {
-    none = λ k i ready x. (let w = made_there before made l m c n k i ready none s makes t.changes x in still w.2.0 ready.reply w.2.1);
-    stand = still_lanes puts lanes.items l m c n t still h;
-    above = λ b a. a;
+module _ {R K P V M O : Type 0} (puts : O → List (ReplyView K V M)) where
+  -- after a call of the store each reply that became ready is made
+  pub lanes_await : (before made : StoreView R K P V M) (lanes : List (Seat (Tray K V M O))) (l m : Ledger K V M O) → NoneMade before → Makes before made (told_ledger puts l) (told_ledger puts m)
+      → KeepsReady puts l m → LanesStand puts lanes l → LanesAwait puts made lanes m
+  lanes_await before made lanes l m none makes keeps h = record {
+    within = λ c tray get.
+        let lt : c < length l.clients = h.within c tray get in
+        let more : length l.clients ≤ length m.clients = keeps.more in
+        omega arith;
+    open_yet = λ c x get is_open.
+        let k = keeps.each c x get in
+        let v = h.open_yet c k.client k.here (sym k.is_open ∙ is_open) in
+        (v.0, v.1, lane_awaits c x k v.0 v.2);
+    shut = λ c x get is_shut. let k = keeps.each c x get in h.shut c k.client k.here (sym k.is_open ∙ is_shut);
   }
-
-  -- a call that changes no client
-  pub unturned : (before made : StoreView R K P V M) (lanes : Slots (Tray K V M O)) (l m : Ledger K V M O) → NoneMade before → StoreStandsFor order mach point made (told_ledger puts m)
-      → LanesStand puts lanes.items l → Makes before made (told_ledger puts l) (told_ledger puts m) → m.clients ≡ l.clients → Passed puts m made lanes lanes
-  unturned before made lanes l m none s h makes same = record {
-    none = none_made order mach point before made (told_ledger puts l) (told_ledger puts m) none s makes
-        (λ c k entry reply r w. none_told puts l c k w entry reply (ready_else m l c k entry reply (ap (λ (xs : List (Client K V M O)). slice_get xs c) (sym same)) (ready_told puts m c k entry reply r)));
-    stand = lanes_same puts lanes.items lanes.items l m same (λ k. refl) h;
-    above = λ b a. a;
-  }
-
-  -- a call that may make one reply, which is passed on
-  pub passed : (before made after : StoreView R K P V M) (lanes left : Slots (Tray K V M O)) (l m : Ledger K V M O) (c n : ℕ) → NoneMade before → StoreStandsFor order mach point made (told_ledger puts m)
-      → LanesStand puts lanes.items l → Makes before made (told_ledger puts l) (told_ledger puts m) → (t : Turns puts l m c n) → Passes c made after lanes left → Passed puts m after lanes left
-  passed before made after lanes left l m c n none s h makes t p = by_answer p.collected p.collects p.fills
     where
-      by_answer : (answer : Option (ReadyView K V M)) → Collects c answer made after → FillsIn c answer lanes left → Passed puts m after lanes left
-      by_answer None (nothing, back, on) same =
-          let still : NoneReadyAt m c n = λ entry reply r. nothing n _ (makes.fresh c n entry reply (told_ready puts m c n entry reply r) (told_none puts l c n t.none)) in
-          record {
-            none = λ k i ready x.
-                (let w = made_there before made l m c n k i ready none s makes t.changes (back k i ready x) in
-                nothing i ready (subst (λ (y : ℕ). IsMadeIn made y i ready) w.0 (back k i ready x)));
-            stand = subst (λ (y : Slots (Tray K V M O)). LanesStand puts y.items m) (sym same) (still_lanes puts lanes.items l m c n t still h);
-            above = λ b a. subst (λ (y : Slots (Tray K V M O)). IsAbove b y.items) (sym same) a;
-          }
-      by_answer (Some ready) (of_client, made_so, fewer, on) fills =
-          let w = made_there before made l m c n c ready.reply.number ready none s makes t.changes made_so in
-          let kept = kept_told puts (answer_by order mach point) m s.kept in
-          let right = ready_right puts (answer_by order mach point) m c n w.2.0 ready.reply kept w.2.1 in
-          let after_is = after_here l m c n t.changes in
-          let opened_so : t.changes.other.is_open ≡ true = ap (λ (x : Client K V M O). x.is_open) (one_entry m.clients c t.changes.other w.3.0 after_is w.3.1.here) ∙ w.3.1.open_yet in
-          let v = h.open_yet c t.changes.client t.changes.here (sym t.is_open ∙ opened_so) in
-          let client_is : w.2.1.client ≡ t.changes.other = one_entry m.clients c w.2.1.client t.changes.other w.2.1.is_entry.client_here after_is in
-          let past : length (puts t.changes.client.outbox) ≤ n = subst (λ (o : O). length (puts o) ≤ n) (ap (λ (x : Client K V M O). x.outbox) client_is ∙ t.outbox) right.0 in
-          let few = few_in puts l m c n t v.0 v.2 in
-          let lt : n < length t.changes.other.entries = t.within in
-          let place = has_place puts l c n t.changes.client v.0 ready v.2 t.none of_client right.2 past (omega arith) in
-          let set = fills v.0 v.1 place in
-          record {
-            none = λ k i other x.
-                (let y = fewer k i other x in
-                let z = made_there before made l m c n k i other none s makes t.changes y.0 in
-                y.1 z.0 (z.1 ∙ sym right.2));
-            stand = lanes_write puts lanes.items left.items l m c t.changes.client t.changes.other h t.changes.here t.changes.set (set_others lanes left c _ set)
-                (λ o. (placed_in v.0 ready, set_here lanes left c _ set, stands_placed puts l m c n v.0 ready w.2.0 t.changes v.2 t.outbox t.refused few t.none w.2.1 w.2.2 place right.2))
-                (λ o. absurd (not_both t.changes.other.is_open opened_so o));
-            above = λ b a. set.above b a;
-          }
-        where
-          not_both : (b : Bool) → b ≡ true → b ≡ false → ⊥
-          not_both b e f = cc
+      lane_awaits : (c : ℕ) (x : Client K V M O) (k : KeepsClient puts l c x) (tray : Tray K V M O) → LaneStands puts l c k.client tray → LaneAwaits puts made m c x tray
+      lane_awaits c x k tray s = record {
+        owner = s.owner;
+        outbox = s.outbox ∙ ap Some (sym k.outbox);
+        refused = s.refused ∙ sym k.refused;
+        put = s.put ∙ ap (λ (o : O). length (puts o)) (sym k.outbox);
+        room = s.room;
+        few =
+            let put : tray.put ≡ length (puts k.client.outbox) = s.put in
+            let most : length k.client.entries ≤ tray.put + window = s.few in
+            let few = k.few (omega arith) in
+            omega arith;
+        filled = λ i ready get. let w = s.filled i ready get in (w.0, keeps.ready c (tray.put + i) w.0 ready.reply w.1, w.2);
+        vacant = λ i get unmade entry reply r.
+            unmade _ (makes.fresh c (tray.put + i) entry reply (told_ready puts m c (tray.put + i) entry reply r) (told_none puts l c (tray.put + i) (s.vacant i get)));
+        apart = λ i ready other get x. elim (makes.only c (tray.put + i) other x) [
+          | inl w ↦ none c (tray.put + i) other w
+          | inr w ↦ let f = s.filled i ready get in w f.0 ready.reply (told_ready puts l c (tray.put + i) f.0 ready.reply f.1)
+        ];
+      }
+
+  -- where no reply is made, each that is ready is in its lane
+  pub lanes_settle : (store : StoreView R K P V M) (lanes : List (Seat (Tray K V M O))) (l : Ledger K V M O) → NoneMade store → LanesAwait puts store lanes l → LanesStand puts lanes l
+  lanes_settle store lanes l none h = record {
+    within = h.within;
+    open_yet = λ c x get is_open. let v = h.open_yet c x get is_open in (v.0, v.1, lane_settles c x v.0 v.2);
+    shut = h.shut;
+  }
+    where
+      lane_settles : (c : ℕ) (x : Client K V M O) (tray : Tray K V M O) → LaneAwaits puts store l c x tray → LaneStands puts l c x tray
+      lane_settles c x tray s = record {
+        owner = s.owner;
+        outbox = s.outbox;
+        refused = s.refused;
+        put = s.put;
+        room = s.room;
+        few = s.few;
+        filled = s.filled;
+        vacant = λ i get. s.vacant i get (λ ready x. none c (tray.put + i) ready x);
+      }
+
+  -- a lane awaits what is made to its client, and does not see the others
+  awaits_else : (before after : StoreView R K P V M) (l : Ledger K V M O) (k : ℕ) (x : Client K V M O) (tray : Tray K V M O) → ((n : ℕ) (ready : ReadyView K V M) → IsMadeIn before k n ready → IsMadeIn after k n ready)
+      → ((n : ℕ) (ready : ReadyView K V M) → IsMadeIn after k n ready → IsMadeIn before k n ready) → LaneAwaits puts before l k x tray → LaneAwaits puts after l k x tray
+  awaits_else before after l k x tray on back s = record {
+    owner = s.owner;
+    outbox = s.outbox;
+    refused = s.refused;
+    put = s.put;
+    room = s.room;
+    few = s.few;
+    filled = s.filled;
+    vacant = λ i get unmade. s.vacant i get (λ ready made. unmade ready (on (tray.put + i) ready made));
+    apart = λ i ready other get made. s.apart i ready other get (back (tray.put + i) other made);
+  }
+
+module _ {R K P V M O : Type 0} (order : K → K → Ordering) (mach : Machine K P V) (point : M → Point) (puts : O → List (ReplyView K V M)) where
+  -- one reply that is made gets its place
+  pub lanes_passed : (before after : StoreView R K P V M) (lanes left : Slots (Tray K V M O)) (l : Ledger K V M O) (c : ℕ) (ready : ReadyView K V M) → StoreStandsFor order mach point before (told_ledger puts l)
+      → LanesAwait puts before lanes.items l → Collects c (Some ready) before after → FillsIn c ready lanes left
+      → LanesAwait puts after left.items l × ((b : ℕ) → IsAbove b lanes.items → IsAbove b left.items)
+  lanes_passed before after lanes left l c ready s h (of_client, made, fewer, on) fills = (
+    record {
+      within = λ k x get. elim (same_or_other k c) [
+        | inl w ↦
+            let lt : c < length l.clients = get_within l.clients c client is_open.here in
+            let e : k ≡ c = w in
+            omega arith
+        | inr w ↦ h.within k x (sym (set_others lanes left c _ set k w) ∙ get)
+      ];
+      open_yet = λ k x get opened. elim (same_or_other k c) [
+        | inl w ↦
+            let e : x ≡ client = one_entry l.clients c x client (ap (slice_get l.clients) (sym w) ∙ get) is_open.here in (
+              placed_in tray ready,
+              ap (λ (y : ℕ). found left.items y) w ∙ set_here lanes left c _ set,
+              subst (λ (y : ℕ). LaneAwaits puts after l y x (placed_in tray ready)) (sym w) (subst (λ (y : Client K V M O). LaneAwaits puts after l c y (placed_in tray ready)) (sym e) placed),
+            )
+        | inr w ↦
+            let v = h.open_yet k x get opened in (
+              v.0,
+              set_others lanes left c _ set k w ∙ v.1,
+              awaits_else puts before after l k x v.0 (λ i other y. elim (on k i other y) [ inl z ↦ absurd (w z.0) | inr z ↦ z ]) (λ i other y. (fewer k i other y).0) v.2,
+            )
+      ];
+      shut = λ k x get shut. elim (same_or_other k c) [
+        | inl w ↦
+            let e : x ≡ client = one_entry l.clients c x client (ap (slice_get l.clients) (sym w) ∙ get) is_open.here in
+            absurd (open_not_shut x (ap (λ (y : Client K V M O). y.is_open) e ∙ is_open.open_yet) shut)
+        | inr w ↦ set_others lanes left c _ set k w ∙ h.shut k x get shut
+      ];
+    },
+    set.above,
+  )
+    where
+      n : ℕ
+      n = ready.reply.number
+
+      r : (entry : Entry K V M) × IsReadyAt (told_ledger puts l) c n entry ready.reply × (ready.accepted ≡ entry.accepted) × ((x : Client K V M (Told K V M)) × IsOpen (told_ledger puts l) c x)
+      r = made_ready order mach point before (told_ledger puts l) c n ready s made
+
+      now : IsReadyAt l c n r.0 ready.reply
+      now = ready_told puts l c n r.0 ready.reply r.1
+
+      client : Client K V M O
+      client = (open_told puts l c r.3.0 r.3.1).0
+
+      is_open : IsOpen l c client
+      is_open = (open_told puts l c r.3.0 r.3.1).1
+
+      open_not_shut : (x : Client K V M O) → x.is_open ≡ true → x.is_open ≡ false → ⊥
+      open_not_shut x e f = cc
+
+      tray : Tray K V M O
+      tray = (h.open_yet c client is_open.here is_open.open_yet).0
+
+      awaits : LaneAwaits puts before l c client tray
+      awaits = (h.open_yet c client is_open.here is_open.open_yet).2
+
+      past : tray.put ≤ n
+      past =
+          let right = ready_right puts (answer_by order mach point) l c n r.0 ready.reply (kept_told puts (answer_by order mach point) l s.kept) now in
+          let e : now.client ≡ client = one_entry l.clients c now.client client now.is_entry.client_here is_open.here in
+          let most : length (puts client.outbox) ≤ n = subst (λ (x : Client K V M O). length (puts x.outbox) ≤ n) e right.0 in
+          let put : tray.put ≡ length (puts client.outbox) = awaits.put in
+          omega arith
+
+      within : n < tray.put + window
+      within =
+          let e : now.client ≡ client = one_entry l.clients c now.client client now.is_entry.client_here is_open.here in
+          let lt : n < length client.entries = subst (λ (x : Client K V M O). n < length x.entries) e (get_within now.client.entries n r.0 now.is_entry.here) in
+          let few : length client.entries ≤ tray.put + window = awaits.few in
+          omega arith
+
+      vacant : (place : Option (ReadyView K V M)) → slice_get tray.places (n - tray.put) ≡ Some place → slice_get tray.places (n - tray.put) ≡ Some None
+      vacant None get = get
+      vacant (Some other) get =
+          let e : n ≡ tray.put + (n - tray.put) = (let le = past in omega arith) in
+          absurd (awaits.apart (n - tray.put) other ready get (subst (λ (i : ℕ). IsMadeIn before c i ready) e made))
+
+      has : HasPlace tray ready
+      has =
+          let lt : n - tray.put < length tray.places = (let room : length tray.places ≡ window = awaits.room in let less = within in let le = past in omega arith) in
+          let there = get_there tray.places (n - tray.put) lt in
+          record { outbox = client.outbox; open_yet = awaits.outbox; client = of_client ∙ sym awaits.owner; past = past; vacant = vacant there.0 there.1 }
+
+      set : IsSetAt lanes left c (Some (placed_in tray ready))
+      set = fills tray (h.open_yet c client is_open.here is_open.open_yet).1 has
+
+      placed : LaneAwaits puts after l c client (placed_in tray ready)
+      placed = record {
+        owner = awaits.owner;
+        outbox = awaits.outbox;
+        refused = awaits.refused;
+        put = awaits.put;
+        room = set_long tray.places (n - tray.put) (Some ready) ∙ awaits.room;
+        few = awaits.few;
+        filled = λ i other get. elim (get_set tray.places (n - tray.put) (Some ready) i (Some other) get) [
+          | inl w ↦
+              let same : other ≡ ready = some_one other ready w.1 in
+              let at : n ≡ tray.put + i = (let e : i ≡ n - tray.put = w.0 in let le = past in omega arith) in (
+                r.0,
+                subst (λ (x : ReadyView K V M). IsReadyAt l c (tray.put + i) r.0 x.reply) (sym same) (ready_move l c c n (tray.put + i) r.0 ready.reply refl at now),
+                ap (λ (x : ReadyView K V M). x.accepted) same ∙ r.2,
+              )
+          | inr w ↦ awaits.filled i other w.1
+        ];
+        vacant = λ i get unmade. elim (get_set tray.places (n - tray.put) (Some ready) i None get) [
+          | inl w ↦ absurd (none_some ready w.1)
+          | inr w ↦ awaits.vacant i w.1 (λ other x. elim (on c (tray.put + i) other x) [
+            | inl z ↦ (let ne : i ≢ n - tray.put = w.0 in let e : tray.put + i ≡ n = z.1 in absurd (omega arith))
+            | inr z ↦ unmade other z
+          ])
+        ];
+        apart = λ i x other get y. elim (get_set tray.places (n - tray.put) (Some ready) i (Some x) get) [
+          | inl w ↦ (fewer c (tray.put + i) other y).1 refl (let e : i ≡ n - tray.put = w.0 in let le = past in omega arith)
+          | inr w ↦ awaits.apart i x other w.1 (fewer c (tray.put + i) other y).0
+        ];
+      }
 
   -- ---- what a call leaves
 
@@ -247,6 +380,51 @@ module _ {R K P V M O : Type 0} (order : K → K → Ordering) (machine : R → 
   call_whole inv same calls =
       subst (λ (x : R). IsWhole order (machine x) point puts (core_of after left)) (sym same)
       (still_whole order (machine before.rules) point puts Move before after lanes left inv.ledger.0 inv.above inv.ledger.1 (calls inv.ledger.0 inv.ledger.1))
+
+module _ {R K P V M O : Type 0} (order : K → K → Ordering) (machine : R → Machine K P V) (point : M → Point) (puts : O → List (ReplyView K V M)) where
+  pub passes_none : (store : StoreView R K P V M) (lanes : Slots (Tray K V M O)) → PassesOn order (machine store.rules) point puts store store lanes lanes
+  passes_none store lanes = record {
+    rules = refl;
+    inputs = refl;
+    places = refl;
+    claims = refl;
+    stands = λ t s. s;
+    counted = λ log x. x;
+    awaits = λ l s h. (h, λ b a. a);
+  }
+
+  pub passes_more : (a b c : StoreView R K P V M) (x y z : Slots (Tray K V M O)) → PassesOn order (machine a.rules) point puts a b x y → PassesOn order (machine b.rules) point puts b c y z
+      → PassesOn order (machine a.rules) point puts a c x z
+  passes_more a b c x y z p q =
+      let r = subst (λ (rules : R). PassesOn order (machine rules) point puts b c y z) p.rules q in
+      record {
+        rules = q.rules ∙ p.rules;
+        inputs = q.inputs ∙ p.inputs;
+        places = q.places ∙ p.places;
+        claims = q.claims ∙ p.claims;
+        stands = λ t s. r.stands t (p.stands t s);
+        counted = λ log i. r.counted log (p.counted log i);
+        awaits = λ l s h.
+            let v = p.awaits l s h in
+            let w = r.awaits l (p.stands (told_ledger puts l) s) v.0 in
+            (w.0, λ m above. w.1 m (v.1 m above));
+      }
+
+  -- a call of the store, after which all that is made is passed on
+  pub served : (Known : Ledger K V M (Told K V M) → Ledger K V M (Told K V M) → Type 0) (Move : Ledger K V M O → Ledger K V M O → Type 0) (before made after : StoreView R K P V M) (lanes left : Slots (Tray K V M O))
+      → NoneMade before → Goes order (machine before.rules) point before made Known → ((l : Ledger K V M O) (t : Ledger K V M (Told K V M)) → Known (told_ledger puts l) t → Lifts puts Move l t)
+      → ((l m : Ledger K V M O) → Move l m → KeepsReady puts l m) → made.rules ≡ before.rules → PassesOn order (machine made.rules) point puts made after lanes left → NoneMade after
+      → Calls order machine point puts Move before after lanes left
+  served Known Move before made after lanes left none goes lifts keeps rules passes settled l s =
+      let p = subst (λ (x : R). PassesOn order (machine x) point puts made after lanes left) rules passes in
+      let g = goes (told_ledger puts l) s.store in
+      let m = lifts l g.0 g.1 in
+      let kept = keeps l m.0 m.1 in
+      let stands = subst (λ (t : Ledger K V M (Told K V M)). StoreStandsFor order (machine before.rules) point made t) (sym m.2) g.2 in
+      let makes = subst (λ (t : Ledger K V M (Told K V M)). Makes before made (told_ledger puts l) t) (sym m.2) g.3 in
+      let w = p.awaits m.0 stands (lanes_await puts before made lanes.items l m.0 none makes kept s.lanes) in
+      landed order (machine before.rules) point puts Move lanes left l m.0 after m.1 (p.stands (told_ledger puts m.0) stands)
+      (record { none = settled; stand = lanes_settle puts after left.items m.0 settled w.0; above = w.1 }) kept.more
 
 module _ {R K P V M O : Type 0} (order : K → K → Ordering) (machine : R → Machine K P V) (point : M → Point) (puts : O → List (ReplyView K V M)) where
   -- of the core as it is seen

@@ -20,6 +20,7 @@ pub mod Writes
 pub mod Queued
 pub mod AccountMoves
 pub mod AccountStanding
+pub mod MadeCounts
 pub mod Making
 pub mod Trays
 pub mod Framed

@@ -1,11 +1,11 @@
 -- Each reply that is ready is in the lane of its client, after each move.
-use Rattle.std.proofs.Common.{◌≡◌, ◌≢◌, ℕ, zero, suc, ◌+◌, ◌-◌, ◌<◌, ◌≤◌, ◌⊎◌, Bool, true, false, List, [], ◌∷◌, ◌++◌, length, drop, replicate, slice_get, slice_set, Option, Some, None, refl, sym, ◌∙◌, ap, subst, inl, inr, arith}
+use Rattle.std.proofs.Common.{◌≡◌, ◌≢◌, ℕ, zero, suc, ◌+◌, ◌<◌, ◌≤◌, ◌⊎◌, Bool, true, false, List, [], ◌∷◌, ◌++◌, length, drop, replicate, slice_get, slice_set, Option, Some, None, refl, sym, ◌∙◌, ap, subst, inl, inr, arith}
 use Rattle.pq_core.proofs.Lists.{some_one, get_set, get_append, get_within, get_there, set_same, set_other, set_long, append_long, same_or_other}
 use Rattle.pq_core.proofs.Writes.{nothing_there, drop_get, one_entry}
 use Rattle.pq_core.specs.Replies.{ReplyView}
 use Rattle.pq_core.specs.Ledger.{Place, Ready, Put, Entry, Client, Ledger, opened, closed, with_entry, with_outbox, moved_to}
 use Rattle.pq_core.specs.Moves.{window}
-use Rattle.pq_core.specs.Lanes.{ReadyView, Tray, HasPlace, placed_in, empty_tray, IsNextIn, after_next, tray_with, tray_after}
+use Rattle.pq_core.specs.Lanes.{ReadyView, Tray, empty_tray, IsNextIn, after_next, tray_with, tray_after}
 use Rattle.pq_core.specs.Told.{IsReadyAt, NoneReadyAt}
 use Rattle.pq_core.specs.declared.rising.Place.{Place as Seat}
 use Rattle.pq_core.specs.aux.Rising.{found}
@@ -98,13 +98,6 @@ module _ {K V M O : Type 0} where
     | inr w ↦ ready_else m l k i entry reply (sym (after_else l m c s.other k s.set w)) r
   ]
 
-  -- what became ready is the request that changed
-  pub only_there : (l m : Ledger K V M O) (c n k i : ℕ) (entry : Entry K V M) (reply : ReplyView K V M) → Changes l m c n → IsReadyAt m k i entry reply → NoneReadyAt l k i → (k ≡ c) × (i ≡ n)
-  only_there l m c n k i entry reply s r none = elim (at_or_not k c i n) [
-    | inl w ↦ w
-    | inr w ↦ absurd (none entry reply (ready_back l m c n k i entry reply s w r))
-  ]
-
   -- one request of a client
   pub ready_move : (l : Ledger K V M O) (k c i n : ℕ) (entry : Entry K V M) (reply : ReplyView K V M) → k ≡ c → i ≡ n → IsReadyAt l k i entry reply → IsReadyAt l c n entry reply
   ready_move l k c i n entry reply e f r = subst (λ (x : ℕ). IsReadyAt l x n entry reply) e (subst (λ (x : ℕ). IsReadyAt l k x entry reply) f r)
@@ -128,81 +121,6 @@ module _ {K V M O : Type 0} where
 
 module _ {K V M O : Type 0} (puts : O → List (ReplyView K V M)) where
   -- ---- the lane of one client
-
-  -- nothing became ready
-  pub stands_still : (l m : Ledger K V M O) (c n : ℕ) (tray : Tray K V M O) (s : Changes l m c n) → LaneStands puts l c s.client tray
-      → s.other.outbox ≡ s.client.outbox → s.other.refused ≡ s.client.refused → length s.other.entries ≤ tray.put + window
-      → NoneReadyAt l c n → NoneReadyAt m c n → LaneStands puts m c s.other tray
-  stands_still l m c n tray s h outbox refused few none none_after = record {
-    owner = h.owner;
-    outbox = h.outbox ∙ ap Some (sym outbox);
-    refused = h.refused ∙ sym refused;
-    put = h.put ∙ ap (λ (o : O). length (puts o)) (sym outbox);
-    room = h.room;
-    few = few;
-    filled = λ i ready get.
-        let w = h.filled i ready get in
-        (w.0, ready_on l m c n c (tray.put + i) w.0 ready.reply s (λ v. none w.0 ready.reply (ready_move l c c (tray.put + i) n w.0 ready.reply refl v.1 w.1)) w.1, w.2);
-    vacant = λ i get entry reply r. elim (at_or_not c c (tray.put + i) n) [
-      | inl w ↦ none_after entry reply (ready_move m c c (tray.put + i) n entry reply refl w.1 r)
-      | inr w ↦ h.vacant i get entry reply (ready_back l m c n c (tray.put + i) entry reply s w r)
-    ];
-  }
-
-  -- a reply became ready, and is in its place
-  pub stands_placed : (l m : Ledger K V M O) (c n : ℕ) (tray : Tray K V M O) (ready : ReadyView K V M) (entry : Entry K V M) (s : Changes l m c n) → LaneStands puts l c s.client tray
-      → s.other.outbox ≡ s.client.outbox → s.other.refused ≡ s.client.refused → length s.other.entries ≤ tray.put + window
-      → NoneReadyAt l c n → IsReadyAt m c n entry ready.reply → ready.accepted ≡ entry.accepted → HasPlace tray ready → ready.reply.number ≡ n
-      → LaneStands puts m c s.other (placed_in tray ready)
-  stands_placed l m c n tray ready entry s h outbox refused few none now accepted place number = record {
-    owner = h.owner;
-    outbox = h.outbox ∙ ap Some (sym outbox);
-    refused = h.refused ∙ sym refused;
-    put = h.put ∙ ap (λ (o : O). length (puts o)) (sym outbox);
-    room = set_long tray.places (ready.reply.number - tray.put) (Some ready) ∙ h.room;
-    few = few;
-    filled = λ i other get. elim (get_set tray.places (ready.reply.number - tray.put) (Some ready) i (Some other) get) [
-      | inl w ↦
-          let same : other ≡ ready = some_one other ready w.1 in
-          let past = place.past in
-          let at : n ≡ tray.put + i = (let e : i ≡ ready.reply.number - tray.put = w.0 in omega arith) in (
-            entry,
-            subst (λ (x : ReadyView K V M). IsReadyAt m c (tray.put + i) entry x.reply) (sym same) (ready_move m c c n (tray.put + i) entry ready.reply refl at now),
-            ap (λ (x : ReadyView K V M). x.accepted) same ∙ accepted,
-          )
-      | inr w ↦
-          let v = h.filled i other w.1 in
-          (v.0, ready_on l m c n c (tray.put + i) v.0 other.reply s (λ z. none v.0 other.reply (ready_move l c c (tray.put + i) n v.0 other.reply refl z.1 v.1)) v.1, v.2)
-    ];
-    vacant = λ i get e reply r. elim (get_set tray.places (ready.reply.number - tray.put) (Some ready) i None get) [
-      | inl w ↦ placed_not ready w.1
-      | inr w ↦
-          let past = place.past in
-          let apart : tray.put + i ≢ n = (let e2 : i ≢ ready.reply.number - tray.put = w.0 in omega arith) in
-          h.vacant i w.1 e reply (ready_back l m c n c (tray.put + i) e reply s (λ z. apart z.1) r)
-    ];
-  }
-
-  -- a reply that became ready has a place
-  pub has_place : (l : Ledger K V M O) (c n : ℕ) (client : Client K V M O) (tray : Tray K V M O) (ready : ReadyView K V M) → LaneStands puts l c client tray → NoneReadyAt l c n
-      → ready.reply.client ≡ c → ready.reply.number ≡ n → length (puts client.outbox) ≤ n → n < tray.put + window → HasPlace tray ready
-  has_place l c n client tray ready h none of_client number past within =
-      let put : tray.put ≡ length (puts client.outbox) = h.put in
-      let long : length tray.places ≡ window = h.room in
-      let there = get_there tray.places (ready.reply.number - tray.put) (omega arith) in
-      record {
-        outbox = client.outbox;
-        open_yet = h.outbox;
-        client = of_client ∙ sym h.owner;
-        past = omega arith;
-        vacant = by_place (ready.reply.number - tray.put) there.0 there.1 (omega arith);
-      }
-    where
-      by_place : (i : ℕ) (place : Option (ReadyView K V M)) → slice_get tray.places i ≡ Some place → tray.put + i ≡ n → slice_get tray.places i ≡ Some None
-      by_place i None get at = get
-      by_place i (Some other) get at =
-          let w = h.filled i other get in
-          absurd (none w.0 other.reply (ready_move l c c (tray.put + i) n w.0 other.reply refl at w.1))
 
   -- another client
   pub stands_else : (l m : Ledger K V M O) (k : ℕ) (client : Client K V M O) (tray : Tray K V M O) → slice_get m.clients k ≡ slice_get l.clients k → LaneStands puts l k client tray → LaneStands puts m k client tray
@@ -270,15 +188,6 @@ module _ {K V M O : Type 0} (puts : O → List (ReplyView K V M)) where
         (v.0, same k ∙ v.1, stands_else l m k x v.0 (ap (λ (xs : List (Client K V M O)). slice_get xs k) set) v.2);
     shut = λ k x get is_shut. same k ∙ h.shut k x (ap (λ (xs : List (Client K V M O)). slice_get xs k) (sym set) ∙ get) is_shut;
   }
-
-  -- a request changed, and no reply became ready
-  pub lanes_still : (lanes : List (Seat (Tray K V M O))) (l m : Ledger K V M O) (c n : ℕ) (s : Changes l m c n) → LanesStand puts lanes l
-      → s.other.outbox ≡ s.client.outbox → s.other.refused ≡ s.client.refused → s.other.is_open ≡ s.client.is_open
-      → ((tray : Tray K V M O) → s.client.is_open ≡ true → LaneStands puts l c s.client tray → length s.other.entries ≤ tray.put + window) → NoneReadyAt l c n → NoneReadyAt m c n → LanesStand puts lanes m
-  lanes_still lanes l m c n s h outbox refused is_open few none none_after =
-      lanes_write lanes lanes l m c s.client s.other h s.here s.set (λ k ne. refl)
-      (λ o. let v = h.open_yet c s.client s.here (sym is_open ∙ o) in (v.0, v.1, stands_still l m c n v.0 s v.2 outbox refused (few v.0 (sym is_open ∙ o) v.2) none none_after))
-      (λ o. h.shut c s.client s.here (sym is_open ∙ o))
 
   -- ---- open and close
 

@@ -7,7 +7,7 @@ use Rattle.std.proofs.lemmas.Option.{slice_get_read, get_or_from_slice_get}
 use Rattle.pq_core.proofs.Lists.{some_one, get_within, same_or_other, set_same, set_long}
 use Rattle.pq_core.specs.Moves.{one_if}
 use Rattle.pq_core.specs.declared.rising.Place.{Place}
-use Rattle.pq_core.specs.aux.Rising.{found, IsVacant, IsAbove, IsBelow, Rises, has_value, live_count, Compacts}
+use Rattle.pq_core.specs.aux.Rising.{found, IsVacant, IsAbove, IsBelow, Rises, has_value, live_count, Compacts, NoneOf}
 
 none_of : {A : Type 0} {P : Type 0} (y : A) → None ≡ Some y → P
 none_of y h = cc
@@ -441,3 +441,25 @@ nowhere_between {T} xs n first q h below above ne i p get e =
 pub place_here : {T : Type 0} (xs : List (Place T)) (n first : ℕ) (q : Place T) → (get_or xs first q).number ≡ n → (p : Place T) → slice_get xs first ≡ Some p → p.number ≡ n
 place_here {T} xs n first q e p get =
     sym (ap (λ (r : Place T). r.number) (get_or_from_slice_get xs first p q get)) ∙ e
+
+-- ---- the values of a map, one after the other
+
+module _ {T : Type 0} (Holds : T → Type 0) where
+  pub none_more : (items : List (Place T)) (n : ℕ) (p : Place T) → slice_get items n ≡ Some p → ((value : T) → p.value ≡ Some value → Holds value → ⊥) → NoneOf Holds items n → NoneOf Holds items (n + 1)
+  none_more items n p here none before j q value lt get is holds = elim (same_or_other j n) [
+    | inl e ↦
+        let same : p ≡ q = some_one p q (sym here ∙ (ap (λ (i : ℕ). slice_get items i) (sym e) ∙ get)) in
+        none value (ap (λ (x : Place T). x.value) same ∙ is) holds
+    | inr ne ↦ before j q value (omega arith) get is holds
+  ]
+
+  -- the test of a value says that it does not
+  pub none_here : (p : Place T) (value : T) (t : Bool) → p.value ≡ Some value → (Holds value → t ≡ true) → t ≡ false → (other : T) → p.value ≡ Some other → Holds other → ⊥
+  none_here p value t is test off other at holds =
+      let on = test (subst Holds (some_one other value (sym at ∙ is)) holds) in
+      cc
+
+  pub none_found : (items : List (Place T)) → NoneOf Holds items (length items) → (n : ℕ) (value : T) → found items n ≡ Some value → Holds value → ⊥
+  none_found items none n value h holds =
+      let at = found_somewhere items n value h in
+      none at.0 _ value (get_within items at.0 _ at.1) at.1 refl holds

@@ -41,7 +41,7 @@ fn make_room<T: Drop>(
 }
 
 /// Whether the answer of a key is wanted.
-pub(crate) fn is_demand<K>(want: &Want<K>) -> bool
+fn is_demand<K>(want: &Want<K>) -> bool
     ensures { IsTrue result ↔ IsDemand want.now }
 {
     match want {

@@ -9,7 +9,7 @@ ghost use Rattle.std.specs.VecDeque.{deque_len, deque_capacity};
 ghost use Rattle.pq_core.specs.Truth.{IsTrueReply};
 ghost use Rattle.pq_core.specs.Moves.{window};
 ghost use Rattle.pq_core.specs.Accounts.{no_requests, next_of, IsStage, with_stage, with_request, first_stage, Collects, Sees};
-ghost use Rattle.pq_core.specs.aux.Accounts.{noted};
+ghost use Rattle.pq_core.specs.aux.Accounts.{noted, HasMade};
 ghost use Rattle.pq_core.specs.declared.request.Request.{Request};
 ghost use Rattle.pq_core.specs.declared.account.Begun.{Begun};
 ghost use Rattle.pq_core.specs.declared.account.Stage.TheVariants.{Waiting, Running, Made, Collected};
@@ -195,6 +195,13 @@ impl<R: Rules, M: Stamp> Account<R, M> {
         let begun = self.stages[place].begun();
         self.made.push_back_reserved(number);
         self.stages[place].make(Ready::new(reply, begun.accepted));
+    }
+
+    /// Whether a reply is made and was not collected.
+    pub(crate) fn has_made(&self) -> bool
+        ensures { IsTrue result ↔ HasMade self.now }
+    {
+        !self.made.is_empty()
     }
 
     /// Takes out one reply that is made. It takes no memory.

@@ -1,15 +1,16 @@
 //! Replies that leave the store, clients that close, and rest.
-ghost use Rattle.std.specs.Prelude.{◌≡◌, ◌↔◌, IsTrue, ℕ, filter};
+ghost use Rattle.std.specs.Prelude.{◌≡◌, ◌<◌, ◌↔◌, IsTrue, IfSome, IfNone, ℕ, filter};
 ghost use Rattle.pq_core.specs.Lanes.{ReadyView};
 ghost use Rattle.pq_core.specs.Ledger.{Ledger};
 ghost use Rattle.pq_core.specs.Moves.{Reaches, NoneWaits, NoneRuns};
 ghost use Rattle.pq_core.specs.Told.{Told, Shuts};
-ghost use Rattle.pq_core.specs.Stores.{StandsFor, Goes, IsMadeIn, Collects, Hears};
+ghost use Rattle.pq_core.specs.Stores.{StandsFor, Goes, IsMadeIn, NoneMade, Collects, Hears};
 ghost use Rattle.pq_core.specs.Starts.{IsCountedIn, Log};
+ghost use Rattle.pq_core.specs.aux.Passing.{made_in};
 ghost use Rattle.pq_core.specs.aux.Queue.{is_of_other};
 
 use crate::ids::{ClientId, Number};
-use crate::in_accounts::{collect_in, see_in};
+use crate::in_accounts::{collect_in, first_made, has_made_in, see_in};
 use crate::ready::Ready;
 use crate::stamp::Stamp;
 use crate::store::Store;
@@ -39,8 +40,42 @@ impl<R: Rules, M: Stamp> Store<R, M> {
         ensures collects { Collects client result self.old self.new }
         ensures counted { (log : Log R.Key) → IsCountedIn R.Key.cmp (R.machine self.old.rules) self.old log → IsCountedIn R.Key.cmp (R.machine self.old.rules) self.new log }
     {
+        self.take_made(client)
+    }
+
+    /// Takes out one reply as `collect` does. Fewer are made afterwards.
+    pub(crate) fn take_made(&mut self, client: ClientId) -> Option<Ready<R, M>>
+        ensures rules { self.new.rules ≡ self.old.rules }
+        ensures inputs { self.new.inputs ≡ self.old.inputs }
+        ensures places { self.new.places ≡ self.old.places }
+        ensures claims { self.new.claims ≡ self.old.claims }
+        ensures stands { (l : Ledger R.Key R.Value M (Told R.Key R.Value M)) → StandsFor R.Key.cmp (R.machine self.old.rules) M.point self.old l → StandsFor R.Key.cmp (R.machine self.old.rules) M.point self.new l }
+        ensures collects { Collects client result self.old self.new }
+        ensures counted { (log : Log R.Key) → IsCountedIn R.Key.cmp (R.machine self.old.rules) self.old log → IsCountedIn R.Key.cmp (R.machine self.old.rules) self.new log }
+        ensures fewer { IfSome result (λ _. made_in self.new < made_in self.old) }
+    {
         let seat = client.number();
         collect_in(&mut self.accounts, seat)
+    }
+
+    /// Whether a reply to `client` is made and was not collected.
+    pub fn has_made(&self, client: ClientId) -> bool
+        ensures { IsTrue result ↔ ((n : ℕ) × (ready : ReadyView R.Key R.Value M) × IsMadeIn self.now client n ready) }
+    {
+        let seat = client.number();
+        has_made_in(&self.accounts, seat)
+    }
+
+    /// A client with a reply that is made and was not collected, if there is one. It looks at each
+    /// open client, and takes no memory.
+    pub fn next_made(&self) -> Option<ClientId>
+        ensures some { IfSome result (λ c. (n : ℕ) × (ready : ReadyView R.Key R.Value M) × IsMadeIn self.now c n ready) }
+        ensures none { IfNone result (NoneMade self.now) }
+    {
+        match first_made(&self.accounts) {
+            Some(client) => return Some(ClientId::new(client)),
+            None => return None,
+        }
     }
 
     /// Acknowledges that all replies to `client` below `number` were put. It changes nothing where

@@ -1,9 +1,9 @@
 //! The core: a store, and a lane for each open client.
 //!
-//! The store knows the clients, their requests, the inputs, the memos and the runs. A reply that a
-//! call makes is collected from the store and filled into the lane of its client in the same call. A
-//! lane puts its replies into its outbox in the order of their numbers; each reply that was put is
-//! acknowledged to the store. So between two calls each reply that is ready is in its lane.
+//! The store knows the clients, their requests, the inputs, the memos and the runs. The replies that
+//! a call makes are collected from the store and filled into the lanes of their clients in the same
+//! call. A lane puts its replies into its outbox in the order of their numbers; each reply that was
+//! put is acknowledged to the store. So between two calls each reply that is ready is in its lane.
 ghost use Rattle.std.specs.Prelude.{◌≡◌, None};
 ghost use Rattle.pq_memo.specs.Table.{memo_at};
 ghost use Rattle.pq_core.specs.Points.{point_now};

@@ -1,9 +1,10 @@
 //! What calls do to the account of one client.
-ghost use Rattle.std.specs.Prelude.{◌≡◌, ◌≤◌, ◌<◌, ◌+◌, ◌^◌, ℕ, IfOk, IfErr, IfSome, OnErr, length, Some, None};
+ghost use Rattle.std.specs.Prelude.{◌≡◌, ◌≤◌, ◌<◌, ◌+◌, ◌^◌, ◌↔◌, ℕ, IsTrue, IfOk, IfErr, IfSome, IfNone, OnErr, length, Some, None};
 ghost use Rattle.pq_core.specs.Truth.{IsTrueReply};
 ghost use Rattle.pq_core.specs.Accounts.{AccountView, next_of, IsStage, with_stage, with_request, first_stage, Collects, Sees};
 ghost use Rattle.pq_core.specs.aux.Rising.{found, IsAbove};
 ghost use Rattle.pq_core.specs.aux.Changes.{IsSetAt, IsSameMap};
+ghost use Rattle.pq_core.specs.aux.Accounts.{HasMade};
 ghost use Rattle.pq_core.specs.aux.Queue.{WaitsIn};
 ghost use Rattle.pq_core.specs.declared.request.Request.{Request};
 ghost use Rattle.pq_core.specs.declared.account.Begun.{Begun};
@@ -82,6 +83,33 @@ pub(crate) fn finish_in<R: Rules, M: Stamp>(
         client,
         move |account: &mut Account<R, M>| account.finish(number, reply),
     );
+}
+
+/// The first client with a reply that is made and was not collected, if there is one.
+pub(crate) fn first_made<R: Rules, M: Stamp>(accounts: &Rising<Account<R, M>>) -> Option<u64>
+    ensures some { IfSome result (λ c. (account : AccountView R.Key R.Value M) × (found accounts.now.items c ≡ Some account) × HasMade account) }
+    ensures none { IfNone result ((c : ℕ) (account : AccountView R.Key R.Value M) → found accounts.now.items c ≡ Some account → HasMade account → ⊥) }
+{
+    let places = accounts.places();
+    for i in 0..places.len() {
+        let place = &places[i];
+        if let Some(account) = &place.value {
+            if account.has_made() {
+                return Some(place.number);
+            }
+        }
+    }
+    None
+}
+
+/// Whether a reply to `client` is made and was not collected.
+pub(crate) fn has_made_in<R: Rules, M: Stamp>(accounts: &Rising<Account<R, M>>, client: u64) -> bool
+    ensures { IsTrue result ↔ ((account : AccountView R.Key R.Value M) × (found accounts.now.items client ≡ Some account) × HasMade account) }
+{
+    match accounts.get(client) {
+        Some(account) => return account.has_made(),
+        None => return false,
+    }
 }
 
 /// Takes out one reply to `client` that is made, if the client is open.

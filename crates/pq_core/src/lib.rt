@@ -20,9 +20,9 @@
 //! (the store), `opening`, `accepting`, `starting`, `running` and `collecting` (its calls), `run_state`,
 //! `run_step` and `run_end` (the state of a run, its step, its end), `account`
 //! and `in_accounts` (what it knows of an open client), `ready` (a reply on its way), `lane`, `cores`
-//! (the core), `serving` and `releasing` (its calls), `passing` (from the store to a lane), `rising` (a
-//! map from rising numbers), `run`, `frames`, `confirming` and `entering` (how a run goes on),
-//! `closing` (of a ring of keys), `laws` (what each move keeps).
+//! (the core), `serving` and `releasing` (its calls), `passing` (from the store to the lanes),
+//! `rising` (a map from rising numbers), `run`, `frames`, `confirming` and `entering` (how a run
+//! goes on), `closing` (of a ring of keys), `laws` (what each move keeps).
 #![tactic(auto)]
 
 mod accepting;

@@ -1,12 +1,13 @@
-//! Passing a reply on from a store to the lane of its client.
-ghost use Rattle.std.specs.Prelude.{◌≡◌, Some, IfSome, IfNone};
-ghost use Rattle.pq_core.specs.Ledger.{Ledger};
-ghost use Rattle.pq_core.specs.Told.{Told};
-ghost use Rattle.pq_core.specs.Stores.{StandsFor};
-ghost use Rattle.pq_core.specs.Starts.{IsCountedIn, Log};
-ghost use Rattle.pq_core.specs.aux.Passing.{FillsIn, Passes};
+//! Passing replies on from a store to the lanes of their clients.
+//!
+//! The calls of a core that accept, edit, or start and move runs end with `pass_on_all`. While it
+//! goes on, each reply that is ready is in its lane or made in the store.
+ghost use Rattle.std.specs.Prelude.{◌≡◌, ◌<◌, ℕ};
+ghost use Rattle.pq_core.specs.Lanes.{ReadyView};
+ghost use Rattle.pq_core.specs.Stores.{IsMadeIn, NoneMade};
+ghost use Rattle.pq_core.specs.aux.Passing.{FillsIn, PassesOn, made_in};
 
-use crate::ids::{ClientId, Number};
+use crate::ids::ClientId;
 use crate::lane::Lane;
 use crate::outbox::Outbox;
 use crate::ready::Ready;
@@ -21,7 +22,7 @@ fn fill_in<R: Rules, M: Stamp, O: Outbox<R, M> + Drop>(
     client: ClientId,
     ready: Ready<R, M>,
 )
-    ensures { FillsIn client (Some ready) lanes.old lanes.new }
+    ensures { FillsIn client ready lanes.old lanes.new }
 {
     let _filled = lanes.update(
         client.number(),
@@ -29,22 +30,18 @@ fn fill_in<R: Rules, M: Stamp, O: Outbox<R, M> + Drop>(
     );
 }
 
-/// Passes one reply to `client` that is made, if there is one, on to its lane. It takes no memory.
-pub(crate) fn pass_on<R: Rules, M: Stamp, O: Outbox<R, M> + Drop>(
+/// Passes one reply to `client`, which is made, on to its lane.
+fn pass_on<R: Rules, M: Stamp, O: Outbox<R, M> + Drop>(
     store: &mut Store<R, M>,
     lanes: &mut Rising<Lane<R, M, O>>,
     client: ClientId,
 )
-    ensures rules { store.new.rules ≡ store.old.rules }
-    ensures inputs { store.new.inputs ≡ store.old.inputs }
-    ensures places { store.new.places ≡ store.old.places }
-    ensures claims { store.new.claims ≡ store.old.claims }
-    ensures stands { (l : Ledger R.Key R.Value M (Told R.Key R.Value M)) → StandsFor R.Key.cmp (R.machine store.old.rules) M.point store.old l → StandsFor R.Key.cmp (R.machine store.old.rules) M.point store.new l }
-    ensures passes { Passes client store.old store.new lanes.old lanes.new }
-    ensures counted { (log : Log R.Key) → IsCountedIn R.Key.cmp (R.machine store.old.rules) store.old log → IsCountedIn R.Key.cmp (R.machine store.old.rules) store.new log }
+    requires { (n : ℕ) × (ready : ReadyView R.Key R.Value M) × IsMadeIn store.old client n ready }
+    ensures passes { PassesOn R.Key.cmp (R.machine store.old.rules) M.point O.puts store.old store.new lanes.old lanes.new }
+    ensures fewer { made_in store.new < made_in store.old }
 {
-    match store.collect(client) {
-        None => return,
+    match store.take_made(client) {
+        None => unreachable!(),
         Some(ready) => {
             fill_in(lanes, client, ready);
             return;
@@ -52,26 +49,19 @@ pub(crate) fn pass_on<R: Rules, M: Stamp, O: Outbox<R, M> + Drop>(
     }
 }
 
-/// Passes one reply to the client of `asked` that is made, if there is one, on to its lane.
-pub(crate) fn pass_on_asked<R: Rules, M: Stamp, O: Outbox<R, M> + Drop>(
+/// Passes each reply that is made on to the lane of its client. It looks at each open client once
+/// for each such reply and once more, and takes no memory.
+pub(crate) fn pass_on_all<R: Rules, M: Stamp, O: Outbox<R, M> + Drop>(
     store: &mut Store<R, M>,
     lanes: &mut Rising<Lane<R, M, O>>,
-    asked: Option<(ClientId, Number)>,
 )
-    ensures rules { store.new.rules ≡ store.old.rules }
-    ensures inputs { store.new.inputs ≡ store.old.inputs }
-    ensures places { store.new.places ≡ store.old.places }
-    ensures claims { store.new.claims ≡ store.old.claims }
-    ensures stands { (l : Ledger R.Key R.Value M (Told R.Key R.Value M)) → StandsFor R.Key.cmp (R.machine store.old.rules) M.point store.old l → StandsFor R.Key.cmp (R.machine store.old.rules) M.point store.new l }
-    ensures passes { IfSome asked (λ named. Passes named.0 store.old store.new lanes.old lanes.new) }
-    ensures none { IfNone asked ((store.new ≡ store.old) × (lanes.new ≡ lanes.old)) }
-    ensures counted { (log : Log R.Key) → IsCountedIn R.Key.cmp (R.machine store.old.rules) store.old log → IsCountedIn R.Key.cmp (R.machine store.old.rules) store.new log }
+    ensures passes { PassesOn R.Key.cmp (R.machine store.old.rules) M.point O.puts store.old store.new lanes.old lanes.new }
+    ensures none { NoneMade store.new }
 {
-    match asked {
-        Some((client, _number)) => {
-            pass_on(store, lanes, client);
-            return;
+    'replies: loop {
+        match store.next_made() {
+            None => return,
+            Some(client) => pass_on(store, lanes, client),
         }
-        None => return,
     }
 }

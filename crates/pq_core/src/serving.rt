@@ -1,7 +1,7 @@
 //! Calls of a core that end with its store: opening, accepting, and the steps and ends of runs.
 //!
-//! Where a call of the store may have made a reply, it is passed on to its lane.
-ghost use Rattle.std.specs.Prelude.{◌≡◌, ◌⊎◌, ◌↔◌, [], IsTrue, IfOk, IfErr};
+//! The replies that a call of the store makes are passed on to their lanes in the same call.
+ghost use Rattle.std.specs.Prelude.{◌≡◌, [], IfOk, IfErr};
 ghost use Rattle.pq_memo.specs.Table.{memo_at};
 ghost use Rattle.pq_memo.specs.Demand.{NoneLost};
 ghost use Rattle.pq_core.specs.Points.{point_now};
@@ -10,16 +10,14 @@ ghost use Rattle.pq_core.specs.Moves.{Reaches, Opens, Accepts, Edits, Starts, Lo
 ghost use Rattle.pq_core.specs.Cores.{StandsFor, HandsOut, HasCause};
 ghost use Rattle.pq_core.specs.Stores.{NamesHolder};
 ghost use Rattle.pq_core.specs.Starts.{IsCountedFor, Log, log_moved, log_starved};
-ghost use Rattle.pq_core.specs.declared.moves.Move.TheVariants.{Answered, Stopped};
 
-use crate::accepting::is_demand;
 use crate::cores::Core;
 use crate::fault::{AcceptRefused, EditRefused, GiveRefused, LookFault, OpenFault, OpenRefused};
 use crate::ids::{ClientId, Number};
 use crate::lane::{Lane, Places};
 use crate::moves::Move;
 use crate::outbox::Outbox;
-use crate::passing::{pass_on, pass_on_asked};
+use crate::passing::pass_on_all;
 use crate::request::{Change, Request};
 use crate::stamp::Stamp;
 use crate::work::{Done, Work};
@@ -27,19 +25,6 @@ use pq_claims::RunId;
 use pq_inputs::Revision;
 use pq_rules::Rules;
 use std::alloc::Global;
-
-/// Whether `moved` is the end of a run.
-fn ends<W>(moved: &Move<W>) -> bool
-    ensures { IsTrue result ↔ ((moved.now ≡ Answered) ⊎ (moved.now ≡ Stopped)) }
-{
-    match moved {
-        Move::Carry(_) => false,
-        Move::Blocked(_) => false,
-        Move::Stepped => false,
-        Move::Answered => true,
-        Move::Stopped => true,
-    }
-}
 
 impl<R: Rules, M: Stamp, O: Outbox<R, M> + Drop> Core<R, M, O> {
     /// Opens a client, whose replies go to `outbox`.
@@ -106,17 +91,9 @@ impl<R: Rules, M: Stamp, O: Outbox<R, M> + Drop> Core<R, M, O> {
             → Reaches (Accepts O.puts client request result) l (StandsFor R.Key.cmp (R.machine self.old.rules) M.point O.puts self.new) }
         ensures counted { (log : Log R.Key) → IsCountedFor R.Key.cmp (R.machine self.old.rules) self.old log → IsCountedFor R.Key.cmp (R.machine self.old.rules) self.new log }
     {
-        let waits = is_demand(&request.want);
-        match self.store.accept(client, request) {
-            Ok(number) => {
-                if waits {
-                    return Ok(number);
-                }
-                pass_on(&mut self.store, &mut self.lanes, client);
-                return Ok(number);
-            }
-            Err(refused) => return Err(refused),
-        }
+        let answer = self.store.accept(client, request);
+        pass_on_all(&mut self.store, &mut self.lanes);
+        answer
     }
 
     /// Makes the change of `client`, at the next revision, of which `stamp` is the stamp. It waits for
@@ -140,7 +117,9 @@ impl<R: Rules, M: Stamp, O: Outbox<R, M> + Drop> Core<R, M, O> {
             → Reaches (Edits client change result) l (StandsFor R.Key.cmp (R.machine self.old.rules) M.point O.puts self.new) }
         ensures counted { (log : Log R.Key) → IsCountedFor R.Key.cmp (R.machine self.old.rules) self.old log → IsCountedFor R.Key.cmp (R.machine self.old.rules) self.new log }
     {
-        self.store.edit(client, change, stamp)
+        let answer = self.store.edit(client, change, stamp);
+        pass_on_all(&mut self.store, &mut self.lanes);
+        answer
     }
 
     /// Starts a run for the request that waited longest, at the revision now. Returns `None` only
@@ -153,7 +132,9 @@ impl<R: Rules, M: Stamp, O: Outbox<R, M> + Drop> Core<R, M, O> {
             → Reaches (Starts result) l (StandsFor R.Key.cmp (R.machine self.old.rules) M.point O.puts self.new) }
         ensures counted { (log : Log R.Key) → IsCountedFor R.Key.cmp (R.machine self.old.rules) self.old log → IsCountedFor R.Key.cmp (R.machine self.old.rules) self.new log }
     {
-        self.store.start()
+        let answer = self.store.start();
+        pass_on_all(&mut self.store, &mut self.lanes);
+        answer
     }
 
     /// The client and the number of the request of `run`, if it exists.
@@ -179,17 +160,9 @@ impl<R: Rules, M: Stamp, O: Outbox<R, M> + Drop> Core<R, M, O> {
         ensures cause { IfOk result (HasCause R.Key.cmp (R.machine self.old.rules) self.old) }
         ensures counted { (log : Log R.Key) → IsCountedFor R.Key.cmp (R.machine self.old.rules) self.old log → IsCountedFor R.Key.cmp (R.machine self.old.rules) self.new (log_moved self.old run result log) }
     {
-        let asked = self.store.request_of(run);
-        match self.store.look(alloc, run) {
-            Ok(moved) => {
-                if ends(&moved) {
-                    pass_on_asked(&mut self.store, &mut self.lanes, asked);
-                    return Ok(moved);
-                }
-                return Ok(moved);
-            }
-            Err(fault) => return Err(fault),
-        }
+        let answer = self.store.look(alloc, run);
+        pass_on_all(&mut self.store, &mut self.lanes);
+        answer
     }
 
     /// Takes the result of the work of `run`. A result that was started at the revision now is one
@@ -213,17 +186,9 @@ impl<R: Rules, M: Stamp, O: Outbox<R, M> + Drop> Core<R, M, O> {
             → Reaches (Gives run done result) l (StandsFor R.Key.cmp (R.machine self.old.rules) M.point O.puts self.new) }
         ensures counted { (log : Log R.Key) → IsCountedFor R.Key.cmp (R.machine self.old.rules) self.old log → IsCountedFor R.Key.cmp (R.machine self.old.rules) self.new (log_moved self.old run result log) }
     {
-        let asked = self.store.request_of(run);
-        match self.store.give(alloc, run, done) {
-            Ok(moved) => {
-                if ends(&moved) {
-                    pass_on_asked(&mut self.store, &mut self.lanes, asked);
-                    return Ok(moved);
-                }
-                return Ok(moved);
-            }
-            Err(refused) => return Err(refused),
-        }
+        let answer = self.store.give(alloc, run, done);
+        pass_on_all(&mut self.store, &mut self.lanes);
+        answer
     }
 
     /// Ends `run` because an allocation failed. Returns whether it was a run. It takes no memory.
@@ -235,11 +200,8 @@ impl<R: Rules, M: Stamp, O: Outbox<R, M> + Drop> Core<R, M, O> {
             → Reaches (Starves run result) l (StandsFor R.Key.cmp (R.machine self.old.rules) M.point O.puts self.new) }
         ensures counted { (log : Log R.Key) → IsCountedFor R.Key.cmp (R.machine self.old.rules) self.old log → IsCountedFor R.Key.cmp (R.machine self.old.rules) self.new (log_starved self.old run result log) }
     {
-        let asked = self.store.request_of(run);
-        if self.store.starve(run) {
-            pass_on_asked(&mut self.store, &mut self.lanes, asked);
-            return true;
-        }
-        false
+        let was_run = self.store.starve(run);
+        pass_on_all(&mut self.store, &mut self.lanes);
+        was_run
     }
 }

@@ -11,8 +11,8 @@ use crate::hall::Hall;
 use crate::mark::{BoardName, Mark};
 use crate::one_value::OneValue;
 use crate::posting::{Moved, post_step};
-use crate::state::{Client, State};
-use pq_core::{Memory, Ready};
+use crate::state::{Client, Collected, State};
+use pq_core::Memory;
 use pq_inputs::Inputs;
 use pq_mail::{PorterEnd, Post};
 use pq_rules::Rules;
@@ -31,8 +31,8 @@ fn settled<K>(moved: Moved<K>) -> Result<Moved<K>, Post<K>>
     }
 }
 
-/// What a post came to under the lock, and a reply that is to go to its lane.
-type Carried<R, J> = (Moved<<R as Rules>::Key>, Option<Ready<R, Mark<J>>>);
+/// What a post came to under the lock, and what is to go to the lane of its client.
+type Carried<R, J> = (Moved<<R as Rules>::Key>, Collected<R, J>);
 
 impl<R: Rules + OneValue, J: BoardName, H: Wait + Copy + Drop> Hall<R, J, H> {
     /// Carries the next post of `client` into the store. It waits for a post, and for room in the
@@ -55,10 +55,8 @@ impl<R: Rules + OneValue, J: BoardName, H: Wait + Copy + Drop> Hall<R, J, H> {
         match porter.next(rt) {
             None => return Ok(Moved::Ended),
             Some(post) => match self.carry(rt, client, post) {
-                Ok((moved, ready)) => {
-                    if ready.is_some() {
-                        self.deliver(rt, client, ready);
-                    }
+                Ok((moved, collected)) => {
+                    self.deliver_all(rt, client, collected);
                     return Ok(moved);
                 }
                 Err(fault) => {
@@ -78,8 +76,8 @@ impl<R: Rules + OneValue, J: BoardName, H: Wait + Copy + Drop> Hall<R, J, H> {
         for _ in rt.forever() {
             match settled(self.step(rt, &mut state, client, post)?) {
                 Ok(moved) => {
-                    let ready = self.carried(&mut state, client);
-                    return Ok((moved, ready));
+                    let collected = self.carried(&mut state, client);
+                    return Ok((moved, collected));
                 }
                 Err(back) => post = back,
             }
@@ -107,11 +105,11 @@ impl<R: Rules + OneValue, J: BoardName, H: Wait + Copy + Drop> Hall<R, J, H> {
         }
     }
 
-    /// Tells of a post that was carried. Returns a reply to `client` that is made.
-    fn carried(&self, state: &mut State<R, J>, client: Client) -> Option<Ready<R, Mark<J>>> {
+    /// Wakes the workers after a post was carried, and collects a reply to `client`.
+    fn carried(&self, state: &mut State<R, J>, client: Client) -> Collected<R, J> {
         state.moved();
         self.work_came.notify_all();
-        state.store.collect(client.id())
+        state.collect(client)
     }
 
     /// The mark of the revision that `post` makes of `inputs`, if it is an edit.

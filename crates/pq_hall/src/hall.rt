@@ -5,8 +5,8 @@ use crate::board::{Board, NewBoard};
 use crate::mark::{BoardName, Mark};
 use crate::one_value::OneValue;
 use crate::seats::{Seat, Sent, free_seats, has_seat, send_in};
-use crate::state::{Client, State};
-use pq_core::{ClientId, Memory, Number, Ready, Store};
+use crate::state::{Client, Collected, State};
+use pq_core::{ClientId, Memory, Number, Ready, Store, WINDOW};
 use pq_inputs::{Inputs, Revision};
 use pq_rules::Rules;
 use std::alloc::Global;
@@ -104,6 +104,41 @@ impl<R: Rules + OneValue, J: BoardName, H: Wait + Copy + Drop> Hall<R, J, H> {
             return None;
         }
         seat.take()
+    }
+
+    /// Delivers what is made to `client`, of which `first` was collected. Where no more was made,
+    /// the store's lock is taken for the acknowledgement alone.
+    pub(crate) fn deliver_all(&self, rt: &H, client: Client, first: Collected<R, J>) {
+        let Collected { ready, more } = first;
+        if ready.is_some() {
+            self.deliver(rt, client, ready);
+        }
+        if more {
+            self.deliver_rest(rt, client);
+        }
+    }
+
+    /// Delivers the replies to `client` that are made. A client has at most `WINDOW` of them, and
+    /// those made first are collected first.
+    fn deliver_rest(&self, rt: &H, client: Client) {
+        for _ in 0..WINDOW {
+            if !self.deliver_next(rt, client) {
+                return;
+            }
+        }
+    }
+
+    /// Collects a reply to `client`, and delivers it. Returns whether more are made.
+    fn deliver_next(&self, rt: &H, client: Client) -> bool {
+        let Collected { ready, more } = self.collect(rt, client);
+        self.deliver(rt, client, ready);
+        more
+    }
+
+    /// Collects under the lock of the store.
+    fn collect(&self, rt: &H, client: Client) -> Collected<R, J> {
+        let mut state = self.state.lock(rt);
+        state.collect(client)
     }
 
     /// Fills `ready` into the lane of `client`, if it is there, puts what has room, and acknowledges

@@ -2,7 +2,7 @@
 ghost use Rattle.std.specs.Prelude.{◌≡◌};
 
 use crate::mark::{BoardName, Mark};
-use pq_core::{ClientId, MAX_CLIENTS, Memory, Store};
+use pq_core::{ClientId, MAX_CLIENTS, Memory, Ready, Store};
 use pq_rules::Rules;
 use std::alloc::Global;
 use std::collections::VecDeque;
@@ -28,6 +28,13 @@ impl Client {
 pub(crate) struct Task {
     pub(crate) run: u64,
     pub(crate) client: Client,
+}
+
+/// A reply to a client that was collected, if one was made, and whether more are made.
+#[derive(Drop)]
+pub(crate) struct Collected<R: Rules, J: BoardName> {
+    pub(crate) ready: Option<Ready<R, Mark<J>>>,
+    pub(crate) more: bool,
 }
 
 /// A run that no worker has in hand, since another run held a key that it needs.
@@ -105,6 +112,13 @@ impl<R: Rules, J: BoardName> State<R, J> {
             id,
             seat: self.seats.len(),
         }
+    }
+
+    /// Collects a reply to `client`, if one is made.
+    pub(crate) fn collect(&mut self, client: Client) -> Collected<R, J> {
+        let ready = self.store.collect(client.id());
+        let more = ready.is_some() && self.store.has_made(client.id());
+        Collected { ready, more }
     }
 
     /// A run to go on with: one that was parked long ago, one for a request that waits, or else one

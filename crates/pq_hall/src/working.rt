@@ -6,8 +6,8 @@ use crate::hall::Hall;
 use crate::mark::{BoardName, Mark};
 use crate::one_value::OneValue;
 use crate::running::{Hand, Next, run_step};
-use crate::state::{Client, State, Task};
-use pq_core::{Done, Move, Ready, RunId, Stamp, Work};
+use crate::state::{Client, Collected, State, Task};
+use pq_core::{Done, Move, RunId, Stamp, Work};
 use pq_rules::Rules;
 use std::sync::Wait;
 
@@ -38,8 +38,8 @@ enum Turn<R: Rules, J: BoardName> {
     Carry(Errand<R, J>),
     /// The run, which goes on.
     GoesOn(Task),
-    /// A reply to the client of a run that is over.
-    Reply(Client, Option<Ready<R, Mark<J>>>),
+    /// What was collected for the client of a run that is over.
+    Reply(Client, Collected<R, J>),
     /// Nothing: the run is over without a reply, or is parked.
     Free,
     /// The hall is shut.
@@ -74,15 +74,16 @@ impl<R: Rules + OneValue, J: BoardName, H: Wait + Copy + Drop> Hall<R, J, H> {
         match turn {
             Turn::Carry(errand) => return Some(self.carry_work(rt, gate, errand)),
             Turn::GoesOn(task) => return Some(self.go_on(rt, task, Hand::Look)),
-            Turn::Reply(client, ready) => return Some(self.hand_over(rt, client, ready)),
+            Turn::Reply(client, collected) => return Some(self.hand_over(rt, client, collected)),
             Turn::Free => return Some(self.begin(rt)),
             Turn::Shut => return None,
         }
     }
 
-    /// Delivers `ready` to `client`, and takes the next turn.
-    fn hand_over(&self, rt: &H, client: Client, ready: Option<Ready<R, Mark<J>>>) -> Turn<R, J> {
-        self.deliver(rt, client, ready);
+    /// Delivers what is made to `client`, of which `collected` is the first, and takes the next
+    /// turn.
+    fn hand_over(&self, rt: &H, client: Client, collected: Collected<R, J>) -> Turn<R, J> {
+        self.deliver_all(rt, client, collected);
         self.begin(rt)
     }
 
@@ -168,9 +169,9 @@ impl<R: Rules + OneValue, J: BoardName, H: Wait + Copy + Drop> Hall<R, J, H> {
         Turn::GoesOn(task)
     }
 
-    /// Collects the reply of the run of `task`, which is over.
+    /// Collects a reply to the client of the run of `task`, which is over.
     fn ended(&self, state: &mut State<R, J>, task: Task) -> Turn<R, J> {
         self.stepped(state);
-        Turn::Reply(task.client, state.store.collect(task.client.id()))
+        Turn::Reply(task.client, state.collect(task.client))
     }
 }

@@ -28,6 +28,10 @@ abbrev pub made_count : {K T : Type 0} → List (Stage K T) → ℕ
 made_count [] = 0
 made_count (stage ∷ stages) = made_one stage + made_count stages
 
+-- `HasMade account` is that a reply of `account` is made and not collected
+abbrev pub HasMade : {K V M : Type 0} → AccountView K V M → Type 0
+HasMade {K} {V} {M} account = (n : ℕ) × (ready : ReadyView K V M) × IsStage account n (Made ready)
+
 -- `AccountKept account made room` is what each account keeps: `made` has each number whose reply is
 -- made and not collected, once, and `room` is enough for all its requests
 pub record AccountKept {K V M : Type 0} (account : AccountView K V M) (made : List ℕ) (room : ℕ) : Type 0 where

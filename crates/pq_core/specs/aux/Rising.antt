@@ -59,3 +59,7 @@ pub record Compacts {T : Type 0} (items left : List (Place T)) : Type 0 where
   pub rises : Rises left
   pub same : SameFound items left
   pub counted : live_count left ≡ live_count items
+
+-- `NoneOf Holds items n` is that `Holds` holds of no value in the first `n` places of `items`
+abbrev pub NoneOf : {T : Type 0} → (T → Type 0) → List (Place T) → ℕ → Type 0
+NoneOf {T} Holds items n = (j : ℕ) (p : Place T) (value : T) → j < n → slice_get items j ≡ Some p → p.value ≡ Some value → Holds value → ⊥

@@ -4,9 +4,9 @@
 //! A script has a line `CALL => ANSWER`.
 //!
 //! - `open`, `next`, `accept CLIENT REQUEST`, `edit CLIENT CHANGE`, `start`, `look RUN`, `give RUN`,
-//!   `starve RUN`, `collect CLIENT`, `seen CLIENT NUMBER`, `close CLIENT` and `idle` are calls of the
-//!   store. The work that a look hands out is lost. `give` takes a step, carries its work out and
-//!   gives the result. A reply that is collected is kept.
+//!   `starve RUN`, `made`, `more CLIENT`, `collect CLIENT`, `seen CLIENT NUMBER`, `close CLIENT` and
+//!   `idle` are calls of the store. The work that a look hands out is lost. `give` takes a step,
+//!   carries its work out and gives the result. A reply that is collected is kept.
 //! - `fill CLIENT NUMBER` fills that kept reply into the lane, and keeps it where it comes back.
 //!   `release`, `take` and `shut` are calls of the lane, which is of client 0 and has room for two
 //!   replies that were not taken.
@@ -105,6 +105,7 @@ fn plain_answer<S: Storing>(page: &mut Page, store: &mut S, call: &str) {
         "open" => add_opened(page, store.opened()),
         "next" => add_client(page, store.next()),
         "start" => add_run(page, store.started()),
+        "made" => add_client(page, store.next_with_made()),
         _ => page.add(yes_or_no(store.idles())),
     }
 }
@@ -131,6 +132,7 @@ fn client_answer<S: Storing>(
     match call {
         "accept" => store.accepted(page, client, request_of::<SumsKey>(rt, rest)),
         "edit" => store.edited(page, client, change_of(rt, rest)),
+        "more" => page.add(yes_or_no(store.is_made(client))),
         "collect" => collect(page, store, kept, client),
         "seen" => store.acknowledged(client, Number::new(number_of(rt, rest))),
         _ => page.add(yes_or_no(store.closed(client))),
@@ -168,7 +170,7 @@ fn check_line<S: Storing, L: Laying>(
     let (first, more) = rest.split_once(" ").unwrap_or((rest, ""));
     let mut page = Page::new(rt.alloc());
     match call {
-        "open" | "next" | "start" | "idle" => plain_answer(&mut page, store, call),
+        "open" | "next" | "start" | "made" | "idle" => plain_answer(&mut page, store, call),
         "look" | "give" | "starve" => {
             run_answer(&mut page, store, call, RunId::new(number_of(rt, first)));
         }
@@ -230,20 +232,28 @@ fn check_parts(rt: &(impl Abort + AllocGlobal), count: usize, rows: &str) {
 fn filled_in_another_order(rt: HostRuntime) {
     check_parts(
         &rt,
-        24,
+        32,
         "\
         next => 0\n\
         open => 0\n\
         open => 1\n\
+        made => none\n\
         accept 0 7 say a => 0\n\
         accept 0 8 say b => 1\n\
         accept 0 9 say c => 2\n\
         accept 1 7 say d => 0\n\
+        made => 0\n\
         collect 0 => 0 plain\n\
         collect 0 => 1 plain\n\
+        more 0 => yes\n\
         collect 0 => 2 plain\n\
+        more 0 => no\n\
+        more 2 => no\n\
+        made => 1\n\
         collect 0 => none\n\
+        more 1 => yes\n\
         collect 1 => 0 plain\n\
+        made => none\n\
         fill 0 1 => yes\n\
         release => nothing\n\
         fill 1 0 => no\n\

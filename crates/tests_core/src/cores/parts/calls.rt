@@ -39,6 +39,12 @@ pub(super) trait Storing {
     /// Starves a run.
     fn starved(&mut self, run: RunId) -> bool;
 
+    /// A client with a reply that is made.
+    fn next_with_made(&self) -> Option<ClientId>;
+
+    /// Whether a reply to a client is made.
+    fn is_made(&self, client: ClientId) -> bool;
+
     /// Collects a reply.
     fn collected(&mut self, client: ClientId) -> Option<Ready<Sums, PlainStamp>>;
 
@@ -95,6 +101,14 @@ impl Storing for Store<Sums, PlainStamp> {
 
     fn starved(&mut self, run: RunId) -> bool {
         self.starve(run)
+    }
+
+    fn next_with_made(&self) -> Option<ClientId> {
+        self.next_made()
+    }
+
+    fn is_made(&self, client: ClientId) -> bool {
+        self.has_made(client)
     }
 
     fn collected(&mut self, client: ClientId) -> Option<Ready<Sums, PlainStamp>> {

@@ -1,48 +1,21 @@
 use Rattle.std.proofs.Common.{◌∙◌}
-use Rattle.pq_core.proofs.CorePassing.{call_moved, call_whole}
-use Rattle.std.specs.Prelude.{Ok, Err}
 use Rattle.pq_core.specs.Moves.{Accepts}
-use Rattle.pq_core.proofs.CoreServing.{accept_so, accept_waits_so, accept_refused_so}
+use Rattle.pq_core.specs.Told.{told_puts}
+use Rattle.pq_core.proofs.Told.{accepts_told}
+use Rattle.pq_core.proofs.CorePassing.{call_moved, call_whole, served}
+use Rattle.pq_core.proofs.CoreServing.{accept_keeps}
 use Rattle.pq_core.proofs.cores.Core.accept.Goals as goal
 
-pub returns-in-Ok-clause-moved : goal.returns-in-Ok-clause-moved
-returns-in-Ok-clause-moved g c =
-    rw (← c.self.view_is) (call_moved g.R.Key.Ord.cmp g.R.Rules.machine g.M.Stamp.point g.O.Outbox.puts (Accepts g.O.Outbox.puts c.args.client c.args.request (Ok c.in-Ok.number)) c.self.inside.store c.pass_on.new.store c.self.inside.lanes c.pass_on.new.lanes
-    (λ l s. accept_so g.R.Key.Ord.cmp (g.R.Rules.machine c.self.inside.store.rules) g.M.Stamp.point g.O.Outbox.puts c.args.client c.in-Ok.number c.args.request c.self.inside.store c.accept.new.self c.pass_on.new.store c.self.inside.lanes c.pass_on.new.lanes l c.self.invariant.none_handed s (c.in-Ok.ensures {u = tt}).moved (rw (c.in-Ok.ensures {u = tt}).rules at c.pass_on.ensures.stands) c.pass_on.ensures.passes))
-
-pub invariant_of-self-in-Ok : goal.invariant_of-self-in-Ok
-invariant_of-self-in-Ok g c =
-    call_whole g.R.Key.Ord.cmp g.R.Rules.machine g.M.Stamp.point g.O.Outbox.puts (Accepts g.O.Outbox.puts c.args.client c.args.request (Ok c.in-Ok.number)) c.self.inside.store c.pass_on.new.store c.self.inside.lanes c.pass_on.new.lanes c.self.invariant (c.pass_on.ensures.rules ∙ (c.in-Ok.ensures {u = tt}).rules)
-    (λ l s. accept_so g.R.Key.Ord.cmp (g.R.Rules.machine c.self.inside.store.rules) g.M.Stamp.point g.O.Outbox.puts c.args.client c.in-Ok.number c.args.request c.self.inside.store c.accept.new.self c.pass_on.new.store c.self.inside.lanes c.pass_on.new.lanes l c.self.invariant.none_handed s (c.in-Ok.ensures {u = tt}).moved (rw (c.in-Ok.ensures {u = tt}).rules at c.pass_on.ensures.stands) c.pass_on.ensures.passes)
-
-pub returns-in-Err-clause-moved : goal.returns-in-Err-clause-moved
-returns-in-Err-clause-moved g c =
-    rw (← c.self.view_is) (call_moved g.R.Key.Ord.cmp g.R.Rules.machine g.M.Stamp.point g.O.Outbox.puts (Accepts g.O.Outbox.puts c.args.client c.args.request (Err c.in-Err.refused)) c.self.inside.store c.accept.new.self c.self.inside.lanes c.self.inside.lanes
-    (λ l s. accept_refused_so g.R.Key.Ord.cmp (g.R.Rules.machine c.self.inside.store.rules) g.M.Stamp.point g.O.Outbox.puts c.args.client c.args.request c.in-Err.refused c.self.inside.store c.accept.new.self c.self.inside.lanes l c.self.invariant.none_handed s (c.in-Err.ensures {u = tt}).moved))
-
-pub invariant_of-self-in-Err : goal.invariant_of-self-in-Err
-invariant_of-self-in-Err g c =
-    call_whole g.R.Key.Ord.cmp g.R.Rules.machine g.M.Stamp.point g.O.Outbox.puts (Accepts g.O.Outbox.puts c.args.client c.args.request (Err c.in-Err.refused)) c.self.inside.store c.accept.new.self c.self.inside.lanes c.self.inside.lanes c.self.invariant ((c.in-Err.ensures {u = tt}).rules)
-    (λ l s. accept_refused_so g.R.Key.Ord.cmp (g.R.Rules.machine c.self.inside.store.rules) g.M.Stamp.point g.O.Outbox.puts c.args.client c.args.request c.in-Err.refused c.self.inside.store c.accept.new.self c.self.inside.lanes l c.self.invariant.none_handed s (c.in-Err.ensures {u = tt}).moved)
-
-pub returns-in-Ok-clause-counted : goal.returns-in-Ok-clause-counted
-returns-in-Ok-clause-counted g c =
-    rw (← c.self.view_is) (λ log x. (rw (c.in-Ok.ensures {u = tt}).rules at c.pass_on.ensures.counted) log ((c.in-Ok.ensures {u = tt}).counted log x))
-
-pub returns-in-Err-clause-counted : goal.returns-in-Err-clause-counted
-returns-in-Err-clause-counted g c =
-    rw (← c.self.view_is) (c.in-Err.ensures {u = tt}).counted
-
-pub returns-then-waits-clause-moved : goal.returns-then-waits-clause-moved
-returns-then-waits-clause-moved g c =
-    rw (← c.self.view_is) (call_moved g.R.Key.Ord.cmp g.R.Rules.machine g.M.Stamp.point g.O.Outbox.puts (Accepts g.O.Outbox.puts c.args.client c.args.request (Ok c.in-Ok.number)) c.self.inside.store c.accept.new.self c.self.inside.lanes c.self.inside.lanes
-    (λ l s. accept_waits_so g.R.Key.Ord.cmp (g.R.Rules.machine c.self.inside.store.rules) g.M.Stamp.point g.O.Outbox.puts c.args.client c.in-Ok.number c.args.request c.self.inside.store c.accept.new.self c.self.inside.lanes l (c.is_demand-waits.ensures.0 c.if-waits.true) c.self.invariant.none_handed s (c.in-Ok.ensures {u = tt}).moved))
+pub returns-clause-moved : goal.returns-clause-moved
+returns-clause-moved g c =
+    rw (← c.self.view_is) (call_moved g.R.Key.Ord.cmp g.R.Rules.machine g.M.Stamp.point g.O.Outbox.puts (Accepts g.O.Outbox.puts c.args.client c.args.request c.accept-answer.result) c.self.inside.store c.pass_on_all.new.store c.self.inside.lanes c.pass_on_all.new.lanes
+    (served g.R.Key.Ord.cmp g.R.Rules.machine g.M.Stamp.point g.O.Outbox.puts (Accepts told_puts c.args.client c.args.request c.accept-answer.result) (Accepts g.O.Outbox.puts c.args.client c.args.request c.accept-answer.result) c.self.inside.store c.accept-answer.new.self c.pass_on_all.new.store c.self.inside.lanes c.pass_on_all.new.lanes c.self.invariant.none_handed c.accept-answer.ensures.moved (accepts_told g.O.Outbox.puts c.args.client c.args.request c.accept-answer.result) (accept_keeps g.O.Outbox.puts c.args.client c.args.request c.accept-answer.result) c.accept-answer.ensures.rules c.pass_on_all.ensures.passes c.pass_on_all.ensures.none))
 
 pub invariant_of-self : goal.invariant_of-self
 invariant_of-self g c =
-    call_whole g.R.Key.Ord.cmp g.R.Rules.machine g.M.Stamp.point g.O.Outbox.puts (Accepts g.O.Outbox.puts c.args.client c.args.request (Ok c.in-Ok.number)) c.self.inside.store c.accept.new.self c.self.inside.lanes c.self.inside.lanes c.self.invariant ((c.in-Ok.ensures {u = tt}).rules)
-    (λ l s. accept_waits_so g.R.Key.Ord.cmp (g.R.Rules.machine c.self.inside.store.rules) g.M.Stamp.point g.O.Outbox.puts c.args.client c.in-Ok.number c.args.request c.self.inside.store c.accept.new.self c.self.inside.lanes l (c.is_demand-waits.ensures.0 c.if-waits.true) c.self.invariant.none_handed s (c.in-Ok.ensures {u = tt}).moved)
+    call_whole g.R.Key.Ord.cmp g.R.Rules.machine g.M.Stamp.point g.O.Outbox.puts (Accepts g.O.Outbox.puts c.args.client c.args.request c.accept-answer.result) c.self.inside.store c.pass_on_all.new.store c.self.inside.lanes c.pass_on_all.new.lanes c.self.invariant (c.pass_on_all.ensures.passes.rules ∙ c.accept-answer.ensures.rules)
+    (served g.R.Key.Ord.cmp g.R.Rules.machine g.M.Stamp.point g.O.Outbox.puts (Accepts told_puts c.args.client c.args.request c.accept-answer.result) (Accepts g.O.Outbox.puts c.args.client c.args.request c.accept-answer.result) c.self.inside.store c.accept-answer.new.self c.pass_on_all.new.store c.self.inside.lanes c.pass_on_all.new.lanes c.self.invariant.none_handed c.accept-answer.ensures.moved (accepts_told g.O.Outbox.puts c.args.client c.args.request c.accept-answer.result) (accept_keeps g.O.Outbox.puts c.args.client c.args.request c.accept-answer.result) c.accept-answer.ensures.rules c.pass_on_all.ensures.passes c.pass_on_all.ensures.none)
 
-pub returns-then-waits-clause-counted : goal.returns-then-waits-clause-counted
-returns-then-waits-clause-counted g c =
-    rw (← c.self.view_is) (c.in-Ok.ensures {u = tt}).counted
+pub returns-clause-counted : goal.returns-clause-counted
+returns-clause-counted g c =
+    rw (← c.self.view_is) (λ log x. (rw c.accept-answer.ensures.rules at c.pass_on_all.ensures.passes).counted _ (c.accept-answer.ensures.counted log x))

@@ -1,77 +1,37 @@
+use Rattle.std.proofs.Common.{◌∙◌}
 use Rattle.pq_core.specs.Cores.{core_of}
+use Rattle.pq_core.specs.Moves.{Looks}
+use Rattle.pq_core.specs.RightReply.{answer_by}
 use Rattle.pq_core.specs.Starts.{log_moved_in}
 use Rattle.pq_core.specs.declared.fault.LookFault.{LookFault}
-use Rattle.std.proofs.Common.{◌∙◌}
-use Rattle.pq_core.proofs.CorePassing.{call_moved, call_whole, seen_moved, seen_counted}
-use Rattle.std.specs.Prelude.{Ok, Err}
-use Rattle.pq_core.specs.Moves.{Looks}
-use Rattle.pq_core.proofs.CoreServing.{look_end_so, look_still_so, not_end, err_ok}
+use Rattle.pq_core.proofs.Told.{looks_told}
+use Rattle.pq_core.proofs.CorePassing.{call_moved, call_whole, served, seen_moved, seen_counted}
+use Rattle.pq_core.proofs.CoreServing.{look_keeps}
 use Rattle.pq_core.proofs.cores.Core.look.Goals as goal
 
-pub returns-then-ends-clause-moved : goal.returns-then-ends-clause-moved
-returns-then-ends-clause-moved g c =
-    seen_moved g.R.Key.Ord.cmp g.R.Rules.machine g.M.Stamp.point g.O.Outbox.puts (λ rules. Looks g.R.Key.Ord.cmp (g.R.Rules.machine rules) g.M.Stamp.point rules c.args.run (Ok c.in-Ok.moved)) (core_of c.self.inside.store c.self.inside.lanes) _ (core_of c.pass_on_asked.new.store c.pass_on_asked.new.lanes) c.self.view_is (call_moved g.R.Key.Ord.cmp g.R.Rules.machine g.M.Stamp.point g.O.Outbox.puts (Looks g.R.Key.Ord.cmp (g.R.Rules.machine c.self.inside.store.rules) g.M.Stamp.point c.self.inside.store.rules c.args.run (Ok c.in-Ok.moved)) c.self.inside.store c.pass_on_asked.new.store c.self.inside.lanes c.pass_on_asked.new.lanes
-    (λ l s. look_end_so g.R.Key.Ord.cmp (g.R.Rules.machine c.self.inside.store.rules) g.M.Stamp.point g.O.Outbox.puts c.self.inside.store.rules c.args.run c.in-Ok.moved c.request_of-asked.result c.self.inside.store c.look.new.self c.pass_on_asked.new.store c.self.inside.lanes c.pass_on_asked.new.lanes l (c.ends.ensures.0 c.if-ends.true) c.self.invariant.none_handed s c.request_of-asked.ensures (c.in-Ok.ensures {u = tt}).moved (rw (c.in-Ok.ensures {u = tt}).rules at c.pass_on_asked.ensures.stands) (c.pass_on_asked.ensures.passes)))
+pub returns-clause-moved : goal.returns-clause-moved
+returns-clause-moved g c =
+    seen_moved g.R.Key.Ord.cmp g.R.Rules.machine g.M.Stamp.point g.O.Outbox.puts (λ rules. Looks g.R.Key.Ord.cmp (g.R.Rules.machine rules) g.M.Stamp.point rules c.args.run c.look-answer.result) (core_of c.self.inside.store c.self.inside.lanes) _ (core_of c.pass_on_all.new.store c.pass_on_all.new.lanes) c.self.view_is (call_moved g.R.Key.Ord.cmp g.R.Rules.machine g.M.Stamp.point g.O.Outbox.puts (Looks g.R.Key.Ord.cmp (g.R.Rules.machine c.self.inside.store.rules) g.M.Stamp.point c.self.inside.store.rules c.args.run c.look-answer.result) c.self.inside.store c.pass_on_all.new.store c.self.inside.lanes c.pass_on_all.new.lanes
+    (served g.R.Key.Ord.cmp g.R.Rules.machine g.M.Stamp.point g.O.Outbox.puts (Looks g.R.Key.Ord.cmp (g.R.Rules.machine c.self.inside.store.rules) g.M.Stamp.point c.self.inside.store.rules c.args.run c.look-answer.result) (Looks g.R.Key.Ord.cmp (g.R.Rules.machine c.self.inside.store.rules) g.M.Stamp.point c.self.inside.store.rules c.args.run c.look-answer.result) c.self.inside.store c.look-answer.new.self c.pass_on_all.new.store c.self.inside.lanes c.pass_on_all.new.lanes c.self.invariant.none_handed c.look-answer.ensures.moved (looks_told g.O.Outbox.puts (answer_by g.R.Key.Ord.cmp (g.R.Rules.machine c.self.inside.store.rules) g.M.Stamp.point) c.self.inside.store.rules c.args.run c.look-answer.result) (look_keeps g.O.Outbox.puts (answer_by g.R.Key.Ord.cmp (g.R.Rules.machine c.self.inside.store.rules) g.M.Stamp.point) c.self.inside.store.rules c.args.run c.look-answer.result) c.look-answer.ensures.rules c.pass_on_all.ensures.passes c.pass_on_all.ensures.none))
 
 pub invariant_of-self : goal.invariant_of-self
 invariant_of-self g c =
-    call_whole g.R.Key.Ord.cmp g.R.Rules.machine g.M.Stamp.point g.O.Outbox.puts (Looks g.R.Key.Ord.cmp (g.R.Rules.machine c.self.inside.store.rules) g.M.Stamp.point c.self.inside.store.rules c.args.run (Ok c.in-Ok.moved)) c.self.inside.store c.pass_on_asked.new.store c.self.inside.lanes c.pass_on_asked.new.lanes c.self.invariant (c.pass_on_asked.ensures.rules ∙ (c.in-Ok.ensures {u = tt}).rules)
-    (λ l s. look_end_so g.R.Key.Ord.cmp (g.R.Rules.machine c.self.inside.store.rules) g.M.Stamp.point g.O.Outbox.puts c.self.inside.store.rules c.args.run c.in-Ok.moved c.request_of-asked.result c.self.inside.store c.look.new.self c.pass_on_asked.new.store c.self.inside.lanes c.pass_on_asked.new.lanes l (c.ends.ensures.0 c.if-ends.true) c.self.invariant.none_handed s c.request_of-asked.ensures (c.in-Ok.ensures {u = tt}).moved (rw (c.in-Ok.ensures {u = tt}).rules at c.pass_on_asked.ensures.stands) (c.pass_on_asked.ensures.passes))
+    call_whole g.R.Key.Ord.cmp g.R.Rules.machine g.M.Stamp.point g.O.Outbox.puts (Looks g.R.Key.Ord.cmp (g.R.Rules.machine c.self.inside.store.rules) g.M.Stamp.point c.self.inside.store.rules c.args.run c.look-answer.result) c.self.inside.store c.pass_on_all.new.store c.self.inside.lanes c.pass_on_all.new.lanes c.self.invariant (c.pass_on_all.ensures.passes.rules ∙ c.look-answer.ensures.rules)
+    (served g.R.Key.Ord.cmp g.R.Rules.machine g.M.Stamp.point g.O.Outbox.puts (Looks g.R.Key.Ord.cmp (g.R.Rules.machine c.self.inside.store.rules) g.M.Stamp.point c.self.inside.store.rules c.args.run c.look-answer.result) (Looks g.R.Key.Ord.cmp (g.R.Rules.machine c.self.inside.store.rules) g.M.Stamp.point c.self.inside.store.rules c.args.run c.look-answer.result) c.self.inside.store c.look-answer.new.self c.pass_on_all.new.store c.self.inside.lanes c.pass_on_all.new.lanes c.self.invariant.none_handed c.look-answer.ensures.moved (looks_told g.O.Outbox.puts (answer_by g.R.Key.Ord.cmp (g.R.Rules.machine c.self.inside.store.rules) g.M.Stamp.point) c.self.inside.store.rules c.args.run c.look-answer.result) (look_keeps g.O.Outbox.puts (answer_by g.R.Key.Ord.cmp (g.R.Rules.machine c.self.inside.store.rules) g.M.Stamp.point) c.self.inside.store.rules c.args.run c.look-answer.result) c.look-answer.ensures.rules c.pass_on_all.ensures.passes c.pass_on_all.ensures.none)
 
-pub returns-in-Ok-clause-moved : goal.returns-in-Ok-clause-moved
-returns-in-Ok-clause-moved g c =
-    seen_moved g.R.Key.Ord.cmp g.R.Rules.machine g.M.Stamp.point g.O.Outbox.puts (λ rules. Looks g.R.Key.Ord.cmp (g.R.Rules.machine rules) g.M.Stamp.point rules c.args.run (Ok c.in-Ok.moved)) (core_of c.self.inside.store c.self.inside.lanes) _ (core_of c.look.new.self c.self.inside.lanes) c.self.view_is (call_moved g.R.Key.Ord.cmp g.R.Rules.machine g.M.Stamp.point g.O.Outbox.puts (Looks g.R.Key.Ord.cmp (g.R.Rules.machine c.self.inside.store.rules) g.M.Stamp.point c.self.inside.store.rules c.args.run (Ok c.in-Ok.moved)) c.self.inside.store c.look.new.self c.self.inside.lanes c.self.inside.lanes
-    (λ l s. look_still_so g.R.Key.Ord.cmp (g.R.Rules.machine c.self.inside.store.rules) g.M.Stamp.point g.O.Outbox.puts c.self.inside.store.rules c.args.run (Ok c.in-Ok.moved) c.self.inside.store c.look.new.self c.self.inside.lanes l (λ m e end. not_end c.in-Ok.moved m c.ends.result e (c.ends.ensures.1) c.if-ends.false end) c.self.invariant.none_handed s (c.in-Ok.ensures {u = tt}).moved))
+pub returns-clause-counted : goal.returns-clause-counted
+returns-clause-counted g c =
+    seen_counted g.R.Key.Ord.cmp g.R.Rules.machine g.M.Stamp.point g.O.Outbox.puts (λ store log. log_moved_in {E = LookFault} store c.args.run c.look-answer.result log) (core_of c.self.inside.store c.self.inside.lanes) _ (core_of c.pass_on_all.new.store c.pass_on_all.new.lanes) c.self.view_is
+    (λ log x. (rw c.look-answer.ensures.rules at c.pass_on_all.ensures.passes).counted _ (c.look-answer.ensures.counted log x))
 
-pub invariant_of-self-else-ends : goal.invariant_of-self-else-ends
-invariant_of-self-else-ends g c =
-    call_whole g.R.Key.Ord.cmp g.R.Rules.machine g.M.Stamp.point g.O.Outbox.puts (Looks g.R.Key.Ord.cmp (g.R.Rules.machine c.self.inside.store.rules) g.M.Stamp.point c.self.inside.store.rules c.args.run (Ok c.in-Ok.moved)) c.self.inside.store c.look.new.self c.self.inside.lanes c.self.inside.lanes c.self.invariant ((c.in-Ok.ensures {u = tt}).rules)
-    (λ l s. look_still_so g.R.Key.Ord.cmp (g.R.Rules.machine c.self.inside.store.rules) g.M.Stamp.point g.O.Outbox.puts c.self.inside.store.rules c.args.run (Ok c.in-Ok.moved) c.self.inside.store c.look.new.self c.self.inside.lanes l (λ m e end. not_end c.in-Ok.moved m c.ends.result e (c.ends.ensures.1) c.if-ends.false end) c.self.invariant.none_handed s (c.in-Ok.ensures {u = tt}).moved)
+pub returns-clause-cause : goal.returns-clause-cause
+returns-clause-cause g c =
+    rw (← c.self.view_is) c.look-answer.ensures.cause
 
-pub returns-in-Err-clause-moved : goal.returns-in-Err-clause-moved
-returns-in-Err-clause-moved g c =
-    rw (← c.self.view_is) (call_moved g.R.Key.Ord.cmp g.R.Rules.machine g.M.Stamp.point g.O.Outbox.puts (Looks g.R.Key.Ord.cmp (g.R.Rules.machine c.self.inside.store.rules) g.M.Stamp.point c.self.inside.store.rules c.args.run (Err c.in-Err.fault)) c.self.inside.store c.look.new.self c.self.inside.lanes c.self.inside.lanes
-    (λ l s. look_still_so g.R.Key.Ord.cmp (g.R.Rules.machine c.self.inside.store.rules) g.M.Stamp.point g.O.Outbox.puts c.self.inside.store.rules c.args.run (Err c.in-Err.fault) c.self.inside.store c.look.new.self c.self.inside.lanes l (λ m e end. err_ok c.in-Err.fault m e) c.self.invariant.none_handed s (c.in-Err.ensures {u = tt}).moved))
+pub returns-clause-handed : goal.returns-clause-handed
+returns-clause-handed g c =
+    rw (← c.self.view_is) c.look-answer.ensures.handed
 
-pub invariant_of-self-in-Err : goal.invariant_of-self-in-Err
-invariant_of-self-in-Err g c =
-    call_whole g.R.Key.Ord.cmp g.R.Rules.machine g.M.Stamp.point g.O.Outbox.puts (Looks g.R.Key.Ord.cmp (g.R.Rules.machine c.self.inside.store.rules) g.M.Stamp.point c.self.inside.store.rules c.args.run (Err c.in-Err.fault)) c.self.inside.store c.look.new.self c.self.inside.lanes c.self.inside.lanes c.self.invariant ((c.in-Err.ensures {u = tt}).rules)
-    (λ l s. look_still_so g.R.Key.Ord.cmp (g.R.Rules.machine c.self.inside.store.rules) g.M.Stamp.point g.O.Outbox.puts c.self.inside.store.rules c.args.run (Err c.in-Err.fault) c.self.inside.store c.look.new.self c.self.inside.lanes l (λ m e end. err_ok c.in-Err.fault m e) c.self.invariant.none_handed s (c.in-Err.ensures {u = tt}).moved)
-
-pub returns-then-ends-clause-counted : goal.returns-then-ends-clause-counted
-returns-then-ends-clause-counted g c =
-    seen_counted g.R.Key.Ord.cmp g.R.Rules.machine g.M.Stamp.point g.O.Outbox.puts (λ store log. log_moved_in {E = LookFault} store c.args.run (Ok c.in-Ok.moved) log) (core_of c.self.inside.store c.self.inside.lanes) _ (core_of c.pass_on_asked.new.store c.pass_on_asked.new.lanes) c.self.view_is
-    (λ log x. (rw (c.in-Ok.ensures {u = tt}).rules at c.pass_on_asked.ensures.counted) _ ((c.in-Ok.ensures {u = tt}).counted log x))
-
-pub returns-in-Ok-clause-counted : goal.returns-in-Ok-clause-counted
-returns-in-Ok-clause-counted g c =
-    seen_counted g.R.Key.Ord.cmp g.R.Rules.machine g.M.Stamp.point g.O.Outbox.puts (λ store log. log_moved_in {E = LookFault} store c.args.run (Ok c.in-Ok.moved) log) (core_of c.self.inside.store c.self.inside.lanes) _ (core_of c.look.new.self c.self.inside.lanes) c.self.view_is
-    (λ log x. (c.in-Ok.ensures {u = tt}).counted log x)
-
-pub returns-in-Err-clause-counted : goal.returns-in-Err-clause-counted
-returns-in-Err-clause-counted g c =
-    rw (← c.self.view_is) (c.in-Err.ensures {u = tt}).counted
-
-pub returns-in-Ok-clause-cause : goal.returns-in-Ok-clause-cause
-returns-in-Ok-clause-cause g c =
-    rw (← c.self.view_is) (c.in-Ok.ensures {u = tt}).cause
-
-pub returns-then-ends-clause-cause : goal.returns-then-ends-clause-cause
-returns-then-ends-clause-cause g c =
-    rw (← c.self.view_is) (c.in-Ok.ensures {u = tt}).cause
-
-pub returns-in-Ok-clause-handed : goal.returns-in-Ok-clause-handed
-returns-in-Ok-clause-handed g c =
-    rw (← c.self.view_is) (c.in-Ok.ensures {u = tt}).handed
-
-pub returns-then-ends-clause-handed : goal.returns-then-ends-clause-handed
-returns-then-ends-clause-handed g c =
-    rw (← c.self.view_is) (c.in-Ok.ensures {u = tt}).handed
-
-pub returns-in-Ok-clause-holder : goal.returns-in-Ok-clause-holder
-returns-in-Ok-clause-holder g c =
-    (c.in-Ok.ensures {u = tt}).holder
-
-pub returns-then-ends-clause-holder : goal.returns-then-ends-clause-holder
-returns-then-ends-clause-holder g c =
-    rw c.pass_on_asked.ensures.claims (c.in-Ok.ensures {u = tt}).holder
+pub returns-clause-holder : goal.returns-clause-holder
+returns-clause-holder g c =
+    rw c.pass_on_all.ensures.passes.claims c.look-answer.ensures.holder

@@ -1,6 +1,7 @@
 use Rattle.std.proofs.Common.{refl}
 use Rattle.pq_core.proofs.StoreCollecting.{collect_moved, collect_queue, collect_said, still_above}
-use Rattle.pq_core.proofs.store.Store.collect.Goals as goal
+use Rattle.pq_core.proofs.MadeCounts.{made_fewer}
+use Rattle.pq_core.proofs.store.Store.take_made.Goals as goal
 
 pub invariant_of-self : goal.invariant_of-self
 invariant_of-self g c =
@@ -34,3 +35,9 @@ returns-clause-collects g c =
     (rw (← c.number-seat.ensures)
     (collect_said g.R.Key.Ord.cmp (g.R.Rules.machine c.self.inside.memos.rules) g.M.Stamp.point _ _ c.number-seat.result c.collect_in.result c.self.invariant.ledger.0
     (λ account h. let x = c.collect_in.ensures.«open» account h in (x.0, x.1, x.2.found)) (λ h. let x = c.collect_in.ensures.closed h in (x.0, x.1.found)) c.self.invariant.ledger.1))
+
+pub returns-clause-fewer : goal.returns-clause-fewer
+returns-clause-fewer g c =
+    rw (← c.self.view_is)
+    (made_fewer c.self.inside.accounts.items c.collect_in.new.accounts.items c.self.inside.clients c.number-seat.result c.collect_in.result
+    (λ account h. let x = c.collect_in.ensures.«open» account h in (x.0, x.1, x.2.found)) (λ h. (c.collect_in.ensures.closed h).0) c.self.invariant.accounts_above)
