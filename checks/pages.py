@@ -9,7 +9,9 @@ It checks these; each finding is a line, and any finding gives the status 1.
 - A public name has one path: only the names in RE_EXPORTED may be passed on by another crate.
 - The map: a crate names only crates that crates.txt gives it; code and definitions of specs/ rest on no lower crate's proofs;
   threads, locks and sockets are in the crates of HANDLES alone.
-- README.md has a row or a line for each crate of crates.txt, and docs/GATE.md has at most 60 lines.
+- README.md has a row or a line for each crate of crates.txt and a mention of each script that is run, and docs/GATE.md has at
+  most 60 lines.
+- The pages of PLAIN count no files, lines or functions, but for limits, and for what a script writes: such a count is stale soon.
 - Pages name no path of a machine, and each path of the repository that they name exists.
 
 usage: checks/pages.py --check [--top FOLDER]
@@ -31,6 +33,11 @@ TESTS = re.compile(r"^(?:test_support|stored_sessions|tests_\w+)$")
 OPTIONAL = re.compile(r"^(?:cases/|checks/edits/|crates/(?:test_support|stored_sessions|tests_\w+)|crates/pq_server/(?:stdin|stdout))")
 TO_COME = set()
 GATE_LINES = 60
+PLAIN = ["README.md", "CONTRIBUTING.md", "docs/ARCHITECTURE.md", "docs/GATE.md", "docs/THEOREMS.md"]
+COUNT = re.compile(r"(?<![\w.,])(?<!at most )(?<!under )(?<!about )(?<!more than )"
+                   r"(?:\d[\d,]*\d|nine|ten|eleven|twelve|thirteen|fourteen|fifteen|sixteen|seventeen|eighteen|nineteen|twenty) "
+                   r"(?:[\w-]+ )?(?:bodies|clauses|comments|crates|definitions|edits|files|functions|lines|modules|rows|scripts|sessions)\b", re.I)
+WRITTEN = re.compile(r"<!-- by .*? -->.*?<!-- end -->", re.S)
 MACHINE = re.compile(r"(?<![\w.])/(?:home|work|opt|farm|tmp|root|mnt)/")
 PATH = re.compile(r"^(?:docs|bench|checks|examples|cases|crates|bin|\.ci)/[\w./+-]*$")
 NAME = r"[A-Za-z_]\w*"
@@ -142,18 +149,12 @@ class Repository:
     def check_headline(self):
         page = "docs/THEOREMS.md"
         text = text_of(self.top, page)
-        play = self.specs.from_function("pq_play/src/run.rt:play")
-        counts = {path: got[0] for path, got in self.specs.counts(play).items() if got[0]}
+        counts = self.specs.headline()
         if any("/aux/" in path for path in counts):
             self.say(page, "the contract of play reaches specs/aux")
-        stated = "%d files, %d lines of definitions" % (len(counts), sum(counts.values()))
-        if stated not in text:
-            self.say(page, "the contract of play reaches %s, which the page does not say" % stated)
-        for path, lines in counts.items():
-            crate, _, module = path[:-len(".antt")].partition("/specs/")
-            row = "| `%s` | `%s` | %d |" % (crate, module, lines)
-            if row not in text:
-                self.say(page, "the headline's table lacks %s" % row)
+        for words in reach.stated(counts):
+            if words not in text:
+                self.say(page, "the headline lacks `%s`; checks/reach.py --page writes the counts of rows that there are" % words)
 
     # Functions and clauses
 
@@ -235,9 +236,20 @@ class Repository:
                 self.say("README.md", "no row for %s" % crate)
             elif row and len(row.group(1).split()) > 20:
                 self.say("README.md", "the row of %s has more than 20 words" % crate)
+        for path in sorted(glob.glob(os.path.join(self.top, "*", "*.py"))):
+            if "\nif __name__ ==" in text_of(path) and "`%s`" % os.path.basename(path) not in text:
+                self.say("README.md", "no mention of %s" % os.path.relpath(path, self.top))
         lines = len(text_of(self.top, "docs", "GATE.md").splitlines())
         if lines > GATE_LINES:
             self.say("docs/GATE.md", "%d lines, more than %d" % (lines, GATE_LINES))
+
+    def check_counts(self):
+        stated = reach.stated(self.specs.headline())[0]
+        for page in PLAIN:
+            text = WRITTEN.sub("", text_of(self.top, page)).replace(stated, "")
+            for line in text.splitlines():
+                for found in COUNT.finditer(line):
+                    self.say(page, "a count that no script writes: `%s`" % found.group())
 
     def check_links(self):
         pages = ["README.md", "CONTRIBUTING.md"] + [
@@ -270,6 +282,7 @@ def main():
     it.check_paths()
     it.check_map()
     it.check_readme()
+    it.check_counts()
     it.check_links()
     for finding in it.findings:
         print(finding)

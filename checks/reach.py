@@ -8,7 +8,10 @@ Without --from the roots are the clauses and views of all public functions and t
 functions, each as FILE:FUNCTION with the file below crates/. Printed are the definition lines that are reached, of all that
 there are, in specs/ and in specs/aux/; --list adds a line for each file.
 
+With --page it writes the counts of the headline, the contract of `play`, into docs/THEOREMS.md, and prints nothing.
+
 usage: checks/reach.py [--top FOLDER] [--list] [--from pq_play/src/run.rt:play ..]
+       checks/reach.py --page [--top FOLDER]
 """
 import argparse
 import collections
@@ -16,6 +19,8 @@ import glob
 import os
 import re
 
+TOP = os.path.dirname(os.path.dirname(os.path.abspath(__file__)))
+PLAY = "pq_play/src/run.rt:play"
 WORDS = {"abbrev", "unfoldable", "data", "record", "type", "pub", "opaque"}
 TOKEN = re.compile(r"[^\s(){}\[\],;:=λ×→.]+")
 FUNCTION = re.compile(r"\s*(pub(?:\([a-z]+\))? )?(?:const )?fn (\w+)")
@@ -100,6 +105,10 @@ class Specs:
         path, _, function = end.partition(":")
         return self.closure(self.roots_of(path, function))
 
+    def headline(self):
+        """Of each file the definition lines that the contract of `play` reaches, if any."""
+        return {path: got[0] for path, got in self.counts(self.from_function(PLAY)).items() if got[0]}
+
     def from_all(self):
         """What the public contracts and views of all crates reach."""
         files = glob.glob(os.path.join(self.crates, "*", "src", "**", "*.rt"), recursive=True)
@@ -135,12 +144,32 @@ def clauses(lines):
             yield name, public, line.split("//")[0]
 
 
+def stated(counts):
+    """What docs/THEOREMS.md says of the headline: of all files, and in the row of each."""
+    rows = [(*path[:-len(".antt")].split("/specs/"), lines) for path, lines in counts.items()]
+    return ["%d files, %d lines of definitions" % (len(counts), sum(counts.values()))] + ["| `%s` | `%s` | %d |" % row for row in rows]
+
+
+def page(top):
+    """Writes the counts of the headline into docs/THEOREMS.md: each in the place of another number."""
+    path = os.path.join(top, "docs", "THEOREMS.md")
+    with open(path, encoding="utf-8") as it:
+        text = it.read()
+    for words in stated(Specs(top).headline()):
+        text = re.sub(r"\b\d+".join(map(re.escape, re.split(r"\b\d+", words))), lambda _: words, text)
+    with open(path, "w", encoding="utf-8") as it:
+        it.write(text)
+
+
 def main():
     parser = argparse.ArgumentParser(description=__doc__, formatter_class=argparse.RawDescriptionHelpFormatter)
-    parser.add_argument("--top", default=".", help="the top of the repository")
+    parser.add_argument("--top", default=TOP, help="the top of the repository")
+    parser.add_argument("--page", action="store_true", help="write the counts of the headline into docs/THEOREMS.md")
     parser.add_argument("--list", action="store_true", help="a line for each file")
     parser.add_argument("--from", nargs="+", dest="ends", default=[], help="FILE:FUNCTION, the file below crates/")
     given = parser.parse_args()
+    if given.page:
+        return page(given.top)
     specs = Specs(given.top)
     reached = set().union(*(specs.from_function(end) for end in given.ends)) if given.ends else specs.from_all()
     for aux in (False, True):
