@@ -18,7 +18,7 @@ import sys
 import tempfile
 from collections import namedtuple
 
-from messages import FIRST, LAST, diagnosed, frame, opened
+from shared import FIRST, LAST, diagnosed, frame, opened
 from sessions import PROGRAM
 
 MAX_BODY = 16_777_216

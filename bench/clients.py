@@ -7,7 +7,7 @@ import subprocess
 import sys
 import threading
 
-from messages import FIRST, LAST, bodies_of, frame, is_request
+from shared import FIRST, LAST, bodies_of, frame, is_request
 
 LENGTH = re.compile(rb"Content-Length: (\d+)\r\n\r\n")
 

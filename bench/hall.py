@@ -28,7 +28,7 @@ import time
 import files
 import workspaces
 from clients import Connection, Server
-from messages import FIRST, asked, changed, diagnosed, opened, read_body
+from shared import FIRST, asked, changed, diagnosed, opened, read_body
 
 HERE = os.path.dirname(os.path.abspath(__file__))
 PROGRAM = os.path.join(HERE, "..", "crates", "pq_server", "out", "pq_server")

@@ -25,13 +25,12 @@ import sys
 import tempfile
 
 import files
-import messages
 import parts
 import workspaces
 from files import written
 from growth import origin
-from replies import METHODS
 from sessions import PROGRAM
+from shared import FIRST, LAST, METHODS, asked, opened
 
 TABLE = os.path.join(os.path.dirname(os.path.abspath(__file__)), "results", "peers.txt")
 PROTOC = shutil.which("protoc") or sys.exit("protoc is not installed: this bench compares with it")
@@ -98,10 +97,10 @@ def protoc(folder, names, status=0):
 
 def session(program, path, texts, names, query):
     """Opens all files and asks about those named."""
-    opens = b"".join(messages.opened(name, text) for name, text in texts.items())
-    asks = b"".join(messages.asked(i, METHODS[query], name) for i, name in enumerate(names))
+    opens = b"".join(opened(name, text) for name, text in texts.items())
+    asks = b"".join(asked(i, METHODS[query], name) for i, name in enumerate(names))
     with open(path, "wb") as sink:
-        sink.write(messages.FIRST + opens + asks + messages.LAST)
+        sink.write(FIRST + opens + asks + LAST)
     return Command([program, "script"], path)
 
 

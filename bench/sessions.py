@@ -29,7 +29,7 @@ import tempfile
 import files
 import parts
 import workspaces
-from messages import FIRST, LAST, asked, bodies_of, changed, diagnosed, frame, is_request, opened
+from shared import FIRST, LAST, asked, bodies_of, changed, diagnosed, frame, is_request, opened
 
 HERE = os.path.dirname(os.path.abspath(__file__))
 PROGRAM = os.path.join(HERE, "..", "crates", "pq_server", "out", "pq_server")

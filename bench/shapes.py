@@ -13,8 +13,7 @@ import links
 import sessions
 import workspaces
 from compile import number
-from messages import FIRST, LAST, asked, changed, diagnosed, frame, notice, opened
-from replies import METHODS
+from shared import FIRST, LAST, METHODS, asked, changed, diagnosed, frame, notice, opened
 
 # Of a session: n, the bytes sent and the bytes replied.
 Follows = namedtuple("Follows", "unit amount")

@@ -26,7 +26,7 @@ import sys
 import traceback
 
 from clients import Connection, Server
-from messages import FIRST, LAST, bodies_of, changed, diagnosed, opened
+from shared import FIRST, LAST, bodies_of, changed, diagnosed, opened
 
 HERE = os.path.dirname(os.path.abspath(__file__))
 PROGRAM = os.path.join(HERE, "..", "crates", "pq_server", "out", "pq_server")

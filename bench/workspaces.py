@@ -10,7 +10,7 @@ import statistics
 import subprocess
 import time
 
-import messages
+from shared import FIRST, LAST, changed, diagnosed, opened, read_body
 
 WIDTH = 3
 RECORDS = 10
@@ -93,19 +93,19 @@ class Side:
         self.program = program
         self.path = os.path.join(folder, "set%d" % count)
         self.asked_for, self.name, self.texts = case(count)
-        self.opens = messages.FIRST + messages.opened(HUB, hub()) + b"".join(
-            messages.opened(name(n), text(n, count)) for n in range(count)) + messages.diagnosed("all", self.asked_for)
+        self.opens = FIRST + opened(HUB, hub()) + b"".join(
+            opened(name(n), text(n, count)) for n in range(count)) + diagnosed("all", self.asked_for)
 
     def round(self, i):
         """An edit or none, and a request."""
-        edit = messages.changed(self.name, self.texts[i % len(self.texts)]) if self.texts else b""
-        return edit + messages.diagnosed(i, self.asked_for)
+        edit = changed(self.name, self.texts[i % len(self.texts)]) if self.texts else b""
+        return edit + diagnosed(i, self.asked_for)
 
     def written(self, rounds):
         """The path of the session with so many rounds."""
         path = "%s_%d" % (self.path, rounds)
         with open(path, "wb") as sink:
-            sink.write(self.opens + b"".join(map(self.round, range(rounds))) + messages.LAST)
+            sink.write(self.opens + b"".join(map(self.round, range(rounds))) + LAST)
         return path
 
     def difference(self, measure, rounds, runs):
@@ -122,21 +122,21 @@ class Side:
         with server:
             server.stdin.write(self.opens)
             server.stdin.flush()
-            messages.read_body(server.stdout)
-            messages.read_body(server.stdout)
+            read_body(server.stdout)
+            read_body(server.stdout)
             waits = []
             for i in range(rounds):
                 data = self.round(i)
                 before = time.perf_counter()
                 server.stdin.write(data)
                 server.stdin.flush()
-                body = messages.read_body(server.stdout)
+                body = read_body(server.stdout)
                 waits.append(time.perf_counter() - before)
                 if b'"items":[],' not in body:
                     raise SystemExit("%s: %s" % (self.name, body[:400]))
-            server.stdin.write(messages.LAST)
+            server.stdin.write(LAST)
             server.stdin.flush()
-            messages.read_body(server.stdout)
+            read_body(server.stdout)
         if server.returncode != 0:
             raise SystemExit("%s ended with status %d" % (self.program, server.returncode))
         return statistics.median(waits)

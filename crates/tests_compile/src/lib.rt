@@ -7,7 +7,7 @@
 //! Modules: `checks` (what tests assert), `schema` (links, definitions and references of small sets
 //! of files), `sets` (small sets of files), `keys` (the answer of each key), `edits` (demands
 //! between edits), `session` (devices that fail and replies, call by call). Random sets and random
-//! edits are in `bench/random/`.
+//! edits are in `checks/random_models/`.
 #![tactic(auto)]
 
 #[cfg(test)]

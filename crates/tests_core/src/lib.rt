@@ -6,7 +6,7 @@
 //!
 //! Modules: `checks` (what tests assert), `inputs`, `rules`, `engine` (demands between edits),
 //! `cores` (calls of a core, and of a store and a lane apart), `plays` (lists of events). Random
-//! lists beside a plain model are in `bench/random/`.
+//! lists beside a plain model are in `checks/random_models/`.
 #![tactic(auto)]
 
 #[cfg(test)]

@@ -9,7 +9,8 @@ use std::alloc::{AllocError, Global};
 
 /// The label of a request, as the core keeps it. A response prints both labels as the same `id`.
 ///
-/// A string of more than 24 bytes is moved, not copied, and the copies of the new label share it.
+/// A string of more than `INLINE` bytes (`pq_names`) is moved, not copied, and the copies of the new
+/// label share it.
 pub(crate) fn core_label(alloc: Global, label: pq_frame::Label) -> Result<Label, AllocError>
     ensures same { IfOk result (λ made. label_model made ≡ model_of_message label) }
     ensures one_form { HasOneMessageForm label → IfOk result HasOneForm }

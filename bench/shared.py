@@ -1,0 +1,11 @@
+"""What the benches share with the checks: the messages of a client, as checks/messages.py makes them.
+
+This is the one script of bench/ that finds checks/; the others import from here.
+"""
+import os
+import sys
+
+sys.path.append(os.path.join(os.path.dirname(os.path.dirname(os.path.abspath(__file__))), "checks"))
+
+from messages import (FIRST, LAST, METHODS, asked, bodies_of, changed, diagnosed, frame, is_request, notice, opened,
+                      read_body)
