@@ -382,17 +382,6 @@ module _ {R K P V M O : Type 0} (order : K → K → Ordering) (machine : R → 
       (still_whole order (machine before.rules) point puts Move before after lanes left inv.ledger.0 inv.above inv.ledger.1 (calls inv.ledger.0 inv.ledger.1))
 
 module _ {R K P V M O : Type 0} (order : K → K → Ordering) (machine : R → Machine K P V) (point : M → Point) (puts : O → List (ReplyView K V M)) where
-  pub passes_none : (store : StoreView R K P V M) (lanes : Slots (Tray K V M O)) → PassesOn order (machine store.rules) point puts store store lanes lanes
-  passes_none store lanes = record {
-    rules = refl;
-    inputs = refl;
-    places = refl;
-    claims = refl;
-    stands = λ t s. s;
-    counted = λ log x. x;
-    awaits = λ l s h. (h, λ b a. a);
-  }
-
   pub passes_more : (a b c : StoreView R K P V M) (x y z : Slots (Tray K V M O)) → PassesOn order (machine a.rules) point puts a b x y → PassesOn order (machine b.rules) point puts b c y z
       → PassesOn order (machine a.rules) point puts a c x z
   passes_more a b c x y z p q =

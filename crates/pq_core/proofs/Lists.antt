@@ -14,11 +14,6 @@ some_one x y e = cc
 pub none_some : {A : Type 0} (y : A) → None ≡ Some y → ⊥
 none_some y e = cc
 
--- what holds of the value of a result holds of it as an option
-pub of_ok : {T E : Type 0} (r : Result T E) (P : T → Type 0) (x : T) → result_ok r ≡ Some x → IfOk r P → P x
-of_ok (Ok y) P x h p = subst P (some_one y x h) p
-of_ok (Err e) P x h p = absurd (none_some x h)
-
 pub get_set : {A : Type 0} (xs : List A) (i : ℕ) (x : A) (j : ℕ) (y : A) → slice_get (slice_set xs i x) j ≡ Some y → ((j ≡ i) × (y ≡ x)) ⊎ ((j ≢ i) × (slice_get xs j ≡ Some y))
 get_set [] i x j y h = absurd (none_some y h)
 get_set (a ∷ xs) zero x zero y h = inl (refl, sym (some_one x y h))

@@ -227,37 +227,12 @@ module _ {K P V : Type 0} (order : K → K → Ordering) (m : Machine K P V) (in
       free : (hold_of claims r).keys ≡ []
       free = w.claimed r ∙ ap (λ (o : Option (RunView K P)). claimed_keys o) none
 
-  -- a run that was taken out was put back as it was
-  pub back_runs : (run : RunView K P) → found b r ≡ Some run → ((k : ℕ) → found a k ≡ (if k == r then Some run else found b k))
-      → RunsKept order m inputs table claims b → RunsKept order m inputs table claims a
-  back_runs run here set w = same_runs order m inputs table claims b a (λ k. as_before k) w
-    where
-      as_before : (k : ℕ) → found a k ≡ found b k
-      as_before k = set k ∙ by_test (k == r) refl
-        where
-          by_test : (t : Bool) → (k == r) ≡ t → (if k == r then Some run else found b k) ≡ found b k
-          by_test true e = ap (λ (s : Bool). if s then Some run else found b k) e ∙ (sym here ∙ ap (λ (i : ℕ). found b i) (sym (eqb-true k r e)))
-          by_test false e = ap (λ (s : Bool). if s then Some run else found b k) e
-
   -- a run that was taken out has ended, and released its keys
   pub stopped_runs : (after : List (ℕ × Hold K)) → ((k : ℕ) → found a k ≡ (if k == r then None else found b k)) → ReleasesAll r claims after
       → RunsKept order m inputs table claims b → RunsKept order m inputs table after a
   stopped_runs after set ends w =
       ended_runs order m inputs table table claims after b a r claims set (renewed_same m inputs.revision table table (λ q. refl)) (λ s k ne held. refl)
       (others_same r claims) ends w
-
--- no run was started later than now, after a run took a step
-pub past_stepped : {K P : Type 0} (now : ℕ) (b a : List (Place (RunView K P))) (r : ℕ) (was run : RunView K P) → found b r ≡ Some was
-    → ((k : ℕ) → found a k ≡ (if k == r then Some run else found b k)) → IsSameRun was run
-    → ((s : ℕ) (y : RunView K P) → found b s ≡ Some y → y.started ≤ now) → (s : ℕ) (y : RunView K P) → found a s ≡ Some y → y.started ≤ now
-past_stepped {K} {P} now b a r was run here set is past s y h = elim (changed_run b a r (Some run) set s y h) [
-  | inl c ↦
-      let first : run.started ≡ y.started = ap (λ (v : RunView K P). v.started) (some_one run y c.1) in
-      let second : run.started ≡ was.started = is.started in
-      let third : was.started ≤ now = past r was here in
-      omega (arith, first, second, third)
-  | inr c ↦ past s y c.1
-]
 
 -- a ring that would close closes over the table that the step left: the key of the top is not up to
 -- date, so its memo is the same

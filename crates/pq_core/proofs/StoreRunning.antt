@@ -379,16 +379,6 @@ module _ {R K P V M O : Type 0} (order : K → K → Ordering) (m : Machine K P 
   idle_of : (l : Ledger K V M O) (r : ℕ) (run : RunView K P) (x : RunHere l r run) → out_at run.top ≡ None → x.at.out ≡ None
   idle_of l r run x e = ap (λ (y : RunSeen K). y.out) (sym x.same) ∙ e
 
-  -- an overtaken run is given its result
-  pub give_stopped : (b a : Held K P V M) (l : Ledger K V M O) (r : ℕ) (run : RunView K P) (done : DoneView R K P V) (x : RunHere l r run)
-      → (done.run ≡ r) × (done.started ≡ run.started) × (out_at run.top ≡ Some (out_of done))
-      → Stops l r (ended l x.at x.at.entry.fate (Cancelled x.at.started l.inputs.revision))
-      × StandsOf order m point puts a (ended l x.at x.at.entry.fate (Cancelled x.at.started l.inputs.revision))
-      → StandsOf order m point puts b l → (run.started < b.inputs.revision) ⊎ (found b.accounts run.client ≡ None)
-      → Reaches (Gives r done (Ok Stopped)) l (StandsOf order m point puts a)
-  give_stopped b a l r run done x f w s late =
-      (ended l x.at x.at.entry.fate (Cancelled x.at.started l.inputs.revision), (x.at, x.runs, fits_of l r run done x f, overtaken order m point puts b l r run s x late, refl), w.1)
-
   -- a run takes its result
   pub give_moved : (b a : Held K P V M) (l : Ledger K V M O) (r : ℕ) (run after : RunView K P) (done : DoneView R K P V)
       → StandsOf order m point puts b l → found b.runs r ≡ Some run → ((run.started < b.inputs.revision) ⊎ (found b.accounts run.client ≡ None) → ⊥)
@@ -522,18 +512,3 @@ why_cause order m inputs Has k Ring fresh changed ring w = ring w
 pub why_then : {K : Type 0} (A B : Why K → Type 0) (front : List K) (why : Option (Why K)) → HasWhy A front why → ((w : Why K) → A w → B w) → HasWhy B front why
 why_then A B front None h f = h
 why_then A B front (Some w) h f = (h.0, f w h.1)
-
--- what ended as `after` ended as `run`
-pub ended_as : {K P V M : Type 0} (b a : Held K P V M) (run after : RunView K P) (revision : ℕ) (outcome : Outcome K V M) → IsSameRun run after
-    → ((account : AccountView K V M) → found b.accounts after.client ≡ Some account → EndsIn b.accounts a.accounts account after.client after.number (run_reply after revision outcome))
-    → (account : AccountView K V M) → found b.accounts run.client ≡ Some account → EndsIn b.accounts a.accounts account run.client run.number (run_reply run revision outcome)
-ended_as {K} {P} {V} {M} b a run after revision outcome same f =
-    subst (λ (c : ℕ). (account : AccountView K V M) → found b.accounts c ≡ Some account
-    → EndsIn b.accounts a.accounts account c run.number (record { client = c; number = run.number; request = run.request; revision = revision; outcome = outcome }))
-    same.client
-    (subst (λ (n : ℕ). (account : AccountView K V M) → found b.accounts after.client ≡ Some account
-    → EndsIn b.accounts a.accounts account after.client n (record { client = after.client; number = n; request = run.request; revision = revision; outcome = outcome }))
-    same.number
-    (subst (λ q. (account : AccountView K V M) → found b.accounts after.client ≡ Some account
-    → EndsIn b.accounts a.accounts account after.client after.number (record { client = after.client; number = after.number; request = q; revision = revision; outcome = outcome }))
-    same.request f))

@@ -420,11 +420,6 @@ module _ {K V M O : Type 0} (puts : O → List (ReplyView K V M)) where
         ∙ ap (λ (i : ℕ). with_client (told_ledger puts l) c (with_outbox (with_entry (told_client puts next.client) i (moved_to next.entry Put)) (puts next.client.outbox ++ next.reply ∷ []) false)) k_is)),
   )
 
-  pub told_puts_one : (takes : O → List (ReplyView K V M)) (was_full was_gone : O → Type 0) (c k : ℕ) (l m : Ledger K V M O)
-      → Releases puts takes was_full was_gone c (ReleasedPut k) l m → Tells c 1 (told_ledger puts l) (told_ledger puts m)
-  unfolding Tells
-  told_puts_one takes was_full was_gone c k l m h = (told_ledger puts m, told_put takes was_full was_gone c k l m h, refl)
-
   -- ---- what holds of each ledger
 
   pub kept_told : (means : M → Point → K → Answer K V → Type 0) (l : Ledger K V M O) → Kept means told_puts (told_ledger puts l) → Kept means puts l

@@ -1,5 +1,6 @@
 use Rattle.std.proofs.Common.{refl}
 use Rattle.pq_core.proofs.StoreCollecting.{see_moved, see_queue, seen_made, still_above}
+use Rattle.pq_core.specs.Stores.{held}
 use Rattle.pq_core.specs.aux.Inside.{store_of}
 use Rattle.pq_core.proofs.store.Store.put_seen.Goals as goal
 
