@@ -1,6 +1,6 @@
 -- One step of a run in its store, which takes the run out, lets it step and puts it back: what stays, what
 -- the step comes to, and how the ledger goes on.
-use Rattle.std.proofs.Common.{◌≡◌, ℕ, ◌==◌, if◌then◌else◌, List, Option, Some, None, refl, sym, ◌∙◌, ap, subst}
+use Rattle.std.proofs.Common.{◌≡◌, ℕ, List, Option, Some, None, refl, sym, ◌∙◌, ap, subst}
 use Rattle.std.specs.Prelude.{false, Ok, Err, Result, IfErr, IfOk, OnErr, OnOk}
 use Rattle.std.specs.Option.{option_map}
 use Rattle.std.specs.declared.cmp.Ordering.{Ordering}

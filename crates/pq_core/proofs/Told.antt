@@ -10,7 +10,7 @@ use Rattle.pq_core.specs.Works.{DoneView, WorkView, IsWorkOf}
 use Rattle.pq_core.specs.Ledger.{Out, Running, Put, Entry, Client, Ledger, IsOpen, IsClosed, IsEntry, with_client, with_entry, moved_to, with_outbox, opened, closed, Fate, WasStarved}
 use Rattle.pq_core.specs.Moves.{one_if, open_count, window, owed, OpenRefusal, Opens, AcceptRefusal, Accepts, new_entry, with_new, EditRefusal, Edits, changed, Waits, NoneWaits, Starts, started_at, RunAt, Runs, NoneRuns, IsRequestOf, ended, with_out, out_of, IsOvertaken, IsCurrent, GoesOn, IsBlocked, LooksFor, IsOf, Gives, Starves, NextReady, IsReady, Releases}
 use Rattle.pq_core.specs.Kept.{Kept}
-use Rattle.pq_core.specs.Told.{Told, told_puts, told_client, told_ledger, IsReadyAt, NoneReadyAt, OpensNext, Shuts, TellsOne, Tells}
+use Rattle.pq_core.specs.Told.{Told, told_puts, told_client, told_ledger, IsReadyAt, NoneReadyAt, OpensNext, Shuts, TellsOne}
 use Rattle.pq_core.specs.declared.request.Request.{Request}
 use Rattle.pq_core.specs.declared.outcome.Outcome.{Outcome}
 use Rattle.pq_core.specs.declared.outcome.Outcome.TheVariants.{Answered, Cancelled, Starved}

@@ -1,5 +1,5 @@
 -- Auxiliary: what a run is at between two calls, and one step of it in its store.
-use Rattle.std.specs.Prelude.{ℕ, ◌≡◌, ◌==◌, if◌then◌else◌, Option, Some, None, IsSome, Ok, Err, Result}
+use Rattle.std.specs.Prelude.{ℕ, ◌≡◌, ◌==◌, if◌then◌else◌, Some, None, IsSome, Ok, Err, Result}
 use Rattle.std.specs.declared.cmp.Ordering.{Ordering}
 use Rattle.pq_rules.specs.Turns.{Machine}
 use Rattle.pq_memo.specs.Table.{memo_at, HasIn}

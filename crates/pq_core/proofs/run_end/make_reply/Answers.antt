@@ -1,4 +1,3 @@
-use Rattle.std.proofs.Common.{sym}
 use Rattle.pq_core.proofs.run_end.make_reply.Goals as goal
 
 pub stop_run-requires-clause-ruled : goal.stop_run-requires-clause-ruled

@@ -1,4 +1,4 @@
-use Rattle.std.proofs.Common.{◌≤◌, refl, sym, [], ◌∙◌}
+use Rattle.std.proofs.Common.{refl, []}
 use Rattle.pq_rules.proofs.Weight.{Exact}
 use Rattle.pq_memo.specs.Table.{memo_at}
 use Rattle.pq_core.proofs.StoreCounting.{ring_on}

@@ -1,4 +1,4 @@
-use Rattle.std.proofs.Common.{◌≡◌, Some, refl, sym, ap, ◌∙◌}
+use Rattle.std.proofs.Common.{◌≡◌, Some, refl, sym, ◌∙◌}
 use Rattle.pq_memo.specs.Table.{memo_at}
 use Rattle.pq_core.proofs.Renewed.{same_none_lost}
 use Rattle.pq_core.proofs.StepOfRun.{Fits, not_fits, stays_goes, stopped_gives, take_goes, untaken_goes}

@@ -1,4 +1,3 @@
-use Rattle.std.proofs.Common.{sym}
 use Rattle.pq_core.proofs.StoreRunning.{current, run_here}
 use Rattle.pq_core.specs.Stores.{held}
 use Rattle.pq_core.specs.Told.{told_puts}

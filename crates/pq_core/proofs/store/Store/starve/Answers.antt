@@ -1,4 +1,4 @@
-use Rattle.std.proofs.Common.{refl, sym, ◌∙◌}
+use Rattle.std.proofs.Common.{sym, ◌∙◌}
 use Rattle.pq_core.proofs.StepOfRun.{no_run_goes}
 use Rattle.pq_core.proofs.StoreAccepting.{false_true}
 use Rattle.pq_core.proofs.store.Store.starve.Goals as goal

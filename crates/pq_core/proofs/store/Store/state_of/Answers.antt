@@ -1,4 +1,4 @@
-use Rattle.std.proofs.Common.{◌≡◌, Some, sym, ◌∙◌, ap}
+use Rattle.std.proofs.Common.{sym, ◌∙◌, ap}
 use Rattle.pq_core.proofs.StoreAccepting.{false_true}
 use Rattle.pq_core.proofs.StoreRunning.{none_of, run_demands}
 use Rattle.pq_core.specs.Stores.{held}
