@@ -20,7 +20,7 @@ use Rattle.pq_core.specs.declared.rising.Place.{Place}
 use Rattle.pq_core.specs.declared.frames.Top.{Top}
 use Rattle.pq_core.specs.declared.frames.Top.TheVariants.{Empty, At, Away}
 use Rattle.pq_core.specs.aux.Rising.{found}
-use Rattle.pq_core.specs.aux.RunSteps.{RunReady, RunStepped, run_state}
+use Rattle.pq_core.specs.aux.RunSteps.{RunReady, RunStepped, step_state}
 use Rattle.pq_core.specs.aux.Runs.{RunView, RunKept, RunsKept, IsSameRun, AreStale, ClosesRing, OthersHold, Renewed, TopAwaits, WaitStands, OthersUnwritten, claimed_keys, run_keys}
 use Rattle.pq_core.proofs.Lists.{none_some, some_one}
 use Rattle.pq_core.proofs.Claiming.{all_others, all_released, by_run, not_same, others_same, others_then, same_claimed}
@@ -156,7 +156,7 @@ module _ {K P V : Type 0} (order : K → K → Ordering) (m : Machine K P V) (in
 -- a run that is current is ready for a step
 pub own_ready : {R K P V : Type 0} (order : K → K → Ordering) (m : Machine K P V) (inputs : Table) (memos : View R K V) (claims : List (ℕ × Hold K)) (runs : List (Place (RunView K P)))
     (r : ℕ) (run : RunView K P) → found runs r ≡ Some run → run.started ≡ inputs.revision → KeptOver order m inputs memos.places
-    → RunsKept order m inputs (memo_at order memos.places) claims runs → RunReady order m inputs r (run_state memos claims run.stack run.top)
+    → RunsKept order m inputs (memo_at order memos.places) claims runs → RunReady order m inputs r (step_state memos claims run.stack run.top)
 own_ready {R} {K} order m inputs memos claims runs r run here now kept w = record {
   kept = kept;
   frames_kept = w.current r run here now;
@@ -172,7 +172,7 @@ own_ready {R} {K} order m inputs memos claims runs r run here now kept w = recor
 pub stepped_runs : {R K P V : Type 0} (order : K → K → Ordering) (machine : R → Machine K P V) (inputs : Table) (old new : View R K V) (before after : List (ℕ × Hold K))
     (b a : List (Place (RunView K P))) (r : ℕ) (was run : RunView K P) → found b r ≡ Some was → ((k : ℕ) → found a k ≡ (if k == r then Some run else found b k))
     → IsSameRun was run → was.started ≡ inputs.revision → ((s : ℕ) (y : RunView K P) → found b s ≡ Some y → y.started ≤ inputs.revision)
-    → AreSound before → AreSound after → RunStepped order machine inputs r (run_state old before was.stack was.top) (run_state new after run.stack run.top)
+    → AreSound before → AreSound after → RunStepped order machine inputs r (step_state old before was.stack was.top) (step_state new after run.stack run.top)
     → RunsKept order (machine old.rules) inputs (memo_at order old.places) before b → RunsKept order (machine old.rules) inputs (memo_at order new.places) after a
 stepped_runs {R} {K} {P} {V} order machine inputs old new before after b a r was run here set is now past sound sound_after stepped w =
     one_changed order (machine old.rules) inputs (memo_at order old.places) (memo_at order new.places) before after b a r (Some run) set stepped.ready.claimed stepped.others stepped.renewed

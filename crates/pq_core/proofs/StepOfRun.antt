@@ -27,7 +27,7 @@ use Rattle.pq_core.specs.aux.Rising.{Slots, found}
 use Rattle.pq_core.specs.aux.Runs.{AreClaimed, AreStale, ClosesRing, HandedOut, HasLooked, IsSameRun, OthersHold, Renewed, RunView, out_at, run_keys}
 use Rattle.pq_core.specs.aux.Begun.{LooksFirst}
 use Rattle.pq_core.specs.aux.Changes.{IsSetAt}
-use Rattle.pq_core.specs.aux.RunSteps.{RunStepped, run_state}
+use Rattle.pq_core.specs.aux.RunSteps.{RunStepped, step_state}
 use Rattle.pq_core.specs.aux.RunStates.{IsCurrentRun, IsReady, SameClients, Steps, StepsTo, log_stepped}
 use Rattle.pq_core.specs.declared.frames.Looked.{Looked}
 use Rattle.pq_core.specs.declared.frames.Looked.TheVariants.{Carry, Stepped, Blocked, Ring}
@@ -87,7 +87,7 @@ module _ {R K P V M : Type 0} (order : K → K → Ordering) (m : Machine K P V)
 module _ {R K P V M : Type 0} (order : K → K → Ordering) (machine : R → Machine K P V) (point : M → Point) (stamp : M) (b : StoreView R K P V M) (w : IsWhole order (machine b.rules) point stamp b)
     (memos : View R K V) (runs : Slots (RunView K P)) (claims : List (ℕ × Hold K)) (r : ℕ) (was run : RunView K P) (current_was : IsCurrentRun b r was) (set : IsSetAt b.runs runs r (Some run))
     (same : IsSameRun was run)
-    (stepped : RunStepped order machine b.inputs r (run_state (record { rules = b.rules; places = b.places }) b.claims was.stack was.top) (run_state memos claims run.stack run.top)) where
+    (stepped : RunStepped order machine b.inputs r (step_state (record { rules = b.rules; places = b.places }) b.claims was.stack was.top) (step_state memos claims run.stack run.top)) where
   -- the store after the run was put back
   abbrev pub left : StoreView R K P V M
   left = record b { rules = memos.rules; places = memos.places; runs = runs; claims = claims }

@@ -29,7 +29,7 @@ use Rattle.pq_core.specs.declared.request.Request.{Request}
 use Rattle.pq_core.specs.declared.request.Want.TheVariants.{Demand}
 use Rattle.pq_core.specs.aux.Runs.{AreStale, ClosesRing, Enters, FramesKept, HandedOut, HasLooked, HasMarked, IsLowered, IsStale, KeptBelow, OthersHold, Renewed, WaitStands, out_at, run_keys, top_keys}
 use Rattle.pq_core.specs.aux.Begun.{IsBegun, LooksFirst}
-use Rattle.pq_core.specs.aux.RunSteps.{RunReady, RunState, RunStepped, run_state}
+use Rattle.pq_core.specs.aux.RunSteps.{RunReady, StepState, RunStepped, step_state}
 use Rattle.pq_core.proofs.Beginning.{first_held, first_kept, first_stale, none_held}
 use Rattle.pq_core.proofs.Claiming.{got_keys, others_same, others_then, set_others, set_own}
 use Rattle.pq_core.proofs.Confirmed.{held_stale}
@@ -45,19 +45,19 @@ none_of (Some x) f = absurd (f x refl)
 
 module _ {R K P V : Type 0} (order : K → K → Ordering) (machine : R → Machine K P V) (inputs : Table) (run : ℕ) where
   -- what is ready by the rules of its memos
-  abbrev Ready : RunState R K P V → Type 0
+  abbrev Ready : StepState R K P V → Type 0
   Ready a = RunReady order (machine a.memos.rules) inputs run a
 
   -- after a step the run is ready
-  pub ready_next : (a b : RunState R K P V) → RunStepped order machine inputs run a b → Ready b
+  pub ready_next : (a b : StepState R K P V) → RunStepped order machine inputs run a b → Ready b
   ready_next a b w = subst (λ (r : R). RunReady order (machine r) inputs run b) (sym w.rules) w.ready
 
   -- a run whose work is out waits for no key
-  pub away_awake : (memos : View R K V) (claims : List (ℕ × Hold K)) (stack : List (Frame K P)) (p : Pending K) → Ready (run_state memos claims stack (Away p)) → (hold_of claims run).wait ≡ None
+  pub away_awake : (memos : View R K V) (claims : List (ℕ × Hold K)) (stack : List (Frame K P)) (p : Pending K) → Ready (step_state memos claims stack (Away p)) → (hold_of claims run).wait ≡ None
   away_awake memos claims stack p w = none_of (hold_of claims run).wait w.waits
 
   -- a step after another
-  pub stepped_then : (a b c : RunState R K P V) → RunStepped order machine inputs run a b → RunStepped order machine inputs run b c → RunStepped order machine inputs run a c
+  pub stepped_then : (a b c : StepState R K P V) → RunStepped order machine inputs run a b → RunStepped order machine inputs run b c → RunStepped order machine inputs run a c
   stepped_then a b c first second = record {
     rules = second.rules ∙ first.rules;
     ready = subst (λ (r : R). RunReady order (machine r) inputs run c) first.rules second.ready;
@@ -74,9 +74,9 @@ module _ {R K P V : Type 0} (order : K → K → Ordering) (machine : R → Mach
       renewed = subst (λ (r : R). Renewed (machine r) inputs.revision (memo_at order b.memos.places) (memo_at order c.memos.places)) first.rules second.renewed
 
   -- only claims changed
-  pub claims_stepped : (a : RunState R K P V) (claims : List (ℕ × Hold K)) → (hold_of claims run).keys ≡ (hold_of a.claims run).keys
+  pub claims_stepped : (a : StepState R K P V) (claims : List (ℕ × Hold K)) → (hold_of claims run).keys ≡ (hold_of a.claims run).keys
       → WaitStands order (machine a.memos.rules) inputs (memo_at order a.memos.places) claims run a.top → OthersHold run a.claims claims → Ready a
-      → RunStepped order machine inputs run a (run_state a.memos claims a.stack a.top)
+      → RunStepped order machine inputs run a (step_state a.memos claims a.stack a.top)
   claims_stepped a claims keys waits others w = record {
     rules = refl;
     ready = record { kept = w.kept; frames_kept = w.frames_kept; claimed = keys ∙ w.claimed; stale = w.stale; waits = waits };
@@ -87,12 +87,12 @@ module _ {R K P V : Type 0} (order : K → K → Ordering) (machine : R → Mach
   }
 
   -- nothing changed
-  pub still_stepped : (a : RunState R K P V) → Ready a → RunStepped order machine inputs run a a
+  pub still_stepped : (a : StepState R K P V) → Ready a → RunStepped order machine inputs run a a
   still_stepped a w = claims_stepped a a.claims refl w.waits (others_same run a.claims) w
 
   -- the wait of the run ended
-  pub ended_stepped : (a : RunState R K P V) (claims : List (ℕ × Hold K)) → IsSet a.claims claims run (record { keys = (hold_of a.claims run).keys; wait = None }) → Ready a
-      → RunStepped order machine inputs run a (run_state a.memos claims a.stack a.top)
+  pub ended_stepped : (a : StepState R K P V) (claims : List (ℕ × Hold K)) → IsSet a.claims claims run (record { keys = (hold_of a.claims run).keys; wait = None }) → Ready a
+      → RunStepped order machine inputs run a (step_state a.memos claims a.stack a.top)
   ended_stepped a claims set w =
       claims_stepped a claims (ap (λ (h : Hold K). h.keys) own)
       (awake_stands order (machine a.memos.rules) inputs (memo_at order a.memos.places) claims run a.top (ap (λ (h : Hold K). h.wait) own))
@@ -102,8 +102,8 @@ module _ {R K P V : Type 0} (order : K → K → Ordering) (machine : R → Mach
       own = set_own run a.claims claims _ set
 
   -- memos of keys that no run holds were marked
-  pub marked_stepped : (a : RunState R K P V) (memos : View R K V) → (hold_of a.claims run).wait ≡ None → HasMarked order machine inputs a.claims a.memos memos → Ready a
-      → RunStepped order machine inputs run a (run_state memos a.claims a.stack a.top)
+  pub marked_stepped : (a : StepState R K P V) (memos : View R K V) → (hold_of a.claims run).wait ≡ None → HasMarked order machine inputs a.claims a.memos memos → Ready a
+      → RunStepped order machine inputs run a (step_state memos a.claims a.stack a.top)
   marked_stepped a memos awake marked w = record {
     rules = marked.rules;
     ready = record {
@@ -120,10 +120,10 @@ module _ {R K P V : Type 0} (order : K → K → Ordering) (machine : R → Mach
   }
 
   -- no memo was written, and the frames are of the same keys
-  pub same_stepped : (a : RunState R K P V) (memos : View R K V) (stack : List (Frame K P)) (top : Top K P) → memos.rules ≡ a.memos.rules
+  pub same_stepped : (a : StepState R K P V) (memos : View R K V) (stack : List (Frame K P)) (top : Top K P) → memos.rules ≡ a.memos.rules
       → KeptOver order (machine a.memos.rules) inputs memos.places → IsSameTable (memo_at order a.memos.places) (memo_at order memos.places) → run_keys stack top ≡ run_keys a.stack a.top
       → FramesKept order (machine a.memos.rules) inputs (memo_at order a.memos.places) stack top → ((k : K) → IsBegun a.stack a.top k → IsBegun stack top k)
-      → (hold_of a.claims run).wait ≡ None → Ready a → RunStepped order machine inputs run a (run_state memos a.claims stack top)
+      → (hold_of a.claims run).wait ≡ None → Ready a → RunStepped order machine inputs run a (step_state memos a.claims stack top)
   same_stepped a memos stack top rules kept same keys frames begun awake w = record {
     rules = rules;
     ready = record {
@@ -147,9 +147,9 @@ module _ {R K P V : Type 0} (order : K → K → Ordering) (machine : R → Mach
   pub needs_stepped : (before memos : View R K V) (claims : List (ℕ × Hold K)) (stack : List (Frame K P)) (f g : Frame K P) (next : K) → memos.rules ≡ before.rules
       → KeptOver order (machine before.rules) inputs memos.places → IsSameTable (memo_at order before.places) (memo_at order memos.places) → g.key ≡ f.key → StaysAt f.stage g.stage
       → Awaits order (machine before.rules) inputs.history inputs.revision (HasIn (memo_at order before.places)) f.key g.stage next → (hold_of claims run).wait ≡ None
-      → Ready (run_state before claims stack (At f)) → RunStepped order machine inputs run (run_state before claims stack (At f)) (run_state memos claims stack (At g))
+      → Ready (step_state before claims stack (At f)) → RunStepped order machine inputs run (step_state before claims stack (At f)) (step_state memos claims stack (At g))
   needs_stepped before memos claims stack f g next rules kept same key stays awaits awake w =
-      same_stepped (run_state before claims stack (At f)) memos stack (At g) rules kept same (ap (λ (k : K). frame_keys stack ++ k ∷ []) key) (
+      same_stepped (step_state before claims stack (At f)) memos stack (At g) rules kept same (ap (λ (k : K). frame_keys stack ++ k ∷ []) key) (
         below_as order (machine before.rules) inputs (memo_at order before.places) stack f.key g.key key w.frames_kept.0,
         inr (subst (λ (k : K). IsFrame order (machine before.rules) inputs.history inputs.revision (HasIn (memo_at order before.places)) k g.stage) (sym key)
             (awaits_frame order (machine before.rules) inputs (memo_at order before.places) f.key g.stage next awaits)),
@@ -157,20 +157,20 @@ module _ {R K P V : Type 0} (order : K → K → Ordering) (machine : R → Mach
       (λ k had. needs_begun stack f g key stays k had) awake w
 
   -- a run is ready where no memo was written
-  pub read_ready : (a : RunState R K P V) (memos : View R K V) → memos.rules ≡ a.memos.rules → KeptOver order (machine a.memos.rules) inputs memos.places
-      → IsSameTable (memo_at order a.memos.places) (memo_at order memos.places) → (hold_of a.claims run).wait ≡ None → Ready a → Ready (run_state memos a.claims a.stack a.top)
+  pub read_ready : (a : StepState R K P V) (memos : View R K V) → memos.rules ≡ a.memos.rules → KeptOver order (machine a.memos.rules) inputs memos.places
+      → IsSameTable (memo_at order a.memos.places) (memo_at order memos.places) → (hold_of a.claims run).wait ≡ None → Ready a → Ready (step_state memos a.claims a.stack a.top)
   read_ready a memos rules kept same awake w =
-      ready_next a (run_state memos a.claims a.stack a.top) (same_stepped a memos a.stack a.top rules kept same refl w.frames_kept (λ k had. had) awake w)
+      ready_next a (step_state memos a.claims a.stack a.top) (same_stepped a memos a.stack a.top rules kept same refl w.frames_kept (λ k had. had) awake w)
 
   -- work for the key of the top frame was handed out
   pub handed_stepped : (before memos : View R K V) (claims : List (ℕ × Hold K)) (stack left : List (Frame K P)) (f : Frame K P) (top : Top K P) (key : K) → memos.rules ≡ before.rules
       → KeptOver order (machine before.rules) inputs memos.places → IsSameTable (memo_at order before.places) (memo_at order memos.places) → key ≡ f.key
       → run_keys left top ≡ frame_keys stack ++ key ∷ [] → FramesKept order (machine memos.rules) inputs (memo_at order memos.places) left top
       → left ≡ stack → (p : Pending K) × (top ≡ Away p) × (p.key ≡ key)
-      → (hold_of claims run).wait ≡ None → Ready (run_state before claims stack (At f))
-      → RunStepped order machine inputs run (run_state before claims stack (At f)) (run_state memos claims left top)
+      → (hold_of claims run).wait ≡ None → Ready (step_state before claims stack (At f))
+      → RunStepped order machine inputs run (step_state before claims stack (At f)) (step_state memos claims left top)
   handed_stepped before memos claims stack left f top key rules kept same is keys frames stays away awake w =
-      same_stepped (run_state before claims stack (At f)) memos left top rules kept same (keys ∙ ap (λ (k : K). frame_keys stack ++ k ∷ []) is)
+      same_stepped (step_state before claims stack (At f)) memos left top rules kept same (keys ∙ ap (λ (k : K). frame_keys stack ++ k ∷ []) is)
       (moved_to (λ (r : R) (t : K → Option (Memo K V)). FramesKept order (machine r) inputs t left top) memos.rules before.rules (memo_at order memos.places) (memo_at order before.places)
       (sym rules) (sym (one_table (memo_at order before.places) (memo_at order memos.places) same)) frames)
       (λ k had. away_begun stack left f top key stays away is k had) awake w
@@ -179,8 +179,8 @@ module _ {R K P V : Type 0} (order : K → K → Ordering) (machine : R → Mach
   pub entered_stepped : {W E : Type 0} (memos : View R K V) (before after : List (ℕ × Hold K)) (stack left : List (Frame K P)) (f : Frame K P) (top : Top K P) (next : K)
       (answer : Result (Looked W K) E) → Awaits order (machine memos.rules) inputs.history inputs.revision (HasIn (memo_at order memos.places)) f.key f.stage next
       → (IsUpToDate (machine memos.rules) inputs.revision (HasIn (memo_at order memos.places)) next → ⊥) → Enters order after run next answer (stack ++ f ∷ []) left top
-      → (hold_of after run).keys ≡ run_keys left top → OthersHold run before after → Ready (run_state memos before stack (At f))
-      → RunStepped order machine inputs run (run_state memos before stack (At f)) (run_state memos after left top)
+      → (hold_of after run).keys ≡ run_keys left top → OthersHold run before after → Ready (step_state memos before stack (At f))
+      → RunStepped order machine inputs run (step_state memos before stack (At f)) (step_state memos after left top)
   entered_stepped memos before after stack left f top next answer awaits needed e claimed others w = record {
     rules = refl;
     ready = record {
@@ -197,7 +197,7 @@ module _ {R K P V : Type 0} (order : K → K → Ordering) (machine : R → Mach
   }
 
   -- the memo of the key of the top was written, and the top left
-  pub left_stepped : Exact order → (a b : RunState R K P V) (key : K) → top_keys a.top ≡ key ∷ [] → KeptBelow order (machine a.memos.rules) inputs (memo_at order a.memos.places) a.stack key
+  pub left_stepped : Exact order → (a b : StepState R K P V) (key : K) → top_keys a.top ≡ key ∷ [] → KeptBelow order (machine a.memos.rules) inputs (memo_at order a.memos.places) a.stack key
       → b.memos.rules ≡ a.memos.rules → KeptOver order (machine a.memos.rules) inputs b.memos.places
       → IsFinished order (machine a.memos.rules) inputs a.memos.places b.memos.places key
       → IsLowered a.stack b.stack b.top → (hold_of b.claims run).keys ≡ run_keys b.stack b.top
@@ -236,9 +236,9 @@ module _ {R K P V : Type 0} (order : K → K → Ordering) (machine : R → Mach
       wrote = wrote_finished order exact (machine a.memos.rules) inputs a.memos.places key b.memos.places out finished
 
   -- a run without frames claimed the key of its request, which is the first frame
-  pub first_stepped : (a : RunState R K P V) (claims : List (ℕ × Hold K)) (request : Request K) (key : K) → a.stack ≡ [] → a.top ≡ Empty
+  pub first_stepped : (a : StepState R K P V) (claims : List (ℕ × Hold K)) (request : Request K) (key : K) → a.stack ≡ [] → a.top ≡ Empty
       → request.want ≡ Demand key → IsStale (machine a.memos.rules) inputs.revision (HasIn (memo_at order a.memos.places)) request → Claimed order run key (Ok Got) a.claims claims → Ready a
-      → RunStepped order machine inputs run a (run_state a.memos claims a.stack (At (record { key = key; stage = Walking 0 })))
+      → RunStepped order machine inputs run a (step_state a.memos claims a.stack (At (record { key = key; stage = Walking 0 })))
   first_stepped a claims request key bare empty wants stale got w = record {
     rules = refl;
     ready = record {

@@ -10,7 +10,7 @@ ghost use Rattle.pq_memo.specs.Frames.{Awaits, frame_keys};
 ghost use Rattle.pq_claims.specs.Claims.{hold_of};
 ghost use Rattle.pq_core.specs.declared.frames.Top.TheVariants.{At};
 ghost use Rattle.pq_core.specs.aux.Runs.{Enters, HasLooked, HoldsBelow, IsLowered, OthersHold, out_at, run_keys};
-ghost use Rattle.pq_core.specs.aux.RunSteps.{RunReady, RunStepped, run_state};
+ghost use Rattle.pq_core.specs.aux.RunSteps.{RunReady, RunStepped, step_state};
 
 use crate::fault::Memory;
 use crate::frames::{Frames, Look, Looked, Top};
@@ -84,11 +84,11 @@ impl<R: Rules> Frames<R> {
         frame: Frame<R::Key, R::Part>,
         next: R::Key,
     ) -> Result<Look<R>, Memory>
-        requires ready { RunReady R.Key.cmp (R.machine memos.now.rules) inputs.now id (run_state memos.now claims.old self.old.stack (At frame)) }
+        requires ready { RunReady R.Key.cmp (R.machine memos.now.rules) inputs.now id (step_state memos.now claims.old self.old.stack (At frame)) }
         requires awaits { Awaits R.Key.cmp (R.machine memos.now.rules) inputs.now.history inputs.now.revision (HasIn (memo_at R.Key.cmp memos.now.places)) frame.key frame.stage next }
         requires needed { IsUpToDate (R.machine memos.now.rules) inputs.now.revision (HasIn (memo_at R.Key.cmp memos.now.places)) next → ⊥ }
         requires awake { (hold_of claims.old id).wait ≡ None }
-        ensures stepped { RunStepped R.Key.cmp R.machine inputs.now id (run_state memos.now claims.old self.old.stack (At frame)) (run_state memos.now claims.new self.new.stack self.new.top) }
+        ensures stepped { RunStepped R.Key.cmp R.machine inputs.now id (step_state memos.now claims.old self.old.stack (At frame)) (step_state memos.now claims.new self.new.stack self.new.top) }
         ensures looked { IfOk result (λ l. HasLooked R.Key.cmp R.machine inputs.now memos.now claims.new id self.new.top l) }
         ensures idle { out_at self.new.top ≡ None }
     {

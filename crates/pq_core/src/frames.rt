@@ -19,7 +19,7 @@ ghost use Rattle.pq_claims.specs.Claims.{hold_of};
 ghost use Rattle.pq_core.specs.Moves.{out_of};
 ghost use Rattle.pq_core.specs.aux.Runs.{FramesKept, HandedOut, HasLooked, IsLowered, KeptBelow, out_at, run_keys};
 ghost use Rattle.pq_core.specs.aux.Begun.{LooksFirst};
-ghost use Rattle.pq_core.specs.aux.RunSteps.{RunReady, RunStepped, run_state};
+ghost use Rattle.pq_core.specs.aux.RunSteps.{RunReady, RunStepped, step_state};
 ghost use Rattle.pq_core.specs.declared.frames.Pending.{Pending};
 ghost use Rattle.pq_core.specs.declared.frames.Top.TheVariants.{Empty, At, Away};
 
@@ -228,10 +228,10 @@ impl<R: Rules> Frames<R> {
         frame: Frame<R::Key, R::Part>,
         copy: R::Key,
     ) -> Result<Look<R>, Memory>
-        requires ready { RunReady R.Key.cmp (R.machine memos.old.rules) inputs.now id (run_state memos.old claims.old self.old.stack (At frame)) }
+        requires ready { RunReady R.Key.cmp (R.machine memos.old.rules) inputs.now id (step_state memos.old claims.old self.old.stack (At frame)) }
         requires awake { (hold_of claims.old id).wait ≡ None }
         requires copied { copy ≡ frame.key }
-        ensures stepped { RunStepped R.Key.cmp R.machine inputs.now id (run_state memos.old claims.old self.old.stack (At frame)) (run_state memos.new claims.new self.new.stack self.new.top) }
+        ensures stepped { RunStepped R.Key.cmp R.machine inputs.now id (step_state memos.old claims.old self.old.stack (At frame)) (step_state memos.new claims.new self.new.stack self.new.top) }
         ensures looked { IfOk result (λ l. HasLooked R.Key.cmp R.machine inputs.now memos.old claims.new id self.new.top l) }
         ensures refused { OnErr result (out_at self.new.top ≡ None) }
         ensures first { IfOk result (λ l. LooksFirst self.old.stack (At frame) l) }
@@ -269,8 +269,8 @@ impl<R: Rules> Frames<R> {
         inputs: &Inputs,
         frame: Frame<R::Key, R::Part>,
     ) -> Result<Look<R>, Memory>
-        requires ready { RunReady R.Key.cmp (R.machine memos.old.rules) inputs.now id (run_state memos.old claims.old self.old.stack (At frame)) }
-        ensures stepped { RunStepped R.Key.cmp R.machine inputs.now id (run_state memos.old claims.old self.old.stack (At frame)) (run_state memos.new claims.new self.new.stack self.new.top) }
+        requires ready { RunReady R.Key.cmp (R.machine memos.old.rules) inputs.now id (step_state memos.old claims.old self.old.stack (At frame)) }
+        ensures stepped { RunStepped R.Key.cmp R.machine inputs.now id (step_state memos.old claims.old self.old.stack (At frame)) (step_state memos.new claims.new self.new.stack self.new.top) }
         ensures looked { IfOk result (λ l. HasLooked R.Key.cmp R.machine inputs.now memos.old claims.new id self.new.top l) }
         ensures refused { OnErr result (out_at self.new.top ≡ None) }
         ensures first { IfOk result (λ l. LooksFirst self.old.stack (At frame) l) }
@@ -305,12 +305,12 @@ impl<R: Rules> Frames<R> {
         pending: Pending<R::Key>,
         done: Made<R>,
     ) -> Result<(), Made<R>>
-        requires ready { RunReady R.Key.cmp (R.machine memos.old.rules) inputs.now id (run_state memos.old claims.old self.old.stack (Away pending)) }
+        requires ready { RunReady R.Key.cmp (R.machine memos.old.rules) inputs.now id (step_state memos.old claims.old self.old.stack (Away pending)) }
         requires rules { done.rules ≡ memos.old.rules }
         requires files { done.files ≡ inputs.now.files }
         requires counted { length pending.reads.items ≡ length done.front }
         requires key { pending.key ≡ done.key }
-        ensures stepped { RunStepped R.Key.cmp R.machine inputs.now id (run_state memos.old claims.old self.old.stack (Away pending)) (run_state memos.new claims.new self.new.stack self.new.top) }
+        ensures stepped { RunStepped R.Key.cmp R.machine inputs.now id (step_state memos.old claims.old self.old.stack (Away pending)) (step_state memos.new claims.new self.new.stack self.new.top) }
         ensures taken { OnOk result (out_at self.new.top ≡ None) }
         ensures back { IfErr result (λ d. d ≡ done) }
         ensures refused { OnErr result (out_at self.new.top ≡ Some (out_of done)) }

@@ -10,7 +10,7 @@ ghost use Rattle.pq_core.specs.Kept.{IsDemand};
 ghost use Rattle.pq_core.specs.Moves.{out_of};
 ghost use Rattle.pq_core.specs.aux.Runs.{HasLooked, IsAnswer, IsSameRun, IsStale, out_at};
 ghost use Rattle.pq_core.specs.aux.Begun.{LooksFirst};
-ghost use Rattle.pq_core.specs.aux.RunSteps.{RunReady, RunStepped, run_state};
+ghost use Rattle.pq_core.specs.aux.RunSteps.{RunReady, RunStepped, step_state};
 ghost use Rattle.pq_core.specs.declared.frames.Top.TheVariants.{Empty};
 ghost use Rattle.pq_core.specs.declared.request.Want.TheVariants.{Demand};
 
@@ -157,9 +157,9 @@ impl<R: Rules> Run<R> {
         requires demand { IsDemand self.old.request.want }
         requires empty { (self.old.stack ≡ []) × (self.old.top ≡ Empty) }
         requires stale { IsStale (R.machine memos.old.rules) inputs.now.revision (HasIn (memo_at R.Key.cmp memos.old.places)) self.old.request }
-        requires ready { RunReady R.Key.cmp (R.machine memos.old.rules) inputs.now id (run_state memos.old claims.old self.old.stack self.old.top) }
+        requires ready { RunReady R.Key.cmp (R.machine memos.old.rules) inputs.now id (step_state memos.old claims.old self.old.stack self.old.top) }
         ensures same { IsSameRun self.old self.new }
-        ensures stepped { RunStepped R.Key.cmp R.machine inputs.now id (run_state memos.old claims.old self.old.stack self.old.top) (run_state memos.new claims.new self.new.stack self.new.top) }
+        ensures stepped { RunStepped R.Key.cmp R.machine inputs.now id (step_state memos.old claims.old self.old.stack self.old.top) (step_state memos.new claims.new self.new.stack self.new.top) }
         ensures looked { IfOk result (λ l. HasLooked R.Key.cmp R.machine inputs.now memos.old claims.new id self.new.top l) }
         ensures refused { OnErr result (out_at self.new.top ≡ None) }
         ensures first { IfOk result (λ l. LooksFirst self.old.stack self.old.top l) }
@@ -190,9 +190,9 @@ impl<R: Rules> Run<R> {
         requires idle { out_at self.old.top ≡ None }
         requires stale { self.old.top ≡ Empty → IsStale (R.machine memos.old.rules) inputs.now.revision (HasIn (memo_at R.Key.cmp memos.old.places)) self.old.request }
         requires current { self.old.started ≡ inputs.now.revision }
-        requires ready { RunReady R.Key.cmp (R.machine memos.old.rules) inputs.now id (run_state memos.old claims.old self.old.stack self.old.top) }
+        requires ready { RunReady R.Key.cmp (R.machine memos.old.rules) inputs.now id (step_state memos.old claims.old self.old.stack self.old.top) }
         ensures same { IsSameRun self.old self.new }
-        ensures stepped { RunStepped R.Key.cmp R.machine inputs.now id (run_state memos.old claims.old self.old.stack self.old.top) (run_state memos.new claims.new self.new.stack self.new.top) }
+        ensures stepped { RunStepped R.Key.cmp R.machine inputs.now id (step_state memos.old claims.old self.old.stack self.old.top) (step_state memos.new claims.new self.new.stack self.new.top) }
         ensures looked { IfOk result (λ l. HasLooked R.Key.cmp R.machine inputs.now memos.old claims.new id self.new.top l) }
         ensures refused { OnErr result (out_at self.new.top ≡ None) }
         ensures first { IfOk result (λ l. LooksFirst self.old.stack self.old.top l) }
@@ -219,9 +219,9 @@ impl<R: Rules> Run<R> {
         requires rules { done.rules ≡ memos.old.rules }
         requires files { done.files ≡ inputs.now.files }
         requires current { self.old.started ≡ inputs.now.revision }
-        requires ready { RunReady R.Key.cmp (R.machine memos.old.rules) inputs.now id (run_state memos.old claims.old self.old.stack self.old.top) }
+        requires ready { RunReady R.Key.cmp (R.machine memos.old.rules) inputs.now id (step_state memos.old claims.old self.old.stack self.old.top) }
         ensures same { IsSameRun self.old self.new }
-        ensures stepped { RunStepped R.Key.cmp R.machine inputs.now id (run_state memos.old claims.old self.old.stack self.old.top) (run_state memos.new claims.new self.new.stack self.new.top) }
+        ensures stepped { RunStepped R.Key.cmp R.machine inputs.now id (step_state memos.old claims.old self.old.stack self.old.top) (step_state memos.new claims.new self.new.stack self.new.top) }
         ensures taken { OnOk result (out_at self.new.top ≡ None) }
         ensures back { IfErr result (λ d. d ≡ done) }
         ensures refused { OnErr result (out_at self.new.top ≡ Some (out_of done)) }

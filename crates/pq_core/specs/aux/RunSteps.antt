@@ -13,20 +13,20 @@ use Rattle.pq_core.specs.declared.frames.Top.{Top}
 use Rattle.pq_core.specs.aux.Runs.{AreStale, FramesKept, OthersHold, OthersUnwritten, Renewed, WaitStands, run_keys}
 use Rattle.pq_core.specs.aux.Begun.{KeepsBegun}
 
--- `RunState R K P V` is what a step of a run changes: the memos, the claims of all runs, the frames
+-- `StepState R K P V` is what a step of a run changes: the memos, the claims of all runs, the frames
 -- of the run below its top, and the top
-pub record RunState (R K P V : Type 0) : Type 0 where
+pub record StepState (R K P V : Type 0) : Type 0 where
   pub memos : View R K V
   pub claims : List (ℕ × Hold K)
   pub stack : List (Frame K P)
   pub top : Top K P
 
--- `run_state memos claims stack top` is the state of these
-abbrev pub run_state : {R K P V : Type 0} → View R K V → List (ℕ × Hold K) → List (Frame K P) → Top K P → RunState R K P V
-run_state memos claims stack top = record { memos = memos; claims = claims; stack = stack; top = top }
+-- `step_state memos claims stack top` is the state of these
+abbrev pub step_state : {R K P V : Type 0} → View R K V → List (ℕ × Hold K) → List (Frame K P) → Top K P → StepState R K P V
+step_state memos claims stack top = record { memos = memos; claims = claims; stack = stack; top = top }
 
 -- `RunReady order m inputs run state` is what holds at `state` before a step of `run`
-pub record RunReady {R K P V : Type 0} (order : K → K → Ordering) (m : Machine K P V) (inputs : Table) (run : ℕ) (state : RunState R K P V) : Type 0 where
+pub record RunReady {R K P V : Type 0} (order : K → K → Ordering) (m : Machine K P V) (inputs : Table) (run : ℕ) (state : StepState R K P V) : Type 0 where
   -- the memos are sound
   pub kept : KeptOver order m inputs state.memos.places
   -- the frames are in order
@@ -40,7 +40,7 @@ pub record RunReady {R K P V : Type 0} (order : K → K → Ordering) (m : Machi
 
 -- `RunStepped order machine inputs run old new` is what holds of a step of `run` from the state `old`
 -- to the state `new`
-pub record RunStepped {R K P V : Type 0} (order : K → K → Ordering) (machine : R → Machine K P V) (inputs : Table) (run : ℕ) (old new : RunState R K P V) : Type 0 where
+pub record RunStepped {R K P V : Type 0} (order : K → K → Ordering) (machine : R → Machine K P V) (inputs : Table) (run : ℕ) (old new : StepState R K P V) : Type 0 where
   pub rules : new.memos.rules ≡ old.memos.rules
   -- the run can take another step
   pub ready : RunReady order (machine old.memos.rules) inputs run new

@@ -6,7 +6,7 @@ use Rattle.pq_memo.specs.Frames.{Came, IsFrame, frame_keys}
 use Rattle.pq_memo.specs.Steps.{IsWhy}
 use Rattle.pq_memo.proofs.Advancing.{one_table, moved_to}
 use Rattle.pq_core.specs.declared.frames.Top.TheVariants.{At}
-use Rattle.pq_core.specs.aux.RunSteps.{run_state}
+use Rattle.pq_core.specs.aux.RunSteps.{step_state}
 use Rattle.pq_core.proofs.Framed.{below_as, frame_as, has_read}
 use Rattle.pq_core.proofs.Stepping.{goes_on}
 use Rattle.pq_core.proofs.Stepped.{handed_over, handed_stepped, idle_first, left_stepped, looked_over, needs_stepped, read_ready, ready_next, same_stepped, stepped_then}
@@ -20,14 +20,14 @@ step-requires-clause-frame g c =
 pub start-requires-clause-below : goal.start-requires-clause-below
 start-requires-clause-below g c =
     let s = rw c.in-Ok-Starts.field-0-is at c.in-Ok-Starts.ensures.step in
-    let ready = read_ready g.R.Key.Ord.cmp g.R.Rules.machine c.args.inputs.now c.args.id (run_state c.args.memos.now c.args.claims.now c.args.self.now.stack (At c.args.frame)) c.step.new.self c.step.ensures.rules c.step.ensures.kept s.0 c.requires.awake c.requires.ready in
+    let ready = read_ready g.R.Key.Ord.cmp g.R.Rules.machine c.args.inputs.now c.args.id (step_state c.args.memos.now c.args.claims.now c.args.self.now.stack (At c.args.frame)) c.step.new.self c.step.ensures.rules c.step.ensures.kept s.0 c.requires.awake c.requires.ready in
     below_as g.R.Key.Ord.cmp (g.R.Rules.machine c.step.new.self.rules) c.args.inputs.now (memo_at g.R.Key.Ord.cmp c.step.new.self.places) c.args.self.now.stack c.args.frame.key c.in-Ok-Starts.key s.1
     ready.frames_kept.0
 
 pub go_on-requires-clause-below : goal.go_on-requires-clause-below
 go_on-requires-clause-below g c =
     let s = rw c.in-Ok-GoesOn.field-0-is at c.in-Ok-GoesOn.ensures.step in
-    let ready = read_ready g.R.Key.Ord.cmp g.R.Rules.machine c.args.inputs.now c.args.id (run_state c.args.memos.now c.args.claims.now c.args.self.now.stack (At c.args.frame)) c.step.new.self c.step.ensures.rules c.step.ensures.kept s.0 c.requires.awake c.requires.ready in
+    let ready = read_ready g.R.Key.Ord.cmp g.R.Rules.machine c.args.inputs.now c.args.id (step_state c.args.memos.now c.args.claims.now c.args.self.now.stack (At c.args.frame)) c.step.new.self c.step.ensures.rules c.step.ensures.kept s.0 c.requires.awake c.requires.ready in
     below_as g.R.Key.Ord.cmp (g.R.Rules.machine c.step.new.self.rules) c.args.inputs.now (memo_at g.R.Key.Ord.cmp c.step.new.self.places) c.args.self.now.stack c.args.frame.key c.in-Ok-GoesOn.key s.1
     ready.frames_kept.0
 
@@ -60,8 +60,8 @@ pub returns-in-Ok-Finished-clause-stepped : goal.returns-in-Ok-Finished-clause-s
 returns-in-Ok-Finished-clause-stepped g c =
     let exact : Exact g.R.Key.Ord.cmp = record { total = g.met.R.Key.Ord.total; exact = (g.met.R.Rules.lawful c.args.memos.now.rules []).exact } in
     let s = rw c.in-Ok-Finished.field-0-is at c.in-Ok-Finished.ensures.step in
-    left_stepped g.R.Key.Ord.cmp g.R.Rules.machine c.args.inputs.now c.args.id exact (run_state c.args.memos.now c.args.claims.now c.args.self.now.stack (At c.args.frame))
-    (run_state c.step.new.self c.leave.new.claims c.leave.new.self.stack c.leave.new.self.top) c.args.frame.key refl c.requires.ready.frames_kept.0 c.step.ensures.rules c.step.ensures.kept s
+    left_stepped g.R.Key.Ord.cmp g.R.Rules.machine c.args.inputs.now c.args.id exact (step_state c.args.memos.now c.args.claims.now c.args.self.now.stack (At c.args.frame))
+    (step_state c.step.new.self c.leave.new.claims c.leave.new.self.stack c.leave.new.self.top) c.args.frame.key refl c.requires.ready.frames_kept.0 c.step.ensures.rules c.step.ensures.kept s
     c.leave.ensures.lowered c.leave.ensures.claimed c.leave.ensures.wait c.leave.ensures.others c.claims_are_sound.ensures.sound c.requires.awake c.requires.ready
 
 pub wait-requires-clause-ready : goal.wait-requires-clause-ready
@@ -76,7 +76,7 @@ returns-in-Ok-Needs-clause-stepped g c =
     let s = rw c.in-Ok-Needs.field-0-is at c.in-Ok-Needs.ensures.step in
     let first = needs_stepped g.R.Key.Ord.cmp g.R.Rules.machine c.args.inputs.now c.args.id c.args.memos.now c.step.new.self c.args.claims.now c.args.self.now.stack c.args.frame c.in-Ok-Needs.frame
     c.in-Ok-Needs.next c.step.ensures.rules c.step.ensures.kept s.0 s.1 s.2 s.3 c.requires.awake c.requires.ready in
-    stepped_then _ _ _ _ _ _ (run_state c.step.new.self c.wait.new.claims c.wait.new.self.stack c.wait.new.self.top) first c.wait.ensures.stepped
+    stepped_then _ _ _ _ _ _ (step_state c.step.new.self c.wait.new.claims c.wait.new.self.stack c.wait.new.self.top) first c.wait.ensures.stepped
 
 pub returns-in-Ok-Needs-clause-looked : goal.returns-in-Ok-Needs-clause-looked
 returns-in-Ok-Needs-clause-looked g c =
@@ -125,7 +125,7 @@ returns-in-Ok-GoesOn-clause-first g c = going_first c.args.self.now.stack (At c.
 pub returns-in-Err-clause-stepped : goal.returns-in-Err-clause-stepped
 returns-in-Err-clause-stepped g c =
     let back = c.in-Err.ensures.returned in
-    same_stepped g.R.Key.Ord.cmp g.R.Rules.machine c.args.inputs.now c.args.id (run_state c.args.memos.now c.args.claims.now c.args.self.now.stack (At c.args.frame)) c.step.new.self c.args.self.now.stack (At c.in-Err.frame) c.step.ensures.rules c.step.ensures.kept
+    same_stepped g.R.Key.Ord.cmp g.R.Rules.machine c.args.inputs.now c.args.id (step_state c.args.memos.now c.args.claims.now c.args.self.now.stack (At c.args.frame)) c.step.new.self c.args.self.now.stack (At c.in-Err.frame) c.step.ensures.rules c.step.ensures.kept
     c.in-Err.ensures.refused (ap (λ (k : g.row.R-Key.Denot). frame_keys c.args.self.now.stack ++ k ∷ []) back.0) (
       below_as g.R.Key.Ord.cmp (g.R.Rules.machine c.args.memos.now.rules) c.args.inputs.now (memo_at g.R.Key.Ord.cmp c.args.memos.now.places) c.args.self.now.stack c.args.frame.key c.in-Err.frame.key back.0 c.requires.ready.frames_kept.0,
       inr (subst (λ (k : g.row.R-Key.Denot). IsFrame g.R.Key.Ord.cmp (g.R.Rules.machine c.args.memos.now.rules) c.args.inputs.now.history c.args.inputs.now.revision (HasIn (memo_at g.R.Key.Ord.cmp c.args.memos.now.places)) k c.in-Err.frame.stage) (sym back.0)

@@ -3,7 +3,7 @@ use Rattle.pq_memo.specs.Table.{memo_at}
 use Rattle.pq_claims.specs.Claims.{Hold, hold_of}
 use Rattle.pq_core.specs.declared.frames.Top.{Top}
 use Rattle.pq_core.specs.aux.Runs.{out_at}
-use Rattle.pq_core.specs.aux.RunSteps.{run_state}
+use Rattle.pq_core.specs.aux.RunSteps.{step_state}
 use Rattle.pq_core.proofs.Claiming.{claimed_others, held_keys, held_up}
 use Rattle.pq_core.proofs.Stepping.{empty_stands, none_closed}
 use Rattle.pq_core.proofs.Stepped.{claims_stepped, first_stepped, ready_next, still_stepped, stepped_then}
@@ -24,18 +24,18 @@ returns-in_err-claim-clause-stepped g c =
 
 pub advance-requires : goal.advance-requires
 advance-requires g c =
-    let first = first_stepped g.R.Key.Ord.cmp g.R.Rules.machine c.args.inputs.now c.args.id (run_state c.args.memos.now c.args.claims.now c.args.self.now.stack c.args.self.now.top) c.claim.new.self
+    let first = first_stepped g.R.Key.Ord.cmp g.R.Rules.machine c.args.inputs.now c.args.id (step_state c.args.memos.now c.args.claims.now c.args.self.now.stack c.args.self.now.top) c.claim.new.self
     c.args.self.now.request c.in_ok-key.key c.requires.empty.0 c.requires.empty.1 (c.in_ok-key.ensures {u = tt}) c.requires.stale
     (rw c.in-Got.is at (c.in_ok-claim.ensures {u = tt}).claimed) c.requires.ready in
     record { ready = rw (← c.self.view_is) at (ready_next _ _ _ _ _ _ first) }
 
 pub returns-in-Got-clause-stepped : goal.returns-in-Got-clause-stepped
 returns-in-Got-clause-stepped g c =
-    let first = first_stepped g.R.Key.Ord.cmp g.R.Rules.machine c.args.inputs.now c.args.id (run_state c.args.memos.now c.args.claims.now c.args.self.now.stack c.args.self.now.top) c.claim.new.self
+    let first = first_stepped g.R.Key.Ord.cmp g.R.Rules.machine c.args.inputs.now c.args.id (step_state c.args.memos.now c.args.claims.now c.args.self.now.stack c.args.self.now.top) c.claim.new.self
     c.args.self.now.request c.in_ok-key.key c.requires.empty.0 c.requires.empty.1 (c.in_ok-key.ensures {u = tt}) c.requires.stale
     (rw c.in-Got.is at (c.in_ok-claim.ensures {u = tt}).claimed) c.requires.ready in
     rw (← c.self.view_is)
-    (stepped_then _ _ _ _ _ _ (run_state c.advance.new.memos c.advance.new.claims c.advance.new.self.stack c.advance.new.self.top) (rw (← c.self.view_is) at first) c.advance.ensures.stepped)
+    (stepped_then _ _ _ _ _ _ (step_state c.advance.new.memos c.advance.new.claims c.advance.new.self.stack c.advance.new.self.top) (rw (← c.self.view_is) at first) c.advance.ensures.stepped)
 
 pub returns-in-Got-clause-first : goal.returns-in-Got-clause-first
 returns-in-Got-clause-first g c = none_looks c.args.self.now.stack c.args.self.now.top c.requires.empty.0 c.requires.empty.1 c.advance.result
