@@ -64,12 +64,6 @@ pub record Passed {R K P V M O : Type 0} (puts : O → List (ReplyView K V M)) (
   pub stand : LanesStand puts left.items m
   pub above : (b : ℕ) → IsAbove b lanes.items → IsAbove b left.items
 
-module _ {K V M O : Type 0} where
-  -- a lane that has a place takes the reply
-  pub fill_so : {A : Type 0} (ready : ReadyView K V M) (answer : Result A (ReadyView K V M)) (l m tray : Tray K V M O) → Fills ready answer l m → l ≡ tray → HasPlace tray ready → m ≡ placed_in tray ready
-  fill_so ready (Ok done) l m tray (place, is) same has = is ∙ ap (λ (x : Tray K V M O). placed_in x ready) same
-  fill_so ready (Err back) l m tray (other, none, is) same has = absurd (none (subst (λ (x : Tray K V M O). HasPlace x ready) (sym same) has))
-
 module _ {K V M O : Type 0} (puts : O → List (ReplyView K V M)) where
   -- no client changed
   pub keeps_same : (l m : Ledger K V M O) → m.clients ≡ l.clients → KeepsReady puts l m

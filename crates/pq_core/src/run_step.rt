@@ -79,7 +79,7 @@ impl<R: Rules, M: Stamp> Store<R, M> {
     }
 
     /// Publishes `ring`, the ring that closes if `run`, which was started at the revision now, waits for
-    /// the key that its top awaits. If an allocation fails, all is as it was.
+    /// the key that its top awaits.
     pub(crate) fn close(&mut self, alloc: Global, run: RunId, ring: &[R::Key]) -> Result<(), Memory>
         requires closes { (kept : RunView R.Key R.Part) × (found self.old.runs.items run ≡ Some kept) × (kept.started ≡ self.old.inputs.revision)
             × ClosesRing R.Key.cmp (R.machine self.old.rules) self.old.inputs (memo_at R.Key.cmp self.old.places) self.old.claims run kept.top ring.now }

@@ -20,7 +20,6 @@ look-looked-requires-clause-idle g c =
     let here = sym (rw c.number.ensures at (c.in-Some.ensures {u = tt}).value) in
     let ready = (rw (← c.self.view_is) at c.requires).ready in
     let is_ready = ready_here g.R.Key.Ord.cmp (g.R.Rules.machine c.self.inside.memos.rules) (store_of c.self.inside) c.args.run c.in-Some.taken ready.0 ready.1 here in
-    let is_current = is_ready.current in
     is_ready.idle
 
 pub look-looked-requires-clause-stale : goal.look-looked-requires-clause-stale
@@ -28,7 +27,6 @@ look-looked-requires-clause-stale g c =
     let here = sym (rw c.number.ensures at (c.in-Some.ensures {u = tt}).value) in
     let ready = (rw (← c.self.view_is) at c.requires).ready in
     let is_ready = ready_here g.R.Key.Ord.cmp (g.R.Rules.machine c.self.inside.memos.rules) (store_of c.self.inside) c.args.run c.in-Some.taken ready.0 ready.1 here in
-    let is_current = is_ready.current in
     is_ready.stale
 
 pub look-looked-requires-clause-current : goal.look-looked-requires-clause-current
