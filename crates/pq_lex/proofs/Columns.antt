@@ -48,12 +48,12 @@ lead_le u zero = omega arith
 lead_le u (suc i) = elim (nat_lt (suc i) (length u) && (get_or u (suc i) 0 == 0)) as (λ b. cond b (lead_index u i) (suc i) ≤ suc i) [ true ↦ omega (arith, lead_le u i) | false ↦ omega arith ]
 
 module _ (text : List ℕ) where
-  character_le : (o : ℕ) → character_start text o ≤ o
+  pub character_le : (o : ℕ) → character_start text o ≤ o
   unfolding character_start
   character_le zero = omega arith
   character_le (suc i) = elim (is_continuation (get_or text (suc i) 0)) as (λ b. cond b (character_start text i) (suc i) ≤ suc i) [ true ↦ omega (arith, character_le i) | false ↦ omega arith ]
 
-  character_on : (i : ℕ) → is_continuation (get_or text (suc i) 0) ≡ true → character_start text (suc i) ≡ character_start text i
+  pub character_on : (i : ℕ) → is_continuation (get_or text (suc i) 0) ≡ true → character_start text (suc i) ≡ character_start text i
   unfolding character_start
   character_on i h = rw h refl
 
@@ -103,7 +103,7 @@ module _ (text : List ℕ) where
         take-map units_of (lead_index (map units_of (slice_range text s e)) r) (slice_range text s e) ∙ ap (map units_of) (take-take (lead_index (map units_of (slice_range text s e)) r) (e - s) (drop s text) small) in
         ap sum front ∙ ap (λ k. units (take k (drop s text))) (sym f)
 
-both_parts : (p q : Bool) → (p && q) ≡ true → (p ≡ true) × (q ≡ true)
+pub both_parts : (p q : Bool) → (p && q) ≡ true → (p ≡ true) × (q ≡ true)
 both_parts true true h = (refl, refl)
 both_parts true false h = cc
 both_parts false q h = cc
@@ -159,12 +159,12 @@ ascii_byte xs column h = record {
 }
 
 -- nothing is kept of a line of ASCII, and each byte's units of another
+pub plain_is : (xs : List ℕ) → IsAscii xs → is_ascii xs ≡ true
+plain_is [] h = refl
+plain_is (x ∷ xs) h = rw (lt-ltb x 128 (h 0), plain_is xs (λ i. h (suc i))) refl
+
 pub kept_plain : (xs : List ℕ) → IsAscii xs → units_kept xs ≡ []
-kept_plain xs h = ap (λ b. cond b [] (map units_of xs)) (each_plain xs h)
-  where
-    each_plain : (xs : List ℕ) → IsAscii xs → is_ascii xs ≡ true
-    each_plain [] h = refl
-    each_plain (x ∷ xs) h = rw (lt-ltb x 128 (h 0), each_plain xs (λ i. h (suc i))) refl
+kept_plain xs h = ap (λ b. cond b [] (map units_of xs)) (plain_is xs h)
 
 not_plain : (xs : List ℕ) (i : ℕ) → 128 ≤ get_or xs i 0 → is_ascii xs ≡ false
 not_plain [] i h = absurd (omega (arith, h))

@@ -1,5 +1,6 @@
 pub mod Answering
 pub mod Breaks
+pub mod ChangeLemmas
 pub mod Columns
 pub mod ComingBack
 pub mod CommentEnds
@@ -9,6 +10,7 @@ pub mod FirstBytes
 pub mod Indexed
 pub mod LineFacts
 pub mod LineLen
+pub mod LineSearch
 pub mod Marked
 pub mod NumberEnds
 pub mod Offsets

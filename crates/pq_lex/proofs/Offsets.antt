@@ -15,7 +15,7 @@ use Rattle.pq_lex.proofs.Columns.{end_starts, line_length, ascii_byte, nonempty_
 use Rattle.pq_lex.proofs.Indexed.{offset_is}
 use Rattle.pq_lex.proofs.Marked.{marks_length, mark_is}
 
-not_less : (a b : ℕ) → b ≤ a → nat_lt a b ≡ false
+pub not_less : (a b : ℕ) → b ≤ a → nat_lt a b ≡ false
 not_less a b h = grind (arith, nat_tests)
 
 less_of : (a b : ℕ) → nat_lt a b ≡ true → a < b

@@ -157,3 +157,10 @@ module _ (text : List ℕ) where
 
   pub start_below : (o : ℕ) → line_start text o ≤ o
   start_below o = let c = numbered o in let b = c.below (line_number text o) (omega (arith, c.count)) in omega (arith, b, c.last)
+
+  -- numbers of lines grow
+  pub count_lines : (o : ℕ) → length (starts_to text o) ≡ suc (line_number text o)
+  count_lines o = let c = numbered o in c.count
+
+  pub number_grows : (o n : ℕ) → o ≤ n → line_number text o ≤ line_number text n
+  number_grows o n le = let l = later o n le in omega (arith, count_lines o, count_lines n, ap length l.is, length-append (starts_to text o) l.rest)

@@ -4,6 +4,7 @@ pub mod Escapes
 pub mod Lines
 pub mod Order
 pub mod Runs
+pub mod TextChanges
 pub mod Tokens
 pub mod Values
 pub mod aux

@@ -9,6 +9,7 @@ ghost use Rattle.pq_lex.specs.Classes.{is_continuation};
 ghost use Rattle.pq_lex.specs.Lines.{IsOffset, line_end, position_of};
 ghost use Rattle.pq_lex.specs.aux.LineMarks.{LineMark, lines_of, offset_in, place_in, same_lines};
 ghost use Rattle.pq_lex.specs.Order.{InOrder};
+ghost use Rattle.pq_lex.specs.TextChanges.{offset_of};
 ghost use Rattle.pq_lex.specs.Tokens.{Lexes};
 ghost use Rattle.pq_lex.specs.aux.Reading.{tokens_of};
 
@@ -33,6 +34,12 @@ pub fn tokens_in_order()
 /// A position of a text has one offset or none: `IsOffset` holds of at most one answer.
 pub fn one_offset()
     ensures { (text : List ℕ) (p : Position) (a b : Option ℕ) → IsOffset text p a → IsOffset text p b → a ≡ b }
+{}
+
+/// `offset_of` a text and a position is the largest offset at or before that position, or `None` if
+/// the text has no such line. `LineIndex::offset` answers it.
+pub fn largest_offset()
+    ensures { (text : List ℕ) (p : Position) → IsOffset text p (offset_of text p) }
 {}
 
 /// The position of an offset leads back to that offset, if a character starts there or the text

@@ -4,9 +4,11 @@
 //! `lex` reads a text up to its end or its first lexical error; `each_text` and `one_lexing` say
 //! that each text has one lexing, and `tokens_in_order` that its tokens lie in the text, in order.
 //! `LineIndex` converts byte offsets to positions in UTF-16 columns and back, without the text.
+//! `apply` returns the text after changes of ranges of positions.
 #![tactic(auto)]
 
 mod bytes;
+mod changes;
 mod escapes;
 mod kept_offsets;
 mod laws;
@@ -19,9 +21,10 @@ mod strings;
 mod token;
 mod values;
 
+pub use changes::{TextChange, apply};
 pub use laws::{
-    each_text, equal_indexes, offset_comes_back, offsets_of_lines, one_lexing, one_offset,
-    positions_of_lines, tokens_in_order,
+    each_text, equal_indexes, largest_offset, offset_comes_back, offsets_of_lines, one_lexing,
+    one_offset, positions_of_lines, tokens_in_order,
 };
 pub use lexer::lex;
 pub use lines::LineIndex;

@@ -92,7 +92,7 @@ impl Eq for LineIndex {
 }
 
 /// The offset after the line terminator at `end`.
-fn next_start(bytes: &[u8], end: usize) -> usize
+pub(crate) fn next_start(bytes: &[u8], end: usize) -> usize
     requires { end < length bytes.now }
     ensures is { result ≡ cond (slice_index bytes.now end == 13 && slice_index bytes.now (end + 1) == 10) (end + 2) (end + 1) }
     ensures within { result ≤ length bytes.now }
@@ -106,7 +106,7 @@ fn next_start(bytes: &[u8], end: usize) -> usize
 
 /// The UTF-16 units of the character whose first byte is `b`, and 0 for a later byte of a
 /// character.
-fn units_of(b: u8) -> u8
+pub(crate) fn units_of(b: u8) -> u8
     ensures { result ≡ units_of b }
 {
     if b < 0x80 {

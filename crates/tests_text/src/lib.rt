@@ -1,12 +1,14 @@
-//! Tests of the lexer, the names and the parser, and of frames and messages: rows worked out by
-//! hand.
+//! Tests of the lexer, of ranged changes, of the names and the parser, and of frames and messages:
+//! rows worked out by hand.
 //!
 //! They cover what no contract says: printed text, and that calls succeed with ample memory. The
 //! crates that they test have no tests: a crate with tests is proved twice.
 //!
-//! Modules: `checks` (what tests assert), `lex`, `names`, `syntax`, `frame`, `messages`.
+//! Modules: `checks` (what tests assert), `lex`, `changes`, `names`, `syntax`, `frame`, `messages`.
 #![tactic(auto)]
 
+#[cfg(test)]
+mod changes;
 #[cfg(test)]
 mod checks;
 #[cfg(test)]
