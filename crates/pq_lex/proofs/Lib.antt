@@ -1,4 +1,7 @@
 pub mod Answering
+pub mod BlockEdits
+pub mod BlockLemmas
+pub mod BlockWalks
 pub mod Breaks
 pub mod ChangeLemmas
 pub mod Columns

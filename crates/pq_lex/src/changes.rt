@@ -2,14 +2,15 @@
 //! (Language Server Protocol 3.17, "DidChangeTextDocument Notification" and
 //! "TextDocumentContentChangeEvent".)
 //!
-//! `apply` keeps one buffer, with the text after the changes made so far. For each ranged change it
-//! searches the lines of the start and of the end, from the start of the text on. It counts the
-//! line starts of each block of 128 bytes up to the block of the line, and goes line by line in
-//! that block. Then it replaces the bytes of the range, which moves the bytes after them.
+//! `apply` makes up to `FEW` changes in one buffer, with the text after the changes made so far. For
+//! each ranged change it searches the lines of the start and of the end, from the start of the text
+//! on. It counts the line starts of each part of 128 bytes up to the part of the line, and goes line
+//! by line in that part. Then it replaces the bytes of the range, which moves the bytes after them.
 //! The costs of a ranged change: linear in the bytes up to the end of its range, by a loop over
-//! blocks, and one move of the bytes after the range. No index of lines is made.
+//! parts, and one move of the bytes after the range. No index of lines is made.
+//! More changes are made in blocks, each with counts of it: see `blocks`.
 
-ghost use Rattle.std.specs.Prelude.{◌≡◌, ◌<◌, ◌≤◌, ◌+◌, ◌==◌, ◌||◌, ◌&&◌, cond, not, ℕ, List, Option, Some, IfOk, length, map, option_copied, string_bytes, true};
+ghost use Rattle.std.specs.Prelude.{◌≡◌, ◌<◌, ◌≤◌, ◌+◌, ◌==◌, ◌||◌, ◌&&◌, cond, not, ℕ, List, Option, Some, IfOk, length, map, option_copied, string_bytes, sum, take, true};
 ghost use Rattle.std.specs.Option.{option_map};
 ghost use Rattle.pq_lex.specs.Ascii.{carriage_return, line_feed};
 ghost use Rattle.pq_lex.specs.Lines.{IsOffset, line_len, line_number, starts_line, units_of};
@@ -18,6 +19,8 @@ ghost use Rattle.pq_lex.specs.aux.LineMarks.{IsByte};
 ghost use Rattle.pq_lex.specs.aux.LineSearch.{AreBounds, IsLine, IsLineFound};
 
 use crate::Memory;
+use crate::block::{PART, units_in};
+use crate::blocks::Blocks;
 use crate::lines::{next_start, units_of};
 use crate::position::Position;
 use memchr::memchr2;
@@ -25,7 +28,13 @@ use std::alloc::Global;
 use std::marker::Model;
 
 /// The length in bytes of the blocks whose line starts are counted together.
-const BLOCK: usize = 128;
+pub(crate) const BLOCK: usize = 128;
+
+/// The length in bytes of the lines that are tested for ASCII.
+const SHORT: usize = 2 * PART;
+
+/// The most changes that are made in one buffer.
+const FEW: usize = 16;
 
 /// A change of a text: new text in place of a range, or of the whole text.
 /// (Language Server Protocol 3.17, "TextDocumentContentChangeEvent".)
@@ -50,7 +59,7 @@ impl Model for TextChange {
 }
 
 /// The number of `bytes` before the first LF or CR.
-fn line_len(bytes: &[u8]) -> usize
+pub(crate) fn line_len(bytes: &[u8]) -> usize
     ensures is { result ≡ line_len bytes.now }
     ensures within { result ≤ length bytes.now }
 {
@@ -61,7 +70,7 @@ fn line_len(bytes: &[u8]) -> usize
 }
 
 /// The number of lines that start after the offset `at`, up to `BLOCK` bytes later.
-fn line_starts_in(bytes: &[u8], at: usize) -> u8
+pub(crate) fn line_starts_in(bytes: &[u8], at: usize) -> u8
     requires { at + 128 < length bytes.now }
     ensures { line_number bytes.now at + result ≡ line_number bytes.now (at + 128) }
 {
@@ -75,7 +84,7 @@ fn line_starts_in(bytes: &[u8], at: usize) -> u8
 /// 1 if a line starts between the bytes `b` and `next`, else 0: one starts after an LF, and after a
 /// CR that no LF follows.
 #[inline]
-fn starts_after(b: u8, next: u8) -> u8
+pub(crate) fn starts_after(b: u8, next: u8) -> u8
     ensures { result ≡ cond (b == line_feed || (b == carriage_return && not (next == line_feed))) 1 0 }
 {
     if b == b'\n' || (b == b'\r' && next != b'\n') {
@@ -108,7 +117,7 @@ fn skip_blocks(bytes: &[u8], from: usize, count: usize) -> (usize, usize)
 
 /// The offset of the start of the line that is `count` lines after the line that starts at `from`,
 /// or `None` if the text has no such line.
-fn line_after(bytes: &[u8], from: usize, count: usize) -> Option<usize>
+pub(crate) fn line_after(bytes: &[u8], from: usize, count: usize) -> Option<usize>
     requires within { from ≤ length bytes.now }
     requires starts { starts_line bytes.now from ≡ true }
     ensures { IsLineFound bytes.now (line_number bytes.now from + count) result }
@@ -139,12 +148,39 @@ fn line_from(bytes: &[u8], known: usize, number: usize, wanted: usize) -> Option
 
 /// The byte of `line` at `column`, in UTF-16 code units: the last byte that starts a character at
 /// or before `column`, or the length of the line if `column` is past its end.
-fn byte_of_column(line: &[u8], column: usize) -> usize
+pub(crate) fn byte_of_column(line: &[u8], column: usize) -> usize
     ensures { IsByte (map units_of line.now) column result }
 {
-    if line.is_ascii() {
+    if line.len() < SHORT && line.is_ascii() {
         return column.min(line.len());
     }
+    let (at, left) = skip_parts(line, column);
+    at + scanned_byte(&line[at..], left)
+}
+
+/// Skips the parts of `line` before the column `column`. Returns a byte, and the UTF-16 units from
+/// that byte to the column.
+fn skip_parts(line: &[u8], column: usize) -> (usize, usize)
+    ensures within { result.0 ≤ length line.now }
+    ensures column { result.1 + sum (take result.0 (map units_of line.now)) ≡ column }
+{
+    let mut at = 0;
+    let mut left = column;
+    'parts: while line.len() - at >= PART {
+        let passed = usize::from(units_in(line, at));
+        if left < passed {
+            return (at, left);
+        }
+        left -= passed;
+        at += PART;
+    }
+    (at, left)
+}
+
+/// The byte of `line` at `column`, by a scan from its first byte on.
+fn scanned_byte(line: &[u8], column: usize) -> usize
+    ensures { IsByte (map units_of line.now) column result }
+{
     let mut left = column;
     for (i, b) in line.iter().enumerate() {
         let width = usize::from(units_of(*b));
@@ -262,6 +298,70 @@ fn begins_with_whole_text(changes: &[TextChange]) -> bool
     first.range.is_none()
 }
 
+/// The text after `changes` of `text`, in one buffer.
+fn apply_few(
+    alloc: Global,
+    text: Option<&str>,
+    changes: &[TextChange],
+) -> Result<Option<String>, Memory>
+    ensures { IfOk result (λ t. option_map string_bytes t ≡ apply (option_copied text.entry) changes.now) }
+{
+    let mut so_far = starting_text(alloc, text, changes)?;
+    'changes: for k in 0..changes.len() {
+        match after_change(alloc, so_far, &changes[k])? {
+            Some(next) => so_far = Some(next),
+            None => return Ok(None),
+        }
+    }
+    Ok(so_far)
+}
+
+/// The text after `change` of a text in blocks. It is `None` if the text has no line of the start
+/// or of the end of the range, or if the end is before the start.
+fn after_change_of(
+    alloc: Global,
+    text: Blocks,
+    change: &TextChange,
+) -> Result<Option<Blocks>, Memory>
+    ensures { IfOk result (λ t. t ≡ after_change (Some text) change.now) }
+{
+    match change.range {
+        Some((start, end)) => text.replaced(alloc, start, end, &change.text),
+        None => Ok(Some(Blocks::of(alloc, &change.text)?)),
+    }
+}
+
+/// The text after `changes` of `text`, in blocks.
+fn apply_to(alloc: Global, text: &str, changes: &[TextChange]) -> Result<Option<String>, Memory>
+    ensures { IfOk result (λ t. option_map string_bytes t ≡ apply (Some text.now) changes.now) }
+{
+    let mut so_far = Blocks::of(alloc, text)?;
+    'changes: for k in 0..changes.len() {
+        match after_change_of(alloc, so_far, &changes[k])? {
+            Some(next) => so_far = next,
+            None => return Ok(None),
+        }
+    }
+    Ok(Some(so_far.text(alloc)?))
+}
+
+/// The text after more than `FEW` changes of `text`.
+fn apply_many(
+    alloc: Global,
+    text: Option<&str>,
+    changes: &[TextChange],
+) -> Result<Option<String>, Memory>
+    ensures { IfOk result (λ t. option_map string_bytes t ≡ apply (option_copied text.entry) changes.now) }
+{
+    if begins_with_whole_text(changes) {
+        return apply_to(alloc, "", changes);
+    }
+    match text {
+        Some(text) => apply_to(alloc, text, changes),
+        None => apply_few(alloc, None, changes),
+    }
+}
+
 /// Returns the text after `changes` of `text`, made in their order, each on the text that the
 /// change before it left. `text` is `None` if there is no text yet.
 /// (Language Server Protocol 3.17, "DidChangeTextDocument Notification" and "Position".)
@@ -280,12 +380,8 @@ pub fn apply(
 ) -> Result<Option<String>, Memory>
     ensures { IfOk result (λ t. option_map string_bytes t ≡ apply (option_copied text.entry) changes.now) }
 {
-    let mut so_far = starting_text(alloc, text, changes)?;
-    'changes: for k in 0..changes.len() {
-        match after_change(alloc, so_far, &changes[k])? {
-            Some(next) => so_far = Some(next),
-            None => return Ok(None),
-        }
+    if changes.len() <= FEW {
+        return apply_few(alloc, text, changes);
     }
-    Ok(so_far)
+    apply_many(alloc, text, changes)
 }

@@ -7,6 +7,8 @@
 //! `apply` returns the text after changes of ranges of positions.
 #![tactic(auto)]
 
+mod block;
+mod blocks;
 mod bytes;
 mod changes;
 mod escapes;

@@ -1,11 +1,11 @@
-use Rattle.std.proofs.Common.{◌≡◌, ◌+◌, length, map, sum, take, get_or, sym, ap, subst, arith}
+use Rattle.std.proofs.Common.{map, sym, subst}
 use Rattle.std.specs.Bool.{MatchBool}
 use Rattle.std.specs.Str.{IsAscii, IsNotAscii}
-use Rattle.std.proofs.lemmas.List.{get_or-map, length-map, take_all}
 use Rattle.pq_lex.specs.Lines.{units_of}
 use Rattle.pq_lex.specs.aux.LineMarks.{IsByte}
+use Rattle.pq_lex.proofs.BlockLemmas.{byte_after}
 use Rattle.pq_lex.proofs.Columns.{ascii_byte, plain_is}
-use Rattle.pq_lex.proofs.UnitLemmas.{byte_end, byte_found, sum_take}
+use Rattle.pq_lex.proofs.Counts.{range_from}
 use Rattle.pq_lex.proofs.changes.byte_of_column.Goals as goal
 
 pub returns-then-is_ascii : goal.returns-then-is_ascii
@@ -13,21 +13,7 @@ returns-then-is_ascii c =
     let plain = subst (λ b. MatchBool b (IsAscii c.args.line.now) (IsNotAscii c.args.line.now)) c.if-is_ascii.true c.is_ascii.ensures.cases in
     subst (IsByte (map units_of c.args.line.now) c.args.column) (sym c.min.ensures) (ascii_byte c.args.line.now c.args.column (plain_is c.args.line.now plain))
 
-pub returns-then-left-width : goal.returns-then-left-width
-returns-then-left-width c =
-    let unit : get_or (map units_of c.args.line.now) c.loop-i.i 0 ≡ units_of (get_or c.args.line.now c.loop-i.i 0) = get_or-map units_of c.args.line.now c.loop-i.i 0 0 c.loop-i-test.true in
-    byte_found (map units_of c.args.line.now) c.args.column c.loop-i.left c.loop-i.i (omega (arith, c.loop-i-test.true, length-map c.args.line.now units_of)) c.loop-i.invariant
-    (omega (arith, unit, c.units_of.ensures, c.from-width.ensures, c.if-left-width.true))
-
 pub returns : goal.returns
 returns c =
-    let len : length (map units_of c.args.line.now) ≡ length c.args.line.now = length-map c.args.line.now units_of in
-    let all : take c.loop-i.i (map units_of c.args.line.now) ≡ map units_of c.args.line.now = take_all c.loop-i.i (map units_of c.args.line.now) (omega (arith, len, c.loop-i-test.false)) in
-    subst (IsByte (map units_of c.args.line.now) c.args.column) len (byte_end (map units_of c.args.line.now) c.args.column c.loop-i.left (omega (arith, c.loop-i.invariant, ap sum all)))
-
-pub loop-i-preserved : goal.loop-i-preserved
-loop-i-preserved c =
-    let unit : get_or (map units_of c.args.line.now) c.loop-i.i 0 ≡ units_of (get_or c.args.line.now c.loop-i.i 0) = get_or-map units_of c.args.line.now c.loop-i.i 0 0 c.loop-i-test.true in
-    let more = sum_take (map units_of c.args.line.now) c.loop-i.i (omega (arith, c.loop-i-test.true, length-map c.args.line.now units_of)) in
-    let is : c.loop-i.left + sum (take c.loop-i.i (map units_of c.args.line.now)) ≡ c.args.column = c.loop-i.invariant in
-    omega (arith, unit, more, is, c.units_of.ensures, c.from-width.ensures, c.if-left-width.false)
+    byte_after c.args.line.now c.args.column c.skip_parts-at.result.0 c.skip_parts-at.result.1 c.scanned_byte.result c.skip_parts-at.ensures.within c.skip_parts-at.ensures.column
+    (subst (λ t. IsByte (map units_of t) c.skip_parts-at.result.1 c.scanned_byte.result) (range_from c.args.line.now c.skip_parts-at.result.0) c.scanned_byte.ensures)

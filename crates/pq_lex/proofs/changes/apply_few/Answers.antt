@@ -1,7 +1,7 @@
 use Rattle.std.proofs.Common.{◌+◌, drop, string_bytes, sym, ◌∙◌, ap}
 use Rattle.std.specs.Option.{option_map}
 use Rattle.pq_lex.proofs.ChangeLemmas.{after, no_change, one_change}
-use Rattle.pq_lex.proofs.changes.apply.Goals as goal
+use Rattle.pq_lex.proofs.changes.apply_few.Goals as goal
 
 pub returns-in-None : goal.returns-in-None
 returns-in-None c =
