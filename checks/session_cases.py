@@ -31,10 +31,15 @@ Session = namedtuple("Session", "name row replies sent wanted outcome")
 
 # The words for an outcome: a status, or the name of an error.
 OUTCOMES = ("0", "1", "3", "HeaderTooLong", "NoLength", "BadLength", "TooLong", "Cut", "TextTooLong", "TooManyFiles",
-            "RevisionsUsedUp")
+            "RevisionsUsedUp", "BadRange")
+
+# The message of a text without a `syntax` statement, as JSON writes it.
+NO_SYNTAX = 'only syntax = \\"proto3\\" is read'
 
 # The message of each code of a finding, and its severity.
 MEANINGS = {
+    "P005": ("character is not allowed here", 1),
+    "P010": (NO_SYNTAX, 1),
     "P011": ("nesting is deeper than 64", 1),
     "P020": ("aggregate option value is not read", 3),
     "P021": ("extend block is not read", 3),
@@ -42,9 +47,6 @@ MEANINGS = {
     "P120": ("field number must be from 1 to 536870911", 1),
     "P121": ("field numbers 19000 to 19999 are reserved", 1),
 }
-
-# The message of a text without a `syntax` statement, as JSON writes it.
-NO_SYNTAX = 'only syntax = \\"proto3\\" is read'
 
 
 class Malformed(Exception):
@@ -104,6 +106,19 @@ def edit_form(text):
     return lines + ["< " + report(items, second), "= 1"]
 
 
+def ranged_form(text):
+    """`TEXT => CHANGES => WANT`: TEXT is what `a.proto` was opened with, `-` if it was not; CHANGES is `contentChanges`; WANT is
+    `ends OUTCOME`, or the diagnostics afterwards, each `CODE LINE:START-END`, or `-`, then ` at ` and the revision."""
+    old, changes, want = text.split(" => ", 2)
+    params = '{"textDocument":{"uri":"file:///a.proto"},"contentChanges":%s}' % changes
+    lines = ([] if old == "-" else ["> " + opened(old)]) + ["> " + notified("textDocument/didChange", params), "> diagnostic"]
+    if want.startswith("ends "):
+        return lines + ["= " + want[5:]]
+    found, revision = want.rsplit(" at ", 1)
+    places = [] if found == "-" else [one.split(" ") for one in found.split(", ")]
+    return lines + ["< " + report([item(code, place, *MEANINGS[code]) for code, place in places], revision), "= 1"]
+
+
 def notification_form(text):
     """`METHOD PARAMS => OUTCOME`."""
     edit, outcome = text.split(" => ", 1)
@@ -158,8 +173,9 @@ def input_form(text):
     return [">| " + sent.rstrip(), "= " + outcome]
 
 
-FORMS = {"message": message_form, "edit": edit_form, "notification": notification_form, "findings": findings_form,
-         "text_findings": text_findings_form, "first_error": first_error_form, "input": input_form, "uri": uri_form}
+FORMS = {"message": message_form, "edit": edit_form, "ranged": ranged_form, "notification": notification_form,
+         "findings": findings_form, "text_findings": text_findings_form, "first_error": first_error_form, "input": input_form,
+         "uri": uri_form}
 
 # ---- reading rows
 

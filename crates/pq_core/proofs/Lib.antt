@@ -12,6 +12,7 @@ pub mod RunsKept
 pub mod Beginning
 pub mod StoreOpening
 pub mod StoreAccepting
+pub mod StoreEditing
 pub mod StoreRunning
 pub mod Keeping
 pub mod Shutting

@@ -1,6 +1,6 @@
--- Accepting a request or an edit, at what a store keeps.
-use Rattle.std.proofs.Common.{◌≡◌, ℕ, ◌+◌, ◌<◌, ◌≤◌, ◌==◌, if◌then◌else◌, Bool, true, false, List, [], ◌∷◌, ◌++◌, length, Option, Some, None, refl, sym, ◌∙◌, ap, subst, inl, inr, arith}
-use Rattle.std.specs.Prelude.{Ok, Err, Result, OnOk, is_err, unwrap_or}
+-- Accepting a request, at what a store keeps.
+use Rattle.std.proofs.Common.{◌≡◌, ℕ, ◌+◌, ◌<◌, ◌≤◌, ◌==◌, if◌then◌else◌, Bool, true, false, List, [], ◌∷◌, ◌++◌, length, Some, refl, sym, ◌∙◌, ap, subst, inl, inr, arith}
+use Rattle.std.specs.Prelude.{Ok, Err, Result, OnOk, is_err}
 use Rattle.std.specs.Option.{option_map}
 use Rattle.std.specs.declared.cmp.Ordering.{Ordering}
 use Rattle.pq_inputs.specs.Sources.{Table}
@@ -8,31 +8,25 @@ use Rattle.pq_rules.specs.Turns.{Machine}
 use Rattle.pq_core.proofs.Lists.{some_one}
 use Rattle.pq_core.proofs.Changing.{if_at, if_other}
 use Rattle.pq_core.proofs.Calling.{open_of, closed_of, run_at}
-use Rattle.pq_core.proofs.Moving.{accept_stands, edit_stands}
-use Rattle.pq_core.proofs.Keeping.{kept_accepts, kept_edits, runs_placed}
+use Rattle.pq_core.proofs.Moving.{accept_stands}
+use Rattle.pq_core.proofs.Keeping.{kept_accepts, runs_placed}
 use Rattle.pq_core.proofs.AccountStanding.{accepted_stands}
 use Rattle.pq_core.specs.Points.{Point}
 use Rattle.pq_core.specs.Replies.{ReplyView}
-use Rattle.pq_core.specs.Changes.{ChangeView}
 use Rattle.pq_core.specs.Ledger.{Client, Ledger, with_client}
 use Rattle.pq_core.specs.RightReply.{answer_by}
-use Rattle.pq_core.specs.Moves.{Reaches, Accepts, Edits, AcceptRefusal, EditRefusal, InputRefusal, window, owed, first_place, new_entry, with_new, file_of, refusal_of, changed}
+use Rattle.pq_core.specs.Moves.{Reaches, Accepts, AcceptRefusal, window, owed, first_place, new_entry, with_new}
 use Rattle.pq_core.specs.Stores.{Held, fields_of, run_seen as seen_of, StandsOf}
 use Rattle.pq_core.specs.aux.Stands.{Fields, EntryStands}
 use Rattle.pq_core.specs.aux.Rising.{found}
 use Rattle.pq_core.specs.Accounts.{AccountView, next_of, with_request, first_stage}
 use Rattle.pq_core.specs.aux.Accounts.{AccountStands}
-use Rattle.pq_core.specs.aux.Accepting.{MayNot, MayPost, MayNotEdit}
+use Rattle.pq_core.specs.aux.Accepting.{MayNot, MayPost}
 use Rattle.pq_core.specs.declared.request.Request.{Request}
 use Rattle.pq_core.specs.declared.request.Want.{Want}
 use Rattle.pq_core.specs.declared.request.Want.TheVariants.{Demand, Fixed}
 use Rattle.pq_core.specs.declared.fault.AcceptFault.{AcceptFault}
 use Rattle.pq_core.specs.declared.fault.AcceptFault.TheVariants.{NoClient, Closed, WindowFull, Memory}
-use Rattle.pq_core.specs.declared.fault.EditFault.{EditFault}
-use Rattle.pq_core.specs.declared.fault.EditFault.TheVariants.{NoClient as EditNoClient, Closed as EditClosed, Input}
-use Rattle.pq_inputs.specs.declared.fault.InputFault.{InputFault}
-use Rattle.pq_inputs.specs.declared.fault.InputFault.TheVariants.{Memory as NoMemory}
-use Rattle.pq_inputs.specs.Sources.{with_file}
 use Rattle.pq_core.specs.aux.Runs.{RunView}
 use Rattle.pq_core.specs.aux.Stands.{RunSeen}
 
@@ -111,46 +105,6 @@ module _ {K P V M O : Type 0} (order : K → K → Ordering) (m : Machine K P V)
       let i : l.inputs.revision ≡ b.inputs.revision = ap (λ (t : Table). t.revision) s.inputs in
       omega arith
 
-  -- an edit is accepted
-  pub edit_moved : (b a : Held K P V M) (c revision : ℕ) (change : ChangeView) (l : Ledger K V M O) → (account : AccountView K V M) × (found b.accounts c ≡ Some account)
-      → refusal_of b.inputs change ≡ None → revision ≡ b.inputs.revision + 1 → a.inputs ≡ changed b.inputs change
-      → ((k : ℕ) → found a.accounts k ≡ found b.accounts k) → a.opened ≡ b.opened → a.clients ≡ b.clients
-      → ((k : ℕ) → found a.runs k ≡ found b.runs k) → a.started ≡ b.started → StandsOf order m point puts b l
-      → Reaches (Edits c change (Ok revision)) l (StandsOf order m point puts a)
-  edit_moved b a c revision change l there accepted next inputs accounts count clients runs started s =
-      let w = open_of (AccountStands puts) (answer_by order m point) puts (fields_of b) l c there.0 s there.1 in
-      let after : Ledger K V M O = record { inputs = changed l.inputs change; clients = l.clients; runs = l.runs } in
-      let move : Edits c change (Ok revision) l after = (
-        w.0,
-        w.1,
-        ap (λ (t : Table). refusal_of t change) s.inputs ∙ accepted,
-        next ∙ ap (λ (t : Table). t.revision + 1) (sym s.inputs),
-        refl,
-      ) in (
-        after,
-        move,
-        edit_stands (AccountStands puts) (answer_by order m point) puts (fields_of b) (fields_of a) l after change s inputs count clients accounts
-            (record { runs = λ r. ap (option_map seen_of) (runs r); started = started }) refl
-            (kept_edits (answer_by order m point) puts c change (Ok revision) l after s.kept move),
-      )
-
-  -- the inputs refused an edit
-  pub edit_refused : (b : Held K P V M) (c : ℕ) (change : ChangeView) (fault : InputFault) (l : Ledger K V M O) → (account : AccountView K V M) × (found b.accounts c ≡ Some account)
-      → fault ≡ unwrap_or (refusal_of b.inputs change) NoMemory → StandsOf order m point puts b l → EditRefusal l c change (Input fault)
-  edit_refused b c change fault l there e s =
-      let w = open_of (AccountStands puts) (answer_by order m point) puts (fields_of b) l c there.0 s there.1 in
-      (w.0, w.1, so (refusal_of l.inputs change) (e ∙ ap (λ (t : Table). unwrap_or (refusal_of t change) NoMemory) (sym s.inputs)))
-    where
-      so : (r : Option InputFault) → fault ≡ unwrap_or r NoMemory → InputRefusal r fault
-      so None x = x
-      so (Some y) x = x
-
-  -- why an edit is refused
-  pub edit_refusal_so : (b : Held K P V M) (l : Ledger K V M O) (c : ℕ) (change : ChangeView) (fault : EditFault) → StandsOf order m point puts b l → MayNotEdit b c fault → EditRefusal l c change fault
-  edit_refusal_so b l c change EditNoClient s h = subst (λ (n : ℕ). n ≤ c) (sym s.clients) h
-  edit_refusal_so b l c change EditClosed s h = closed_of (AccountStands puts) (answer_by order m point) puts (fields_of b) l c s h.1 h.0
-  edit_refusal_so b l c change (Input fault) s h = absurd h
-
 -- the window of who may post is not full
 pub not_full : {K P V M : Type 0} (b : Held K P V M) (c : ℕ) (account : AccountView K V M) → MayPost b c → found b.accounts c ≡ Some account → length account.stages < window
 not_full b c account h here = below (length account.stages) (λ full. h.2 (inl (subst (λ (y : AccountView _ _ _). window ≤ length y.stages) (sym (some_one h.0 account (sym h.1 ∙ here))) full)))
@@ -170,11 +124,3 @@ queue_room (Err y) before after x h e f q = absurd (cc)
 
 pub false_true : false ≡ true → ⊥
 false_true e = cc
-
--- the inputs after a change
-pub table_is : (t b : Table) (change : ChangeView) → t.files ≡ with_file b.files change.file (file_of b.files change) → t.revision ≡ b.revision + 1 → t.history ≡ b.history ++ t.files ∷ []
-    → t ≡ changed b change
-table_is t b change f r h =
-    ap (λ x. record { files = x; revision = t.revision; history = t.history }) f
-    ∙ (ap (λ x. record { files = with_file b.files change.file (file_of b.files change); revision = x; history = t.history }) r
-    ∙ ap (λ x. record { files = with_file b.files change.file (file_of b.files change); revision = b.revision + 1; history = x }) (h ∙ ap (λ x. b.history ++ x ∷ []) f))

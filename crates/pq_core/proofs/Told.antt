@@ -23,7 +23,7 @@ use Rattle.pq_core.specs.declared.fault.AcceptFault.{AcceptFault}
 use Rattle.pq_core.specs.declared.fault.AcceptFault.TheVariants.{NoClient as AcceptNoClient, Closed as AcceptClosed, WindowFull, Memory as AcceptMemory}
 use Rattle.pq_core.specs.declared.fault.AcceptRefused.{AcceptRefused}
 use Rattle.pq_core.specs.declared.fault.EditFault.{EditFault}
-use Rattle.pq_core.specs.declared.fault.EditFault.TheVariants.{NoClient as EditNoClient, Closed as EditClosed, Input}
+use Rattle.pq_core.specs.declared.fault.EditFault.TheVariants.{NoClient as EditNoClient, Closed as EditClosed, BadRange, Input}
 use Rattle.pq_core.specs.declared.fault.EditRefused.{EditRefused}
 use Rattle.pq_core.specs.declared.fault.LookFault.{LookFault}
 use Rattle.pq_core.specs.declared.fault.LookFault.TheVariants.{NoRun, Memory as LookMemory}
@@ -239,6 +239,7 @@ module _ {K V M O : Type 0} (puts : O → List (ReplyView K V M)) where
   pub edit_refusal_told : (l : Ledger K V M O) (c : ℕ) (change : ChangeView) (fault : EditFault) → EditRefusal (told_ledger puts l) c change fault → EditRefusal l c change fault
   edit_refusal_told l c change EditNoClient h = let a = told_long l in omega arith
   edit_refusal_told l c change EditClosed h = closed_told l c h
+  edit_refusal_told l c change BadRange (x, is_open, why) = let w = open_told l c x is_open in (w.0, w.1, why)
   edit_refusal_told l c change (Input fault) (x, is_open, why) = let w = open_told l c x is_open in (w.0, w.1, why)
 
   pub edits_told : (c : ℕ) (change : ChangeView) (answer : Result ℕ EditRefused) (l : Ledger K V M O) (n : Ledger K V M (Told K V M))

@@ -1,6 +1,8 @@
 pub mod Points
 pub mod Replies
 pub mod Changes
+pub mod Bodies
+pub mod Preparing
 pub mod Works
 pub mod Ledger
 pub mod RightReply

@@ -2,7 +2,7 @@
 -- which ledger is reached. Each relation goes by cases on the answer. A refusal names its
 -- condition; `Memory` comes only where none of the other refusals holds. Every refusal leaves the
 -- ledger as it was and hands back what was handed in.
-use Rattle.std.specs.Prelude.{ℕ, ◌≡◌, ◌≢◌, ◌+◌, ◌-◌, ◌<◌, ◌≤◌, ◌^◌, ◌⊎◌, Bool, true, false, List, [], ◌∷◌, ◌++◌, length, slice_get, slice_set, Option, Some, None, Ok, Err, Result}
+use Rattle.std.specs.Prelude.{ℕ, ◌≡◌, ◌≢◌, ◌+◌, ◌-◌, ◌<◌, ◌≤◌, ◌^◌, ◌⊎◌, Bool, true, false, List, [], ◌∷◌, ◌++◌, length, slice_get, slice_set, Option, Some, None, unwrap_or, Ok, Err, Result}
 use Rattle.std.specs.declared.cmp.Ordering.{Ordering}
 use Rattle.pq_inputs.specs.Sources.{File, Sources, Table, file_in, with_file}
 use Rattle.pq_inputs.specs.Refusal.{refusal}
@@ -10,7 +10,7 @@ use Rattle.pq_inputs.specs.declared.fault.InputFault.{InputFault}
 use Rattle.pq_inputs.specs.declared.fault.InputFault.TheVariants.{Memory as NoMemory}
 use Rattle.pq_rules.specs.declared.turn.Answer.{Answer}
 use Rattle.pq_rules.specs.Turns.{Machine}
-use Rattle.pq_core.specs.Changes.{ChangeView, text_after}
+use Rattle.pq_core.specs.Changes.{BodyView, set, ranged, ChangeView, text_after}
 use Rattle.pq_core.specs.Points.{Point}
 use Rattle.pq_core.specs.Replies.{ReplyView}
 use Rattle.pq_core.specs.Works.{DoneView, WorkView, IsWorkOf}
@@ -29,7 +29,7 @@ use Rattle.pq_core.specs.declared.fault.AcceptFault.{AcceptFault}
 use Rattle.pq_core.specs.declared.fault.AcceptFault.TheVariants.{NoClient as AcceptNoClient, Closed as AcceptClosed, WindowFull, Memory as AcceptMemory}
 use Rattle.pq_core.specs.declared.fault.AcceptRefused.{AcceptRefused}
 use Rattle.pq_core.specs.declared.fault.EditFault.{EditFault}
-use Rattle.pq_core.specs.declared.fault.EditFault.TheVariants.{NoClient as EditNoClient, Closed as EditClosed, Input}
+use Rattle.pq_core.specs.declared.fault.EditFault.TheVariants.{NoClient as EditNoClient, Closed as EditClosed, BadRange, Input}
 use Rattle.pq_core.specs.declared.fault.EditRefused.{EditRefused}
 use Rattle.pq_core.specs.declared.fault.LookFault.{LookFault}
 use Rattle.pq_core.specs.declared.fault.LookFault.TheVariants.{NoRun, Memory as LookMemory}
@@ -116,13 +116,15 @@ Accepts puts c request (Err refused) l m = (refused.request ≡ request) × Acce
 
 -- ---- edit
 
--- `file_of files change` is the file of `change` after it, where the sources before are `files`
-abbrev pub file_of : Sources → ChangeView → File
-file_of files change = record { text = text_after (file_in files change.file).text change; durability = change.durability }
+-- `text_made files change` is the text of the file of `change` after it, where the sources before are
+-- `files`, or None where a range of `change` is bad
+abbrev pub text_made : Sources → ChangeView → Option (Option (List ℕ))
+text_made files change = text_after (file_in files change.file).text change.body
 
--- `refusal_of inputs change` is the first reason of `inputs` to refuse `change`, or None
-abbrev pub refusal_of : Table → ChangeView → Option InputFault
-refusal_of inputs change = refusal inputs change.file (file_of inputs.files change).text
+-- `file_of files change` is the file of `change` after it, where the sources before are `files`. Where
+-- a range is bad, no file is made of it.
+abbrev pub file_of : Sources → ChangeView → File
+file_of files change = record { text = unwrap_or (text_made files change) None; durability = change.durability }
 
 -- `changed inputs change` is `inputs` after `change`, at the next revision
 abbrev pub changed : Table → ChangeView → Table
@@ -144,18 +146,35 @@ abbrev pub InputRefusal : Option InputFault → InputFault → Type 0
 InputRefusal None fault = fault ≡ NoMemory
 InputRefusal (Some first) fault = fault ≡ first
 
+-- `IsRanged body` is that `body` is a list of changes, for whose text an allocation can fail
+abbrev pub IsRanged : BodyView → Type 0
+IsRanged (set text) = ⊥
+IsRanged (ranged changes) = Unit {0}
+
+-- `FailsToSet inputs change fault` is that `fault` is the reason of `inputs` to refuse the text that
+-- `change` makes; or that an allocation failed while changes with ranges were made, whatever else there
+-- is to refuse
+abbrev pub FailsToSet : Table → ChangeView → InputFault → Type 0
+FailsToSet inputs change fault =
+    ((text : Option (List ℕ)) × (text_made inputs.files change ≡ Some text) × InputRefusal (refusal inputs change.file text) fault)
+    ⊎ (IsRanged change.body × (fault ≡ NoMemory))
+
 -- `EditRefusal l c change fault` is that the client `c` may not make `change`, because of `fault`
 abbrev pub EditRefusal : {K V M O : Type 0} → Ledger K V M O → ℕ → ChangeView → EditFault → Type 0
 EditRefusal l c change EditNoClient = length l.clients ≤ c
 EditRefusal l c change EditClosed = IsClosed l c
+EditRefusal {K} {V} {M} {O} l c change BadRange =
+    (client : Client K V M O) × IsOpen l c client × (text_made l.inputs.files change ≡ None)
 EditRefusal {K} {V} {M} {O} l c change (Input fault) =
-    (client : Client K V M O) × IsOpen l c client × InputRefusal (refusal_of l.inputs change) fault
+    (client : Client K V M O) × IsOpen l c client × FailsToSet l.inputs change fault
 
--- `Edits c change answer l m` is that the open client `c` makes `change`, at the next revision
+-- `Edits c change answer l m` is that the open client `c` makes `change`, at the next revision: its
+-- ranges are good, and the inputs have no reason to refuse the text that it makes
 abbrev pub Edits : {K V M O : Type 0} → ℕ → ChangeView → Result ℕ EditRefused → Ledger K V M O → Ledger K V M O → Type 0
 Edits {K} {V} {M} {O} c change (Ok revision) l m =
     (client : Client K V M O) × IsOpen l c client
-    × (refusal_of l.inputs change ≡ None) × (revision ≡ l.inputs.revision + 1)
+    × ((text : Option (List ℕ)) × (text_made l.inputs.files change ≡ Some text) × (refusal l.inputs change.file text ≡ None))
+    × (revision ≡ l.inputs.revision + 1)
     × (m ≡ record { inputs = changed l.inputs change; clients = l.clients; runs = l.runs })
 Edits c change (Err refused) l m = (refused.change ≡ change) × EditRefusal l c change refused.fault × (m ≡ l)
 

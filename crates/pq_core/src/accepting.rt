@@ -1,26 +1,21 @@
-//! Accepting requests and edits of clients.
-ghost use Rattle.std.specs.Prelude.{◌≡◌, ◌≤◌, ◌<◌, ◌+◌, IfErr, IfSome, IfNone, OnOk, length, Some, None, true, false, IsTrue, ◌↔◌};
+//! Accepting requests of clients.
+ghost use Rattle.std.specs.Prelude.{◌≡◌, ◌≤◌, ◌<◌, ◌+◌, IfErr, IfSome, IfNone, OnOk, length, true, false, IsTrue, ◌↔◌};
 ghost use Rattle.std.specs.VecDeque.{deque_capacity};
 ghost use Rattle.pq_core.specs.Kept.{IsDemand};
-ghost use Rattle.pq_core.specs.Points.{point_now};
-ghost use Rattle.pq_core.specs.Moves.{Accepts, Edits, changed, inputs_after};
+ghost use Rattle.pq_core.specs.Moves.{Accepts};
 ghost use Rattle.pq_core.specs.Stores.{Goes};
 ghost use Rattle.pq_core.specs.Told.{told_puts};
 ghost use Rattle.pq_core.specs.Starts.{IsCountedIn, Log};
-ghost use Rattle.pq_core.specs.aux.Rising.{found};
 ghost use Rattle.pq_core.specs.aux.Changes.{IsSameMap};
-ghost use Rattle.pq_core.specs.Accounts.{AccountView};
-ghost use Rattle.pq_core.specs.aux.Accepting.{MayNot, MayPost, MayNotEdit};
+ghost use Rattle.pq_core.specs.aux.Accepting.{MayNot, MayPost};
 
-use crate::fault::{AcceptFault, AcceptRefused, EditFault, EditRefused, Memory};
+use crate::fault::{AcceptFault, AcceptRefused, Memory};
 use crate::ids::{ClientId, Number};
 use crate::in_accounts::accept_in;
-use crate::request::{Change, Request, Want};
+use crate::request::{Request, Want};
 use crate::rising::Rising;
 use crate::stamp::Stamp;
 use crate::store::Store;
-use pq_inputs::{Revision, SetRefused};
-use pq_memo::kept_is_sound;
 use pq_rules::Rules;
 use std::collections::VecDeque;
 
@@ -110,68 +105,6 @@ impl<R: Rules, M: Stamp> Store<R, M> {
             Err(request) => {
                 let fault = AcceptFault::Memory;
                 return Err(AcceptRefused { fault, request });
-            }
-        }
-    }
-
-    /// The reason to refuse an edit of `client` whatever the change is.
-    fn edit_refusal(&self, client: u64) -> Option<EditFault>
-        ensures refused { IfSome result (λ fault. MayNotEdit (held self.now) client fault) }
-        ensures may { IfNone result ((account : AccountView R.Key R.Value M) × (found self.now.accounts.items client ≡ Some account)) }
-    {
-        if client >= self.clients {
-            return Some(EditFault::NoClient);
-        }
-        match self.accounts.get(client) {
-            Some(_) => return None,
-            None => return Some(EditFault::Closed),
-        }
-    }
-
-    /// Makes the change of `client`, at the next revision, of which `stamp` is the stamp. It waits for
-    /// no run.
-    ///
-    /// # Errors
-    ///
-    /// `NoClient`, `Closed`, and those of `Inputs::set`, in this order. The change comes back.
-    pub fn edit(
-        &mut self,
-        client: ClientId,
-        change: Change,
-        stamp: M,
-    ) -> Result<Revision, EditRefused>
-        requires { M.point stamp ≡ point_now (changed self.old.inputs change) }
-        ensures rules { self.new.rules ≡ self.old.rules }
-        ensures inputs { self.new.inputs ≡ inputs_after self.old.inputs change result }
-        ensures places { self.new.places ≡ self.old.places }
-        ensures back { IfErr result (λ refused. refused.change ≡ change) }
-        ensures moved { Goes R.Key.cmp (R.machine self.old.rules) M.point self.old self.new (Edits client change result) }
-        ensures counted { (log : Log R.Key) → IsCountedIn R.Key.cmp (R.machine self.old.rules) self.old log → IsCountedIn R.Key.cmp (R.machine self.old.rules) self.new log }
-    {
-        if let Some(fault) = self.edit_refusal(client.number()) {
-            return Err(EditRefused { fault, change });
-        }
-        let Change {
-            file,
-            text,
-            durability,
-        } = change;
-        let _latest = self.inputs.now();
-        kept_is_sound(&self.memos);
-        match self.inputs.set(file.as_str(), text, durability) {
-            Ok(revision) => {
-                self.stamp = stamp;
-                return Ok(revision);
-            }
-            Err(refused) => {
-                let SetRefused { fault, text } = refused;
-                let change = Change {
-                    file,
-                    text,
-                    durability,
-                };
-                let fault = EditFault::Input(fault);
-                return Err(EditRefused { fault, change });
             }
         }
     }

@@ -17,7 +17,8 @@
 //! Modules: `ids`, `label` and `request` (what clients post), `stamp` (of a revision), `outcome` and
 //! `reply`, `fault` (why a call is refused), `moves` (what runs and releases come to), `outbox` (where
 //! replies go), `work` and `job` (a rule that is to be carried out, with a stamp and without), `store`
-//! (the store), `opening`, `accepting`, `starting`, `running` and `collecting` (its calls), `run_state`,
+//! (the store), `opening`, `accepting`, `editing`, `starting`, `running` and `collecting` (its calls),
+//! `prepared` (the text of a change, made before its edit), `run_state`,
 //! `run_step` and `run_end` (the state of a run, its step, its end), `account`
 //! and `in_accounts` (what it knows of an open client), `ready` (a reply on its way), `lane`, `cores`
 //! (the core), `serving` and `releasing` (its calls), `passing` (from the store to the lanes),
@@ -31,6 +32,7 @@ mod closing;
 mod collecting;
 mod confirming;
 mod cores;
+mod editing;
 mod entering;
 mod fault;
 mod frames;
@@ -47,6 +49,7 @@ mod opening;
 mod outbox;
 mod outcome;
 mod passing;
+mod prepared;
 mod ready;
 mod releasing;
 mod reply;
@@ -81,9 +84,10 @@ pub use moves::{Move, Released};
 pub use outbox::{Outbox, PutFault, Taking};
 pub use outcome::Outcome;
 pub use pq_claims::RunId;
+pub use prepared::Prepared;
 pub use ready::{Ready, ready_is_right};
 pub use reply::Reply;
-pub use request::{Change, Request, Want, copy_change, copy_request, is_same_request};
+pub use request::{Body, Change, Request, Want, copy_change, copy_request, is_same_request};
 pub use stamp::{PlainStamp, Stamp};
 pub use store::Store;
 pub use work::{Done, Work};

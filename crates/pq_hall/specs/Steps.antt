@@ -16,7 +16,7 @@ use Rattle.pq_core.specs.declared.fault.AcceptFault.{AcceptFault}
 use Rattle.pq_core.specs.declared.fault.AcceptFault.TheVariants.{NoClient as AcceptNoClient, Closed as AcceptClosed, WindowFull, Memory as AcceptMemory}
 use Rattle.pq_core.specs.declared.fault.AcceptRefused.{AcceptRefused}
 use Rattle.pq_core.specs.declared.fault.EditFault.{EditFault}
-use Rattle.pq_core.specs.declared.fault.EditFault.TheVariants.{NoClient as EditNoClient, Closed as EditClosed, Input}
+use Rattle.pq_core.specs.declared.fault.EditFault.TheVariants.{NoClient as EditNoClient, Closed as EditClosed, BadRange, Input}
 use Rattle.pq_core.specs.declared.fault.EditRefused.{EditRefused}
 use Rattle.pq_core.specs.declared.fault.LookFault.TheVariants.{NoRun, Memory as LookMemory}
 use Rattle.pq_core.specs.declared.fault.GiveFault.TheVariants.{NotThisRun, Memory as GiveMemory}
@@ -65,6 +65,7 @@ not_input NoMemory = Err Memory
 abbrev pub not_edited : {K : Type 0} → EditFault → Result (Moved K) HallFault
 not_edited EditNoClient = Err Closed
 not_edited EditClosed = Err Closed
+not_edited BadRange = Err (EditFailed BadRange)
 not_edited (Input fault) = not_input fault
 
 -- `edited answer` is what `post_step` answers where `edit` answers `answer`
@@ -97,6 +98,13 @@ IsAnswerTo {K} post (Accepted n) = (request : Request K) × (post ≡ Ask reques
 IsAnswerTo post (Edited revision) = (change : ChangeView) × (post ≡ Edit change)
 IsAnswerTo post Ended = post ≡ End
 IsAnswerTo post (Later back) = back ≡ post
+
+-- `IsEdited moved` is that an edit was made
+abbrev pub IsEdited : {K : Type 0} → Moved K → Type 0
+IsEdited (Accepted n) = ⊥
+IsEdited (Edited revision) = Unit {0}
+IsEdited Ended = ⊥
+IsEdited (Later post) = ⊥
 
 -- ---- steps of runs
 

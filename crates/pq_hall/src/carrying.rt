@@ -11,6 +11,7 @@ use crate::hall::Hall;
 use crate::mark::{BoardName, Mark};
 use crate::one_value::OneValue;
 use crate::posting::{Moved, post_step};
+use crate::preparing::long_change;
 use crate::state::{Client, Collected, State};
 use pq_core::Memory;
 use pq_inputs::Inputs;
@@ -32,7 +33,7 @@ fn settled<K>(moved: Moved<K>) -> Result<Moved<K>, Post<K>>
 }
 
 /// What a post came to under the lock, and what is to go to the lane of its client.
-type Carried<R, J> = (Moved<<R as Rules>::Key>, Collected<R, J>);
+pub(crate) type Carried<R, J> = (Moved<<R as Rules>::Key>, Collected<R, J>);
 
 impl<R: Rules + OneValue, J: BoardName, H: Wait + Copy + Drop> Hall<R, J, H> {
     /// Carries the next post of `client` into the store. It waits for a post, and for room in the
@@ -54,7 +55,7 @@ impl<R: Rules + OneValue, J: BoardName, H: Wait + Copy + Drop> Hall<R, J, H> {
     {
         match porter.next(rt) {
             None => return Ok(Moved::Ended),
-            Some(post) => match self.carry(rt, client, post) {
+            Some(post) => match self.carry_post(rt, client, post) {
                 Ok((moved, collected)) => {
                     self.deliver_all(rt, client, collected);
                     return Ok(moved);
@@ -64,6 +65,21 @@ impl<R: Rules + OneValue, J: BoardName, H: Wait + Copy + Drop> Hall<R, J, H> {
                     return Err(fault);
                 }
             },
+        }
+    }
+
+    /// Carries `post`. The text of a long list of changes is made before the lock is taken.
+    fn carry_post(
+        &self,
+        rt: &H,
+        client: Client,
+        post: Post<R::Key>,
+    ) -> Result<Carried<R, J>, HallFault>
+        ensures { IfOk result (λ carried. IsKindOf carried.0 post) }
+    {
+        match long_change(post) {
+            Ok(change) => return self.carry_long(rt, client, change),
+            Err(post) => return self.carry(rt, client, post),
         }
     }
 
@@ -106,7 +122,7 @@ impl<R: Rules + OneValue, J: BoardName, H: Wait + Copy + Drop> Hall<R, J, H> {
     }
 
     /// Wakes the workers after a post was carried, and collects a reply to `client`.
-    fn carried(&self, state: &mut State<R, J>, client: Client) -> Collected<R, J> {
+    pub(crate) fn carried(&self, state: &mut State<R, J>, client: Client) -> Collected<R, J> {
         state.moved();
         self.work_came.notify_all();
         state.collect(client)

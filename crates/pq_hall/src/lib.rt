@@ -3,8 +3,9 @@
 //! A hall has the store behind one lock and the lane of each open client behind its own. Porters
 //! carry posts into the store (`carry_one`), workers take the steps of runs and carry their work out
 //! (`work`), and writers take replies (`take_one`). What a post and what a worker do to the store are
-//! two functions without a handle, `post_step` and `run_step`: each is one call of the store, answers as
-//! that call, and waits for nobody. `docs/ARCHITECTURE.md`, "Threads and locks", says who takes which
+//! functions without a handle, `post_step` and `run_step`: each is one call of the store, answers as
+//! that call, and waits for nobody. `prepared_step` is `post_step` of an edit whose text was made before,
+//! under no lock. `docs/ARCHITECTURE.md`, "Threads and locks", says who takes which
 //! lock, and what is never done while it is held.
 //!
 //! A mark is an entry of one vector that only grows, which threads share without a lock. An entry is
@@ -21,7 +22,7 @@
 //! Modules: `entry` (of the vector), `mark` (its name and its marks), `board` (the vector), `posting`
 //! and `running` (what posts and workers do to the store), `fault`, `one_value` (the rule sets of
 //! halls), `state` (what lies under the store's lock), `seats` (what lies under a lane's lock), `hall`,
-//! `joining`, `carrying`, `working` and `taking` (its calls).
+//! `joining`, `carrying`, `preparing`, `working` and `taking` (its calls).
 #![tactic(auto)]
 
 mod board;
@@ -33,6 +34,7 @@ mod joining;
 mod mark;
 mod one_value;
 mod posting;
+mod preparing;
 mod running;
 mod seats;
 mod state;
@@ -45,7 +47,7 @@ pub use hall::Hall;
 pub use joining::ClientEnds;
 pub use mark::{BoardName, Mark};
 pub use one_value::OneValue;
-pub use posting::{Moved, post_step};
+pub use posting::{Moved, post_step, prepared_step};
 pub use running::{Hand, Next, run_step};
 pub use state::Client;
 pub use std::alloc::AllocError as Memory;

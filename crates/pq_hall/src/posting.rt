@@ -1,11 +1,17 @@
 //! What a post does to the store: one call of it. It takes no lock and waits for nobody.
+//! `prepared_step` is `post_step` of an edit whose text was made before.
 ghost use Rattle.std.specs.Prelude.{◌≡◌, IfOk};
+ghost use Rattle.pq_inputs.specs.Sources.{file_in};
+ghost use Rattle.pq_core.specs.Moves.{changed};
+ghost use Rattle.pq_core.specs.Points.{point_now};
 ghost use Rattle.pq_core.specs.Stores.{Goes};
 ghost use Rattle.pq_core.specs.Starts.{IsCountedIn, Log};
-ghost use Rattle.pq_hall.specs.Steps.{IsStampFor, IsAnswerTo, Posts, inputs_posted, not_asked, not_edited, not_input};
+ghost use Rattle.pq_hall.specs.Steps.{IsStampFor, IsAnswerTo, IsEdited, Posts, inputs_posted, not_asked, not_edited, not_input};
+ghost use Rattle.pq_mail.specs.declared.post.Post.{Post};
+ghost use Rattle.pq_mail.specs.declared.post.Post.TheVariants.{Edit};
 
 use crate::fault::HallFault;
-use pq_core::{AcceptFault, AcceptRefused, ClientId, EditFault, Number, Stamp, Store};
+use pq_core::{AcceptFault, AcceptRefused, ClientId, EditFault, Number, Prepared, Stamp, Store};
 use pq_inputs::{InputFault, Revision};
 use pq_mail::Post;
 use pq_rules::Rules;
@@ -31,8 +37,8 @@ pub enum Moved<K> {
 /// In this order. A want of memory is `Memory` alone, never within `Edit`.
 ///
 /// - `Closed` where the client is not open.
-/// - `Edit` where the inputs refuse the edit.
-/// - `Memory`.
+/// - `Edit` where a range of the edit is bad, or the inputs refuse its text.
+/// - `Memory`; while changes with ranges are made, before `Edit`.
 pub fn post_step<R: Rules, M: Stamp>(
     store: &mut Store<R, M>,
     client: ClientId,
@@ -63,6 +69,34 @@ pub fn post_step<R: Rules, M: Stamp>(
     }
 }
 
+/// Makes the edit of a text that was prepared: what `post_step` does with its change.
+///
+/// # Errors
+///
+/// Those of `post_step`, in the same order.
+pub fn prepared_step<R: Rules, M: Stamp>(
+    store: &mut Store<R, M>,
+    client: ClientId,
+    prepared: Prepared,
+    stamp: M,
+) -> Result<Moved<R::Key>, HallFault>
+    requires current { (file_in store.old.inputs.files prepared.change.file).text ≡ prepared.before }
+    requires stamp { M.point stamp ≡ point_now (changed store.old.inputs prepared.change) }
+    ensures rules { store.new.rules ≡ store.old.rules }
+    ensures inputs { let post : Post R.Key = Edit prepared.change in
+        store.new.inputs ≡ inputs_posted store.old.inputs post result }
+    ensures places { store.new.places ≡ store.old.places }
+    ensures answer { IfOk result (λ moved. IsEdited moved) }
+    ensures moved { let post : Post R.Key = Edit prepared.change in
+        Goes R.Key.cmp (R.machine store.old.rules) M.point store.old store.new (Posts client post result) }
+    ensures counted { (log : Log R.Key) → IsCountedIn R.Key.cmp (R.machine store.old.rules) store.old log → IsCountedIn R.Key.cmp (R.machine store.old.rules) store.new log }
+{
+    match store.edit_prepared(client, prepared, stamp) {
+        Ok(revision) => return Ok(Moved::Edited(revision)),
+        Err(refused) => return not_edited(refused.fault),
+    }
+}
+
 /// What a post comes to whose request was refused.
 fn not_asked<K: Drop>(refused: AcceptRefused<K>) -> Result<Moved<K>, HallFault>
     ensures { result ≡ not_asked refused.fault refused.request }
@@ -83,6 +117,7 @@ fn not_edited<K>(fault: EditFault) -> Result<Moved<K>, HallFault>
     match fault {
         EditFault::NoClient => Err(HallFault::Closed),
         EditFault::Closed => Err(HallFault::Closed),
+        EditFault::BadRange => Err(HallFault::Edit(EditFault::BadRange)),
         EditFault::Input(fault) => not_input(fault),
     }
 }

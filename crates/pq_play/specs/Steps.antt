@@ -18,7 +18,7 @@ use Rattle.pq_core.specs.declared.fault.AcceptFault.{AcceptFault}
 use Rattle.pq_core.specs.declared.fault.AcceptFault.TheVariants.{NoClient as AcceptNoClient, Closed as AcceptClosed, WindowFull, Memory as AcceptMemory}
 use Rattle.pq_core.specs.declared.fault.AcceptRefused.{AcceptRefused}
 use Rattle.pq_core.specs.declared.fault.EditFault.{EditFault}
-use Rattle.pq_core.specs.declared.fault.EditFault.TheVariants.{NoClient as EditNoClient, Closed as EditClosed, Input}
+use Rattle.pq_core.specs.declared.fault.EditFault.TheVariants.{NoClient as EditNoClient, Closed as EditClosed, BadRange, Input}
 use Rattle.pq_core.specs.declared.fault.EditRefused.{EditRefused}
 use Rattle.pq_core.specs.declared.fault.LookFault.{LookFault}
 use Rattle.pq_core.specs.declared.fault.LookFault.TheVariants.{NoRun}
@@ -59,6 +59,7 @@ IsInputFault InputMemory = ⊥
 abbrev pub IsEditFault : EditFault → Type 0
 IsEditFault EditNoClient = Unit {0}
 IsEditFault EditClosed = Unit {0}
+IsEditFault BadRange = Unit {0}
 IsEditFault (Input fault) = IsInputFault fault
 
 -- `EditAnswered answer` is that no allocation failed

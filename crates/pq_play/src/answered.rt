@@ -41,7 +41,7 @@ pub(crate) fn edit_answered(answer: &Result<Revision, EditRefused>) -> bool
     match answer {
         Ok(_) => true,
         Err(refused) => match refused.fault {
-            EditFault::NoClient | EditFault::Closed => true,
+            EditFault::NoClient | EditFault::Closed | EditFault::BadRange => true,
             EditFault::Input(InputFault::Memory) => false,
             EditFault::Input(_) => true,
         },

@@ -90,7 +90,7 @@ fn edit<R: Rules>(
 ) -> Result<(), Memory>
     ensures { IfOk result (λ _. (room : ℕ) → Carries room R.Key.cmp (R.machine rules.now) rules.now (Edit client change.now) core.old.rules (StandsFor R.Key.cmp (R.machine rules.now) own_point replies_of core.old) sheet.old.seats.items (done_of sheet.old.dones) core.new.rules (StandsFor R.Key.cmp (R.machine rules.now) own_point replies_of core.new) sheet.new.seats.items (done_of sheet.new.dones)) }
 {
-    let given = copy_change(change)?;
+    let given = copy_change(alloc, change)?;
     let stamp = PlainStamp::after(alloc, core.inputs(), &given)?;
     let answer = core.edit(client, given, stamp);
     if !edit_answered(&answer) {

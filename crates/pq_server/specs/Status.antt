@@ -9,7 +9,7 @@ use Rattle.pq_inputs.specs.declared.fault.InputFault.TheVariants as input
 use Rattle.pq_server.specs.declared.library.fault.LibraryFault.{LibraryFault}
 use Rattle.pq_server.specs.declared.library.fault.LibraryFault.TheVariants as library
 use Rattle.pq_session.specs.declared.fault.ScriptFault.{ScriptFault}
-use Rattle.pq_session.specs.declared.fault.ScriptFault.TheVariants.{Write, Memory, Frame, Cut, Edit, Read, TooManyReads}
+use Rattle.pq_session.specs.declared.fault.ScriptFault.TheVariants.{Write, Memory, Frame, Cut, Edit, BadRange, Read, TooManyReads}
 
 -- `frame_status fault` is the status for a frame error: 2, and 5 for an allocation failure.
 abbrev pub frame_status : FrameFault → ℕ
@@ -27,6 +27,7 @@ status_of (Ok status) = status
 status_of (Err (Frame fault)) = frame_status fault
 status_of (Err Cut) = 2
 status_of (Err (Edit fault)) = edit_status fault
+status_of (Err BadRange) = 3
 status_of (Err Read) = 4
 status_of (Err TooManyReads) = 4
 status_of (Err Write) = 4
@@ -66,6 +67,7 @@ line_of (Ok status) = session_line status
 line_of (Err (Frame fault)) = frame_line fault
 line_of (Err Cut) = line (codes "pq_server: input ends inside a frame")
 line_of (Err (Edit fault)) = edit_line fault
+line_of (Err BadRange) = line (codes "pq_server: bad range")
 line_of (Err Read) = line (codes "pq_server: read failed")
 line_of (Err TooManyReads) = line (codes "pq_server: read failed")
 line_of (Err Write) = line (codes "pq_server: write failed")

@@ -5,7 +5,7 @@
 //! | 0 | `exit` after `shutdown` |
 //! | 1 | `exit` without it; the input ends between frames |
 //! | 2 | a frame error; the input ends inside a frame |
-//! | 3 | an edit was refused, or its parameters were unreadable |
+//! | 3 | an edit was refused, or has a bad range, or its parameters were unreadable |
 //! | 4 | a read or a write failed, or there were too many reads; the library was not read |
 //! | 5 | out of memory outside a reply |
 //! | 64 | the command line |
@@ -40,7 +40,7 @@ pub(crate) const START_FAILED: u8 = 4;
 /// The status when a write failed.
 const WRITE_FAILED: u8 = 4;
 
-/// The status when an edit was refused.
+/// The status when an edit was refused, or has a bad range.
 const EDIT_REFUSED: u8 = 3;
 
 /// The exit status and the line of standard error if the words of the command line could not be
@@ -121,6 +121,7 @@ pub(crate) fn line_of(outcome: Result<u8, ScriptFault>) -> &'static str
         Err(ScriptFault::Frame(fault)) => frame_line(fault),
         Err(ScriptFault::Cut) => "pq_server: input ends inside a frame\n",
         Err(ScriptFault::Edit(fault)) => edit_line(fault),
+        Err(ScriptFault::BadRange) => "pq_server: bad range\n",
         Err(ScriptFault::Read) => "pq_server: read failed\n",
         Err(ScriptFault::TooManyReads) => "pq_server: read failed\n",
         Err(ScriptFault::Write) => "pq_server: write failed\n",
@@ -139,6 +140,7 @@ pub(crate) fn status_of(outcome: Result<u8, ScriptFault>) -> u8
         Err(ScriptFault::Cut) => 2,
         Err(ScriptFault::Edit(InputFault::Memory)) => OUT_OF_MEMORY,
         Err(ScriptFault::Edit(_)) => EDIT_REFUSED,
+        Err(ScriptFault::BadRange) => EDIT_REFUSED,
         Err(ScriptFault::Read) => 4,
         Err(ScriptFault::TooManyReads) => 4,
         Err(ScriptFault::Write) => 4,

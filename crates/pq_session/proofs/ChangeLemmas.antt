@@ -1,53 +1,52 @@
--- The last of the changes of `textDocument/didChange`.
-use Rattle.std.proofs.Common.{◌≡◌, refl, ℕ, List, [], ◌∷◌, ◌++◌, Bool, true, false, is_some, Option, Some, None, option_map}
+-- The changes of a list, read one after another.
+use Rattle.std.proofs.Common.{◌≡◌, refl, sym, ◌∙◌, ap, List, [], ◌∷◌, ◌++◌, append_assoc, Option, Some, None, option_map, length, arith}
 use Rattle.std.specs.Prelude.{option_and_then}
-use Rattle.std.specs.List.{last_or}
+use Rattle.std.proofs.lemmas.List.{append-nil}
 use Rattle.serde_json.specs.View.{view, items_view}
 use Rattle.serde_json.specs.declared.value.Value.{Value}
-use Rattle.pq_session.specs.Session.{change_text, change_texts}
+use Rattle.pq_lex.specs.TextChanges.{TextChangeView}
+use Rattle.pq_session.specs.Session.{change_member, change_members}
 
--- whether all changes are readable
-abbrev are_readable : List Value → Bool
-are_readable vs = is_some (change_texts (items_view vs))
+-- the changes `taken` and those after them
+abbrev pub taken_and : List TextChangeView → Option (List TextChangeView) → Option (List TextChangeView)
+taken_and taken others = option_map (λ more. taken ++ more) others
 
--- the texts of a change and of those after it
-abbrev with_text : Option (List ℕ) → Option (List (List ℕ)) → Option (List (List ℕ))
-with_text t ts = option_and_then (λ text. option_map (λ texts. text ∷ texts) ts) t
+-- a change, and those after it
+abbrev with_first : Option TextChangeView → Option (List TextChangeView) → Option (List TextChangeView)
+with_first first others = option_and_then (λ c. option_map (λ more. c ∷ more) others) first
 
-last_by : (o t : Option (List ℕ)) (ts : Option (List (List ℕ))) (r : Option (Option (List ℕ))) → is_some t ≡ true → ((p : Option (List ℕ)) → option_map (last_or p) ts ≡ r) → option_map (last_or o) (with_text t ts) ≡ r
-last_by o None ts r e h = absurd (cc e)
-last_by o (Some t) None r e h = h o
-last_by o (Some t) (Some ts) r e h = h (Some t)
+one_more : (taken : List TextChangeView) (c : TextChangeView) (first : Option TextChangeView) (others : Option (List TextChangeView)) → Some c ≡ first → taken_and (taken ++ c ∷ []) others ≡ taken_and taken (with_first first others)
+one_more taken c None others e = absurd (cc e)
+one_more taken c (Some d) None e = refl
+one_more taken c (Some d) (Some others) e =
+    let same : c ≡ d = cc e in
+    ap (λ (x : TextChangeView). Some ((taken ++ x ∷ []) ++ others)) same ∙ ap (λ (all : List TextChangeView). Some all) (append_assoc taken (d ∷ []) others)
 
-first_readable : (t : Option (List ℕ)) (ts : Option (List (List ℕ))) → is_some (with_text t ts) ≡ true → (is_some t ≡ true) × (is_some ts ≡ true)
-first_readable None ts e = absurd (cc e)
-first_readable (Some t) None e = absurd (cc e)
-first_readable (Some t) (Some ts) e = (refl, refl)
+-- the changes `taken` and those of `members`
+abbrev read_after : List TextChangeView → List Value → Option (List TextChangeView)
+read_after taken members = taken_and taken (change_members (items_view members))
 
-last_alone : (o t : Option (List ℕ)) → option_map (last_or o) (with_text t (Some [])) ≡ option_map (λ text. Some text) t
-last_alone o None = refl
-last_alone o (Some t) = refl
+-- a change that is readable joins those that were taken
+pub read_one : (taken : List TextChangeView) (members : List Value) (v : Value) (vs : List Value) (c : TextChangeView) → members ≡ v ∷ vs → Some c ≡ change_member (view v) → taken_and (taken ++ c ∷ []) (change_members (items_view vs)) ≡ taken_and taken (change_members (items_view members))
+read_one taken members v vs c steps is = one_more taken c (change_member (view v)) (change_members (items_view vs)) is ∙ ap (read_after taken) (sym steps)
 
-last_after : (vs : List Value) (last : Value) (o : Option (List ℕ)) → are_readable vs ≡ true → option_map (last_or o) (change_texts (items_view (vs ++ last ∷ []))) ≡ option_map (λ text. Some text) (change_text (view last))
-last_after [] last o e = last_alone o (change_text (view last))
-last_after (v ∷ vs) last o e =
-    let both = first_readable (change_text (view v)) (change_texts (items_view vs)) e in
-    last_by o (change_text (view v)) (change_texts (items_view (vs ++ last ∷ []))) _ both.0 (λ p. last_after vs last p both.1)
+none_first : (taken : List TextChangeView) (first : Option TextChangeView) (others : Option (List TextChangeView)) → None ≡ first → None ≡ taken_and taken (with_first first others)
+none_first taken None others e = refl
+none_first taken (Some c) others e = absurd (cc e)
 
--- the text of the last change, where those before it are readable
-pub last_text : (vs : List Value) (last : Value) → are_readable vs ≡ true → option_map (last_or None) (change_texts (items_view (vs ++ last ∷ []))) ≡ option_map (λ text. Some text) (change_text (view last))
-last_text vs last e = last_after vs last None e
+-- after one that is not readable there are no changes
+pub read_none : (taken : List TextChangeView) (members : List Value) (v : Value) (vs : List Value) → members ≡ v ∷ vs → None ≡ change_member (view v) → None ≡ taken_and taken (change_members (items_view members))
+read_none taken members v vs steps is = none_first taken (change_member (view v)) (change_members (items_view vs)) is ∙ ap (read_after taken) (sym steps)
 
-none_by : (t : Option (List ℕ)) (ts more : Option (List (List ℕ))) → is_some (with_text t ts) ≡ false → (is_some ts ≡ false → more ≡ None) → with_text t more ≡ None
-none_by None ts more e h = refl
-none_by (Some t) None more e h = rw (h refl) refl
-none_by (Some t) (Some ts) more e h = absurd (cc e)
+-- after the last member all were taken
+pub read_all : (taken : List TextChangeView) (vs : List Value) → length vs ≡ 0 → Some taken ≡ taken_and taken (change_members (items_view vs))
+read_all taken [] none = ap (λ (all : List TextChangeView). Some all) (sym (append-nil taken))
+read_all taken (v ∷ vs) none = absurd (omega (arith, none))
 
-texts_none : (vs : List Value) (last : Value) → are_readable vs ≡ false → change_texts (items_view (vs ++ last ∷ [])) ≡ None
-texts_none [] last e = absurd (cc e)
-texts_none (v ∷ vs) last e =
-    none_by (change_text (view v)) (change_texts (items_view vs)) (change_texts (items_view (vs ++ last ∷ []))) e (texts_none vs last)
+none_taken : (others : Option (List TextChangeView)) → taken_and [] others ≡ others
+none_taken None = refl
+none_taken (Some others) = refl
 
--- an unreadable change before the last
-pub last_unread : (vs : List Value) (last : Value) → are_readable vs ≡ false → option_map (last_or None) (change_texts (items_view (vs ++ last ∷ []))) ≡ None
-last_unread vs last e = rw (texts_none vs last e) refl
+-- before the first member none was taken
+pub read_first : (vs : List Value) → taken_and [] (change_members (items_view vs)) ≡ change_members (items_view vs)
+read_first vs = none_taken (change_members (items_view vs))

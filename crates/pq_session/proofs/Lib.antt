@@ -6,7 +6,6 @@ pub mod ReplyLemmas
 pub mod PrintLemmas
 pub mod Known
 pub mod Total
-pub mod EditLemmas
 pub mod OutputLemmas
 pub mod TakeLemmas
 pub mod MemoryLemmas

@@ -6,11 +6,11 @@ use Rattle.std.specs.declared.vec.Vec.{Vec}
 use Rattle.pq_frame.specs.Written.{written}
 use Rattle.pq_inputs.specs.declared.fault.InputFault.{InputFault}
 use Rattle.pq_session.specs.declared.fault.ScriptFault.{ScriptFault}
-use Rattle.pq_session.specs.declared.fault.ScriptFault.TheVariants.{Write, Memory, Frame, Cut, Edit, Read, TooManyReads}
-use Rattle.pq_session.specs.Responses.{Response, replies, silent, finishes, refuses, ScriptState, Responds}
+use Rattle.pq_session.specs.declared.fault.ScriptFault.TheVariants.{Write, Memory, Frame, Cut, Edit, BadRange, Read, TooManyReads}
+use Rattle.pq_session.specs.Responses.{Response, replies, silent, finishes, refuses, bad_range, ScriptState, Responds}
 use Rattle.std.specs.Io.{StartsWith}
 use Rattle.std.proofs.Transfers.{starts_with_of_append}
-use Rattle.pq_session.specs.Output.{Ending, exits, refused, Output, Outputs, After, no_output, prefixed, ended, Stopped}
+use Rattle.pq_session.specs.Output.{Ending, exits, refused, at_bad_range, Output, Outputs, After, no_output, prefixed, ended, Stopped}
 use Rattle.pq_session.specs.aux.Answered.{Answered}
 use Rattle.std.specs.Prelude.{Err}
 use Rattle.pq_session.specs.Script.{FailsToWrite}
@@ -41,6 +41,7 @@ after_some (replies reply) P (rest, holds) = (prefixed (written reply) rest, (re
 after_some silent P some = some
 after_some (finishes status) P some = (ended (exits status), refl)
 after_some (refuses fault) P some = (ended (refused fault), refl)
+after_some bad_range P some = (ended at_bad_range, refl)
 
 pub some_output : (state : ScriptState) (bodies : List (List ℕ)) → (o : Output) × Outputs state bodies o
 some_output state [] = (no_output, refl)
@@ -108,6 +109,9 @@ one_ends n m later body status h more o left = (finishes status, m, h, left)
 pub one_refuses : (n m later : ScriptState) (body : List ℕ) (fault : InputFault) → Responds n body (refuses fault) m → Answered n (body ∷ []) [] (Some (refused fault)) later
 one_refuses n m later body fault h more o left = (refuses fault, m, h, left)
 
+pub one_misranged : (n m later : ScriptState) (body : List ℕ) → Responds n body bad_range m → Answered n (body ∷ []) [] (Some at_bad_range) later
+one_misranged n m later body h more o left = (bad_range, m, h, left)
+
 pub stopped_none : (n : ScriptState) (bodies : List (List ℕ)) → Stopped n bodies []
 stopped_none n bodies more =
     let all = some_output n (bodies ++ more) in
@@ -150,6 +154,7 @@ loop_answered start n end bodies i v body out also h is same answered one =
 
 pub loop_fails : (start n : ScriptState) (bodies : List (Vec ℕ Global)) (i : ℕ) (v : Vec ℕ Global) (body out also : List ℕ) (fault : ScriptFault) → i < length bodies → v ≡ get_or bodies i v → body ≡ v.items → Answered start (bodies_of (take i bodies)) out None n → Fails n (body ∷ []) also fault → Fails start (bodies_of bodies) (out ++ also) fault
 loop_fails start n bodies i v body out also (Edit fault) h is same answered fails = loop_ended start n n start bodies i v body out also (refused fault) h is same answered fails
+loop_fails start n bodies i v body out also BadRange h is same answered fails = loop_ended start n n start bodies i v body out also at_bad_range h is same answered fails
 loop_fails start n bodies i v body out also Write h is same answered fails = loop_stopped start n bodies i v body out also h is same answered fails
 loop_fails start n bodies i v body out also Memory h is same answered fails = loop_stopped start n bodies i v body out also h is same answered fails
 loop_fails start n bodies i v body out also (Frame fault) h is same answered fails = absurd fails
@@ -160,6 +165,7 @@ loop_fails start n bodies i v body out also TooManyReads h is same answered fail
 -- a body that has no answer
 pub refused_fails : (n m : ScriptState) (body : List ℕ) (fault : ScriptFault) → Refuses n body fault m → Fails n (body ∷ []) [] fault
 refused_fails n m body (Edit fault) h = one_refuses n m n body fault h
+refused_fails n m body BadRange h = one_misranged n m n body h
 refused_fails n m body Memory h = stopped_none n (body ∷ [])
 refused_fails n m body Write h = absurd h
 refused_fails n m body (Frame fault) h = absurd h
@@ -169,6 +175,7 @@ refused_fails n m body TooManyReads h = absurd h
 
 pub refused_counts : (n m : ScriptState) (body : List ℕ) (fault : ScriptFault) (a : ℕ) → Refuses n body fault m → FailsToWrite {A = Option ℕ} (Err fault) a a
 refused_counts n m body (Edit fault) a h = refl
+refused_counts n m body BadRange a h = refl
 refused_counts n m body Memory a h = refl
 refused_counts n m body Write a h = absurd h
 refused_counts n m body (Frame fault) a h = refl

@@ -5,9 +5,9 @@ use Rattle.std.proofs.Common.{◌+◌, ◌≤◌, length, take, arith, refl, ◌
 use Rattle.std.specs.Prelude.{MatchResult}
 use Rattle.pq_frame.specs.Frames.{Frames, State, Reading, Failed}
 use Rattle.pq_session.specs.declared.fault.ScriptFault.{ScriptFault}
-use Rattle.pq_session.specs.declared.fault.ScriptFault.TheVariants.{Write, Memory, Frame, Cut, Edit, Read, TooManyReads}
+use Rattle.pq_session.specs.declared.fault.ScriptFault.TheVariants.{Write, Memory, Frame, Cut, Edit, BadRange, Read, TooManyReads}
 use Rattle.pq_session.specs.Responses.{ScriptState}
-use Rattle.pq_session.specs.Output.{exits, refused}
+use Rattle.pq_session.specs.Output.{exits, refused, at_bad_range}
 use Rattle.pq_session.specs.aux.Answered.{Answered}
 use Rattle.pq_session.specs.Script.{StopsWithin, Ended, Scripts, FailsToRead, FailsToWrite, ShowsInLastPiece, max_piece}
 use Rattle.pq_session.specs.aux.Steps.{Takes}
@@ -55,6 +55,8 @@ script_fault start P Q bytes seen rest piece out also n m new (Frame f) fits h a
     ((seen ++ bodies, frames_grow bytes seen rest piece bodies (Failed f) h framed, no_more start m (seen ++ bodies) (out ++ also) (answered_append start n m seen bodies out also None answered more)), shown_last start bytes seen rest piece out n fits h answered)
 script_fault start P Q bytes seen rest piece out also n m new (Edit f) fits h answered (bodies, state, framed, more) =
     (seen ++ bodies, state, frames_grow bytes seen rest piece bodies state h framed, no_more_after start n (seen ++ bodies) (out ++ also) (refused f) (answered_append start n n seen bodies out also (Some (refused f)) answered more), shown_last start bytes seen rest piece out n fits h answered)
+script_fault start P Q bytes seen rest piece out also n m new BadRange fits h answered (bodies, state, framed, more) =
+    (seen ++ bodies, state, frames_grow bytes seen rest piece bodies state h framed, no_more_after start n (seen ++ bodies) (out ++ also) at_bad_range (answered_append start n n seen bodies out also (Some at_bad_range) answered more), shown_last start bytes seen rest piece out n fits h answered)
 script_fault start P Q bytes seen rest piece out also n m new Write fits h answered stop = script_stops start bytes seen rest piece out also n h answered stop
 script_fault start P Q bytes seen rest piece out also n m new Memory fits h answered stop = script_stops start bytes seen rest piece out also n h answered stop
 script_fault start P Q bytes seen rest piece out also n m new Cut fits h answered stop = absurd stop
@@ -83,6 +85,7 @@ end_writes (Err f) rest a b h e = subst (λ (g : ScriptFault). FailsToWrite {A =
 pub take_reads : (bytes out : List ℕ) (n m : ScriptState) (new : State) (e : ScriptFault) (a b : ℕ) → Takes bytes n out (Err e) new m → b ≡ a → FailsToRead {A = ℕ} (Err e) a b
 take_reads bytes out n m new (Frame f) a b h e = e
 take_reads bytes out n m new (Edit f) a b h e = e
+take_reads bytes out n m new BadRange a b h e = e
 take_reads bytes out n m new Write a b h e = e
 take_reads bytes out n m new Memory a b h e = e
 take_reads bytes out n m new Cut a b h e = e
@@ -92,6 +95,7 @@ take_reads bytes out n m new TooManyReads a b h e = e
 pub shown_by : (e : ScriptFault) (a b c : ℕ) → b ≡ a → FailsToWrite {A = Option ℕ} (Err e) b c → FailsToWrite {A = ℕ} (Err e) a c
 shown_by (Frame f) a b c h k = k ∙ h
 shown_by (Edit f) a b c h k = k ∙ h
+shown_by BadRange a b c h k = k ∙ h
 shown_by Write a b c h k = k ∙ ap (λ (n : ℕ). n + 1) h
 shown_by Memory a b c h k = k ∙ h
 shown_by Cut a b c h k = k ∙ h

@@ -8,7 +8,7 @@ use Rattle.pq_frame.specs.declared.fault.FrameFault.TheVariants as frame
 use Rattle.pq_frame.proofs.RunLemmas.{at_first}
 use Rattle.pq_frame.proofs.OneReading.{frames_same}
 use Rattle.pq_session.specs.declared.fault.ScriptFault.{ScriptFault}
-use Rattle.pq_session.specs.declared.fault.ScriptFault.TheVariants.{Write, Memory, Frame, Cut, Edit, Read, TooManyReads}
+use Rattle.pq_session.specs.declared.fault.ScriptFault.TheVariants.{Write, Memory, Frame, Cut, Edit, BadRange, Read, TooManyReads}
 use Rattle.pq_session.specs.Responses.{ScriptState}
 use Rattle.pq_session.specs.Output.{exits, Stopped}
 use Rattle.pq_session.specs.aux.Answered.{Answered}
@@ -42,6 +42,7 @@ pub take_fails : (rest piece : List ℕ) (n m : ScriptState) (bodies : List (Lis
 take_fails rest piece n m bodies mid out Write fed fails = stops_after (rest ++ piece) n bodies mid out fed.0 fails
 take_fails rest piece n m bodies mid out Memory fed fails = stops_after (rest ++ piece) n bodies mid out fed.0 fails
 take_fails rest piece n m bodies mid out (Edit f) fed fails = (bodies, mid, fed.0, fails)
+take_fails rest piece n m bodies mid out BadRange fed fails = (bodies, mid, fed.0, fails)
 take_fails rest piece n m bodies mid out (Frame f) fed fails = absurd fails
 take_fails rest piece n m bodies mid out Cut fed fails = absurd fails
 take_fails rest piece n m bodies mid out Read fed fails = absurd fails

@@ -1,15 +1,16 @@
 -- What a script may write for a list of bodies: the frames of the responses in order, up to the
--- first message that ends the session and the first edit that is refused.
+-- first message that ends the session and the first edit that is refused or has a bad range.
 use Rattle.std.specs.Prelude.{◌≡◌, ℕ, List, [], ◌∷◌, ◌++◌, Option, Some, None}
 use Rattle.std.specs.Io.{StartsWith}
 use Rattle.pq_frame.specs.Written.{written}
 use Rattle.pq_inputs.specs.declared.fault.InputFault.{InputFault}
-use Rattle.pq_session.specs.Responses.{Response, replies, silent, finishes, refuses, ScriptState, Responds}
+use Rattle.pq_session.specs.Responses.{Response, replies, silent, finishes, refuses, bad_range, ScriptState, Responds}
 
--- The ending of a session: by `exit` with a status, or by the refusal of an edit.
+-- The ending of a session: by `exit` with a status, by the refusal of an edit, or by a bad range.
 pub data Ending : Type 0 where
   exits : ℕ → Ending
   refused : InputFault → Ending
+  at_bad_range : Ending
 
 -- An output: the bytes that are written, and the ending, if there is one.
 pub record Output : Type 0 where
@@ -35,6 +36,7 @@ After (replies text) P o = (rest : Output) × P rest × (o ≡ prefixed (written
 After silent P o = P o
 After (finishes status) P o = o ≡ ended (exits status)
 After (refuses fault) P o = o ≡ ended (refused fault)
+After bad_range P o = o ≡ ended at_bad_range
 
 -- `Outputs state bodies o` is that a script in `state` may write `o` for `bodies`.
 abbrev pub Outputs : ScriptState → List (List ℕ) → Output → Type 0

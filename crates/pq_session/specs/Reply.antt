@@ -82,7 +82,7 @@ reply_data id answer =
     object (member (codes "id") id (member (codes "jsonrpc") (string (codes "2.0")) (member (codes "result") answer no_members)))
 
 -- `initialized_data` is the capabilities of the server (LSP 3.17, "InitializeResult"). A change of
--- a file is its whole text.
+-- a file has a range ("TextDocumentSyncKind", `Incremental`).
 abbrev pub initialized_data : Data
 initialized_data =
     object (member (codes "capabilities") (object
@@ -90,7 +90,7 @@ initialized_data =
     (member (codes "diagnosticProvider") (object (member (codes "interFileDependencies") (boolean true) (member (codes "workspaceDiagnostics") (boolean false) no_members)))
     (member (codes "documentSymbolProvider") (boolean true)
     (member (codes "positionEncoding") (string (codes "utf-16"))
-    (member (codes "textDocumentSync") (object (member (codes "change") (number (unsigned 1)) (member (codes "openClose") (boolean true) no_members)))
+    (member (codes "textDocumentSync") (object (member (codes "change") (number (unsigned 2)) (member (codes "openClose") (boolean true) no_members)))
     no_members))))))
     (member (codes "serverInfo") (object (member (codes "name") (string (codes "pq_server")) no_members)) no_members))
 

@@ -6,9 +6,10 @@ use Rattle.pq_frame.specs.Labels.{LabelModel}
 use Rattle.pq_frame.specs.Messages.{message_of}
 use Rattle.pq_inputs.specs.declared.fault.InputFault.{InputFault}
 use Rattle.pq_inputs.specs.Sources.{Sources, with_file}
+use Rattle.pq_inputs.specs.Refusal.{refusal}
 use Rattle.pq_rules.specs.declared.turn.Answer.{Answer}
 use Rattle.pq_core.specs.Changes.{ChangeView}
-use Rattle.pq_core.specs.Moves.{file_of, refusal_of}
+use Rattle.pq_core.specs.Moves.{text_made, file_of}
 use Rattle.pq_proto.specs.Compile.{Compiles}
 use Rattle.pq_proto.specs.declared.key.ProtoKey.{ProtoKey}
 use Rattle.pq_proto.specs.declared.value.ProtoValue.{ProtoValue}
@@ -33,13 +34,14 @@ started files revision = record { phase = Fresh; files = files; revision = revis
 abbrev pub fresh : ScriptState
 fresh = started [] 0
 
--- The response to a message: a text, nothing, the end of the session with a status, or the refusal
--- of an edit, which ends the script.
+-- The response to a message: a text, nothing, the end of the session with a status, or an edit that
+-- ends the script, since it is refused or has a bad range.
 pub data Response : Type 0 where
   replies : List ℕ → Response
   silent : Response
   finishes : ℕ → Response
   refuses : InputFault → Response
+  bad_range : Response
 
 -- `root_of state` is the root of the files, and empty outside of `initialize` and `shutdown`.
 abbrev pub root_of : ScriptState → List ℕ
@@ -52,27 +54,31 @@ IsAnswer state label key text =
     ((answer : Answer ProtoKey ProtoValue) × Compiles state.files key answer × (text ≡ answer_text (root_of state) label state.revision answer))
     ⊎ (text ≡ out_of_memory_text label)
 
--- `edit_refusal state change` is the error of an edit that makes `change`, if it is refused.
+-- `edit_refusal state change` is the error of an edit that makes `change`, if the text that it makes
+-- is refused.
 abbrev pub edit_refusal : ScriptState → ChangeView → Option InputFault
-edit_refusal state change = refusal_of (record { files = state.files; revision = state.revision; history = [] }) change
+edit_refusal state change = refusal (record { files = state.files; revision = state.revision; history = [] }) change.file (file_of state.files change).text
 
--- `edit_response refusal` is the response to an edit with this refusal: an accepted edit has none.
-abbrev pub edit_response : Option InputFault → Response
-edit_response None = silent
-edit_response (Some fault) = refuses fault
+-- `edit_response made refusal` is the response to an edit that makes the text `made`, which has this
+-- refusal. `made` is None for a bad range. An accepted edit has no response.
+abbrev pub edit_response : Option (Option (List ℕ)) → Option InputFault → Response
+edit_response None refusal = bad_range
+edit_response (Some text) None = silent
+edit_response (Some text) (Some fault) = refuses fault
 
--- `edited state change refusal` is the state after an edit. An accepted one makes a revision, in
--- which `change` is made.
-abbrev pub edited : ScriptState → ChangeView → Option InputFault → ScriptState
-edited state change None = record { phase = state.phase; files = with_file state.files change.file (file_of state.files change); revision = state.revision + 1 }
-edited state change (Some fault) = state
+-- `edited state change made refusal` is the state after an edit that makes the text `made`, which has
+-- this refusal. An accepted edit makes a revision, in which `change` is made.
+abbrev pub edited : ScriptState → ChangeView → Option (Option (List ℕ)) → Option InputFault → ScriptState
+edited state change None refusal = state
+edited state change (Some text) None = record { phase = state.phase; files = with_file state.files change.file (file_of state.files change); revision = state.revision + 1 }
+edited state change (Some text) (Some fault) = state
 
 -- `RespondsTo state meaning response after` is that a script in `state` may give `response` to a
 -- message of this meaning, and is then in the state `after`.
 abbrev pub RespondsTo : ScriptState → Meaning → Response → ScriptState → Type 0
 RespondsTo state (asks label key) response after = (text : List ℕ) × IsAnswer state label key text × (response ≡ replies text) × (after ≡ state)
 RespondsTo state (says text) response after = (response ≡ replies text) × (after ≡ state)
-RespondsTo state (edits change) response after = (response ≡ edit_response (edit_refusal state change)) × (after ≡ edited state change (edit_refusal state change))
+RespondsTo state (edits change) response after = (response ≡ edit_response (text_made state.files change) (edit_refusal state change)) × (after ≡ edited state change (text_made state.files change) (edit_refusal state change))
 RespondsTo state ignores response after = (response ≡ silent) × (after ≡ state)
 RespondsTo state (ends status) response after = (response ≡ finishes status) × (after ≡ state)
 

@@ -5,9 +5,9 @@ use Rattle.pq_frame.specs.Frames.{Frames, State, Reading, Failed}
 use Rattle.pq_frame.specs.declared.fault.FrameFault.TheVariants as frame
 use Rattle.pq_inputs.specs.declared.fault.InputFault.TheVariants as input
 use Rattle.pq_session.specs.declared.fault.ScriptFault.{ScriptFault}
-use Rattle.pq_session.specs.declared.fault.ScriptFault.TheVariants.{Write, Memory, Frame, Cut, Edit, Read, TooManyReads}
+use Rattle.pq_session.specs.declared.fault.ScriptFault.TheVariants.{Write, Memory, Frame, Cut, Edit, BadRange, Read, TooManyReads}
 use Rattle.pq_session.specs.Responses.{ScriptState}
-use Rattle.pq_session.specs.Output.{Ending, exits, refused, Outputs, Stopped}
+use Rattle.pq_session.specs.Output.{Ending, exits, refused, at_bad_range, Outputs, Stopped}
 
 -- `max_reads` is the largest number of reads of one script: 2^32.
 abbrev pub max_reads : ℕ
@@ -46,6 +46,7 @@ Scripts start AtEnd UsedUp bytes out (Ok status) = Ended start bytes out (exits 
 Scripts start AtEnd UsedUp bytes out (Err (Frame fault)) = AnsweredAll start bytes out (Failed fault) × ShowsInLastPiece start bytes
 Scripts start AtEnd UsedUp bytes out (Err Cut) = (rest : List ℕ) × (rest ≢ []) × AtEnd × AnsweredAll start bytes out (Reading rest)
 Scripts start AtEnd UsedUp bytes out (Err (Edit fault)) = Ended start bytes out (refused fault)
+Scripts start AtEnd UsedUp bytes out (Err BadRange) = Ended start bytes out at_bad_range
 Scripts start AtEnd UsedUp bytes out (Err Read) = (rest : List ℕ) × AnsweredAll start bytes out (Reading rest)
 Scripts start AtEnd UsedUp bytes out (Err TooManyReads) = (rest : List ℕ) × UsedUp × AnsweredAll start bytes out (Reading rest)
 Scripts start AtEnd UsedUp bytes out (Err Write) = StopsWithin bytes start out

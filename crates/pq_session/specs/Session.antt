@@ -1,15 +1,16 @@
 -- What the messages of a client mean, by the phase of the session (LSP 3.17, "Server lifecycle",
 -- "Text Document Synchronization", "Document Diagnostics", "Document Symbols Request", "Goto
 -- Definition Request"; JSON-RPC 2.0, "Request object", "Notification").
-use Rattle.std.specs.Prelude.{ℕ, nat_le, Bool, true, List, [], ◌∷◌, codes, if◌then◌else◌, Option, Some, None, option_and_then, option_map, is_some}
-use Rattle.std.specs.List.{last_or}
+use Rattle.std.specs.Prelude.{ℕ, nat_le, List, [], ◌∷◌, codes, if◌then◌else◌, Option, Some, None, option_and_then, option_map, is_some}
 use Rattle.std.specs.Str.{bytes_eq}
 use Rattle.serde_json.specs.Data.{Data, Items, no_items, item}
 use Rattle.serde_json.specs.Find.{get, as_array, as_null, as_str, as_number, as_u64}
 use Rattle.pq_frame.specs.Labels.{LabelModel, no_label}
 use Rattle.pq_frame.specs.Messages.{MessageModel, bad_json, invalid, ask, notice, response}
 use Rattle.pq_inputs.specs.declared.durability.Durability.TheVariants.{Low}
-use Rattle.pq_core.specs.Changes.{ChangeView}
+use Rattle.pq_lex.specs.declared.position.Position.{Position}
+use Rattle.pq_lex.specs.TextChanges.{TextChangeView}
+use Rattle.pq_core.specs.Changes.{BodyView, set, ranged, ChangeView}
 use Rattle.pq_proto.specs.declared.key.Place.{Place}
 use Rattle.pq_proto.specs.declared.key.ProtoKey.{ProtoKey}
 use Rattle.pq_proto.specs.declared.key.ProtoKey.TheVariants as keys
@@ -75,27 +76,6 @@ text_member name value = option_and_then as_str (option_and_then (get name) valu
 abbrev pub document_text : List ℕ → Option Data → Option (List ℕ)
 document_text name params = text_member name (option_and_then (get (codes "textDocument")) params)
 
--- `is_whole range` is whether a change of this `range` replaces the whole text: `range` is absent
--- or null.
-abbrev pub is_whole : Option Data → Bool
-is_whole None = true
-is_whole (Some range) = is_some (as_null range)
-
--- `change_text change` is the `text` of `change`, if `change` is readable: it replaces the whole
--- text, and `text` is a string (LSP 3.17, "TextDocumentContentChangeEvent").
-abbrev pub change_text : Data → Option (List ℕ)
-change_text change = if is_whole (get (codes "range") change) then text_member (codes "text") (Some change) else None
-
--- `change_texts changes` is the texts of `changes`, in order, if each of them is readable.
-abbrev pub change_texts : Items → Option (List (List ℕ))
-change_texts no_items = Some []
-change_texts (item change changes) = option_and_then (λ text. option_map (λ texts. text ∷ texts) (change_texts changes)) (change_text change)
-
--- `changed_texts params` is the texts of the changes in the member `contentChanges` of `params`, if
--- it is a list and each change is readable (LSP 3.17, "DidChangeTextDocumentParams").
-abbrev pub changed_texts : Option Data → Option (List (List ℕ))
-changed_texts params = option_and_then change_texts (option_and_then as_array (option_and_then (get (codes "contentChanges")) params))
-
 -- `max_coordinate` is the largest line and the largest column of a position (LSP 3.17, "Position",
 -- "uinteger").
 abbrev pub max_coordinate : ℕ
@@ -118,6 +98,51 @@ place_by line character = option_and_then (λ l. option_map (λ c. record { line
 -- `character` are coordinates (LSP 3.17, "TextDocumentPositionParams").
 abbrev pub place_named : Option Data → Option Place
 place_named params = option_and_then (λ p. place_by (coordinate (codes "line") p) (coordinate (codes "character") p)) (option_and_then (get (codes "position")) params)
+
+-- `position_by line character` is the position of a line and a column, if there are both.
+abbrev pub position_by : Option ℕ → Option ℕ → Option Position
+position_by line character = option_and_then (λ l. option_map (λ c. record { line = l; character = c }) character) line
+
+-- `position_in name range` is the position in the member `name` of `range`, if the members `line`
+-- and `character` of that position are coordinates (LSP 3.17, "Position").
+abbrev pub position_in : List ℕ → Data → Option Position
+position_in name range = option_and_then (λ p. position_by (coordinate (codes "line") p) (coordinate (codes "character") p)) (get name range)
+
+-- `range_in range` is the positions in the members `start` and `end` of `range`, if both are readable
+-- (LSP 3.17, "Range").
+abbrev pub range_in : Data → Option (Position × Position)
+range_in range = option_and_then (λ start. option_map (λ end. (start, end)) (position_in (codes "end") range)) (position_in (codes "start") range)
+
+-- `change_range range` is the range of a change whose member `range` is this, if it is readable. A
+-- change without the member, or with null, has no range: the result is Some None.
+abbrev pub change_range : Option Data → Option (Option (Position × Position))
+change_range None = Some None
+change_range (Some range) = if is_some (as_null range) then Some None else option_map (λ r. Some r) (range_in range)
+
+-- `change_by range text` is the change of this range and this text, if both are readable.
+abbrev pub change_by : Option (Option (Position × Position)) → Option (List ℕ) → Option TextChangeView
+change_by range text = option_and_then (λ r. option_map (λ t. record { range = r; text = t }) text) range
+
+-- `change_member change` is the change that the JSON value `change` says, if its member `range` is
+-- readable and its member `text` is a string. Its other members are not read (LSP 3.17,
+-- "TextDocumentContentChangeEvent").
+abbrev pub change_member : Data → Option TextChangeView
+change_member change = change_by (change_range (get (codes "range") change)) (text_member (codes "text") (Some change))
+
+-- `change_members changes` is the changes that the items of `changes` say, in their order, if each
+-- item is readable.
+abbrev pub change_members : Items → Option (List TextChangeView)
+change_members no_items = Some []
+change_members (item change changes) = option_and_then (λ first. option_map (λ others. first ∷ others) (change_members changes)) (change_member change)
+
+-- `changes_in params` is the list in the member `contentChanges` of `params` (LSP 3.17,
+-- "DidChangeTextDocumentParams").
+abbrev pub changes_in : Option Data → Option Items
+changes_in params = option_and_then as_array (option_and_then (get (codes "contentChanges")) params)
+
+-- `changed_members params` is the changes that the list in `params` says, if each of them is readable.
+abbrev pub changed_members : Option Data → Option (List TextChangeView)
+changed_members params = option_and_then change_members (changes_in params)
 
 -- ---- requests, by phase and method
 
@@ -170,43 +195,43 @@ exit_status Closing = 0
 abbrev pub unreadable_parameters : ℕ
 unreadable_parameters = 3
 
--- `edit_meaning file text` is the meaning of an edit: `file` gets `text`, or is removed, and has
--- Low durability. An edit whose URI names no file is ignored.
-abbrev pub edit_meaning : Option (List ℕ) → Option (List ℕ) → Meaning
-edit_meaning None text = ignores
-edit_meaning (Some file) text = edits (record { file = file; text = text; durability = Low })
+-- `edit_meaning file body` is the meaning of an edit of `file`: `body` says what becomes of its text,
+-- and its durability becomes Low. An edit whose URI names no file is ignored.
+abbrev pub edit_meaning : Option (List ℕ) → BodyView → Meaning
+edit_meaning None body = ignores
+edit_meaning (Some file) body = edits (record { file = file; body = body; durability = Low })
 
--- `last_meaning file text` is the meaning of an edit to the last of some texts, or of one without
--- texts, which is ignored.
-abbrev pub last_meaning : Option (List ℕ) → Option (List ℕ) → Meaning
-last_meaning file None = ignores
-last_meaning file (Some text) = edit_meaning file (Some text)
+-- `members_meaning file changes` is the meaning of an edit of `file` by `changes`, which are made in
+-- their order. An edit without changes is ignored.
+abbrev pub members_meaning : Option (List ℕ) → List TextChangeView → Meaning
+members_meaning file [] = ignores
+members_meaning file (change ∷ changes) = edit_meaning file (ranged (change ∷ changes))
 
 -- `open_meaning root uri text` is the meaning of `textDocument/didOpen`. Its parameters are
 -- unreadable if `uri` or `text` is absent or not a string.
 abbrev pub open_meaning : List ℕ → Option (List ℕ) → Option (List ℕ) → Meaning
 open_meaning root None text = ends unreadable_parameters
 open_meaning root (Some uri) None = ends unreadable_parameters
-open_meaning root (Some uri) (Some text) = edit_meaning (file_of root uri) (Some text)
+open_meaning root (Some uri) (Some text) = edit_meaning (file_of root uri) (set (Some text))
 
--- `change_meaning root uri texts` is the meaning of `textDocument/didChange`: the file of `uri`
--- gets the last of `texts`. Its parameters are unreadable if `uri` is, or one of the changes.
-abbrev pub change_meaning : List ℕ → Option (List ℕ) → Option (List (List ℕ)) → Meaning
-change_meaning root None texts = ends unreadable_parameters
+-- `change_meaning root uri changes` is the meaning of `textDocument/didChange`: `changes` are made in
+-- the file of `uri`. Its parameters are unreadable if `uri` or one of the changes is.
+abbrev pub change_meaning : List ℕ → Option (List ℕ) → Option (List TextChangeView) → Meaning
+change_meaning root None changes = ends unreadable_parameters
 change_meaning root (Some uri) None = ends unreadable_parameters
-change_meaning root (Some uri) (Some texts) = last_meaning (file_of root uri) (last_or None texts)
+change_meaning root (Some uri) (Some changes) = members_meaning (file_of root uri) changes
 
 -- `remove_meaning root uri` is the meaning of `proto/removeFile`.
 abbrev pub remove_meaning : List ℕ → Option (List ℕ) → Meaning
 remove_meaning root None = ends unreadable_parameters
-remove_meaning root (Some uri) = edit_meaning (file_of root uri) None
+remove_meaning root (Some uri) = edit_meaning (file_of root uri) (set None)
 
 -- `served_meaning root method params` is the meaning of a notification between `initialize` and
 -- `shutdown`, other than `exit`.
 abbrev pub served_meaning : List ℕ → NotificationMethod → Option Data → Meaning
 served_meaning root Exit params = ends (exit_status (Serving root))
 served_meaning root DidOpen params = open_meaning root (document_text (codes "uri") params) (document_text (codes "text") params)
-served_meaning root DidChange params = change_meaning root (document_text (codes "uri") params) (changed_texts params)
+served_meaning root DidChange params = change_meaning root (document_text (codes "uri") params) (changed_members params)
 served_meaning root RemoveFile params = remove_meaning root (document_text (codes "uri") params)
 
 -- `notification_meaning phase method params` is the meaning of a notification. Between `initialize`

@@ -18,6 +18,10 @@ pub enum ScriptFault {
     /// An edit was refused with this error. All messages before it were answered.
     #[error("{0}")]
     Edit(InputFault),
+    /// A change with a range has no text before it, or that text has no such range. All messages
+    /// before the edit were answered.
+    #[error("the range is bad")]
+    BadRange,
     /// A read failed. All messages that had been read were answered.
     #[error("a read failed")]
     Read,

@@ -72,11 +72,11 @@ pub const MAX_READS: u64 = 4_294_967_296;
 /// answered by the sources that the edits before it made of those of `inputs`. If an allocation fails
 /// for it, its response says so.
 ///
-/// `Frame` and `Edit` are errors of the input, and `Cut` is an end inside a frame. They are returned
-/// after the responses to all messages before. `Read` is a failed read, also an interrupted one.
-/// `TooManyReads` comes after `MAX_READS` reads. `Write` is a write or a flush that failed, or a
-/// write that took no bytes. `Memory` is an allocation failure outside of the answer to a query.
-/// After `Write` and `Memory` a prefix of an output was written.
+/// `Frame`, `Edit` and `BadRange` are errors of the input, and `Cut` is an end inside a frame. They
+/// are returned after the responses to all messages before. `Read` is a failed read, also an
+/// interrupted one. `TooManyReads` comes after `MAX_READS` reads. `Write` is a write or a flush that
+/// failed, or a write that took no bytes. `Memory` is an allocation failure outside of the answer to a
+/// query. After `Write` and `Memory` a prefix of an output was written.
 ///
 /// The end of the message that ended the session, and the byte that shows an error of the input, are
 /// among the last 16,384 bytes that were read. `Read` and `Write` are answered if exactly one call

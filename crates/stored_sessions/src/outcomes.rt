@@ -41,6 +41,7 @@ pub(crate) fn word_of(outcome: Result<u8, ScriptFault>) -> &'static str {
         Err(ScriptFault::Frame(fault)) => frame_word(fault),
         Err(ScriptFault::Cut) => "Cut",
         Err(ScriptFault::Edit(fault)) => edit_word(fault),
+        Err(ScriptFault::BadRange) => "BadRange",
         Err(ScriptFault::Read) => "Read",
         Err(ScriptFault::TooManyReads) => "TooManyReads",
         Err(ScriptFault::Write) => "Write",

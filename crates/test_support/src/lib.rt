@@ -4,16 +4,19 @@
 //! Crates of tests alone stand on it; no crate of the product does. What asserts is the module
 //! `checks` of each such crate, since only code of tests may abort.
 //!
-//! Modules: `page` (texts piece by piece), `random`, `words` (what a word of a row names),
-//! `counted` (a rule set that counts its starts), `sums` (keys and answers of sums as text).
+//! Modules: `page` (texts piece by piece), `random`, `words` (what a word of a row names), `changes`
+//! (lists of changes of texts), `counted` (a rule set that counts its starts), `sums` (keys and answers
+//! of sums as text).
 #![tactic(auto)]
 
+mod changes;
 mod counted;
 mod page;
 mod random;
 mod sums;
 mod words;
 
+pub use changes::{changes_of, text_of_word};
 pub use counted::Counted;
 pub use page::{Page, page_of};
 pub use random::Random;

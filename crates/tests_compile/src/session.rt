@@ -23,6 +23,7 @@ fn fault_name(fault: &ScriptFault) -> &'static str {
         ScriptFault::Edit(InputFault::TooManyFiles) => "TooManyFiles",
         ScriptFault::Edit(InputFault::RevisionsUsedUp) => "RevisionsUsedUp",
         ScriptFault::Edit(InputFault::Memory) => "Edit(Memory)",
+        ScriptFault::BadRange => "BadRange",
         ScriptFault::Read => "Read",
         ScriptFault::TooManyReads => "TooManyReads",
         ScriptFault::Write => "Write",

@@ -1,12 +1,12 @@
-//! Tests of inputs, rules and memos, of the core, of its two parts and of its plays: rows worked out
-//! by hand, scripts call by call, lists of events, and random scripts for the memos.
+//! Tests of rules and memos, of the core, of its two parts and of its plays: rows worked out by hand,
+//! scripts call by call, lists of events, and random scripts for the memos.
 //!
 //! They cover what no contract says: printed text, and that calls succeed with ample memory. The
 //! crates that they test have no tests: a crate with tests is proved twice.
 //!
-//! Modules: `checks` (what tests assert), `inputs`, `rules`, `engine` (demands between edits),
-//! `cores` (calls of a core, and of a store and a lane apart), `plays` (lists of events). Random
-//! lists beside a plain model are in `checks/random_models/`.
+//! Modules: `checks` (what tests assert), `rules`, `engine` (demands between edits), `cores` (calls of
+//! a core, and of a store and a lane apart), `plays` (lists of events). Random lists beside a plain
+//! model are in `checks/random_models/`.
 #![tactic(auto)]
 
 #[cfg(test)]
@@ -15,8 +15,6 @@ mod checks;
 mod cores;
 #[cfg(test)]
 mod engine;
-#[cfg(test)]
-mod inputs;
 #[cfg(test)]
 mod plays;
 #[cfg(test)]

@@ -263,3 +263,35 @@ fn starved(rt: HostRuntime) {
         ",
     );
 }
+
+// A list of changes whose range is bad is passed over: it makes no revision, and stops no run. One that
+// is accepted is seen by the next request.
+#[test]
+fn ranged_edits(rt: HostRuntime) {
+    check_play(
+        &rt,
+        4,
+        "\
+        open\n\
+        edit 0 low c~0:0-0:0 x\n\
+        edit 0 low a~all b\n\
+        accept 0 7 Sum a\n\
+        start\n\
+        edit 0 low a~0:0-0:1 x | 1:0-1:0 y\n\
+        run 0\n\
+        edit 0 low a~0:1-0:1  c | 0:0-0:0 d\n\
+        accept 0 8 Sum a\n\
+        start\n\
+        run 1\n\
+        release 0\n\
+        release 0\n\
+        take 0\n\
+        take 0\n\
+        ",
+        "\
+        accepted 7 Sum a|8 Sum a|\n\
+        taken 0 7 Sum a @1 answered 2|1 8 Sum a @2 answered 3|\n\
+        revision 2\n\
+        ",
+    );
+}

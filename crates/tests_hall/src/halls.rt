@@ -1,7 +1,7 @@
 //! pq_hall: halls with workers, call by call.
 //!
 //! A script has a line `CALL => ANSWER` for each call. `ask`, `edit` and `end` post, and answer the
-//! number of the receipt. `carry` carries a post of a client, and `take` takes the reply of its next
+//! number of the receipt; `changes` of `test_support` says how the texts of edits are written. `carry` carries a post of a client, and `take` takes the reply of its next
 //! receipt. `say` posts what a message asks for, and `text` takes a reply and answers its text. `mark`
 //! says whether a revision has a mark. `free` opens the gate, which holds the work on `held.proto` until
 //! then, and says whether the gate had waited for too long before.
@@ -12,7 +12,7 @@ mod stored;
 ghost use Rattle.std.specs.Prelude.{◌≡◌};
 
 use crate::checks::{check_page, check_row_count, split_row};
-use pq_core::{Change, Label, OpenFault, Outcome, Reply, Request, Stamp, Want, Work};
+use pq_core::{Body, Change, Label, OpenFault, Outcome, Reply, Request, Stamp, Want, Work};
 use pq_frame::Message;
 use pq_hall::{
     BoardName, Client, ClientEnds, Gate, Hall, HallFault, Mark, Moved, NewBoard, OneValue,
@@ -32,7 +32,7 @@ use std::sync::atomic::{AtomicBool, Ordering};
 use std::thread;
 use std::thread::Threads;
 use std::time::{Clock, Duration};
-use test_support::Page;
+use test_support::{Page, changes_of, text_of_word};
 
 /// The turns for which the gate holds work at most.
 const TURNS: u32 = 100_000;
@@ -335,17 +335,22 @@ fn ask(rt: &(impl Abort + AllocGlobal), name: &str) -> Post<ProtoKey> {
     })
 }
 
-/// The edit that `words` writes as `NAME=TEXT`. A text of one digit stands for as many spaces more
-/// than a file may have.
+/// The edit that `words` writes as `NAME=TEXT`, or as `NAME~LIST` for a list of changes.
 fn edit(rt: &(impl Abort + AllocGlobal), words: &str) -> Post<ProtoKey> {
-    let (name, text) = split_row(rt, words, "=");
-    let text = match text.parse::<usize>() {
-        Ok(more) => " ".repeat(rt.alloc(), 1_048_576 + more.min(9)),
-        Err(_) => String::from_str(rt.alloc(), text),
+    let (name, body) = match words.split_once("~") {
+        Some((name, list)) => {
+            let changes = changes_of(rt.alloc(), list).expect(rt, "memory");
+            (name, Body::Ranged(changes))
+        }
+        None => {
+            let (name, text) = split_row(rt, words, "=");
+            let text = text_of_word(rt.alloc(), text).expect(rt, "memory");
+            (name, Body::Set(Some(text)))
+        }
     };
     Post::Edit(Change {
         file: text_of(rt, name),
-        text: Some(text.expect(rt, "memory")),
+        body,
         durability: Durability::Low,
     })
 }
@@ -649,7 +654,7 @@ fn marks_and_refused_edits(rt: HostRuntime) {
         carry 0 - => edited 1\n\
         mark 1 => yes\n\
         mark 2 => none\n\
-        edit 0 a.proto=1 => 0\n\
+        edit 0 a.proto=1048577*x => 0\n\
         ask 0 a.proto => 0\n\
         carry 0 - => the edit was refused: the text is too long\n\
         mark 2 => none\n\
@@ -682,4 +687,48 @@ fn two_workers(rt: HostRuntime) {
         free 0 => in time\n\
         take 0 - => 0 at 2 answered",
     );
+}
+
+/// Edits by lists of changes, call by call. A list that is refused closes its client alone: the request
+/// after it is not carried, and the replies to the other client stand.
+const LISTS: &str = r#"edit 0 a.proto=syntax = "proto3"; message M { T x = 1; } => 0
+edit 0 a.proto~LIST => 0
+ask 0 a.proto => 0
+ask 1 a.proto => 0
+carry 0 - => edited 1
+carry 0 - => edited 2
+carry 0 - => accepted 0
+carry 1 - => accepted 0
+text 0 - => {"id":"a.proto","jsonrpc":"2.0","result":{"items":[{"code":"P150","message":"type \"BAAAAAAAAAAAAAAAAAAT\" is not found","range":{"end":{"character":20,"line":1},"start":{"character":0,"line":1}},"severity":1,"source":"proto"}],"kind":"full","resultId":"2"}}
+edit 0 a.proto~LIST | 9:0-9:0 x => 1
+ask 0 a.proto => 1
+mark 2 => yes
+carry 0 - => the range is bad
+mark 3 => none
+carry 0 - => the client was closed
+take 0 - => ended
+take 1 - => 0 at 2 answered
+edit 1 a.proto~LIST => 1
+ask 1 a.proto => 1
+carry 1 - => edited 3
+carry 1 - => accepted 1
+take 1 - => 1 at 3 answered
+edit 1 b.proto~LIST => 2
+carry 1 - => the range is bad"#;
+
+/// Makes the calls of `LISTS` with the list `list`.
+fn check_list<R>(rt: &R, list: &str)
+where
+    R: Abort + AllocGlobal + Clock + Threads + Wait + Copy + Drop + Send + Sync + 'static,
+{
+    let rows = LISTS.replace(rt.alloc(), "LIST", list).expect(rt, "memory");
+    check_calls(rt, 24, 1, rows.as_str());
+}
+
+// A list of 3 changes and one of 20 come to the same. The text of the longer one is made before the lock
+// is taken.
+#[test]
+fn lists_of_changes(rt: HostRuntime) {
+    check_list(&rt, "0:31-0:31 18*A | 0:31-0:31 \\n | 1:0-1:0 B");
+    check_list(&rt, "18 of 0:31-0:31 A | 0:31-0:31 \\n | 1:0-1:0 B");
 }

@@ -3,7 +3,7 @@
 //! A request is `LABEL QUERY NAME` or, for a fixed text, `LABEL say TEXT`; its label is an integer or
 //! `none`. A change is `NAME=TEXT`. A reply to a fixed text is `NUMBER REQUEST @REVISION plain`.
 use crate::checks::split_row;
-use pq_core::{Change, Label, Outcome, PlainStamp, Reply, Request, Want};
+use pq_core::{Body, Change, Label, Outcome, PlainStamp, Reply, Request, Want};
 use pq_inputs::Durability;
 use pq_names::Text;
 use pq_rules::{SumsKey, SumsValue};
@@ -26,7 +26,7 @@ pub(crate) fn change_of(rt: &(impl Abort + AllocGlobal), text: &str) -> Change {
     let text = String::from_str(rt.alloc(), text).expect(rt, "memory");
     Change {
         file: text_of(rt, name),
-        text: Some(text),
+        body: Body::Set(Some(text)),
         durability: Durability::Low,
     }
 }

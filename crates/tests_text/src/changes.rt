@@ -1,25 +1,16 @@
 //! pq_lex: texts after ranged changes, as rows that one interpreter reads.
 //!
-//! A row is `TEXT | CHANGE | .. => WANT // WHY`. A change is `LINE:COLUMN-LINE:COLUMN NEW`, or
-//! `all NEW` for the whole text. In a text `\n` is LF and `\r` is CR, and `''` is the empty text.
-//! `none` is no text before the changes, and `bad` is no text after them.
+//! A row is `TEXT | CHANGE | .. => WANT // WHY`; `changes_of` of `test_support` says how changes and
+//! texts are written. `none` is no text before the changes, and `bad` is no text after them.
+//! Each row is checked a second time in a list of many changes, which `apply` makes in blocks.
 use crate::checks::{check_page, check_row_count, split_row};
-use pq_lex::{Position, TextChange, apply};
+use pq_lex::{TextChange, apply};
 use std::process::Abort;
-use test_support::Page;
+use test_support::{Page, changes_of, text_of_word};
 
 /// `text` with `with` in place of each `mark`.
 fn with_each(rt: &(impl Abort + AllocGlobal), text: &str, mark: &str, with: &str) -> String {
     text.replace(rt.alloc(), mark, with).expect(rt, "memory")
-}
-
-/// The text that a word of a row writes.
-fn text_of_word(rt: &(impl Abort + AllocGlobal), word: &str) -> String {
-    if word == "''" {
-        return String::new(rt.alloc());
-    }
-    let text = with_each(rt, word, "\\n", "\n");
-    with_each(rt, &text, "\\r", "\r")
 }
 
 /// Writes what `apply` returned, in the words of a row.
@@ -34,42 +25,6 @@ fn add_result(rt: &(impl Abort + AllocGlobal), page: &mut Page, found: Option<&s
     }
 }
 
-/// The position that `LINE:COLUMN` writes.
-fn position_of(rt: &impl Abort, word: &str) -> Position {
-    let (line, character) = split_row(rt, word, ":");
-    Position {
-        line: line.parse::<usize>().ok().expect(rt, word),
-        character: character.parse::<usize>().ok().expect(rt, word),
-    }
-}
-
-/// The range that `LINE:COLUMN-LINE:COLUMN` writes, or `None` for `all`.
-fn range_of(rt: &impl Abort, word: &str) -> Option<(Position, Position)> {
-    if word == "all" {
-        return None;
-    }
-    let (start, end) = split_row(rt, word, "-");
-    Some((position_of(rt, start), position_of(rt, end)))
-}
-
-/// The change that a part of a row writes.
-fn change_of(rt: &(impl Abort + AllocGlobal), part: &str) -> TextChange {
-    let (range, text) = split_row(rt, part, " ");
-    TextChange {
-        range: range_of(rt, range),
-        text: text_of_word(rt, text),
-    }
-}
-
-/// The changes that the parts of a row write.
-fn changes_of(rt: &(impl Abort + AllocGlobal), parts: &str) -> Vec<TextChange> {
-    let mut changes = Vec::new(rt.alloc());
-    for part in parts.split(" | ") {
-        changes.push(change_of(rt, part)).expect(rt, "memory");
-    }
-    changes
-}
-
 /// Checks the text after `changes` of the text that `word` writes.
 fn check_applied(
     rt: &(impl Abort + AllocGlobal),
@@ -78,7 +33,7 @@ fn check_applied(
     want: &str,
     row: &str,
 ) {
-    let text = text_of_word(rt, word);
+    let text = text_of_word(rt.alloc(), word).expect(rt, "memory");
     let before = if word == "none" {
         None
     } else {
@@ -90,14 +45,25 @@ fn check_applied(
     check_page(rt, &page, want, row);
 }
 
-/// Checks one row.
+/// Adds changes that leave a text as it is, so that the list is a long one.
+fn add_empty_changes(rt: &(impl Abort + AllocGlobal), changes: &mut Vec<TextChange>) {
+    let empty = changes_of(rt.alloc(), "17 of 0:0-0:0 ''").expect(rt, "memory");
+    for change in empty {
+        changes.push(change).expect(rt, "memory");
+    }
+}
+
+/// Checks one row, alone and before changes that leave its text as it is.
 fn check_row(rt: &(impl Abort + AllocGlobal), row: &str) {
     let (asked, rest) = split_row(rt, row, " => ");
     let (want, _) = split_row(rt, rest, " // ");
-    match asked.split_once(" | ") {
-        Some((text, parts)) => check_applied(rt, text, &changes_of(rt, parts), want, row),
-        None => check_applied(rt, asked, &[], want, row),
-    }
+    let (text, mut changes) = match asked.split_once(" | ") {
+        Some((text, parts)) => (text, changes_of(rt.alloc(), parts).expect(rt, "memory")),
+        None => (asked, Vec::new(rt.alloc())),
+    };
+    check_applied(rt, text, &changes, want, row);
+    add_empty_changes(rt, &mut changes);
+    check_applied(rt, text, &changes, want, row);
 }
 
 /// Checks the `count` rows.
@@ -178,4 +144,25 @@ fn lists(rt: HostRuntime) {
         abc => abc // no change\n\
         ";
     check_rows(&rt, 11, rows);
+}
+
+// Lists of 16 changes, and of more.
+#[test]
+fn long_lists(rt: HostRuntime) {
+    let rows = "\
+        ab | 16 of 0:1-0:1 x => axxxxxxxxxxxxxxxxb // sixteen changes\n\
+        ab | 17 of 0:1-0:1 x => axxxxxxxxxxxxxxxxxb // seventeen changes\n\
+        ab | 17 of 0:1-0:1 x | 0:0-0:18 '' => b // one more, of all of these\n\
+        ab | 17 of 0:1-0:1 x | 0:20-1:0 '' => bad // a bad range at the end\n\
+        ab | 9:0-9:0 x | 17 of 0:1-0:1 x => bad // a bad range at the start\n\
+        ab | 17 of 0:1-0:1 x | 0:3-0:2 '' | 17 of 0:1-0:1 x => bad // a bad range between\n\
+        none | 17 of 0:0-0:0 x => bad // ranges without a text\n\
+        none | all ab | 17 of 0:1-0:1 x => axxxxxxxxxxxxxxxxxb // a whole text before them\n\
+        ab | 17 of 0:1-0:1 x | all c => c // a whole text after them\n\
+        '' | 18 of 0:0-0:0 \\r\\n | 18:0-18:0 x | 1:0-18:0 '' => \\r\\nx // lines that the list makes\n\
+        a | 17 of 0:1-0:1 \\r | 17:0-17:0 b | 1:0-17:0 '' | 1:0-1:0 \\n | 1:0-1:1 + => a\\r\\n+ // a CR, and LF after it\n\
+        \u{1f600} | 17 of 0:2-0:2 \u{e9} | 0:1-0:1 - | 0:3-0:20 '' => -\u{1f600} // characters of two units\n\
+        1500*ab | 20 of 0:1500-0:1500 \\n | 10:0-20:0 '' | 0:9-10:1491 '' => ababababababababab // a long text\n\
+        ";
+    check_rows(&rt, 13, rows);
 }

@@ -5,7 +5,7 @@ use Rattle.pq_core.specs.Accounts.{AccountView, next_of}
 use Rattle.pq_core.specs.Stores.{Held}
 use Rattle.pq_core.specs.aux.Rising.{found}
 use Rattle.pq_core.specs.declared.fault.EditFault.{EditFault}
-use Rattle.pq_core.specs.declared.fault.EditFault.TheVariants.{NoClient as EditNoClient, Closed as EditClosed, Input}
+use Rattle.pq_core.specs.declared.fault.EditFault.TheVariants.{NoClient as EditNoClient, Closed as EditClosed, BadRange, Input}
 use Rattle.pq_core.specs.declared.fault.AcceptFault.{AcceptFault}
 use Rattle.pq_core.specs.declared.fault.AcceptFault.TheVariants.{NoClient, Closed, WindowFull, Memory}
 
@@ -28,4 +28,5 @@ MayPost {K} {P} {V} {M} h c = (account : AccountView K V M) × (found h.accounts
 abbrev pub MayNotEdit : {K P V M : Type 0} → Held K P V M → ℕ → EditFault → Type 0
 MayNotEdit h c EditNoClient = h.clients ≤ c
 MayNotEdit h c EditClosed = (c < h.clients) × (found h.accounts c ≡ None)
+MayNotEdit h c BadRange = ⊥
 MayNotEdit h c (Input fault) = ⊥

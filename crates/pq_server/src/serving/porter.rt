@@ -37,6 +37,7 @@ fn ended_by(fault: HallFault) -> Result<(), ScriptFault> {
         HallFault::Edit(EditFault::Input(fault)) => Err(ScriptFault::Edit(fault)),
         HallFault::Edit(EditFault::NoClient) => Ok(()),
         HallFault::Edit(EditFault::Closed) => Ok(()),
+        HallFault::Edit(EditFault::BadRange) => Err(ScriptFault::BadRange),
         HallFault::Closed => Ok(()),
         HallFault::Memory => Err(ScriptFault::Memory),
     }

@@ -17,7 +17,7 @@ notes.txt = syntax = "proto3"; message Note {}"#;
 
 /// How each session begins. `> BODY` is a frame of the client, and `< BODY` one of the server.
 pub(super) const BEGIN: &str = r#"> {"id":0,"jsonrpc":"2.0","method":"initialize","params":{}}
-< {"id":0,"jsonrpc":"2.0","result":{"capabilities":{"definitionProvider":true,"diagnosticProvider":{"interFileDependencies":true,"workspaceDiagnostics":false},"documentSymbolProvider":true,"positionEncoding":"utf-16","textDocumentSync":{"change":1,"openClose":true}},"serverInfo":{"name":"pq_server"}}}"#;
+< {"id":0,"jsonrpc":"2.0","result":{"capabilities":{"definitionProvider":true,"diagnosticProvider":{"interFileDependencies":true,"workspaceDiagnostics":false},"documentSymbolProvider":true,"positionEncoding":"utf-16","textDocumentSync":{"change":2,"openClose":true}},"serverInfo":{"name":"pq_server"}}}"#;
 
 /// An import of a file of the library.
 const FOUND: &str =

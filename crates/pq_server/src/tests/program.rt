@@ -22,6 +22,10 @@ const EXIT: &str = r#"{"jsonrpc":"2.0","method":"exit"}"#;
 const UNREADABLE: &str =
     r#"{"jsonrpc":"2.0","method":"textDocument/didOpen","params":{"textDocument":{"uri":"file:///a","text":1}}}"#;
 
+/// A notification that changes a range of a file that was not opened.
+const BAD_RANGE: &str =
+    r#"{"jsonrpc":"2.0","method":"textDocument/didChange","params":{"textDocument":{"uri":"file:///a"},"contentChanges":[{"range":{"start":{"line":0,"character":0},"end":{"line":0,"character":0}},"text":""}]}}"#;
+
 /// A notification that opens the file `name` with a text of `length` spaces.
 fn open_of(alloc: Global, name: &str, length: usize) -> Result<String, Memory> {
     let spaces = " ".repeat(alloc, length)?;
@@ -94,6 +98,7 @@ fn statuses_of_sessions(rt: HostRuntime) -> Result<(), Fail> {
         &[INITIALIZE, UNREADABLE],
         "3 pq_server: edit refused 0",
     )?;
+    check_bodies(&rt, &[INITIALIZE, BAD_RANGE], "3 pq_server: bad range")?;
     let long = open_of(rt.alloc(), "a", 1_048_577)?;
     check_bodies(
         &rt,

@@ -49,6 +49,11 @@ const OPEN_OTHER: &str =
 > {"id":"open","jsonrpc":"2.0","method":"none"}
 < {"error":{"code":-32601,"message":"method not found"},"id":"open","jsonrpc":"2.0"}"#;
 
+/// A change with a range of a line that its text does not have, and a request that is not answered.
+const BAD_RANGE: &str =
+    r#"> {"jsonrpc":"2.0","method":"textDocument/didChange","params":{"textDocument":{"uri":"file:///b.proto"},"contentChanges":[{"text":"x"},{"range":{"start":{"line":1,"character":0},"end":{"line":1,"character":0}},"text":"x"}]}}
+> {"id":1,"jsonrpc":"2.0","method":"none"}"#;
+
 /// The request whose work is held.
 const ASK_HELD: &str =
     r#"> {"id":1,"jsonrpc":"2.0","method":"textDocument/diagnostic","params":{"textDocument":{"uri":"file:///held.proto"}}}"#;
@@ -212,13 +217,14 @@ fn too_long(rt: &(impl Abort + AllocGlobal)) -> Vec<u8> {
     frame(rt.alloc(), body.as_bytes()).expect(rt, "memory")
 }
 
-/// Two clients, of which one makes an edit that is refused.
-fn one_is_refused<R>(rt: &R, address: SocketAddr)
+/// Three clients, of which two make edits that are refused: one has a bad range, and one is too long.
+fn two_are_refused<R>(rt: &R, address: SocketAddr)
 where
     R: Abort + AllocGlobal + Net<Listener = TcpListener, Stream = TcpStream>,
 {
     let refused = begun(rt, address);
     let other = begun(rt, address);
+    talk(rt, address, BAD_RANGE);
     take_turns(rt, &other, OPEN_OTHER);
     let frame = too_long(rt);
     let mut output = &refused;
@@ -233,7 +239,7 @@ where
     check_ended(rt, &other);
 }
 
-// The client whose edit is refused is closed, and the other one is served.
+// The clients whose edits are refused are closed, and the other one is served.
 #[test]
 fn a_refused_edit(rt: HostRuntime) -> Result<(), Fail> {
     let listener = TcpListener::bind(&rt, "127.0.0.1:0")?;
@@ -246,10 +252,10 @@ fn a_refused_edit(rt: HostRuntime) -> Result<(), Fail> {
             rt.alloc(),
             &listener,
             library,
-            two_workers(2),
+            two_workers(3),
             &OpenGate,
         ),
-        || one_is_refused(&rt, address),
+        || two_are_refused(&rt, address),
     );
     assert_eq!(rt; status, 0);
     Ok(())

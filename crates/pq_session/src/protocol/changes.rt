@@ -1,83 +1,99 @@
 //! The changes of `textDocument/didChange` (LSP 3.17, "DidChangeTextDocumentParams").
 //!
-//! The server asks for whole texts, so the last change has the file's new text. Each change has to
-//! be readable, also one whose text is not used.
-ghost use Rattle.std.specs.Prelude.{◌≡◌, codes, is_some, option_map, string_bytes, None};
-ghost use Rattle.std.specs.List.{last_or};
+//! Each member of the list is read before one of the changes is made. Texts are moved out of the
+//! members, so the cost is linear in the list.
+ghost use Rattle.std.specs.Prelude.{◌≡◌, codes, option_map, IfOk};
 ghost use Rattle.serde_json.specs.Find.{get};
 ghost use Rattle.serde_json.specs.View.{view, items_view};
-ghost use Rattle.pq_session.specs.Session.{is_whole, text_member, change_text, change_texts, changed_texts};
+ghost use Rattle.pq_session.specs.Session.{position_in, range_in, change_range, change_member, change_members, changed_members, changes_in};
 
+use crate::protocol::params::coordinate;
+use pq_lex::{Position, TextChange};
 use serde_json::Value;
+use std::alloc::{AllocError, Global};
 
-/// Whether `change` replaces the whole text: its `range` is absent or null.
-fn is_whole(change: &Value) -> bool
-    ensures { result ≡ is_whole (get (codes "range") (view change.now)) }
+/// The position in the member `name` of `range`, if it is readable.
+fn position_in(range: &Value, name: &str) -> Option<Position>
+    ensures { result ≡ position_in name.now (view range.now) }
+{
+    let position = range.get(name)?;
+    let line = coordinate(position, "line")?;
+    let character = coordinate(position, "character")?;
+    Some(Position { line, character })
+}
+
+/// The start and the end of `range`, if both are readable.
+fn range_in(range: &Value) -> Option<(Position, Position)>
+    ensures { result ≡ range_in (view range.now) }
+{
+    let start = position_in(range, "start")?;
+    let end = position_in(range, "end")?;
+    Some((start, end))
+}
+
+/// The range of `change`, or `Some(None)` if it has no range. It is `None` if the range is not
+/// readable.
+fn range_of(change: &Value) -> Option<Option<(Position, Position)>>
+    ensures { result ≡ change_range (get (codes "range") (view change.now)) }
 {
     match change.get("range") {
-        Some(range) => range.is_null(),
-        None => true,
-    }
-}
-
-/// Whether `change` is readable.
-fn is_readable(change: &Value) -> bool
-    ensures { result ≡ is_some (change_text (view change.now)) }
-{
-    is_whole(change) && change.get("text").and_then(Value::as_str).is_some()
-}
-
-/// Whether all of `changes` are readable.
-fn are_readable(changes: &[Value]) -> bool
-    ensures { result ≡ is_some (change_texts (items_view changes.now)) }
-{
-    for change in changes {
-        if !is_readable(change) {
-            return false;
+        Some(range) => {
+            if range.is_null() {
+                return Some(None);
+            }
+            Some(Some(range_in(range)?))
         }
+        None => Some(None),
     }
-    true
 }
 
-/// The text of `change`, which is moved out of it, if `change` is readable.
-fn take_text(mut change: Value) -> Option<String>
-    ensures { option_map string_bytes result ≡ change_text (view change) }
+/// The change that `change` says, whose text is moved out of it, if it is readable.
+fn take_change(mut change: Value) -> Option<TextChange>
+    ensures { result ≡ change_member (view change) }
 {
-    if !is_whole(&change) {
-        return None;
-    }
+    let range = range_of(&change)?;
     match change.get_mut("text")?.take() {
-        Value::String(text) => Some(text),
+        Value::String(text) => Some(TextChange { range, text }),
         _ => None,
     }
 }
 
-/// The text of the last of `changes`, which is moved out of it, or `Some(None)` if there are none.
-/// It is `None` if one of them is not readable.
-fn take_last(mut changes: Vec<Value>) -> Option<Option<String>>
-    ensures { option_map (option_map string_bytes) result ≡ option_map (last_or None) (change_texts (items_view changes.items)) }
+/// The changes that `changes` say, in their order, or `None` if one of them is not readable.
+fn take_each(alloc: Global, changes: Vec<Value>) -> Result<Option<Vec<TextChange>>, AllocError>
+    ensures { IfOk result (λ taken. option_map (λ taken. taken.items) taken ≡ change_members (items_view changes.items)) }
 {
-    let Some(last) = changes.pop() else {
-        return Some(None);
-    };
-    if !are_readable(changes.as_slice()) {
-        return None;
+    let mut taken = Vec::new(alloc);
+    'changes: for change in changes {
+        match take_change(change) {
+            Some(change) => taken.push(change)?,
+            None => return Ok(None),
+        }
     }
-    match take_text(last) {
-        Some(text) => Some(Some(text)),
-        None => None,
-    }
+    Ok(Some(taken))
 }
 
-/// The text of the last change in `params.contentChanges`, which is moved out of `params`, or
-/// `Some(None)` if there are no changes. It is `None` if the parameters are unreadable: the member
-/// is not a list, or a change in it is not readable.
-pub(crate) fn take_last_change(params: Option<Value>) -> Option<Option<String>>
-    ensures { option_map (option_map string_bytes) result ≡ option_map (last_or None) (changed_texts (option_map view params)) }
+/// The list `params.contentChanges`, which is moved out of `params`, if it is a list.
+fn take_list(params: Option<Value>) -> Option<Vec<Value>>
+    ensures { option_map (λ changes. items_view changes.items) result ≡ changes_in (option_map view params) }
 {
     let mut params = params?;
     match params.get_mut("contentChanges")?.take() {
-        Value::Array(changes) => take_last(changes),
+        Value::Array(changes) => Some(changes),
         _ => None,
+    }
+}
+
+/// The changes in the list `params.contentChanges`, in their order, moved out of `params`. It is
+/// `None` if the parameters are unreadable: the member is not a list, or a change in it is not
+/// readable.
+pub(crate) fn take_changes(
+    alloc: Global,
+    params: Option<Value>,
+) -> Result<Option<Vec<TextChange>>, AllocError>
+    ensures { IfOk result (λ taken. option_map (λ taken. taken.items) taken ≡ changed_members (option_map view params)) }
+{
+    match take_list(params) {
+        Some(changes) => take_each(alloc, changes),
+        None => Ok(None),
     }
 }

@@ -37,7 +37,7 @@ pub(crate) fn take_document_text(params: Option<Value>, name: &str) -> Option<St
 }
 
 /// The member `name` of `position`, if it is an integer from 0 to `MAX_COORDINATE`.
-fn coordinate(position: &Value, name: &str) -> Option<usize>
+pub(crate) fn coordinate(position: &Value, name: &str) -> Option<usize>
     ensures { result ≡ coordinate name.now (view position.now) }
 {
     let number = position.get(name)?.as_u64()?;

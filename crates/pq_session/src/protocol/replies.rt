@@ -56,7 +56,7 @@ fn initialized_value(alloc: Global) -> Result<Value, AllocError>
             "documentSymbolProvider": true,
             "positionEncoding": "utf-16",
             "textDocumentSync": {
-                "change": 1u64,
+                "change": 2u64,
                 "openClose": true
             }
         },

@@ -1,18 +1,19 @@
 //! What a notification asks for, by phase and method.
-ghost use Rattle.std.specs.Prelude.{◌≡◌, codes, option_map, string_bytes, IfOk, None};
-ghost use Rattle.std.specs.List.{last_or};
+ghost use Rattle.std.specs.Prelude.{◌≡◌, codes, option_map, IfOk, None};
 ghost use Rattle.serde_json.specs.View.{view};
-ghost use Rattle.pq_session.specs.Session.{edit_meaning, open_meaning, change_meaning, remove_meaning, served_meaning, notification_meaning, changed_texts, document_text as document_text_of};
+ghost use Rattle.pq_core.specs.Bodies.{body_view};
+ghost use Rattle.pq_session.specs.Session.{edit_meaning, members_meaning, open_meaning, change_meaning, remove_meaning, served_meaning, notification_meaning, changed_members, document_text as document_text_of};
 ghost use Rattle.pq_session.specs.aux.ItemOf.{IsItemOf};
 
-use crate::protocol::changes::take_last_change;
+use crate::protocol::changes::take_changes;
 use crate::protocol::methods::NotificationMethod;
 use crate::protocol::params::{document_text, take_document_text};
 use crate::protocol::root::Root;
 use crate::state::items::Item;
 use crate::state::phase::Phase;
-use pq_core::Change;
+use pq_core::{Body, Change};
 use pq_inputs::Durability;
+use pq_lex::TextChange;
 use pq_names::Text;
 use pq_proto::ProtoKey;
 use serde_json::Value;
@@ -21,14 +22,15 @@ use std::alloc::{AllocError, Global};
 /// The status of a session that an edit of unreadable parameters ends.
 pub const UNREADABLE_PARAMETERS: u8 = 3;
 
-/// The item of an edit: `file` gets `text`, or is removed. A URI that names no file is ignored.
-fn edit(file: Option<Text>, text: Option<String>) -> Item<ProtoKey>
-    ensures { IsItemOf (edit_meaning file (option_map string_bytes text)) None result }
+/// The item of an edit of `file`: `body` says what becomes of its text. A URI that names no file is
+/// ignored.
+fn edit(file: Option<Text>, body: Body) -> Item<ProtoKey>
+    ensures { IsItemOf (edit_meaning file (body_view body)) None result }
 {
     match file {
         Some(file) => Item::Edit(Change {
             file,
-            text,
+            body,
             durability: Durability::Low,
         }),
         None => Item::Ignore,
@@ -46,23 +48,31 @@ fn open(alloc: Global, root: &Root, params: Option<Value>) -> Result<Item<ProtoK
     let Some(text) = take_document_text(params, "text") else {
         return Ok(Item::End(UNREADABLE_PARAMETERS));
     };
-    Ok(edit(file, Some(text)))
+    Ok(edit(file, Body::Set(Some(text))))
 }
 
-/// The item of `textDocument/didChange`. An edit without changes is ignored.
+/// The item of an edit of `file` by `changes`. An edit without changes is ignored.
+fn edit_by(file: Option<Text>, changes: Vec<TextChange>) -> Item<ProtoKey>
+    ensures { IsItemOf (members_meaning file changes.items) None result }
+{
+    if changes.is_empty() {
+        Item::Ignore
+    } else {
+        edit(file, Body::Ranged(changes))
+    }
+}
+
+/// The item of `textDocument/didChange`.
 fn change(alloc: Global, root: &Root, params: Option<Value>) -> Result<Item<ProtoKey>, AllocError>
-    ensures { IfOk result (IsItemOf (change_meaning root.now (document_text_of (codes "uri") (option_map view params)) (changed_texts (option_map view params))) None) }
+    ensures { IfOk result (IsItemOf (change_meaning root.now (document_text_of (codes "uri") (option_map view params)) (changed_members (option_map view params))) None) }
 {
     let Some(uri) = document_text(params.as_ref(), "uri") else {
         return Ok(Item::End(UNREADABLE_PARAMETERS));
     };
     let file = root.file_of(alloc, uri)?;
-    let Some(last) = take_last_change(params) else {
-        return Ok(Item::End(UNREADABLE_PARAMETERS));
-    };
-    match last {
-        Some(text) => Ok(edit(file, Some(text))),
-        None => Ok(Item::Ignore),
+    match take_changes(alloc, params)? {
+        Some(changes) => Ok(edit_by(file, changes)),
+        None => Ok(Item::End(UNREADABLE_PARAMETERS)),
     }
 }
 
@@ -71,7 +81,7 @@ fn remove(alloc: Global, root: &Root, params: Option<&Value>) -> Result<Item<Pro
     ensures { IfOk result (IsItemOf (remove_meaning root.now (document_text_of (codes "uri") (option_map (λ d. view d.now) params.entry))) None) }
 {
     match document_text(params, "uri") {
-        Some(uri) => Ok(edit(root.file_of(alloc, uri)?, None)),
+        Some(uri) => Ok(edit(root.file_of(alloc, uri)?, Body::Set(None))),
         None => Ok(Item::End(UNREADABLE_PARAMETERS)),
     }
 }

@@ -2,15 +2,16 @@
 //!
 //! `handle` reads a body as a message, asks the session what the message means, and carries that
 //! out: it answers a query by the engine, makes an edit, or ends the session.
-ghost use Rattle.std.specs.Prelude.{◌≡◌, IfOk, OnOk, IfErr, string_bytes, Some, None};
+ghost use Rattle.std.specs.Prelude.{◌≡◌, IfOk, OnOk, IfErr, option_map, string_bytes, Some, None};
 ghost use Rattle.pq_session.specs.Labels.{label_model};
+ghost use Rattle.pq_core.specs.Changes.{BodyView, set, ranged};
 ghost use Rattle.pq_proto.specs.Compile.{Compiles};
 ghost use Rattle.pq_session.specs.Session.{edits};
 ghost use Rattle.pq_session.specs.Items.{item_meaning, answer_meaning};
 ghost use Rattle.pq_session.specs.Replies.{answer_text};
 ghost use Rattle.pq_session.specs.Responses.{Responds, RespondsTo, IsAnswer, started, replies, root_of, silent};
 ghost use Rattle.pq_session.specs.aux.ServerState.{state_of, response_of};
-ghost use Rattle.pq_session.specs.aux.Steps.{Refuses, RefusesMeaning};
+ghost use Rattle.pq_session.specs.aux.Steps.{Refuses, RefusesMeaning, Makes, IsTextFault};
 
 use crate::fault::ScriptFault;
 use crate::protocol::answers::answer_text;
@@ -19,9 +20,10 @@ use crate::protocol::replies::refusal_text;
 use crate::protocol::root::Root;
 use crate::state::items::Item;
 use crate::state::sessions::Session;
-use pq_core::{Change, Label, Request, Want};
+use pq_core::{Body, Change, Label, Request, Want};
 use pq_frame::Message;
-use pq_inputs::{InputFault, Inputs};
+use pq_inputs::{Durability, InputFault, Inputs};
+use pq_lex::{TextChange, apply};
 use pq_memo::{Demanded, Engine};
 use pq_proto::{ProtoKey, ProtoRules, ProtoValue, proto_values};
 use pq_rules::{Answer, Shared};
@@ -122,22 +124,60 @@ impl ServerState {
         }
     }
 
-    /// Makes an edit. A refused edit leaves the sources as they were.
-    fn edit(&mut self, change: Change) -> Result<(), ScriptFault>
-        ensures ok { OnOk result (RespondsTo (state_of self.old) (edits change) silent (state_of self.new)) }
-        ensures err { IfErr result (λ fault. RefusesMeaning (state_of self.old) (edits change) fault (state_of self.new)) }
+    /// Sets `file` to `text`, which is what the body of an edit makes of its text. A refused text
+    /// leaves the sources as they were.
+    fn set(
+        &mut self,
+        file: &str,
+        text: Option<String>,
+        durability: Durability,
+    ) -> Result<(), ScriptFault>
+        ensures ok { OnOk result ((body : BodyView) → Makes (state_of self.old) file.now body (option_map string_bytes text) →
+            RespondsTo (state_of self.old) (edits (record { file = file.now; body = body; durability = durability })) silent (state_of self.new)) }
+        ensures err { IfErr result (λ fault. (body : BodyView) → Makes (state_of self.old) file.now body (option_map string_bytes text) →
+            RefusesMeaning (state_of self.old) (edits (record { file = file.now; body = body; durability = durability })) fault (state_of self.new)) }
     {
-        let Change {
-            file,
-            text,
-            durability,
-        } = change;
-        match self.engine.set(file.as_str(), text, durability) {
+        match self.engine.set(file, text, durability) {
             Ok(_) => Ok(()),
             Err(refused) => match refused.fault {
                 InputFault::Memory => Err(ScriptFault::Memory),
                 fault => Err(ScriptFault::Edit(fault)),
             },
+        }
+    }
+
+    /// The text of `file` after `changes`. The only errors are `BadRange` and `Memory`.
+    fn text_after(
+        &self,
+        alloc: Global,
+        file: &str,
+        changes: &[TextChange],
+    ) -> Result<String, ScriptFault>
+        ensures ok { IfOk result (λ text. Makes (state_of self.now) file.now (ranged changes.now) (Some (string_bytes text))) }
+        ensures err { IfErr result (λ fault. IsTextFault (state_of self.now) file.now (ranged changes.now) fault) }
+    {
+        match apply(alloc, self.engine.inputs().get(file), changes)? {
+            Some(text) => Ok(text),
+            None => Err(ScriptFault::BadRange),
+        }
+    }
+
+    /// Makes an edit. An edit that is refused, or has a bad range, leaves the sources as they were.
+    fn edit(&mut self, alloc: Global, change: Change) -> Result<(), ScriptFault>
+        ensures ok { OnOk result (RespondsTo (state_of self.old) (edits change) silent (state_of self.new)) }
+        ensures err { IfErr result (λ fault. RefusesMeaning (state_of self.old) (edits change) fault (state_of self.new)) }
+    {
+        let Change {
+            file,
+            body,
+            durability,
+        } = change;
+        match body {
+            Body::Set(text) => self.set(file.as_str(), text, durability),
+            Body::Ranged(changes) => {
+                let text = self.text_after(alloc, file.as_str(), &changes)?;
+                self.set(file.as_str(), Some(text), durability)
+            }
         }
     }
 
@@ -152,7 +192,7 @@ impl ServerState {
             Item::Ask(request) => Ok(Step::Reply(self.reply(alloc, request)?)),
             Item::Say(request) => Ok(Step::Reply(self.reply(alloc, request)?)),
             Item::Edit(change) => {
-                self.edit(change)?;
+                self.edit(alloc, change)?;
                 Ok(Step::Silence)
             }
             Item::Ignore => Ok(Step::Silence),
@@ -160,7 +200,7 @@ impl ServerState {
         }
     }
 
-    /// Handles the body of one message. The only errors are `Edit` and `Memory`.
+    /// Handles the body of one message. The only errors are `Edit`, `BadRange` and `Memory`.
     #[tactic(auto, unfolding(crate::specs::Responses::Responds))]
     pub(crate) fn handle(&mut self, alloc: Global, body: &[u8]) -> Result<Step, ScriptFault>
         ensures ok { IfOk result (λ step.

@@ -55,7 +55,7 @@ impl Session {
 
     /// What the client's next message asks for. A request that the phase does not allow gets an
     /// error as its response. An edit of unreadable parameters ends the session with
-    /// `UNREADABLE_PARAMETERS`. The text of an edit is moved out of the message, not copied.
+    /// `UNREADABLE_PARAMETERS`. The texts of an edit are moved out of the message, not copied.
     ///
     /// An allocation failure leaves the session as it was, and the message is lost.
     pub fn on(&mut self, alloc: Global, message: Message) -> Result<Item<ProtoKey>, AllocError>

@@ -85,6 +85,30 @@ fn long_texts(rt: HostRuntime) {
     check_script(&rt, text_of(&rt, &script));
 }
 
+// A list of changes for one file more than there may be: a bad range and a text that is too long are
+// refused first.
+#[test]
+fn many_files(rt: HostRuntime) {
+    let mut script = Page::new(rt.alloc());
+    script.add("open 4 => 0; rest\n");
+    for n in 0..4096usize {
+        script.add("edit 0 low n");
+        script.number(n);
+        script.add("= => ");
+        script.number(n + 1);
+        script.add("; rest\n");
+    }
+    script.add(
+        "\
+        edit 0 low a~0:0-0:0 x => the range is bad; back 1|x; rest\n\
+        edit 0 low a~all 1048577*. => the edit was refused: the text is too long; back 1|1048577; rest\n\
+        edit 0 low a~all x | 0:0-0:0 y => the edit was refused: too many files; back 2|x|y; rest\n\
+        edit 0 low n7~0:0-0:0 x => 4097; rest\n\
+        ",
+    );
+    check_script(&rt, text_of(&rt, &script));
+}
+
 /// Writes edits of the files `n100` to `n199`, each of which names the next and the last the first.
 fn add_ring(script: &mut Page) {
     for i in 0..100usize {

@@ -1,15 +1,16 @@
 //! Requests, changes and replies as text.
 //!
 //! A request is `LABEL KEY` or, for a fixed text, `LABEL say TEXT`. A change is
-//! `DURABILITY NAME=TEXT`, or `DURABILITY NAME` where the file becomes absent. A reply is
+//! `DURABILITY NAME=TEXT`, `DURABILITY NAME` where the file becomes absent, or `DURABILITY NAME~LIST`
+//! for a list of changes; `changes` of `test_support` says how lists and texts are written. A reply is
 //! `NUMBER REQUEST @REVISION OUTCOME`.
 use crate::checks::split_row;
-use pq_core::{Change, ClientId, Label, Outcome, PlainStamp, Reply, Request, Stamp, Want};
+use pq_core::{Body, Change, ClientId, Label, Outcome, PlainStamp, Reply, Request, Stamp, Want};
 use pq_inputs::{Inputs, Revision};
 use pq_rules::{Answer, Memory, Text};
 use std::alloc::Global;
 use std::process::Abort;
-use test_support::{Page, durability_of};
+use test_support::{Page, changes_of, durability_of, text_of_word};
 
 /// Keys of a rule set that lines can write, and their answers.
 pub(crate) trait Sample: Drop + Sized {
@@ -69,23 +70,32 @@ pub(crate) fn request_of<K: Sample>(rt: &(impl Abort + AllocGlobal), text: &str)
     Request { label, want }
 }
 
-/// The text that `text` copies.
-fn string_of(rt: &(impl Abort + AllocGlobal), text: &str) -> String {
-    String::from_str(rt.alloc(), text).expect(rt, "memory")
+/// The name and the body that `text` writes.
+fn named_body<'a>(rt: &(impl Abort + AllocGlobal), text: &'a str) -> (&'a str, Body) {
+    if let Some((name, list)) = text.split_once("~") {
+        return (
+            name,
+            Body::Ranged(changes_of(rt.alloc(), list).expect(rt, "memory")),
+        );
+    }
+    match text.split_once("=") {
+        Some((name, text)) => {
+            let text = text_of_word(rt.alloc(), text).expect(rt, "memory");
+            (name, Body::Set(Some(text)))
+        }
+        None => (text, Body::Set(None)),
+    }
 }
 
 /// The change that `text` writes.
 pub(crate) fn change_of(rt: &(impl Abort + AllocGlobal), text: &str) -> Change {
     let (durability, file) = split_row(rt, text, " ");
     let durability = durability_of(durability);
-    let (name, text) = match file.split_once("=") {
-        Some((name, text)) => (name, Some(string_of(rt, text))),
-        None => (file, None),
-    };
+    let (name, body) = named_body(rt, file);
     let file = Text::new(rt.alloc(), name).expect(rt, "memory");
     Change {
         file,
-        text,
+        body,
         durability,
     }
 }

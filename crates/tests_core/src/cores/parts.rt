@@ -7,6 +7,9 @@
 //!   `starve RUN`, `made`, `more CLIENT`, `collect CLIENT`, `seen CLIENT NUMBER`, `close CLIENT` and
 //!   `idle` are calls of the store. The work that a look hands out is lost. `give` takes a step,
 //!   carries its work out and gives the result. A reply that is collected is kept.
+//! - `late CLIENT CHANGE ; OTHER` prepares a change, makes the edit `OTHER`, and makes the edit that was
+//!   prepared. Where its text is not current, it writes `stale` and prepares the change again. `text
+//!   FILE` is the text of a file, and `long CHANGE` says whether the change is worth preparing.
 //! - `fill CLIENT NUMBER` fills that kept reply into the lane, and keeps it where it comes back.
 //!   `release`, `take` and `shut` are calls of the lane, which is of client 0 and has room for two
 //!   replies that were not taken.
@@ -19,7 +22,9 @@ use super::lines::{change_of, client_of, number_of, request_of};
 use super::shown::{add_fault, add_released, add_run, yes_or_no};
 use crate::checks::{check_page, check_row_count, split_row, text_of};
 use calls::{Laying, List, Storing};
-use pq_core::{ClientId, Lane, Number, OpenFault, Outcome, PlainStamp, Ready, RunId, Store};
+use pq_core::{
+    Change, ClientId, Lane, Number, OpenFault, Outcome, PlainStamp, Ready, RunId, Store,
+};
 use pq_inputs::Inputs;
 use pq_rules::{Sums, SumsKey};
 use std::process::Abort;
@@ -119,6 +124,31 @@ fn run_answer<S: Storing>(page: &mut Page, store: &mut S, call: &str, run: RunId
     }
 }
 
+/// Prepares `change`, makes the edit `between`, and makes the edit of `change`.
+fn edit_late<S: Storing>(
+    page: &mut Page,
+    store: &mut S,
+    client: ClientId,
+    change: Change,
+    between: Change,
+) {
+    let mut waiting = store.prepared(page.alloc, change);
+    store.edited(page, client, between);
+    for _ in 0..2u8 {
+        page.add(", ");
+        match waiting {
+            Some(prepared) => match store.committed(page, client, prepared) {
+                Some(back) => {
+                    page.add("stale");
+                    waiting = store.prepared(page.alloc, back);
+                }
+                None => return,
+            },
+            None => return page.cut(),
+        }
+    }
+}
+
 /// Makes a call of the store for `client`.
 fn client_answer<S: Storing>(
     rt: &(impl Abort + AllocGlobal),
@@ -132,6 +162,11 @@ fn client_answer<S: Storing>(
     match call {
         "accept" => store.accepted(page, client, request_of::<SumsKey>(rt, rest)),
         "edit" => store.edited(page, client, change_of(rt, rest)),
+        "late" => {
+            let (change, between) = split_row(rt, rest, " ; ");
+            let (change, between) = (change_of(rt, change), change_of(rt, between));
+            edit_late(page, store, client, change, between);
+        }
         "more" => page.add(yes_or_no(store.is_made(client))),
         "collect" => collect(page, store, kept, client),
         "seen" => store.acknowledged(client, Number::new(number_of(rt, rest))),
@@ -177,6 +212,8 @@ fn check_line<S: Storing, L: Laying>(
         "fill" | "release" | "take" | "shut" => {
             lane_answer(rt, &mut page, lane, kept, call, first, more);
         }
+        "text" => store.text(&mut page, rest),
+        "long" => page.add(yes_or_no(change_of(rt, rest).is_long())),
         _ => {
             let client = client_of(rt, first);
             client_answer(rt, &mut page, store, kept, call, client, more);
@@ -474,6 +511,59 @@ fn runs_of_a_store(rt: HostRuntime) {
         starve 2 => no\n\
         collect 0 => none\n\
         idle => yes\n\
+        ",
+    );
+}
+
+// An edit whose text was prepared does what the edit does. It is prepared again where its file has
+// another text by then, also where the file came or went.
+#[test]
+fn prepared_edits(rt: HostRuntime) {
+    check_parts(
+        &rt,
+        41,
+        "\
+        open => 0\n\
+        edit 0 low a=ab => 1\n\
+        late 0 low a~0:1-0:1 x ; low b=y => 2, 3\n\
+        text a => axb\n\
+        late 0 low a~0:1-0:1 y ; low a=ab => 4, stale, 5\n\
+        text a => ayb\n\
+        late 0 low a~0:1-0:1 z ; high a=ayb => 6, 7\n\
+        text a => azyb\n\
+        late 0 low c~all x | 0:1-0:1 y ; low c => 8, 9\n\
+        text c => xy\n\
+        late 0 low d~all x ; low d= => 10, stale, 11\n\
+        text d => x\n\
+        late 0 low a~0:0-0:0 x ; low a => 12, stale, the range is bad; back 1|x\n\
+        text a => absent\n\
+        late 0 low a~0:0-0:0 x ; low a=b => 13, stale, 14\n\
+        text a => xb\n\
+        late 0 low a~0:9-1:0 x ; low b= => 15, the range is bad; back 1|x\n\
+        late 0 low a~all 1048577*. | 0:0-0:0 x ; low b= => 16, the edit was refused: the text is too long; back 2|1048577|x\n\
+        late 0 low a~all 1048577*. | 0:1-0:1048577 x ; low b= => 17, 18\n\
+        text a => .x\n\
+        late 0 low a=c ; low b= => 19, 20\n\
+        text a => c\n\
+        late 0 low a ; low a=c => 21, 22\n\
+        text a => absent\n\
+        late 1 low a~0:0-0:0 x ; low b= => no such client, no such client; back 1|x\n\
+        accept 0 7 Sum b => 0\n\
+        start => 0\n\
+        late 0 low b~0:0-0:0 a ; low c= => 23, 24\n\
+        look 0 => stopped\n\
+        close 0 => yes\n\
+        late 0 low b~0:0-0:0 x ; low b= => the client was closed, the client was closed; back 1|x\n\
+        text b => a\n\
+        new store\n\
+        long low a~16 of 0:0-0:0 x => no\n\
+        long low a~17 of 0:0-0:0 '' => yes\n\
+        long low a~all 1048576*x => no\n\
+        long low a~all 1048577*x => yes\n\
+        long low a~16 of all 65536*x => no\n\
+        long low a~15 of all 65536*x | 0:0-0:0 65537*x => yes\n\
+        long low a=1048577*x => no\n\
+        long low a => no\n\
         ",
     );
 }

@@ -2,14 +2,17 @@
 use super::lines::{Sample, add_replies, add_two};
 use super::post::Post;
 use pq_core::{
-    AcceptRefused, ClientId, Done, EditRefused, GiveFault, GiveRefused, LookFault, Move, Number,
-    OpenRefused, PlainStamp, Released, RunId, Work,
+    AcceptRefused, Body, ClientId, Done, EditRefused, GiveFault, GiveRefused, LookFault, Move,
+    Number, OpenRefused, PlainStamp, Released, RunId, Work,
 };
 use pq_inputs::Revision;
 use pq_memo::Why;
 use pq_rules::{Rules, SumsKey, SumsValue};
 use std::fmt::Display;
 use test_support::Page;
+
+/// The length above which a text is written as its length.
+const LONG: usize = 40;
 
 /// Writes why a call was refused.
 pub(super) fn add_fault(page: &mut Page, fault: impl Display + Drop) {
@@ -35,11 +38,32 @@ pub(super) fn add_accepted(page: &mut Page, answer: Result<Number, AcceptRefused
     }
 }
 
-/// Writes an edit that was made, as its revision, or why not.
+/// Writes the texts of the changes that come back, each with a bar before it. A long text is written
+/// as its length.
+fn add_back(page: &mut Page, body: &Body) {
+    if let Body::Ranged(changes) = body {
+        page.add("; back ");
+        page.number(changes.len());
+        for change in changes {
+            page.add("|");
+            if change.text.len() > LONG {
+                page.number(change.text.len());
+            } else {
+                page.add(change.text.as_str());
+            }
+        }
+    }
+}
+
+/// Writes an edit that was made, as its revision, or why not. Of a list of changes it writes what comes
+/// back.
 pub(super) fn add_edited(page: &mut Page, answer: Result<Revision, EditRefused>) {
     match answer {
         Ok(revision) => page.wide(revision.number()),
-        Err(refused) => add_fault(page, refused.fault),
+        Err(refused) => {
+            add_fault(page, refused.fault);
+            add_back(page, &refused.change.body);
+        }
     }
 }
 

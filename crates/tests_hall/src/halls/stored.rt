@@ -16,7 +16,7 @@ carry 0 - => edited 1
 carry 0 - => accepted 1
 carry 0 - => accepted 2
 carry 0 - => ended
-text 0 - => {"id":0,"jsonrpc":"2.0","result":{"capabilities":{"definitionProvider":true,"diagnosticProvider":{"interFileDependencies":true,"workspaceDiagnostics":false},"documentSymbolProvider":true,"positionEncoding":"utf-16","textDocumentSync":{"change":1,"openClose":true}},"serverInfo":{"name":"pq_server"}}}
+text 0 - => {"id":0,"jsonrpc":"2.0","result":{"capabilities":{"definitionProvider":true,"diagnosticProvider":{"interFileDependencies":true,"workspaceDiagnostics":false},"documentSymbolProvider":true,"positionEncoding":"utf-16","textDocumentSync":{"change":2,"openClose":true}},"serverInfo":{"name":"pq_server"}}}
 text 0 - => {"id":1,"jsonrpc":"2.0","result":{"items":[],"kind":"full","resultId":"1"}}
 text 0 - => {"id":2,"jsonrpc":"2.0","result":null}"#;
 

@@ -3,8 +3,8 @@
 use crate::cores::calls::carried;
 use crate::cores::shown::{add_accepted, add_edited, add_give, add_look};
 use pq_core::{
-    Change, ClientId, Lane, ListOutbox, Move, Number, OpenFault, PlainStamp, Ready, Released,
-    Request, RunId, Store,
+    Change, ClientId, Lane, ListOutbox, Move, Number, OpenFault, PlainStamp, Prepared, Ready,
+    Released, Request, RunId, Store,
 };
 use pq_rules::{Memory, Sums, SumsKey, SumsValue};
 use std::alloc::Global;
@@ -26,6 +26,21 @@ pub(super) trait Storing {
 
     /// Makes an edit.
     fn edited(&mut self, page: &mut Page, client: ClientId, change: Change);
+
+    /// Prepares a change from the text that its file has. `None` where memory runs out.
+    fn prepared(&self, alloc: Global, change: Change) -> Option<Prepared>;
+
+    /// Makes the edit of a change that was prepared. The change comes back where its file has another
+    /// text.
+    fn committed(
+        &mut self,
+        page: &mut Page,
+        client: ClientId,
+        prepared: Prepared,
+    ) -> Option<Change>;
+
+    /// Writes the text of a file, or `absent`.
+    fn text(&self, page: &mut Page, name: &str);
 
     /// Starts a run.
     fn started(&mut self) -> Option<RunId>;
@@ -58,6 +73,14 @@ pub(super) trait Storing {
     fn idles(&self) -> bool;
 }
 
+/// A copy of `text`.
+fn copied(alloc: Global, text: Option<&str>) -> Result<Option<String>, Memory> {
+    match text {
+        Some(text) => Ok(Some(String::from_str(alloc, text)?)),
+        None => Ok(None),
+    }
+}
+
 impl Storing for Store<Sums, PlainStamp> {
     fn opened(&mut self) -> Result<ClientId, OpenFault> {
         self.open_client()
@@ -76,6 +99,33 @@ impl Storing for Store<Sums, PlainStamp> {
             Ok(stamp) => add_edited(page, self.edit(client, change, stamp)),
             Err(_) => page.cut(),
         }
+    }
+
+    fn prepared(&self, alloc: Global, change: Change) -> Option<Prepared> {
+        match copied(alloc, self.inputs().get(change.file.as_str())) {
+            Ok(before) => Prepared::of(alloc, change, before).ok(),
+            Err(_) => None,
+        }
+    }
+
+    fn committed(
+        &mut self,
+        page: &mut Page,
+        client: ClientId,
+        prepared: Prepared,
+    ) -> Option<Change> {
+        if !prepared.is_current(self.inputs()) {
+            return Some(prepared.into_change());
+        }
+        match PlainStamp::after(page.alloc, self.inputs(), prepared.change()) {
+            Ok(stamp) => add_edited(page, self.edit_prepared(client, prepared, stamp)),
+            Err(_) => page.cut(),
+        }
+        None
+    }
+
+    fn text(&self, page: &mut Page, name: &str) {
+        page.add(self.inputs().get(name).unwrap_or("absent"));
     }
 
     fn started(&mut self) -> Option<RunId> {

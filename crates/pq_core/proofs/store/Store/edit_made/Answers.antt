@@ -1,0 +1,18 @@
+use Rattle.std.proofs.Common.{◌≡◌, refl, sym, ◌∙◌, ap, None}
+use Rattle.pq_core.proofs.Making.{goes_by, all_same}
+use Rattle.pq_core.proofs.StoreEditing.{edit_misranged}
+use Rattle.pq_core.specs.Moves.{text_made}
+use Rattle.pq_core.specs.Preparing.{bytes_made}
+use Rattle.pq_core.specs.Stores.{held}
+use Rattle.pq_core.specs.Told.{told_puts}
+use Rattle.pq_core.proofs.store.Store.edit_made.Goals as goal
+
+pub returns-in_default-clause-moved : goal.returns-in_default-clause-moved
+returns-in_default-clause-moved g c =
+    let bad : text_made c.args.self.now.inputs.files c.args.change ≡ None = sym c.requires.made ∙ ap bytes_made c.in_default.is in
+    goes_by g.R.Key.Ord.cmp (g.R.Rules.machine c.args.self.now.rules) g.M.Stamp.point _ _ _ (all_same _ _ (λ k. refl))
+    (λ l s. (
+      l,
+      (refl, edit_misranged g.R.Key.Ord.cmp (g.R.Rules.machine c.args.self.now.rules) g.M.Stamp.point told_puts (held c.args.self.now) c.args.client c.args.change l c.requires.may bad s, refl),
+      s,
+    ))

@@ -1,0 +1,15 @@
+-- What contracts see of a change whose text was made before its edit.
+use Rattle.std.specs.Prelude.{ℕ, List, Option, string_bytes}
+use Rattle.std.specs.declared.string.String.{String}
+use Rattle.std.specs.Option.{option_map}
+use Rattle.pq_core.specs.Changes.{ChangeView}
+
+-- `PreparedView` is a change, and the text of its file from which the text after it was made
+pub record PreparedView : Type 0 where
+  pub change : ChangeView
+  pub before : Option (List ℕ)
+
+-- `bytes_made made` is the text `made`, in bytes: None where a range is bad, and in it None where the
+-- file is removed
+abbrev pub bytes_made : {A : Type 0} → Option (Option (String A)) → Option (Option (List ℕ))
+bytes_made made = option_map (λ text. option_map string_bytes text) made
