@@ -1,5 +1,5 @@
 #!/usr/bin/env python3
-"""Measures what messages cost `pq_server script`: long bodies, hostile bodies, small requests and a long reply.
+"""Measures what messages cost `pq_server script`: long bodies, hostile bodies, small requests, a long reply and edits.
 
 The programs take turns, and each figure of time is the best of the rounds: the processor's time, in the program and in the
 system. Instructions are those that callgrind counts, less those of a session without what is measured. The peak of memory is
@@ -18,12 +18,15 @@ import sys
 import tempfile
 from collections import namedtuple
 
-from shared import FIRST, LAST, diagnosed, frame, opened
+import files
+from ranges import MAX_BODY, change, flood, lined, ranged, scattered
+from shared import FIRST, LAST, changed, diagnosed, frame, opened
 from sessions import PROGRAM
 
-MAX_BODY = 16_777_216
 BODIES = 8
 REQUESTS = 20_000
+EDITS = 256
+MANY = 95_000
 COUNTS = shutil.which("valgrind") is not None
 CALLGRIND = ["valgrind", "--tool=callgrind", "--callgrind-out-file=/dev/null"]
 HEAD = 'syntax="proto3";'
@@ -70,6 +73,41 @@ def long_reply():
     return Case("replies of 20,000 items", before, diagnosed(1, "a.proto") * 8, 8, "reply")
 
 
+def typed():
+    """Characters that are inserted in the middle of a file of 1 MB, one an edit."""
+    text = lined(1_000_000, 40)
+    line = len(text) // 40 // 2
+    edits = b"".join(ranged("a.proto", change(line, 20, 20, "y")) for _ in range(EDITS))
+    return Case("insertions into 1 MB", opened("a.proto", text), edits, EDITS, "edit")
+
+
+def diagnosed_edits(title, by_range):
+    """Edits of one name in a file of 10 kB, by a range or by the whole text, each with its diagnostics."""
+    text = files.proto_text(10_000)
+    lines = text.split("\n")
+    at = next(n for n in range(len(lines) // 2, len(lines)) if "first" in lines[n])
+    column = lines[at].index("first")
+    found, last = [], "first"
+    for i in range(EDITS):
+        name = "first%d" % i
+        lines[at] = lines[at].replace(last, name)
+        edit = ranged("a.proto", change(at, column, column + len(last), name)) if by_range else changed("a.proto", "\n".join(lines))
+        found.append(edit + diagnosed(i, "a.proto"))
+        last = name
+    return Case(title, opened("a.proto", text) + diagnosed("first", "a.proto"), b"".join(found), EDITS, "edit")
+
+
+def scattered_changes(title, line):
+    """Changes of a file of 1 MiB in one notification."""
+    text, data = scattered(MANY, line)
+    return Case(title, opened("a.proto", text), data, MANY, "change")
+
+
+def flooding(title):
+    """A notification that is as long as it may be, of many changes of a text that is longer than it may be."""
+    return Case(title, b"", flood(MANY, 8_000_000), MANY, "change")
+
+
 CASES = [
     bodies("bodies of 16 MiB, one text", b'"', b"x", b'"'),
     bodies("bodies of 16 MiB, numbers", b"[1", b",1", b"]", 1),
@@ -78,7 +116,14 @@ CASES = [
     bodies("bodies of 16 MiB, objects of one member, nested", b"[1", b',' + b'{"":' * 120 + b"1" + b"}" * 120, b"]", 1),
     small("requests of a file without errors", HEAD + "message M{}"),
     edits(), parses(), long_reply(),
+    typed(), diagnosed_edits("edits of 10 kB by a range, diagnosed", True), diagnosed_edits("edits of 10 kB by the whole text, diagnosed", False),
 ]
+# The cases that take seconds to make, by their titles.
+LATE = {
+    "95,000 changes of 1 MiB, lines of 32 bytes": lambda title: scattered_changes(title, 32),
+    "95,000 changes of 1 MiB, one line": lambda title: scattered_changes(title, 1 << 20),
+    "95,000 changes of a text of 8 MB": flooding,
+}
 
 
 def ran(program, session, before=()):
@@ -135,8 +180,9 @@ def main():
     heads = ["Case", "program", "speed", "s inside", "s system", "instructions", "more MB"]
     print("| %s |\n|%s" % (" | ".join(heads), "---|" * len(heads)), flush=True)
     with tempfile.TemporaryDirectory() as folder:
-        for case in CASES:
-            if words.only in case.title:
+        for title, make in [(case.title, lambda _, case=case: case) for case in CASES] + list(LATE.items()):
+            if words.only in title:
+                case = make(title)
                 for cells in figures([os.path.abspath(program) for program in words.programs], case, folder, words.rounds):
                     print("| %s |" % " | ".join(cells), flush=True)
     return 0

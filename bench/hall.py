@@ -10,11 +10,12 @@ Each part starts a server of its own, and prints ratios of rates that were taken
     flow        64 connections that come and go: replies in order and none lost, memory before and after
     lazy        a client that reads nothing: the rate of others beside it, and without it
     held        a client with a dear file, two workers: the time of another client's small request beside it
+    ranges      a client with 95,000 ranged changes in one notification: the longest wait of another client for a small reply
 
 An edit of any client overtakes the requests that run, so some replies of `flow` say cancelled.
 
 The clients are processes of this script. A ratio depends on the processors: they are printed first. The status is 1 where
-a reply is lost or out of order, where memory grows in `flow`, or where `lazy` or `held` hold another client up.
+a reply is lost or out of order, where memory grows in `flow`, or where `lazy`, `held` or `ranges` hold another client up.
 
 usage: bench/hall.py [--program PATH] [--quick] [--only WORD]
 """
@@ -26,6 +27,7 @@ import sys
 import time
 
 import files
+import ranges
 import workspaces
 from clients import Connection, Server
 from shared import FIRST, asked, changed, diagnosed, opened, read_body
@@ -33,6 +35,8 @@ from shared import FIRST, asked, changed, diagnosed, opened, read_body
 HERE = os.path.dirname(os.path.abspath(__file__))
 PROGRAM = os.path.join(HERE, "..", "crates", "pq_server", "out", "pq_server")
 BATCH = 30
+# The longest that a client may wait for a small reply beside a hostile one, in seconds.
+LONGEST = 0.05
 
 
 def asked_by(port, names, rounds, start, sink):
@@ -294,8 +298,65 @@ def held_part(program, quick):
     return middle(times) < whole / 4
 
 
+def waits(port, name, start, stop, sink):
+    """A process with one connection that asks about a small file all the time: the seconds that it waits for each reply."""
+    client = Connection(port)
+    client.begin(opened(name, files.proto_text(300)), diagnosed("first", name))
+    client.bodies(1)
+    start.set()
+    found = []
+    while not stop.is_set():
+        found += times_of([diagnosed(len(found), name)], client.send, lambda: client.bodies(1))
+    client.end()
+    sink.put(found)
+
+
+def beside(port, work):
+    """The seconds that `work` takes, and those that another client waits for each of its replies meanwhile."""
+    start, stop, sink = multiprocessing.Event(), multiprocessing.Event(), multiprocessing.Queue()
+    process = multiprocessing.Process(target=waits, args=(port, "other.proto", start, stop, sink))
+    process.start()
+    start.wait()
+    time.sleep(0.2)
+    before = time.perf_counter()
+    work()
+    took = time.perf_counter() - before
+    stop.set()
+    found = sink.get(timeout=60)
+    process.join()
+    return took, found
+
+
+def ranges_part(program, quick):
+    count = 9_500 if quick else 95_000
+    text, changes = ranges.scattered(count, 32)
+    good = True
+    for title, opens, data in (("a text of 8 MB and %d changes of it" % count, [], ranges.flood(count, 8_000_000)),
+                               ("%d changes of 1 MiB" % count, [opened("a.proto", text)], changes)):
+        round = data + asked("edited", "x/none", "none")
+        alone = by_script(program, opens, [round])[0]
+        server = Server(program, 2)
+        hostile = Connection(server.port)
+        hostile.begin(*opens)
+
+        def edit():
+            hostile.send(round)
+            hostile.bodies(1)
+
+        took, found = beside(server.port, edit)
+        _, idle = beside(server.port, lambda: time.sleep(min(took, 5)))
+        hostile.end()
+        server.stop()
+        print("%s, %d bytes: %.0f ms by listen, %.0f ms by script; another client waits %.1f ms at most for a small reply, %.2f in the middle"
+              " (%.1f at most, %.2f in the middle beside nothing; %.0f at most wanted)"
+              % (title, len(data), took * 1e3, alone * 1e3, max(found) * 1e3, middle(found) * 1e3, max(idle) * 1e3, middle(idle) * 1e3,
+                 LONGEST * 1e3), flush=True)
+        good = good and max(found) <= LONGEST
+    return good
+
+
 PARTS = [("requests", requests_part), ("files", files_part), ("edit", edit_part), ("reach", reach_part), ("flow", flow_part),
-         ("lazy", lazy_part), ("held", held_part)]
+         ("lazy", lazy_part), ("held", held_part), ("ranges", ranges_part)]
 
 
 def main():
