@@ -23,7 +23,7 @@ def lined(size, length):
 
 
 def numbers(count, below):
-    """So many numbers below `below`, which are the same in each run."""
+    """`count` numbers below `below`, which are the same in each run."""
     state = 1
     for _ in range(count):
         state = (state * 6364136223846793005 + 1442695040888963407) % (1 << 64)

@@ -3,7 +3,8 @@
 //! A list of changes can take long to make. The porter copies the text of the file under the store's
 //! lock, makes the text after the changes under no lock, and takes the lock again. Where the file still
 //! has the text of the copy, the porter makes the edit; else it begins again. So other clients wait
-//! for the copy and for the comparison, each linear in the text of the file, and for nothing else.
+//! for the copy, the comparison and the edit, each linear in the text of the file, and for the drop of
+//! the list, which is linear in the count of its changes.
 ghost use Rattle.std.specs.Prelude.{◌≡◌, IfOk, IfErr};
 ghost use Rattle.pq_inputs.specs.Sources.{file_in};
 ghost use Rattle.pq_hall.specs.aux.Kinds.{IsKindOf};
