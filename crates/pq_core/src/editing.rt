@@ -61,13 +61,14 @@ impl<R: Rules, M: Stamp> Store<R, M> {
         }
     }
 
-    /// Makes the change of `client`, at the next revision, of which `stamp` is the stamp. It waits for
-    /// no run.
+    /// Makes the change of `client`, at the next revision, of which `stamp` is the stamp. It waits
+    /// for no run.
     ///
     /// # Errors
     ///
-    /// `NoClient`, `Closed`, `BadRange`, and those of `Inputs::set`, in this order; but an allocation
-    /// failure while changes with ranges are made comes before the last two. The change comes back.
+    /// `NoClient`, `Closed`, `BadRange`, and those of `Inputs::set`, in this order; but an
+    /// allocation failure while changes with ranges are made comes before the last two. The change
+    /// comes back.
     pub fn edit(
         &mut self,
         client: ClientId,

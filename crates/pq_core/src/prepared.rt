@@ -1,8 +1,9 @@
 //! The text that a change makes, and changes whose text is made before their edit.
 //!
-//! The text of a long list of changes takes time. So a caller makes it from a copy of the text of the
-//! file, while it holds no lock. `Prepared` keeps by its type that it is that text. The edit takes it
-//! where the file still has the text from which it was made; the comparison is all that is left to do.
+//! The text of a long list of changes takes time. So a caller makes it from a copy of the text of
+//! the file, while it holds no lock. `Prepared` keeps by its type that it is that text. The edit
+//! takes it where the file still has the text from which it was made; the comparison is all that is
+//! left to do.
 ghost use Rattle.std.specs.Prelude.{◌≡◌, ◌↔◌, IfOk, IfErr, IsTrue, option_copied, string_bytes};
 ghost use Rattle.std.specs.Option.{option_map};
 ghost use Rattle.pq_inputs.specs.Sources.{file_in};
@@ -55,8 +56,8 @@ fn are_long(changes: &[TextChange]) -> bool {
 }
 
 impl Change {
-    /// Whether its text is worth preparing: it has many changes with ranges, or long ones. The answer
-    /// is a hint alone: an edit is the same with a text that was prepared and without.
+    /// Whether its text is worth preparing: it has many changes with ranges, or long ones. The
+    /// answer is a hint alone: an edit is the same with a text that was prepared and without.
     pub fn is_long(&self) -> bool {
         match &self.body {
             Body::Set(_) => false,
@@ -124,8 +125,8 @@ impl Prepared {
         change
     }
 
-    /// Whether the file of the change has in `inputs` the text from which it was prepared. Its time is
-    /// linear in that text.
+    /// Whether the file of the change has in `inputs` the text from which it was prepared. Its time
+    /// is linear in that text.
     pub fn is_current(&self, inputs: &Inputs) -> bool
         ensures { IsTrue result ↔ ((file_in inputs.now.files self.now.change.file).text ≡ self.now.before) }
     {

@@ -1,10 +1,10 @@
 //! Edits whose text a porter makes before it takes the lock.
 //!
-//! A list of changes can take long to make. The porter copies the text of the file under the store's
-//! lock, makes the text after the changes under no lock, and takes the lock again. Where the file still
-//! has the text of the copy, the porter makes the edit; else it begins again. So other clients wait
-//! for the copy, the comparison and the edit, each linear in the text of the file, and for the drop of
-//! the list, which is linear in the count of its changes.
+//! A list of changes can take long to make. The porter copies the text of the file under the
+//! store's lock, makes the text after the changes under no lock, and takes the lock again. Where
+//! the file still has the text of the copy, the porter makes the edit; else it begins again. So
+//! other clients wait for the copy, the comparison and the edit, each linear in the text of the
+//! file, and for the drop of the list, which is linear in the count of its changes.
 ghost use Rattle.std.specs.Prelude.{◌≡◌, IfOk, IfErr};
 ghost use Rattle.pq_inputs.specs.Sources.{file_in};
 ghost use Rattle.pq_hall.specs.aux.Kinds.{IsKindOf};
@@ -24,8 +24,8 @@ use pq_rules::Rules;
 use std::alloc::Global;
 use std::sync::Wait;
 
-/// What a post came to under the lock, or the change where the file has another text than the one from
-/// which it was prepared.
+/// What a post came to under the lock, or the change where the file has another text than the one
+/// from which it was prepared.
 type Tried<R, J> = Result<Carried<R, J>, Change>;
 
 /// The change of `post`, if `post` is an edit whose text is worth preparing; else `post`.
@@ -94,8 +94,8 @@ impl<R: Rules + OneValue, J: BoardName, H: Wait + Copy + Drop> Hall<R, J, H> {
         copy_text(self.alloc, state.store.inputs().get(change.file.as_str()))
     }
 
-    /// Makes the edit of `prepared` under the lock, if the file still has the text from which it was
-    /// prepared; else the change comes back.
+    /// Makes the edit of `prepared` under the lock, if the file still has the text from which it
+    /// was prepared; else the change comes back.
     fn edit_prepared(
         &self,
         rt: &H,
