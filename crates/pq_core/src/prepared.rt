@@ -2,8 +2,7 @@
 //!
 //! The text of a long list of changes takes time. So a caller makes it from a copy of the text of
 //! the file, while it holds no lock. `Prepared` keeps by its type that it is that text. The edit
-//! takes it where the file still has the text from which it was made; the comparison is all that is
-//! left to do.
+//! takes it where the file still has the text from which it was made.
 ghost use Rattle.std.specs.Prelude.{◌≡◌, ◌↔◌, IfOk, IfErr, IsTrue, option_copied, string_bytes};
 ghost use Rattle.std.specs.Option.{option_map};
 ghost use Rattle.pq_inputs.specs.Sources.{file_in};

@@ -101,7 +101,9 @@ impl<R: Rules, M: Stamp, O: Outbox<R, M> + Drop> Core<R, M, O> {
     ///
     /// # Errors
     ///
-    /// `NoClient`, `Closed`, and those of `Inputs::set`, in this order. The change comes back.
+    /// `NoClient`, `Closed`, `BadRange`, and those of `Inputs::set`, in this order; but an
+    /// allocation failure while changes with ranges are made comes before the last two. The change
+    /// comes back.
     pub fn edit(
         &mut self,
         client: ClientId,
