@@ -30,7 +30,7 @@ CLIENTS = (1, 8, 64)
 FEW, MANY = 10, 10_000
 # The requests whose instructions are counted: they go to each of the many files.
 SPREAD = 10_240
-# The requests of k rounds that are timed. Inputs take 65,536 revisions: the edits of 3k rounds and the files set stay below.
+# The requests of k rounds that are timed.
 TIMED = 100_000
 
 # How rounds go whose rates are measured: a title, and the name that the program knows.

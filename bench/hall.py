@@ -11,11 +11,12 @@ Each part starts a server of its own, and prints ratios of rates that were taken
     lazy        a client that reads nothing: the rate of others beside it, and without it
     held        a client with a dear file, two workers: the time of another client's small request beside it
     ranges      a client with 95,000 ranged changes in one notification: the longest wait of another client for a small reply
+    marks       a client with 1,100,000 edits of one small text: the same, and the memory of an edit
 
 An edit of any client overtakes the requests that run, so some replies of `flow` say cancelled.
 
 The clients are processes of this script. A ratio depends on the processors: they are printed first. The status is 1 where
-a reply is lost or out of order, where memory grows in `flow`, or where `lazy`, `held` or `ranges` hold another client up.
+a reply is lost or out of order, where memory grows in `flow`, or where `lazy`, `held`, `ranges` or `marks` hold another client up.
 
 usage: bench/hall.py [--program PATH] [--quick] [--only WORD]
 """
@@ -355,8 +356,32 @@ def ranges_part(program, quick):
     return good
 
 
+def marks_part(program, quick):
+    blocks = 110 if quick else 1_100
+    text = files.proto_text(10)
+    block = changed("w.proto", text) * 1000 + asked("edited", "x/none", "none")
+    server = Server(program, 2)
+    writer = Connection(server.port)
+    writer.begin(opened("w.proto", text))
+    before = server.kilobytes()
+
+    def edit():
+        for _ in range(blocks):
+            writer.send(block)
+            writer.bodies(1)
+
+    took, found = beside(server.port, edit)
+    after = server.kilobytes()
+    writer.end()
+    server.stop()
+    print("%d edits, %.0f a second: %.1f bytes an edit; another client waits %.1f ms at most for a small reply, %.2f in the middle (%.0f at most wanted)"
+          % (blocks * 1000, blocks * 1000 / took, (after - before) * 1024 / blocks / 1000, max(found) * 1e3, middle(found) * 1e3,
+             LONGEST * 1e3), flush=True)
+    return max(found) <= LONGEST
+
+
 PARTS = [("requests", requests_part), ("files", files_part), ("edit", edit_part), ("reach", reach_part), ("flow", flow_part),
-         ("lazy", lazy_part), ("held", held_part), ("ranges", ranges_part)]
+         ("lazy", lazy_part), ("held", held_part), ("ranges", ranges_part), ("marks", marks_part)]
 
 
 def main():

@@ -8,4 +8,4 @@ import sys
 sys.path.append(os.path.join(os.path.dirname(os.path.dirname(os.path.abspath(__file__))), "checks"))
 
 from messages import (FIRST, LAST, METHODS, asked, bodies_of, changed, diagnosed, frame, is_request, notice, opened,
-                      read_body)
+                      read_body, withdrawn)

@@ -17,7 +17,7 @@ RECORDS = 10
 COMMENT = "\n// Of no weight for what the files say.\n"
 HUB = "hub.proto"
 COUNTS = (100, 1_000)
-# The server takes 65,536 revisions: three times as many rounds and all opens have to stay below.
+# More rounds tell no more.
 MOST_ROUNDS = 20_000
 
 
