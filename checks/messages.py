@@ -33,6 +33,10 @@ def diagnosed(label, name):
     return asked(label, "textDocument/diagnostic", name)
 
 
+def withdrawn(label):
+    return frame({"jsonrpc": "2.0", "method": "$/cancelRequest", "params": {"id": label}})
+
+
 FIRST = frame({"id": "first", "jsonrpc": "2.0", "method": "initialize", "params": {}})
 LAST = frame({"id": "last", "jsonrpc": "2.0", "method": "shutdown"}) + frame({"jsonrpc": "2.0", "method": "exit"})
 

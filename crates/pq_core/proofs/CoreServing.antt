@@ -1,27 +1,28 @@
 -- The calls of a core that end with its store.
-use Rattle.std.proofs.Common.{◌≡◌, ℕ, ◌+◌, ◌<◌, ◌==◌, if◌then◌else◌, Bool, true, false, List, [], ◌∷◌, ◌++◌, length, slice_get, Option, Some, None, refl, sym, ◌∙◌, ap, subst, inl, inr, arith}
+use Rattle.std.proofs.Common.{◌≡◌, ℕ, ◌+◌, ◌<◌, ◌≤◌, ◌==◌, if◌then◌else◌, Bool, true, false, List, [], ◌∷◌, ◌++◌, length, slice_get, slice_set, Option, Some, None, refl, sym, ◌∙◌, ap, subst, inl, inr, arith}
 use Rattle.std.specs.Prelude.{Ok, Err, Result}
 use Rattle.std.specs.declared.cmp.Ordering.{Ordering}
 use Rattle.pq_rules.specs.declared.turn.Answer.{Answer}
 use Rattle.pq_rules.specs.Turns.{Machine}
-use Rattle.pq_core.proofs.Lists.{none_some, get_append, append_long}
+use Rattle.pq_core.proofs.Lists.{some_one, none_some, get_set, get_append, get_within, get_there, set_same, set_other, set_long, append_long, same_or_other}
 use Rattle.pq_core.proofs.Changing.{if_at, if_other}
 use Rattle.pq_core.proofs.Slots.{above_more}
 use Rattle.pq_core.proofs.Told.{told_long, ready_told, none_told, opens_told, refusal_told}
 use Rattle.pq_core.proofs.PlaceMoves.{get_append_other, none_past, lanes_opened, lanes_same}
-use Rattle.pq_core.proofs.CorePassing.{Lands, KeepsReady, keeps_same, keeps_one, keeps_entry, none_made, landed}
+use Rattle.pq_core.proofs.CorePassing.{Lands, KeepsClient, KeepsReady, keeps_same, keeps_one, keeps_entry, none_made, landed}
 use Rattle.pq_core.specs.Points.{Point}
 use Rattle.pq_core.specs.Replies.{ReplyView}
 use Rattle.pq_core.specs.Changes.{ChangeView}
 use Rattle.pq_core.specs.Works.{DoneView, WorkView}
-use Rattle.pq_core.specs.Ledger.{Out, Place, Waiting, Running, Ready, Entry, Client, Ledger, with_client, with_entry, moved_to, opened, WasStarved}
-use Rattle.pq_core.specs.Moves.{OpenRefusal, Opens, Accepts, Edits, Starts, RunAt, Runs, ended_entry, LooksFor, Gives, Starves, new_entry, with_new, out_of}
+use Rattle.pq_core.specs.Ledger.{Out, Place, Waiting, Running, Ready, Put, Dropped, Entry, Client, Ledger, with_client, with_entry, with_entries, moved_to, opened, WasStarved}
+use Rattle.pq_core.specs.Moves.{window, OpenRefusal, Opens, Accepts, TurnsEntry, Turns, TurnsIf, is_turn, Edits, edited, Starts, RunAt, Runs, ended_entry, LooksFor, Gives, Starves, IsOwed, WithdrawsEntry, WithdrawsEach, Withdraws, new_entry, with_new, out_of}
 use Rattle.pq_core.specs.Lanes.{Tray, empty_tray}
 use Rattle.pq_core.specs.Told.{Told, told_ledger, NoneReadyAt, IsReadyAt, OpensNext, IsNextClient}
 use Rattle.pq_core.specs.Stores.{StoreView, NoneMade, Makes, Goes}
 use Rattle.pq_core.specs.Stores.{StandsFor as StoreStandsFor}
 use Rattle.pq_core.specs.Cores.{core_of, StandsFor}
 use Rattle.pq_core.specs.aux.Rising.{Slots, found, IsAbove, SameFound}
+use Rattle.pq_core.specs.declared.label.Label.{Label}
 use Rattle.pq_core.specs.declared.request.Request.{Request}
 use Rattle.pq_core.specs.declared.outcome.Outcome.TheVariants.{Answered, Cancelled, Starved}
 use Rattle.pq_core.specs.declared.moves.Move.{Move}
@@ -34,6 +35,7 @@ use Rattle.pq_core.specs.declared.fault.EditRefused.{EditRefused}
 use Rattle.pq_core.specs.declared.fault.LookFault.{LookFault}
 use Rattle.pq_core.specs.declared.fault.LookFault.TheVariants.{NoRun, Memory as LookMemory}
 use Rattle.pq_core.specs.declared.fault.GiveRefused.{GiveRefused}
+use Rattle.pq_core.specs.declared.fault.WithdrawFault.{WithdrawFault}
 
 not_ready_waiting : {K V M : Type 0} (place : Place K V M) (reply : ReplyView K V M) → place ≡ Waiting → place ≡ Ready reply → ⊥
 not_ready_waiting place reply e f = cc
@@ -59,9 +61,134 @@ module _ {K V M O : Type 0} (puts : O → List (ReplyView K V M)) where
       refl refl refl (λ h. omega arith) (none_past l c n client is_open.here (omega arith))
   accept_keeps c request (Err refused) l m w = keeps_same puts l m (ap (λ (x : Ledger K V M O). x.clients) w.2)
 
+  -- `StaysReady before after` is that each of the requests `before` whose reply is ready is in `after`
+  abbrev pub StaysReady : List (Entry K V M) → List (Entry K V M) → Type 0
+  StaysReady before after = (n : ℕ) (entry : Entry K V M) (reply : ReplyView K V M) → slice_get before n ≡ Some entry → entry.place ≡ Ready reply → slice_get after n ≡ Some entry
+
+  few_as : (before after : List (Entry K V M)) (put : ℕ) → length after ≡ length before → length before ≤ put + window → length after ≤ put + window
+  few_as before after put long h = omega arith
+
+  -- ---- a turn
+
+  turned_ready : (l : Ledger K V M O) (c n : ℕ) (is_open : Bool) (entry y : Entry K V M) (reply : ReplyView K V M) → entry.place ≡ Ready reply → TurnsEntry l c n is_open entry y → y ≡ entry
+  turned_ready l c n is_open entry y reply ready (inl (run, started, out, is, e)) = absurd (not_ready_running entry.place run started out reply is ready)
+  turned_ready l c n is_open entry y reply ready (inr w) = w.1
+
+  turn_stays : (l : Ledger K V M O) (c : ℕ) (is_open : Bool) (before after : List (Entry K V M)) → length after ≡ length before
+      → ((n : ℕ) (x y : Entry K V M) → slice_get before n ≡ Some x → slice_get after n ≡ Some y → TurnsEntry l c n is_open x y) → StaysReady before after
+  turn_stays l c is_open before after long each n entry reply here ready =
+      let lt : n < length before = get_within before n entry here in
+      let there = get_there after n (omega arith) in
+      there.1 ∙ ap Some (turned_ready l c n is_open entry there.0 reply ready (each n entry there.0 here there.1))
+
+  turns_keep : (l m : Ledger K V M O) → Turns l m → KeepsReady puts l m
+  turns_keep l m t = record {
+    more = let e : length m.clients ≡ length l.clients = t.long in omega arith;
+    each = λ c other get.
+        let lt : c < length m.clients = get_within m.clients c other get in
+        let e : length m.clients ≡ length l.clients = t.long in
+        let there = get_there l.clients c (omega arith) in
+        let w = t.each c there.0 other there.1 get in
+        record {
+          client = there.0;
+          here = there.1;
+          outbox = w.outbox;
+          refused = w.refused;
+          is_open = w.is_open;
+          few = few_as there.0.entries other.entries (length (puts there.0.outbox)) w.long;
+        };
+    ready = λ c n entry reply r.
+        let lt : c < length l.clients = get_within l.clients c r.client r.is_entry.client_here in
+        let e : length m.clients ≡ length l.clients = t.long in
+        let there = get_there m.clients c (omega arith) in
+        let w = t.each c r.client there.0 r.is_entry.client_here there.1 in
+        record {
+          client = there.0;
+          is_entry = record { client_here = there.1; here = turn_stays l c r.client.is_open r.client.entries there.0.entries w.long w.each n entry reply r.is_entry.here r.ready };
+          ready = r.ready;
+        };
+  }
+
+  -- an edit changes no client before the turn
+  keeps_edited : (l m : Ledger K V M O) (change : ChangeView) → KeepsReady puts (edited l change) m → KeepsReady puts l m
+  keeps_edited l m change k = record {
+    more = k.more;
+    each = λ c other get.
+        let w = k.each c other get in
+        record { client = w.client; here = w.here; outbox = w.outbox; refused = w.refused; is_open = w.is_open; few = w.few };
+    ready = λ c n entry reply r.
+        k.ready c n entry reply
+        (record { client = r.client; is_entry = record { client_here = r.is_entry.client_here; here = r.is_entry.here }; ready = r.ready });
+  }
+
+  turns_if_keep : (test : Bool) (l m : Ledger K V M O) → TurnsIf test l m → KeepsReady puts l m
+  turns_if_keep true l m t = turns_keep l m t
+  turns_if_keep false l m e = keeps_same puts l m (ap (λ (x : Ledger K V M O). x.clients) e)
+
   pub edit_keeps : (c : ℕ) (change : ChangeView) (answer : Result ℕ EditRefused) (l m : Ledger K V M O) → Edits c change answer l m → KeepsReady puts l m
-  edit_keeps c change (Ok revision) l m w = keeps_same puts l m (ap (λ (x : Ledger K V M O). x.clients) w.4)
+  edit_keeps c change (Ok revision) l m w = keeps_edited l m change (turns_if_keep (is_turn revision) (edited l change) m w.4)
   edit_keeps c change (Err refused) l m w = keeps_same puts l m (ap (λ (x : Ledger K V M O). x.clients) w.2)
+
+  -- ---- a withdrawal
+
+  -- the requests of one client change, and none that is ready
+  keeps_entries : (l m : Ledger K V M O) (c : ℕ) (client : Client K V M O) (after : List (Entry K V M)) → slice_get l.clients c ≡ Some client → m.clients ≡ slice_set l.clients c (with_entries client after)
+      → length after ≡ length client.entries → StaysReady client.entries after → KeepsReady puts l m
+  keeps_entries l m c client after here set long stays =
+      let same : length m.clients ≡ length l.clients = ap (λ (xs : List (Client K V M O)). length xs) set ∙ set_long l.clients c (with_entries client after) in
+      record {
+        more = omega arith;
+        each = λ k x get. elim (get_set l.clients c (with_entries client after) k x (ap (λ (xs : List (Client K V M O)). slice_get xs k) (sym set) ∙ get)) [
+          | inl w ↦
+              subst (λ (y : ℕ). KeepsClient puts l y x) (sym w.0)
+              (subst (λ (y : Client K V M O). KeepsClient puts l c y) (sym w.1)
+              (record { client = client; here = here; outbox = refl; refused = refl; is_open = refl; few = few_as client.entries after (length (puts client.outbox)) long }))
+          | inr w ↦ record { client = x; here = w.1; outbox = refl; refused = refl; is_open = refl; few = λ h. h }
+        ];
+        ready = λ k n entry reply r. elim (same_or_other k c) [
+          | inl e ↦
+              let is : r.client ≡ client = some_one r.client client (sym r.is_entry.client_here ∙ (ap (slice_get l.clients) e ∙ here)) in
+              record {
+                client = with_entries client after;
+                is_entry = record {
+                  client_here = ap (λ (xs : List (Client K V M O)). slice_get xs k) set ∙ (ap (slice_get (slice_set l.clients c (with_entries client after))) e ∙ set_same l.clients c (with_entries client after) (get_within l.clients c client here));
+                  here = stays n entry reply (ap (λ (x : Client K V M O). slice_get x.entries n) (sym is) ∙ r.is_entry.here) r.ready;
+                };
+                ready = r.ready;
+              }
+          | inr apart ↦ record {
+            client = r.client;
+            is_entry = record {
+              client_here = ap (λ (xs : List (Client K V M O)). slice_get xs k) set ∙ (set_other l.clients c (with_entries client after) k apart ∙ r.is_entry.client_here);
+              here = r.is_entry.here;
+            };
+            ready = r.ready;
+          }
+        ];
+      }
+
+  owed_not_ready : (place : Place K V M) (reply : ReplyView K V M) → IsOwed place → place ≡ Ready reply → ⊥
+  owed_not_ready Waiting reply o e = not_ready_waiting {K = K} {V = V} {M = M} Waiting reply refl e
+  owed_not_ready (Running run started out) reply o e = not_ready_running {K = K} {V = V} {M = M} (Running run started out) run started out reply refl e
+  owed_not_ready (Ready other) reply o e = o
+  owed_not_ready Put reply o e = o
+  owed_not_ready Dropped reply o e = o
+
+  withdrawn_ready : (l : Ledger K V M O) (c : ℕ) (label : Label) (n : ℕ) (entry y : Entry K V M) (reply : ReplyView K V M) → entry.place ≡ Ready reply → WithdrawsEntry l c label n entry y → y ≡ entry
+  withdrawn_ready l c label n entry y reply ready (inl w) = absurd (owed_not_ready entry.place reply w.0.owed ready)
+  withdrawn_ready l c label n entry y reply ready (inr w) = w.1
+
+  withdraw_stays : (l : Ledger K V M O) (c : ℕ) (label : Label) (before after : List (Entry K V M)) → WithdrawsEach l c label before after → StaysReady before after
+  withdraw_stays l c label before after w n entry reply here ready =
+      let lt : n < length before = get_within before n entry here in
+      let long : length after ≡ length before = w.long in
+      let there = get_there after n (omega arith) in
+      there.1 ∙ ap Some (withdrawn_ready l c label n entry there.0 reply ready (w.each n entry there.0 here there.1))
+
+  pub withdraw_keeps : (c : ℕ) (label : Label) (answer : Result Bool WithdrawFault) (l m : Ledger K V M O) → Withdraws c label answer l m → KeepsReady puts l m
+  withdraw_keeps c label (Ok some) l m (client, is_open, tells, (after, each, e)) =
+      keeps_entries l m c client after is_open.here (ap (λ (x : Ledger K V M O). x.clients) e) each.long (withdraw_stays l c label client.entries after each)
+  withdraw_keeps c label (Err fault) l m w = keeps_same puts l m (ap (λ (x : Ledger K V M O). x.clients) w.1)
 
   pub start_keeps : (answer : Option ℕ) (l m : Ledger K V M O) → Starts answer l m → KeepsReady puts l m
   start_keeps (Some run) l m (c, client, n, entry, waits, run_is, e) =

@@ -9,7 +9,7 @@ use Rattle.pq_rules.specs.Relations.{Each, In}
 use Rattle.pq_core.specs.Starts.{Event, Log, one_if, count, events_of, IsCounted}
 
 module _ {K : Type 0} (order : K → K → Ordering) (total : IsTotalOrder order) (exact : (a b : K) → order a b ≡ Equal → a ≡ b) where
-  count_append : (v : ℕ) (k : K) (xs ys : List (Event K)) → count order v k (xs ++ ys) ≡ count order v k xs + count order v k ys
+  pub count_append : (v : ℕ) (k : K) (xs ys : List (Event K)) → count order v k (xs ++ ys) ≡ count order v k xs + count order v k ys
   unfolding count
   count_append v k [] ys = omega arith
   count_append v k (x ∷ xs) ys = let e : count order v k (xs ++ ys) ≡ count order v k xs + count order v k ys = count_append v k xs ys in omega arith
@@ -117,7 +117,7 @@ module _ {K : Type 0} (order : K → K → Ordering) (total : IsTotalOrder order
           ]
 
   -- a run that holds `keys` is stopped or starved
-  in_count : (v run : ℕ) (k : K) (ks : List K) → In k ks → 1 ≤ count order v k (events_of run v ks)
+  pub in_count : (v run : ℕ) (k : K) (ks : List K) → In k ks → 1 ≤ count order v k (events_of run v ks)
   unfolding count
   in_count v run k [] i = absurd i
   in_count v run k (q ∷ ks) (inl e) =
@@ -143,6 +143,24 @@ module _ {K : Type 0} (order : K → K → Ordering) (total : IsTotalOrder order
             | inl a ↦ inr a
             | inr b ↦ inl (let more : 1 ≤ count order now k (events_of run revision keys) = subst (λ (v : ℕ). 1 ≤ count order now k (events_of run v keys)) (sym b.1) (in_count now run k keys b.0) in omega arith)
           ])
+        ]);
+  }
+
+  -- runs are over, and what they held is `more`
+  pub lost_counts : (now : ℕ) (taken after : K → Type 0) (log : Log K) (more : List (Event K)) → ((k : K) → taken k → after k ⊎ (1 ≤ count order now k more))
+      → IsCounted order now taken log → IsCounted order now after (record { starts = log.starts; lost = log.lost ++ more })
+  lost_counts now taken after log more left x = record {
+    earlier = x.earlier;
+    each = λ v k. (
+        let sum : count order v k (log.lost ++ more) ≡ count order v k log.lost + count order v k more = count_append v k log.lost more in
+        let old : count order v k log.starts ≤ count order v k log.lost + 1 = x.each v k in
+        omega arith);
+    latest = λ k. (
+        let sum : count order now k (log.lost ++ more) ≡ count order now k log.lost + count order now k more = count_append now k log.lost more in
+        let old : count order now k log.starts ≤ count order now k log.lost + 1 = x.each now k in
+        elim (x.latest k) [
+          | inl l ↦ inl (omega arith)
+          | inr t ↦ (elim (left k t) [ inl a ↦ inr a | inr b ↦ inl (omega arith) ])
         ]);
   }
 

@@ -1,15 +1,17 @@
 -- The one end of a run, by cases on why it ends.
-use Rattle.std.proofs.Common.{◌≡◌, ℕ, ◌<◌, ◌==◌, if◌then◌else◌, List, [], Some, None, refl, sym, ◌∙◌, ap, subst, inl, inr, true}
+use Rattle.std.proofs.Common.{◌≡◌, ℕ, ◌<◌, ◌≤◌, ◌==◌, if◌then◌else◌, List, [], Some, None, refl, sym, ◌∙◌, ap, subst, inl, inr, true, arith}
 use Rattle.std.specs.declared.cmp.Ordering.{Ordering}
 use Rattle.pq_inputs.specs.Sources.{Table}
 use Rattle.pq_rules.specs.Turns.{Machine}
+use Rattle.pq_rules.specs.declared.turn.Answer.{Answer as AnswerOf}
 use Rattle.pq_rules.proofs.Weight.{Exact}
 use Rattle.pq_memo.specs.Table.{memo_at}
 use Rattle.pq_core.specs.Points.{Point}
 use Rattle.pq_core.specs.Replies.{ReplyView}
-use Rattle.pq_core.specs.Ledger.{Ledger, WasStarved}
-use Rattle.pq_core.specs.Moves.{Reaches, Starves, ended}
-use Rattle.pq_core.specs.RightReply.{answer_by}
+use Rattle.pq_core.specs.Ledger.{Ledger, WasStarved, WasWithdrawn}
+use Rattle.pq_core.specs.Kept.{IsDemand, Kept}
+use Rattle.pq_core.specs.Moves.{Reaches, RunAt, Runs, Starves, ended}
+use Rattle.pq_core.specs.RightReply.{IsTrueOutcome, answer_by}
 use Rattle.pq_core.specs.Accounts.{AccountView}
 use Rattle.pq_core.specs.Starts.{IsCounted, IsCountedIn, Log}
 use Rattle.pq_core.specs.Stores.{Held, StandsOf, StoreView}
@@ -19,9 +21,11 @@ use Rattle.pq_core.specs.aux.RunEnds.{EndsBy, FitsEnd, IsLateFor, IsReplyDue, Ma
 use Rattle.pq_core.specs.declared.frames.Top.{Top}
 use Rattle.pq_core.specs.declared.rising.Place.{Place}
 use Rattle.pq_core.specs.declared.run_end.Ending.{Ending}
-use Rattle.pq_core.specs.declared.run_end.Ending.TheVariants.{Stopped, Answered, Starved}
-use Rattle.pq_core.specs.declared.outcome.Outcome.TheVariants.{Cancelled, Starved as OutcomeStarved}
-use Rattle.pq_core.proofs.Keeping.{kept_starves}
+use Rattle.pq_core.specs.declared.run_end.Ending.TheVariants.{Stopped, Answered, Starved, Withdrawn}
+use Rattle.pq_core.specs.declared.outcome.Outcome.TheVariants.{Cancelled, Starved as OutcomeStarved, Withdrawn as OutcomeWithdrawn}
+use Rattle.pq_core.specs.declared.request.Want.{Want}
+use Rattle.pq_core.specs.declared.request.Want.TheVariants.{Demand, Fixed}
+use Rattle.pq_core.proofs.Keeping.{kept_end, kept_starves, runs_placed}
 use Rattle.pq_core.proofs.Lists.{some_one}
 use Rattle.pq_core.proofs.Renewed.{renewed_same}
 use Rattle.pq_core.proofs.RulesBegun.{none_begun}
@@ -43,6 +47,20 @@ module _ {R K P V M : Type 0} (order : K → K → Ordering) (point : M → Poin
   reply_due machine rules inputs accounts run (Answered answer stamp) now is fits =
       (rules, told_answer order machine rules point inputs run.client run.number now run.request run.request answer stamp refl fits.2 fits.3 is)
   reply_due machine rules inputs accounts run Starved now is fits = (rules, tt)
+  reply_due machine rules inputs accounts run Withdrawn now is fits = (rules, tt)
+
+module _ {K V M O : Type 0} (means : M → Point → K → AnswerOf K V → Type 0) (puts : O → List (ReplyView K V M)) where
+  withdrawn_true : (inputs : Table) (a : ℕ) (want : Want K) → IsDemand want → a ≤ inputs.revision → IsTrueOutcome means inputs a WasWithdrawn want inputs.revision OutcomeWithdrawn
+  withdrawn_true inputs a (Demand key) d h = (refl, h, omega arith)
+  withdrawn_true inputs a (Fixed text) d h = absurd d
+
+  -- a run is withdrawn
+  pub kept_withdrawn_run : (l : Ledger K V M O) (run : ℕ) (at : RunAt K V M O) → Kept means puts l → Runs l run at → Kept means puts (ended l at WasWithdrawn OutcomeWithdrawn)
+  kept_withdrawn_run l run at k runs =
+      let placed = runs_placed means puts l run at k runs in
+      let a : at.entry.accepted ≤ at.started = placed.2 in
+      let b : at.started ≤ l.inputs.revision = placed.3 in
+      kept_end means puts l run at WasWithdrawn OutcomeWithdrawn k runs (withdrawn_true l.inputs at.entry.accepted at.entry.request.want placed.1 (omega arith))
 
 module _ {R K P V M O : Type 0} (order : K → K → Ordering) (m : Machine K P V) (point : M → Point) (puts : O → List (ReplyView K V M)) (rules : R) (b a : Held K P V M) (l : Ledger K V M O) (r : ℕ)
     (run : RunView K P) where
@@ -65,6 +83,12 @@ module _ {R K P V M O : Type 0} (order : K → K → Ordering) (m : Machine K P 
         move,
         end_moved order m point puts b a l r run WasStarved OutcomeStarved x s here runs set same but (kept_starves (answer_by order m point) puts r true l _ s.kept move),
       )
+  ends_moved Withdrawn s here fits runs set same but =
+      let x = run_here order m point puts b l r run s here in (
+        ended l x.at WasWithdrawn OutcomeWithdrawn,
+        (x.at, x.runs, refl),
+        end_moved order m point puts b a l r run WasWithdrawn OutcomeWithdrawn x s here runs set same but (kept_withdrawn_run (answer_by order m point) puts l r x.at s.kept x.runs),
+      )
 
 module _ {R K P V M : Type 0} (order : K → K → Ordering) (exact : Exact order) (m : Machine K P V) (point : M → Point) (b : StoreView R K P V M) (a : List (Place (RunView K P))) (r : ℕ)
     (run : RunView K P) (here : found b.runs.items r ≡ Some run) (kept : RunsKept order m b.inputs (memo_at order b.places) b.claims b.runs.items)
@@ -86,5 +110,8 @@ module _ {R K P V M : Type 0} (order : K → K → Ordering) (exact : Exact orde
           subst (λ (t : Top K P). FramesKept order m b.inputs (memo_at order b.places) run.stack t) fits.1
           (kept.current r run here (began fits.0))
   ends_counted Starved fits began x =
+      lost_counted order exact m b.inputs log (memo_at order b.places) (memo_at order b.places) b.runs.items a r run here b.claims kept.claimed
+      (renewed_same m b.inputs.revision (memo_at order b.places) (memo_at order b.places) (λ q. refl)) set x
+  ends_counted Withdrawn fits began x =
       lost_counted order exact m b.inputs log (memo_at order b.places) (memo_at order b.places) b.runs.items a r run here b.claims kept.claimed
       (renewed_same m b.inputs.revision (memo_at order b.places) (memo_at order b.places) (λ q. refl)) set x

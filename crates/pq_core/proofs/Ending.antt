@@ -14,7 +14,7 @@ use Rattle.pq_core.specs.Kept.{Kept}
 use Rattle.pq_core.specs.aux.Stands.{RunSeen, Fields, EntryStands, IsOwedNothing, ClientStands, HasRun, Stands}
 use Rattle.pq_core.specs.declared.outcome.Outcome.{Outcome}
 
-abbrev ready_place : {K V M : Type 0} → ReplyView K V M → Place K V M
+abbrev pub ready_place : {K V M : Type 0} → ReplyView K V M → Place K V M
 ready_place reply = Ready reply
 
 module _ {K V M L O : Type 0} (AsSeat : L → Client K V M O → Type 0) (means : M → Point → K → Answer K V → Type 0) (puts : O → List (ReplyView K V M)) where

@@ -6,18 +6,19 @@ use Rattle.pq_rules.specs.declared.turn.Answer.{Answer}
 use Rattle.pq_core.specs.Points.{Point}
 use Rattle.pq_core.specs.Replies.{ReplyView}
 use Rattle.pq_rules.proofs.ListLemmas.{get_last}
-use Rattle.pq_core.proofs.Lists.{get_set, get_append, get_longer, get_within, get_map, set_long, append_long, map_long}
-use Rattle.pq_core.specs.Ledger.{Out, Place, Waiting, Running, Ready, Put, Dropped, Entry, Client, Ledger, with_client, with_entry, moved_to, opened, with_outbox, place_closed, entry_closed, Fate, Unharmed, WasStarved}
+use Rattle.pq_core.proofs.Lists.{get_set, get_append, get_longer, get_within, get_map, set_long, append_long, map_long, get_there}
+use Rattle.pq_core.specs.Ledger.{Out, Place, Waiting, Running, Ready, Put, Dropped, Entry, Client, Ledger, with_client, with_entry, moved_to, opened, with_outbox, place_closed, entry_closed, Fate, Unharmed, WasStarved, WasWithdrawn}
 use Rattle.pq_core.specs.RightReply.{IsTrueOutcome, IsRightFor}
-use Rattle.pq_core.specs.Moves.{Opens, Accepts, Edits, Starts, LooksFor, Gives, Starves, Releases, Closes, TakesOut, RunAt, Runs, IsOvertaken, new_entry, first_place, changed, reply_at, ended, with_out, out_of, place_ended}
+use Rattle.pq_core.specs.Moves.{Opens, Accepts, Edits, Starts, LooksFor, Gives, Starves, Withdraws, Releases, Closes, TakesOut, RunAt, Runs, IsOvertaken, new_entry, first_place, changed, edited, reply_at, ended, with_out, out_of, place_ended, is_turn, turned, TurnsEntry, TurnsClient, Turns, TurnsIf, IsOwed, WithdrawsEntry, WithdrawsEach}
 use Rattle.pq_core.specs.Kept.{IsDemand, PlaceKept, EntryKept, ClientKept, Kept}
+use Rattle.pq_core.specs.declared.label.Label.{Label}
 use Rattle.pq_core.specs.declared.request.Request.{Request}
 use Rattle.pq_core.specs.Changes.{ChangeView}
 use Rattle.pq_core.specs.Works.{DoneView, WorkView}
 use Rattle.pq_core.specs.declared.request.Want.{Want}
 use Rattle.pq_core.specs.declared.request.Want.TheVariants.{Demand, Fixed}
 use Rattle.pq_core.specs.declared.outcome.Outcome.{Outcome}
-use Rattle.pq_core.specs.declared.outcome.Outcome.TheVariants.{Answered, Plain, Cancelled, Starved}
+use Rattle.pq_core.specs.declared.outcome.Outcome.TheVariants.{Answered, Plain, Cancelled, Starved, Withdrawn}
 use Rattle.pq_core.specs.declared.moves.Move.{Move}
 use Rattle.pq_core.specs.declared.moves.Move.TheVariants.{Carry, Blocked, Stepped as MoveStepped, Answered as MoveAnswered, Stopped as MoveStopped}
 use Rattle.pq_core.specs.declared.moves.Released.{Released}
@@ -28,6 +29,7 @@ use Rattle.pq_core.specs.declared.fault.GiveRefused.{GiveRefused}
 use Rattle.pq_core.specs.declared.fault.OpenRefused.{OpenRefused}
 use Rattle.pq_core.specs.declared.fault.AcceptRefused.{AcceptRefused}
 use Rattle.pq_core.specs.declared.fault.EditRefused.{EditRefused}
+use Rattle.pq_core.specs.declared.fault.WithdrawFault.{WithdrawFault}
 
 module _ {K V M O : Type 0} (means : M → Point → K → Answer K V → Type 0) (puts : O → List (ReplyView K V M)) where
   -- another client of an id
@@ -97,10 +99,12 @@ module _ {K V M : Type 0} (means : M → Point → K → Answer K V → Type 0) 
   true_later t u a s (Demand key) r Plain h f x = x
   true_later t u a s (Demand key) r (Cancelled started seen) h f x = let b : seen ≤ t.revision = x.2 in (x.0, x.1, omega arith, x.3)
   true_later t u a s (Demand key) r Starved h f x = let b : r ≤ t.revision = x.2 in (x.0, x.1, omega arith)
+  true_later t u a s (Demand key) r Withdrawn h f x = let b : r ≤ t.revision = x.2 in (x.0, x.1, omega arith)
   true_later t u a s (Fixed text) r (Answered answer stamp) h f x = x
   true_later t u a s (Fixed text) r Plain h f x = x
   true_later t u a s (Fixed text) r (Cancelled started seen) h f x = x
   true_later t u a s (Fixed text) r Starved h f x = x
+  true_later t u a s (Fixed text) r Withdrawn h f x = x
 
   right_later : (t u : Table) (c n : ℕ) (entry : Entry K V M) (reply : ReplyView K V M) → t.revision ≤ u.revision
       → ((j : ℕ) (files : Sources) → slice_get t.history j ≡ Some files → slice_get u.history j ≡ Some files)
@@ -270,11 +274,11 @@ module _ {K V M O : Type 0} (means : M → Point → K → Answer K V → Type 0
       (new_kept means l.inputs (puts client.outbox) c (length client.entries) request ck.few))))
   kept_accepts c request (Err refused) l m k s = subst (Kept means puts) (sym s.2) k
 
-  pub kept_edits : (c : ℕ) (change : ChangeView) (answer : Result ℕ EditRefused) (l m : Ledger K V M O) → Kept means puts l → Edits c change answer l m → Kept means puts m
-  kept_edits c change (Ok revision) l m k s =
+  -- an edit, before any run ends
+  pub kept_edited : (l : Ledger K V M O) (change : ChangeView) → Kept means puts l → Kept means puts (edited l change)
+  kept_edited l change k =
       let files = (changed l.inputs change).files in
-      subst (Kept means puts) (sym s.4)
-      (record {
+      record {
         inputs = record {
           counted = append_long l.inputs.history files ∙ ap (λ (i : ℕ). i + 1) k.inputs.counted;
           latest = subst (λ (i : ℕ). slice_get (l.inputs.history ++ files ∷ []) i ≡ Some files) k.inputs.counted (get_last l.inputs.history files);
@@ -287,8 +291,7 @@ module _ {K V M O : Type 0} (means : M → Point → K → Answer K V → Type 0
                   entry_later means l.inputs (changed l.inputs change) (puts other.outbox) d i entry (omega arith)
                   (λ j fs e. get_longer l.inputs.history (files ∷ []) j fs e) (ck.each i entry g);
             };
-      })
-  kept_edits c change (Err refused) l m k s = subst (Kept means puts) (sym s.2) k
+      }
 
   pub kept_starts : (answer : Option ℕ) (l m : Ledger K V M O) → Kept means puts l → Starts answer l m → Kept means puts m
   kept_starts (Some run) l m k s =
@@ -363,6 +366,115 @@ module _ {K V M O : Type 0} (means : M → Point → K → Answer K V → Type 0
       subst (Kept means puts) (sym s.2)
       (kept_end l run at WasStarved Starved k s.1 (starved_true l.inputs at.entry.accepted at.entry.request.want placed.1 (omega arith)))
   kept_starves run false l m k s = subst (Kept means puts) (sym s.1) k
+
+  -- ---- turns
+
+  -- a run that is over at a turn
+  placed_turned : (l : Ledger K V M O) (qs : List (ReplyView K V M)) (c n : ℕ) (entry : Entry K V M) (run started : ℕ) (out : Option (Out K)) (is_open : Bool)
+      → started < l.inputs.revision → PlaceKept means l.inputs qs c n entry (Running run started out)
+      → PlaceKept means l.inputs qs c n (turned l c n is_open started entry) (turned l c n is_open started entry).place
+  placed_turned l qs c n entry run started out is_open late x =
+      ended_placed means l.inputs qs c n entry entry.fate is_open _ x.0
+      (record { client = refl; number = refl; request = refl; outcome = stopped_true l.inputs entry.accepted started entry.fate entry.request.want x.1 x.2 late })
+
+  -- `AllLate l` is that each run was started before the revision now
+  abbrev pub AllLate : Ledger K V M O → Type 0
+  AllLate l = (c n : ℕ) (client : Client K V M O) (entry : Entry K V M) (run started : ℕ) (out : Option (Out K)) → slice_get l.clients c ≡ Some client → slice_get client.entries n ≡ Some entry
+      → entry.place ≡ Running run started out → started < l.inputs.revision
+
+  kept_turned : (l : Ledger K V M O) (qs : List (ReplyView K V M)) (c n : ℕ) (is_open : Bool) (x y : Entry K V M) → EntryKept means l.inputs qs c n x
+      → ((run started : ℕ) (out : Option (Out K)) → x.place ≡ Running run started out → started < l.inputs.revision)
+      → TurnsEntry l c n is_open x y → EntryKept means l.inputs qs c n y
+  kept_turned l qs c n is_open x y k late (inl (run, started, out, is, e)) =
+      subst (λ (z : Entry K V M). EntryKept means l.inputs qs c n z) (sym e)
+      (record {
+        past = k.past;
+        placed = placed_turned l qs c n x run started out is_open (late run started out is) (subst (λ (p : Place K V M). PlaceKept means l.inputs qs c n x p) is k.placed);
+      })
+  kept_turned l qs c n is_open x y k late (inr w) = subst (λ (z : Entry K V M). EntryKept means l.inputs qs c n z) (sym w.1) k
+
+  turned_client : (l : Ledger K V M O) (c : ℕ) (x y : Client K V M O) → slice_get l.clients c ≡ Some x → ClientKept means l.inputs (puts x.outbox) c x.entries → AllLate l
+      → TurnsClient l c x y → ClientKept means l.inputs (puts y.outbox) c y.entries
+  turned_client l c x y here k late t =
+      subst (λ (o : O). ClientKept means l.inputs (puts o) c y.entries) (sym t.outbox)
+      (record {
+        few = let a : length (puts x.outbox) ≤ length x.entries = k.few in let b : length y.entries ≡ length x.entries = t.long in omega arith;
+        each = λ n e h.
+            let lt : n < length y.entries = get_within y.entries n e h in
+            let same : length y.entries ≡ length x.entries = t.long in
+            let there = get_there x.entries n (omega arith) in
+            kept_turned l (puts x.outbox) c n x.is_open there.0 e (k.each n there.0 there.1) (λ run started out is. late c n x there.0 run started out here there.1 is) (t.each n there.0 e there.1 h);
+      })
+
+  pub kept_turns : (l m : Ledger K V M O) → Kept means puts l → AllLate l → Turns l m → Kept means puts m
+  kept_turns l m k late t =
+      subst (λ (i : Table). Kept means puts (record { inputs = i; clients = m.clients; runs = m.runs })) (sym t.inputs)
+      (record {
+        inputs = k.inputs;
+        clients = λ c y h.
+            let lt : c < length m.clients = get_within m.clients c y h in
+            let same : length m.clients ≡ length l.clients = t.long in
+            let there = get_there l.clients c (omega arith) in
+            turned_client l c there.0 y there.1 (k.clients c there.0 there.1) late (t.each c there.0 y there.1 h);
+      })
+
+  -- an edit makes the revision later than each run's start
+  pub late_edited : (l : Ledger K V M O) (change : ChangeView) → Kept means puts l → AllLate (edited l change)
+  late_edited l change k c n client entry run started out here at is =
+      let p = subst (λ (x : Place K V M). PlaceKept means l.inputs (puts client.outbox) c n entry x) is ((k.clients c client here).each n entry at).placed in
+      let past : started ≤ l.inputs.revision = p.3 in
+      omega arith
+
+  kept_turns_if : (test : Bool) (l m : Ledger K V M O) → Kept means puts l → AllLate l → TurnsIf test l m → Kept means puts m
+  kept_turns_if true l m k late t = kept_turns l m k late t
+  kept_turns_if false l m k late e = subst (Kept means puts) (sym e) k
+
+  pub kept_edits : (c : ℕ) (change : ChangeView) (answer : Result ℕ EditRefused) (l m : Ledger K V M O) → Kept means puts l → Edits c change answer l m → Kept means puts m
+  kept_edits c change (Ok revision) l m k s = kept_turns_if (is_turn revision) (edited l change) m (kept_edited l change k) (late_edited l change k) s.4
+  kept_edits c change (Err refused) l m k s = subst (Kept means puts) (sym s.2) k
+
+  -- ---- withdraw
+
+  withdrawn_true : (inputs : Table) (a : ℕ) (want : Want K) → IsDemand want → a ≤ inputs.revision → IsTrueOutcome means inputs a WasWithdrawn want inputs.revision Withdrawn
+  withdrawn_true inputs a (Demand key) d h = (refl, h, omega arith)
+  withdrawn_true inputs a (Fixed text) d h = absurd d
+
+  -- a request that is owed is one for an answer, past those put
+  owed_demand : (inputs : Table) (qs : List (ReplyView K V M)) (c n : ℕ) (entry : Entry K V M) (place : Place K V M) → IsOwed place → PlaceKept means inputs qs c n entry place
+      → (length qs ≤ n) × IsDemand entry.request.want
+  owed_demand inputs qs c n entry Waiting o x = x
+  owed_demand inputs qs c n entry (Running run started out) o x = (x.0, x.1)
+  owed_demand inputs qs c n entry (Ready reply) o x = absurd o
+  owed_demand inputs qs c n entry Put o x = absurd o
+  owed_demand inputs qs c n entry Dropped o x = absurd o
+
+  kept_withdrawn : (l : Ledger K V M O) (qs : List (ReplyView K V M)) (c n : ℕ) (label : Label) (x y : Entry K V M) → EntryKept means l.inputs qs c n x
+      → WithdrawsEntry l c label n x y → EntryKept means l.inputs qs c n y
+  kept_withdrawn l qs c n label x y k (inl w) =
+      let o = owed_demand l.inputs qs c n x x.place w.0.owed k.placed in
+      subst (λ (e : Entry K V M). EntryKept means l.inputs qs c n e) (sym w.1)
+      (record {
+        past = k.past;
+        placed = (o.0, record { client = refl; number = refl; request = refl; outcome = withdrawn_true l.inputs x.accepted x.request.want o.1 k.past });
+      })
+  kept_withdrawn l qs c n label x y k (inr w) = subst (λ (e : Entry K V M). EntryKept means l.inputs qs c n e) (sym w.1) k
+
+  kept_each : (l : Ledger K V M O) (qs : List (ReplyView K V M)) (c : ℕ) (label : Label) (before after : List (Entry K V M)) → ClientKept means l.inputs qs c before
+      → WithdrawsEach l c label before after → ClientKept means l.inputs qs c after
+  kept_each l qs c label before after k w = record {
+    few = let a : length qs ≤ length before = k.few in let b : length after ≡ length before = w.long in omega arith;
+    each = λ n y h.
+        let lt : n < length after = get_within after n y h in
+        let same : length after ≡ length before = w.long in
+        let there = get_there before n (omega arith) in
+        kept_withdrawn l qs c n label there.0 y (k.each n there.0 there.1) (w.each n there.0 y there.1 h);
+  }
+
+  pub kept_withdraws : (c : ℕ) (label : Label) (answer : Result Bool WithdrawFault) (l m : Ledger K V M O) → Kept means puts l → Withdraws c label answer l m → Kept means puts m
+  kept_withdraws c label (Ok answer) l m k s =
+      subst (Kept means puts) (sym s.3.2)
+      (kept_client means puts l c _ k (kept_each l (puts s.0.outbox) c label s.0.entries s.3.0 (k.clients c s.0 s.1.here) s.3.1))
+  kept_withdraws c label (Err fault) l m k s = subst (Kept means puts) (sym s.1) k
 
   -- another outbox with the same replies put
   kept_outbox : (l : Ledger K V M O) (c : ℕ) (client : Client K V M O) (o : O) (refused : Bool) → slice_get l.clients c ≡ Some client → puts o ≡ puts client.outbox

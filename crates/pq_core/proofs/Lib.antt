@@ -53,3 +53,7 @@ pub mod CoreLeaving
 pub mod CoreResting
 pub mod Crosses
 pub mod TwoCalls
+pub mod TurnOfRuns
+pub mod WithdrawOne
+pub mod WithdrawEach
+pub mod WithdrawCounts

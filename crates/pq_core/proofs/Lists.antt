@@ -79,3 +79,9 @@ same_or_other zero zero = inl refl
 same_or_other zero (suc j) = inr (omega arith)
 same_or_other (suc i) zero = inr (omega arith)
 same_or_other (suc i) (suc j) = elim (same_or_other i j) [ inl e ↦ inl (ap suc e) | inr n ↦ inr (λ e. n (omega arith)) ]
+
+-- a place that is set twice
+pub set_twice : {A : Type 0} (xs : List A) (i : ℕ) (x y : A) → slice_set (slice_set xs i x) i y ≡ slice_set xs i y
+set_twice [] i x y = refl
+set_twice (a ∷ xs) zero x y = refl
+set_twice (a ∷ xs) (suc i) x y = ap (λ (ys : List _). a ∷ ys) (set_twice xs i x y)

@@ -29,34 +29,9 @@ use Rattle.pq_core.specs.declared.rising.Place.{Place as Slot}
 use Rattle.pq_core.specs.aux.Rising.{found}
 use Rattle.pq_core.specs.aux.Accounts.{StageStands, AccountStands}
 use Rattle.pq_core.specs.aux.Stands.{IsOwedNothing}
+use Rattle.pq_core.specs.aux.Advancing.{NotReady, NotCollected, Advances, AllAdvance, AllGoOn}
 
 -- ---- how stages go on
-
--- `NotReady stage` is that the reply is not made
-abbrev pub NotReady : {K T : Type 0} → Stage K T → Type 0
-NotReady (Waiting request accepted) = Unit {0}
-NotReady (Running begun) = Unit {0}
-NotReady (Made ready) = ⊥
-NotReady Collected = ⊥
-
--- `NotCollected stage` is that the reply was not collected
-abbrev pub NotCollected : {K T : Type 0} → Stage K T → Type 0
-NotCollected (Waiting request accepted) = Unit {0}
-NotCollected (Running begun) = Unit {0}
-NotCollected (Made ready) = Unit {0}
-NotCollected Collected = ⊥
-
--- `Advances a b` is that of the account `a`, which is `b` afterwards, the replies that were made are so
--- still, that none was collected, and that a reply was made at most to a request whose reply was not
-pub record Advances {K V M : Type 0} (a b : AccountView K V M) : Type 0 where
-  pub made : (n : ℕ) (ready : ReadyView K V M) → IsStage a n (Made ready) → IsStage b n (Made ready)
-  pub collected : (n : ℕ) → IsStage b n Collected → IsStage a n Collected
-  pub fresh : (n : ℕ) (ready : ReadyView K V M) → IsStage b n (Made ready) → IsStage a n (Made ready) ⊎ ((stage : Stage K (ReadyView K V M)) → IsStage a n stage → NotReady stage)
-
--- `AllAdvance before after` is this of each account; an account that is new has no requests
-pub record AllAdvance {K V M : Type 0} (before after : List (Slot (AccountView K V M))) : Type 0 where
-  pub each : (c : ℕ) (a b : AccountView K V M) → found before c ≡ Some a → found after c ≡ Some b → Advances a b
-  pub opened : (c : ℕ) (b : AccountView K V M) → found before c ≡ None → found after c ≡ Some b → (n : ℕ) (stage : Stage K (ReadyView K V M)) → IsStage b n stage → ⊥
 
 pub first_not_collected : {K : Type 0} (V M : Type 0) (c n : ℕ) (request : Request K) (revision : ℕ) (want : Want K) → NotCollected (first_stage {V = V} {M = M} c n request revision want)
 first_not_collected V M c n request revision (Demand key) = tt
@@ -64,7 +39,7 @@ first_not_collected V M c n request revision (Fixed text) = tt
 
 module _ {K V M : Type 0} where
   pub advances_same : (a : AccountView K V M) → Advances a a
-  advances_same a = record { made = λ n ready h. h; collected = λ n h. h; fresh = λ n ready h. inl h }
+  advances_same a = record { made = λ n ready h. h; collected = λ n h. h; stays = λ n h. h; fresh = λ n ready h. inl h }
 
   -- a request is added
   pub advances_longer : (a : AccountView K V M) (t : Stage K (ReadyView K V M)) → NotCollected t → Advances a (with_request a t)
@@ -74,6 +49,7 @@ module _ {K V M : Type 0} where
       | inl w ↦ absurd (subst (λ (s : Stage K (ReadyView K V M)). NotCollected s) (sym w.1) not)
       | inr w ↦ w
     ];
+    stays = λ n h. longer_at a n Collected t h;
     fresh = λ n ready h. elim (was_before a n (Made ready) t h) [
       | inl w ↦ inr (λ stage g. let lt = stage_within a n stage g in let e = w.0 in absurd (omega arith))
       | inr w ↦ inl w
@@ -88,6 +64,7 @@ module _ {K V M : Type 0} where
       | inl w ↦ absurd (subst (λ (x : Stage K (ReadyView K V M)). NotCollected x) (sym w.1) not)
       | inr w ↦ w.1
     ];
+    stays = λ k h. other_at a n k Collected t at.past (λ e. absurd (uncollected k e h)) h;
     fresh = λ k ready h. elim (was_at a n k (Made ready) t at.past h) [
       | inl w ↦ inr (λ stage g. subst (λ (x : Stage K (ReadyView K V M)). NotReady x) (sym (one_stage a n stage s (subst (λ (i : ℕ). IsStage a i stage) w.0 g) at)) not_ready)
       | inr w ↦ inl w.1
@@ -98,8 +75,63 @@ module _ {K V M : Type 0} where
       unready k ready e h =
           subst (λ (x : Stage K (ReadyView K V M)). NotReady x) (one_stage a n s (Made ready) at (subst (λ (i : ℕ). IsStage a i (Made ready)) e h)) not_ready
 
+      uncollected : (k : ℕ) → k ≡ n → IsStage a k Collected → ⊥
+      uncollected k e h =
+          subst (λ (x : Stage K (ReadyView K V M)). NotReady x) (one_stage a n s Collected at (subst (λ (i : ℕ). IsStage a i Collected) e h)) not_ready
+
   advances_as : (a x b y : AccountView K V M) → a ≡ x → b ≡ y → Advances a b → Advances x y
   advances_as a x b y e f h = subst (λ (z : AccountView K V M). Advances x z) f (subst (λ (z : AccountView K V M). Advances z b) e h)
+
+  -- one call after the other
+  pub advances_twice : (a b c : AccountView K V M) → Advances a b → Advances b c → Advances a c
+  advances_twice a b c f g = record {
+    made = λ n ready h. g.made n ready (f.made n ready h);
+    collected = λ n h. f.collected n (g.collected n h);
+    stays = λ n h. g.stays n (f.stays n h);
+    fresh = λ n ready h. elim (g.fresh n ready h) [
+      | inl w ↦ f.fresh n ready w
+      | inr none ↦ inr (λ stage at. before n none stage at)
+    ];
+  }
+    where
+      before : (n : ℕ) → ((stage : Stage K (ReadyView K V M)) → IsStage b n stage → NotReady stage) → (stage : Stage K (ReadyView K V M)) → IsStage a n stage → NotReady stage
+      before n none (Waiting request accepted) at = tt
+      before n none (Running begun) at = tt
+      before n none (Made ready) at = none (Made ready) (f.made n ready at)
+      before n none Collected at = none Collected (f.stays n at)
+
+  pub go_on_same : (b a : List (Slot (AccountView K V M))) → ((k : ℕ) → found a k ≡ found b k) → AllGoOn b a
+  go_on_same b a same = record { each = λ c x h. (x, same c ∙ h, advances_same x); none = λ c h. same c ∙ h }
+
+  pub go_on_twice : (a b c : List (Slot (AccountView K V M))) → AllGoOn a b → AllGoOn b c → AllGoOn a c
+  go_on_twice a b c f g = record {
+    each = λ k x h. (let y = f.each k x h in let z = g.each k y.0 y.1 in (z.0, z.1, advances_twice x y.0 z.0 y.2 z.2));
+    none = λ k h. g.none k (f.none k h);
+  }
+
+  pub go_on_all : (b a : List (Slot (AccountView K V M))) → AllGoOn b a → AllAdvance b a
+  go_on_all b a f = record {
+    each = λ c x y h g. (let z = f.each c x h in advances_as x x z.0 y refl (some_one z.0 y (sym z.1 ∙ g)) z.2);
+    opened = λ c y none h n stage at. absurd (none_some y (sym (f.none c none) ∙ h));
+  }
+
+  -- the account of one client goes on
+  pub go_on_set : (b a : List (Slot (AccountView K V M))) (c : ℕ) (account after : AccountView K V M) → found b c ≡ Some account
+      → ((k : ℕ) → found a k ≡ (if k == c then Some after else found b k)) → Advances account after → AllGoOn b a
+  go_on_set b a c account after here set goes = record {
+    each = λ k x h. elim (same_or_other k c) [
+      | inl is ↦ (
+        after,
+        ap (found a) is ∙ (set c ∙ if_at c (Some after) (found b c)),
+        advances_as account x after after (some_one account x (sym here ∙ (ap (found b) (sym is) ∙ h))) refl goes,
+      )
+      | inr ne ↦ (x, set k ∙ (if_other k c (Some after) (found b k) ne ∙ h), advances_same x)
+    ];
+    none = λ k h. elim (same_or_other k c) [
+      | inl is ↦ absurd (none_some account (sym h ∙ (ap (found b) is ∙ here)))
+      | inr ne ↦ set k ∙ (if_other k c (Some after) (found b k) ne ∙ h)
+    ];
+  }
 
   -- the accounts stay as they are
   pub all_same : (b a : List (Slot (AccountView K V M))) → ((k : ℕ) → found a k ≡ found b k) → AllAdvance b a

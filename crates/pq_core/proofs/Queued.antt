@@ -1,5 +1,5 @@
 -- The queue of the requests that wait, after each change of accounts. Only proofs need these lemmas.
-use Rattle.std.proofs.Common.{◌≡◌, ◌≢◌, ℕ, ◌≤◌, ◌==◌, if◌then◌else◌, ◌⊎◌, Bool, true, false, cond, not, List, [], ◌∷◌, ◌++◌, length, Option, Some, None, refl, sym, ◌∙◌, ap, subst, inl, inr, arith}
+use Rattle.std.proofs.Common.{◌≡◌, ◌≢◌, ℕ, ◌≤◌, ◌==◌, ◌||◌, if◌then◌else◌, ◌⊎◌, Bool, true, false, cond, not, List, [], ◌∷◌, ◌++◌, length, Option, Some, None, refl, sym, ◌∙◌, ap, subst, inl, inr, arith}
 use Rattle.std.specs.Prelude.{filter}
 use Rattle.std.specs.List.{items_where_true}
 use Rattle.std.specs.List.Retain.{IsFiltered, ReturnsInTurn}
@@ -19,7 +19,7 @@ use Rattle.pq_core.specs.declared.account.Stage.{Stage}
 use Rattle.pq_core.specs.declared.account.Stage.TheVariants.{Waiting, Running, Made, Collected}
 use Rattle.pq_core.specs.Kept.{IsDemand}
 use Rattle.pq_core.specs.aux.Rising.{found}
-use Rattle.pq_core.specs.aux.Queue.{is_of_other, WaitsIn, IsOnce, IsQueue}
+use Rattle.pq_core.specs.aux.Queue.{is_of_other, is_other_seat, WaitsIn, IsOnce, IsQueue}
 
 -- what `retain` leaves, where the closure's answer is a function's and the closure stays as it is
 -- ---- filtered lists
@@ -377,3 +377,60 @@ module _ {K V M : Type 0} where
 -- it is no longer than before
 pub no_longer : (c : ℕ) (queue rest : List (ℕ × ℕ)) → rest ≡ filter (λ seat. is_of_other c seat) queue → length rest ≤ length queue
 no_longer c queue rest e = rw e (few_filter (λ seat. is_of_other c seat) queue)
+
+-- ---- a request is withdrawn
+
+both_not : (p q : Bool) → p ≡ true → q ≡ true → not p || not q ≡ false
+both_not p q e f = ap (λ (x : Bool). not x || not q) e ∙ ap (λ (x : Bool). not x) f
+
+first_not : (p q : Bool) → p ≡ false → not p || not q ≡ true
+first_not p q e = ap (λ (x : Bool). not x || not q) e
+
+second_not : (p q : Bool) → q ≡ false → not p || not q ≡ true
+second_not true q e = ap not e
+second_not false q e = refl
+
+-- a seat is another than the request `n` of the client `c`
+same_seat : (c n k i : ℕ) → k ≡ c → i ≡ n → is_other_seat c n (k, i) ≡ true → ⊥
+same_seat c n k i e f t = not_so (sym t ∙ both_not (k == c) (i == n) (eq-eqb k c e) (eq-eqb i n f))
+  where
+    not_so : true ≡ false → ⊥
+    not_so g = cc
+
+other_client : (c n k i : ℕ) → k ≢ c → is_other_seat c n (k, i) ≡ true
+other_client c n k i ne = first_not (k == c) (i == n) (ne_eqb k c ne)
+
+other_number : (c n k i : ℕ) → i ≢ n → is_other_seat c n (k, i) ≡ true
+other_number c n k i ne = second_not (k == c) (i == n) (ne_eqb i n ne)
+
+module _ {K V M : Type 0} where
+  -- the reply to a request that waits is made
+  pub queue_withdrawn : (b a : List (Place (AccountView K V M))) (queue after : List (ℕ × ℕ)) (c n accepted : ℕ) (account : AccountView K V M) (request : Request K) (ready : ReadyView K V M)
+      → found b c ≡ Some account → IsStage account n (Waiting request accepted)
+      → ((k : ℕ) → found a k ≡ (if k == c then Some (with_stage account n (Made ready)) else found b k))
+      → after ≡ filter (λ seat. is_other_seat c n seat) queue → IsQueue b queue → IsQueue a after
+  queue_withdrawn b a queue after c n accepted account request ready here at set e q =
+      rw e
+      (record {
+        waits = λ k i w. (
+            let f = out_filter (λ seat. is_other_seat c n seat) (k, i) queue w in
+            let x = q.waits k i f.1 in
+            elim (same_or_other k c) [
+              | inl is ↦ (
+                x.0,
+                waits_set b a c (with_stage account n (Made ready)) set k i x.0 is
+                    (stays_other account n i (Made ready) x.0 at.past (λ v. same_seat c n k i is v f.0) (waits_account b c account here k i x.0 is x.1)),
+              )
+              | inr ne ↦ (x.0, waits_other b a c (Some (with_stage account n (Made ready))) set k i x.0 ne x.1)
+            ]);
+        queued = λ k i other w. elim (same_or_other k c) [
+          | inl is ↦ (
+              let v = waited_before account n i (Made ready) other at.past (made_waits_not ready) (waits_there b a c (with_stage account n (Made ready)) set k i other is w) in
+              in_filter (λ seat. is_other_seat c n seat) (k, i) queue (other_number c n k i v.0)
+              (q.queued k i other (record { account = account; here = ap (found b) is ∙ here; accepted = v.1.accepted; waits = v.1.waits })))
+          | inr ne ↦
+              in_filter (λ seat. is_other_seat c n seat) (k, i) queue (other_client c n k i ne)
+              (q.queued k i other (waits_before b a c (Some (with_stage account n (Made ready))) set k i other ne w))
+        ];
+        once = once_filter (λ seat. is_other_seat c n seat) queue q.once;
+      })

@@ -1,14 +1,15 @@
 -- Each move leaves a closed client closed, with the same outbox. A middle term: only proofs need it.
-use Rattle.std.proofs.Common.{◌≡◌, ℕ, Bool, true, false, List, [], ◌∷◌, slice_get, slice_set, Option, Some, None, refl, sym, ◌∙◌, ap, subst, inl, inr}
+use Rattle.std.proofs.Common.{◌≡◌, ℕ, ◌<◌, Bool, true, false, List, [], ◌∷◌, length, slice_get, slice_set, Option, Some, None, refl, sym, ◌∙◌, ap, subst, inl, inr, arith}
 use Rattle.std.specs.Prelude.{Ok, Err, Result}
 use Rattle.pq_rules.specs.declared.turn.Answer.{Answer}
 use Rattle.pq_core.specs.Points.{Point}
 use Rattle.pq_core.specs.Replies.{ReplyView}
-use Rattle.pq_core.proofs.Lists.{get_longer, get_within, set_same, set_other, same_or_other}
+use Rattle.pq_core.proofs.Lists.{get_longer, get_within, get_there, set_same, set_other, same_or_other}
 use Rattle.pq_core.specs.Ledger.{Client, Ledger, IsClosed, opened}
-use Rattle.pq_core.specs.Moves.{Opens, Accepts, Edits, Starts, LooksFor, Gives, Starves, Releases, Closes, TakesOut}
+use Rattle.pq_core.specs.Moves.{Opens, Accepts, Edits, Starts, LooksFor, Gives, Starves, Withdraws, Releases, Closes, TakesOut, Turns, TurnsIf, edited, is_turn}
 use Rattle.pq_core.specs.Changes.{ChangeView}
 use Rattle.pq_core.specs.Works.{DoneView, WorkView}
+use Rattle.pq_core.specs.declared.label.Label.{Label}
 use Rattle.pq_core.specs.declared.request.Request.{Request}
 use Rattle.pq_core.specs.declared.moves.Move.{Move}
 use Rattle.pq_core.specs.declared.moves.Move.TheVariants.{Carry, Blocked, Stepped as MoveStepped, Answered as MoveAnswered, Stopped as MoveStopped}
@@ -20,6 +21,7 @@ use Rattle.pq_core.specs.declared.fault.GiveRefused.{GiveRefused}
 use Rattle.pq_core.specs.declared.fault.OpenRefused.{OpenRefused}
 use Rattle.pq_core.specs.declared.fault.AcceptRefused.{AcceptRefused}
 use Rattle.pq_core.specs.declared.fault.EditRefused.{EditRefused}
+use Rattle.pq_core.specs.declared.fault.WithdrawFault.{WithdrawFault}
 
 not_both : (b : Bool) → b ≡ true → b ≡ false → ⊥
 not_both b e f = cc
@@ -73,9 +75,23 @@ module _ {K V M O : Type 0} where
   shut_accepts puts c d request (Ok n) l m shut s = stays_open l m c shut d s.0 _ s.1.here s.1.open_yet (clients_of _ m s.4)
   shut_accepts puts c d request (Err refused) l m shut s = stays_as l m c shut s.2
 
+  -- a turn ends runs, and leaves each client as open as it was
+  shut_turns : (l m : Ledger K V M O) (c : ℕ) (shut : IsClosed l c) → Turns l m → Stays l c shut m
+  shut_turns l m c shut t =
+      let lt : c < length l.clients = get_within l.clients c shut.client shut.here in
+      let same : length m.clients ≡ length l.clients = t.long in
+      let there = get_there m.clients c (omega arith) in
+      let w = t.each c shut.client there.0 shut.here there.1 in
+      (record { client = there.0; here = there.1; closed = w.is_open ∙ shut.closed }, w.outbox)
+
+  shut_turns_if : (test : Bool) (l m : Ledger K V M O) (c : ℕ) (shut : IsClosed l c) → TurnsIf test l m → Stays l c shut m
+  shut_turns_if true l m c shut t = shut_turns l m c shut t
+  shut_turns_if false l m c shut e = stays_as l m c shut e
+
   pub shut_edits : (c d : ℕ) (change : ChangeView) (answer : Result ℕ EditRefused) (l m : Ledger K V M O) (shut : IsClosed l c) → Edits d change answer l m → Stays l c shut m
   shut_edits c d change (Ok revision) l m shut s =
-      (record { client = shut.client; here = ap (λ (xs : List (Client K V M O)). slice_get xs c) (clients_of _ m s.4) ∙ shut.here; closed = shut.closed }, refl)
+      let w = shut_turns_if (is_turn revision) (edited l change) m c (record { client = shut.client; here = shut.here; closed = shut.closed }) s.4 in
+      (w.0, w.1)
   shut_edits c d change (Err refused) l m shut s = stays_as l m c shut s.2
 
   pub shut_starts : (c : ℕ) (answer : Option ℕ) (l m : Ledger K V M O) (shut : IsClosed l c) → Starts answer l m → Stays l c shut m
@@ -102,6 +118,10 @@ module _ {K V M O : Type 0} where
   pub shut_starves : (c run : ℕ) (answer : Bool) (l m : Ledger K V M O) (shut : IsClosed l c) → Starves run answer l m → Stays l c shut m
   shut_starves c run true l m shut s = stays_alike l m c shut s.0.c s.0.client _ s.1.is_entry.client_here refl refl (clients_of _ m s.2)
   shut_starves c run false l m shut s = stays_as l m c shut s.1
+
+  pub shut_withdraws : (c d : ℕ) (label : Label) (answer : Result Bool WithdrawFault) (l m : Ledger K V M O) (shut : IsClosed l c) → Withdraws d label answer l m → Stays l c shut m
+  shut_withdraws c d label (Ok some) l m shut s = stays_alike l m c shut d s.0 _ s.1.here refl refl (clients_of _ m s.3.2)
+  shut_withdraws c d label (Err fault) l m shut s = stays_as l m c shut s.1
 
   pub shut_releases : (puts takes : O → List (ReplyView K V M)) (was_full was_gone : O → Type 0) (c d : ℕ) (answer : Released) (l m : Ledger K V M O) (shut : IsClosed l c) → Releases puts takes was_full was_gone d answer l m → Stays l c shut m
   shut_releases puts takes was_full was_gone c d (ReleasedPut n) l m shut s = stays_open l m c shut d s.0.client _ s.1.here s.1.ready.open_yet (clients_of _ m s.3.3)

@@ -7,7 +7,7 @@ use Rattle.std.proofs.lemmas.Option.{slice_get_read, get_or_from_slice_get}
 use Rattle.pq_core.proofs.Lists.{some_one, get_within, same_or_other, set_same, set_long}
 use Rattle.pq_core.specs.Moves.{one_if}
 use Rattle.pq_core.specs.declared.rising.Place.{Place}
-use Rattle.pq_core.specs.aux.Rising.{found, IsVacant, IsAbove, IsBelow, Rises, has_value, live_count, Compacts, NoneOf}
+use Rattle.pq_core.specs.aux.Rising.{found, numbers, IsVacant, IsAbove, IsBelow, Rises, has_value, live_count, Compacts, NoneOf}
 
 none_of : {A : Type 0} {P : Type 0} (y : A) → None ≡ Some y → P
 none_of y h = cc
@@ -205,6 +205,35 @@ pub count_nil : (T : Type 0) → live_count {T = T} [] ≡ 0
 unfolding live_count
 count_nil T = refl
 
+-- ---- the numbers of the places
+
+numbers_set : {T : Type 0} (items : List (Place T)) (i : ℕ) (p q : Place T) → slice_get items i ≡ Some p → q.number ≡ p.number → numbers (slice_set items i q) ≡ numbers items
+numbers_set [] i p q get e = refl
+numbers_set {T} (a ∷ items) zero p q get e = ap (λ (n : ℕ). n ∷ numbers items) (e ∙ ap (λ (r : Place T). r.number) (sym (some_one a p get)))
+numbers_set (a ∷ items) (suc i) p q get e = ap (λ (ns : List ℕ). a.number ∷ ns) (numbers_set items i p q get e)
+
+-- the number of a place
+pub number_at : {T : Type 0} (items : List (Place T)) (i : ℕ) (p : Place T) → slice_get items i ≡ Some p → slice_get (numbers items) i ≡ Some p.number
+number_at [] i p get = none_of p get
+number_at {T} (a ∷ items) zero p get = ap (λ (r : Place T). Some r.number) (some_one a p get)
+number_at (a ∷ items) (suc i) p get = number_at items i p get
+
+-- what is read of a place
+place_read : {T : Type 0} (xs ys : List (Place T)) (at : ℕ) (q : Place T) → ys ≡ xs → at < length xs → q ≡ get_or ys at q → slice_get xs at ≡ Some q
+place_read {T} xs ys at q e lt is = slice_get_read xs (length xs) at q refl lt (is ∙ ap (λ (zs : List (Place T)). get_or zs at q) e)
+
+pub place_some : {T : Type 0} (xs ys : List (Place T)) (at n : ℕ) (q : Place T) (v : T) → ys ≡ xs → Rises xs → at < length xs → q ≡ get_or ys at q → q.value ≡ Some v → n ≡ q.number
+    → (found xs n ≡ Some v) × (slice_get (numbers xs) at ≡ Some n)
+place_some xs ys at n q v e h lt is some same =
+    let get = place_read xs ys at q e lt is in
+    (ap (found xs) same ∙ (found_at xs at q h get ∙ some), number_at xs at q get ∙ ap Some (sym same))
+
+pub place_none : {T : Type 0} (xs ys : List (Place T)) (at : ℕ) (q : Place T) → ys ≡ xs → Rises xs → at < length xs → q ≡ get_or ys at q → q.value ≡ None
+    → (n : ℕ) → slice_get (numbers xs) at ≡ Some n → found xs n ≡ None
+place_none xs ys at q e h lt is none n here =
+    let get = place_read xs ys at q e lt is in
+    ap (found xs) (some_one n q.number (sym here ∙ number_at xs at q get)) ∙ (found_at xs at q h get ∙ none)
+
 -- ---- a place written
 
 -- what holds of a map whose place of `number` was `q` and has now the value `w`
@@ -215,6 +244,7 @@ pub record Written {T : Type 0} (xs : List (Place T)) (at : ℕ) (q : Place T) (
   pub counted : live_count (slice_set xs at (record { number = q.number; value = w })) + one_if (is_some q.value) ≡ live_count xs + one_if (is_some w)
   pub most : live_count (slice_set xs at (record { number = q.number; value = w })) ≤ length xs
   pub was : found xs number ≡ q.value
+  pub numbered : numbers (slice_set xs at (record { number = q.number; value = w })) ≡ numbers xs
   pub here : slice_get (slice_set xs at (record { number = q.number; value = w })) at ≡ Some (record { number = number; value = w })
 
 pub written : {T : Type 0} (xs : List (Place T)) (at number : ℕ) (q : Place T) (w : Option T) → Rises xs → at < length xs → q ≡ get_or xs at q → ((p : Place T) → slice_get xs at ≡ Some p → p.number ≡ number) → Written xs at q number w
@@ -231,6 +261,7 @@ written {T} xs at number q w h lt is numbered =
       counted = count_set xs at q r get;
       most = omega arith;
       was = ap (found xs) (sym same) ∙ found_at xs at q h get;
+      numbered = numbers_set xs at q r get refl;
       here = set_same xs at r lt ∙ place_is r number w same refl;
     }
 

@@ -46,7 +46,7 @@ module _ {K P : Type 0} where
   begun_held stack top k (inr b) =
       subst (λ (t : Top K P). In k (run_keys stack t)) (sym b.1) (in_append_right k (frame_keys stack) (b.0.key ∷ []) (inl (sym b.2)))
 
-  claimed_begun : (claims : List (ℕ × Hold K)) (runs : List (Place (RunView K P))) → AreClaimed claims runs → (r : ℕ) (run : RunView K P) → found runs r ≡ Some run
+  pub claimed_begun : (claims : List (ℕ × Hold K)) (runs : List (Place (RunView K P))) → AreClaimed claims runs → (r : ℕ) (run : RunView K P) → found runs r ≡ Some run
       → (k : K) → IsBegun run.stack run.top k → Holds claims r k
   claimed_begun claims runs claimed r run here k b =
       subst (λ (ks : List K). In k ks) (sym (claimed r ∙ ap (λ (o : Option (RunView K P)). claimed_keys o) here)) (begun_held run.stack run.top k b)

@@ -1,6 +1,6 @@
 -- Edits, at what a store keeps.
 use Rattle.std.proofs.Common.{◌≡◌, ℕ, ◌+◌, ◌≤◌, List, [], ◌∷◌, ◌++◌, Option, Some, None, refl, sym, ◌∙◌, ap, subst, inl, inr}
-use Rattle.std.specs.Prelude.{Ok, unwrap_or}
+use Rattle.std.specs.Prelude.{Ok, Err, Result, unwrap_or}
 use Rattle.std.specs.Option.{option_map}
 use Rattle.std.specs.declared.cmp.Ordering.{Ordering}
 use Rattle.pq_inputs.specs.Sources.{Table, with_file}
@@ -11,20 +11,30 @@ use Rattle.pq_inputs.specs.declared.fault.InputFault.TheVariants.{Memory as NoMe
 use Rattle.pq_rules.specs.Turns.{Machine}
 use Rattle.pq_core.proofs.Calling.{open_of, closed_of}
 use Rattle.pq_core.proofs.Moving.{edit_stands}
-use Rattle.pq_core.proofs.Keeping.{kept_edits}
+use Rattle.pq_core.proofs.Keeping.{kept_edited}
+use Rattle.pq_rules.specs.declared.turn.Answer.{Answer}
 use Rattle.pq_core.specs.Points.{Point}
 use Rattle.pq_core.specs.Replies.{ReplyView}
 use Rattle.pq_core.specs.Changes.{BodyView, ChangeView}
 use Rattle.pq_core.specs.Ledger.{Ledger}
 use Rattle.pq_core.specs.RightReply.{answer_by}
-use Rattle.pq_core.specs.Moves.{Reaches, Edits, EditRefusal, InputRefusal, IsRanged, text_made, file_of, changed}
+use Rattle.pq_core.specs.Moves.{Reaches, EditRefusal, InputRefusal, IsRanged, text_made, file_of, changed}
 use Rattle.pq_core.specs.Stores.{Held, fields_of, run_seen as seen_of, StandsOf}
 use Rattle.pq_core.specs.aux.Rising.{found}
 use Rattle.pq_core.specs.Accounts.{AccountView}
 use Rattle.pq_core.specs.aux.Accounts.{AccountStands}
 use Rattle.pq_core.specs.aux.Accepting.{MayNotEdit}
+use Rattle.pq_core.specs.aux.Turning.{Sets}
+use Rattle.pq_core.specs.Kept.{Kept}
+use Rattle.pq_core.specs.declared.fault.EditRefused.{EditRefused}
 use Rattle.pq_core.specs.declared.fault.EditFault.{EditFault}
 use Rattle.pq_core.specs.declared.fault.EditFault.TheVariants.{NoClient as EditNoClient, Closed as EditClosed, BadRange, Input}
+
+module _ {K V M O : Type 0} (means : M → Point → K → Answer K V → Type 0) (puts : O → List (ReplyView K V M)) where
+  -- an edit keeps what holds, before any run ends
+  pub kept_sets : (c : ℕ) (change : ChangeView) (answer : Result ℕ EditRefused) (l m : Ledger K V M O) → Kept means puts l → Sets c change answer l m → Kept means puts m
+  kept_sets c change (Ok revision) l m k s = subst (Kept means puts) (sym s.4) (kept_edited means puts l change k)
+  kept_sets c change (Err refused) l m k s = subst (Kept means puts) (sym s.2) k
 
 module _ {K P V M O : Type 0} (order : K → K → Ordering) (m : Machine K P V) (point : M → Point) (puts : O → List (ReplyView K V M)) where
   -- an edit is accepted
@@ -32,11 +42,11 @@ module _ {K P V M O : Type 0} (order : K → K → Ordering) (m : Machine K P V)
       → text_made b.inputs.files change ≡ Some text → refusal b.inputs change.file text ≡ None → revision ≡ b.inputs.revision + 1 → a.inputs ≡ changed b.inputs change
       → ((k : ℕ) → found a.accounts k ≡ found b.accounts k) → a.opened ≡ b.opened → a.clients ≡ b.clients
       → ((k : ℕ) → found a.runs k ≡ found b.runs k) → a.started ≡ b.started → StandsOf order m point puts b l
-      → Reaches (Edits c change (Ok revision)) l (StandsOf order m point puts a)
+      → Reaches (Sets c change (Ok revision)) l (StandsOf order m point puts a)
   edit_moved b a c revision change text l there made accepted next inputs accounts count clients runs started s =
       let w = open_of (AccountStands puts) (answer_by order m point) puts (fields_of b) l c there.0 s there.1 in
       let after : Ledger K V M O = record { inputs = changed l.inputs change; clients = l.clients; runs = l.runs } in
-      let move : Edits c change (Ok revision) l after = (
+      let move : Sets c change (Ok revision) l after = (
         w.0,
         w.1,
         (
@@ -51,7 +61,7 @@ module _ {K P V M O : Type 0} (order : K → K → Ordering) (m : Machine K P V)
         move,
         edit_stands (AccountStands puts) (answer_by order m point) puts (fields_of b) (fields_of a) l after change s inputs count clients accounts
             (record { runs = λ r. ap (option_map seen_of) (runs r); started = started }) refl
-            (kept_edits (answer_by order m point) puts c change (Ok revision) l after s.kept move),
+            (kept_sets (answer_by order m point) puts c change (Ok revision) l after s.kept move),
       )
 
   -- the inputs refused the text of an edit

@@ -19,7 +19,7 @@ use Rattle.pq_core.proofs.Ending.{end_stands, out_stands}
 use Rattle.pq_core.proofs.Keeping.{runs_placed, kept_looks, kept_gives}
 use Rattle.pq_core.proofs.AccountStanding.{running_there, finished_stands, out_changed_stands}
 use Rattle.pq_core.proofs.AccountMoves.{one_stage}
-use Rattle.pq_core.proofs.Making.{AllAdvance, all_same, all_set, advances_staged}
+use Rattle.pq_core.proofs.Making.{go_on_same, go_on_set, advances_staged}
 use Rattle.pq_core.proofs.Queued.{queue_same, queue_finished}
 use Rattle.pq_core.specs.Points.{Point, point_now}
 use Rattle.pq_core.specs.Replies.{ReplyView}
@@ -46,6 +46,7 @@ use Rattle.pq_core.specs.declared.request.Request.{Request}
 use Rattle.pq_rules.specs.Turns.{over}
 use Rattle.pq_rules.specs.Value.{Means}
 use Rattle.pq_core.specs.aux.Queue.{IsQueue}
+use Rattle.pq_core.specs.aux.Advancing.{AllGoOn}
 use Rattle.pq_core.specs.declared.account.Stage.TheVariants.{Running, Made}
 use Rattle.pq_core.specs.declared.outcome.Outcome.{Outcome}
 use Rattle.pq_core.specs.declared.outcome.Outcome.TheVariants.{Cancelled, Answered}
@@ -101,12 +102,12 @@ module _ {K V M : Type 0} where
   pub end_advances : (b a : List (Place (AccountView K V M))) (c n : ℕ) (reply : ReplyView K V M)
       → ((account : AccountView K V M) → found b c ≡ Some account → EndsIn b a account c n reply)
       → (found b c ≡ None → (k : ℕ) → found a k ≡ found b k)
-      → AllAdvance b a
+      → AllGoOn b a
   end_advances b a c n reply set same = by_account (found b c) refl
     where
-      by_account : (account : Option (AccountView K V M)) → found b c ≡ account → AllAdvance b a
-      by_account (Some account) here = let e = set account here in all_set b a c account _ here e.set (advances_staged account n (Running e.begun) _ e.was tt tt)
-      by_account None none = all_same b a (same none)
+      by_account : (account : Option (AccountView K V M)) → found b c ≡ account → AllGoOn b a
+      by_account (Some account) here = let e = set account here in go_on_set b a c account _ here e.set (advances_staged account n (Running e.begun) _ e.was tt tt)
+      by_account None none = go_on_same b a (same none)
 
   abbrev running_as : Begun → Stage K (ReadyView K V M)
   running_as begun = Running begun

@@ -1,16 +1,18 @@
 -- Each move of the ledger of a store is the move of the ledger of its core.
 use Rattle.std.proofs.Common.{◌≡◌, ℕ, ◌+◌, ◌<◌, ◌≤◌, ◌^◌, ◌⊎◌, Bool, true, false, zero, suc, List, [], ◌∷◌, ◌++◌, map, length, slice_get, slice_set, Option, Some, None, refl, sym, ◌∙◌, ap, subst, inl, inr, arith}
 use Rattle.std.specs.Prelude.{Ok, Err, Result}
+use Rattle.pq_inputs.specs.Sources.{Table}
 use Rattle.pq_rules.specs.declared.turn.Answer.{Answer}
-use Rattle.pq_core.proofs.Lists.{get_map, map_long}
+use Rattle.pq_core.proofs.Lists.{get_map, get_within, get_there, map_long}
 use Rattle.pq_core.specs.Points.{Point}
 use Rattle.pq_core.specs.Replies.{ReplyView}
 use Rattle.pq_core.specs.Changes.{ChangeView}
 use Rattle.pq_core.specs.Works.{DoneView, WorkView, IsWorkOf}
-use Rattle.pq_core.specs.Ledger.{Out, Running, Put, Entry, Client, Ledger, IsOpen, IsClosed, IsEntry, with_client, with_entry, moved_to, with_outbox, opened, closed, Fate, WasStarved}
-use Rattle.pq_core.specs.Moves.{one_if, open_count, window, owed, OpenRefusal, Opens, AcceptRefusal, Accepts, new_entry, with_new, EditRefusal, Edits, changed, Waits, NoneWaits, Starts, started_at, RunAt, Runs, NoneRuns, IsRequestOf, ended, with_out, out_of, IsOvertaken, IsCurrent, GoesOn, IsBlocked, LooksFor, IsOf, Gives, Starves, NextReady, IsReady, Releases}
+use Rattle.pq_core.specs.Ledger.{Out, Running, Put, Entry, Client, Ledger, IsOpen, IsClosed, IsEntry, with_client, with_entry, with_entries, moved_to, with_outbox, opened, closed, Fate, WasStarved}
+use Rattle.pq_core.specs.Moves.{one_if, open_count, window, owed, OpenRefusal, Opens, AcceptRefusal, Accepts, new_entry, with_new, TurnsClient, Turns, TurnsIf, is_turn, EditRefusal, Edits, edited, Waits, NoneWaits, Starts, started_at, RunAt, Runs, NoneRuns, IsRequestOf, ended, with_out, out_of, IsOvertaken, IsCurrent, GoesOn, IsBlocked, LooksFor, IsOf, Gives, Starves, TellsSome, WithdrawsEach, WithdrawRefusal, Withdraws, NextReady, IsReady, Releases}
 use Rattle.pq_core.specs.Kept.{Kept}
 use Rattle.pq_core.specs.Told.{Told, told_puts, told_client, told_ledger, IsReadyAt, NoneReadyAt, OpensNext, Shuts, TellsOne}
+use Rattle.pq_core.specs.declared.label.Label.{Label}
 use Rattle.pq_core.specs.declared.request.Request.{Request}
 use Rattle.pq_core.specs.declared.outcome.Outcome.{Outcome}
 use Rattle.pq_core.specs.declared.outcome.Outcome.TheVariants.{Answered, Cancelled, Starved}
@@ -30,6 +32,8 @@ use Rattle.pq_core.specs.declared.fault.LookFault.TheVariants.{NoRun, Memory as 
 use Rattle.pq_core.specs.declared.fault.GiveFault.{GiveFault}
 use Rattle.pq_core.specs.declared.fault.GiveFault.TheVariants.{NotThisRun, Memory as GiveMemory}
 use Rattle.pq_core.specs.declared.fault.GiveRefused.{GiveRefused}
+use Rattle.pq_core.specs.declared.fault.WithdrawFault.{WithdrawFault}
+use Rattle.pq_core.specs.declared.fault.WithdrawFault.TheVariants.{NoClient as WithdrawNoClient, Closed as WithdrawClosed}
 
 -- ---- lists
 
@@ -188,6 +192,46 @@ module _ {K V M O : Type 0} (puts : O → List (ReplyView K V M)) where
   told_out : (l : Ledger K V M O) (run : ℕ) (at : RunAt K V M O) (out : Option (Out K)) → told_ledger puts (with_out l run at out) ≡ with_out (told_ledger puts l) run (told_at at) out
   told_out l run at out = told_set l at.c (with_entry at.client at.n _)
 
+  -- ---- clients with other requests
+
+  -- a client as a store knows it, from its fields
+  told_as : (x : Client K V M O) (y : Client K V M (Told K V M)) → y.outbox ≡ puts x.outbox → y.is_open ≡ x.is_open → y.refused ≡ false → y ≡ told_client puts (with_entries x y.entries)
+  told_as x y o b f =
+      ap (λ (t : Told K V M). record { entries = y.entries; outbox = t; is_open = y.is_open; refused = y.refused }) o
+      ∙ (ap (λ (t : Bool). record { entries = y.entries; outbox = puts x.outbox; is_open = t; refused = y.refused }) b
+      ∙ ap (λ (t : Bool). record { entries = y.entries; outbox = puts x.outbox; is_open = x.is_open; refused = t }) f)
+
+  -- `relist xs ys` is the clients `xs`, each with the requests of that of `ys` in its place
+  abbrev pub relist : List (Client K V M O) → List (Client K V M (Told K V M)) → List (Client K V M O)
+  relist [] ys = []
+  relist (x ∷ xs) [] = x ∷ xs
+  relist (x ∷ xs) (y ∷ ys) = with_entries x y.entries ∷ relist xs ys
+
+  relist_long : (xs : List (Client K V M O)) (ys : List (Client K V M (Told K V M))) → length (relist xs ys) ≡ length xs
+  relist_long [] ys = refl
+  relist_long (x ∷ xs) [] = refl
+  relist_long (x ∷ xs) (y ∷ ys) = ap suc (relist_long xs ys)
+
+  relist_get : (xs : List (Client K V M O)) (ys : List (Client K V M (Told K V M))) (c : ℕ) (x : Client K V M O) (y : Client K V M (Told K V M)) (z : Client K V M O)
+      → slice_get xs c ≡ Some x → slice_get ys c ≡ Some y → slice_get (relist xs ys) c ≡ Some z → z ≡ with_entries x y.entries
+  relist_get [] ys c x y z h g f = none_is x h
+  relist_get (a ∷ xs) [] c x y z h g f = none_is y g
+  relist_get (a ∷ xs) (b ∷ ys) zero x y z h g f =
+      sym (some_is (with_entries a b.entries) z f)
+      ∙ (ap (λ (v : Client K V M O). with_entries v b.entries) (some_is a x h)
+      ∙ ap (λ (v : Client K V M (Told K V M)). with_entries x v.entries) (some_is b y g))
+  relist_get (a ∷ xs) (b ∷ ys) (suc c) x y z h g f = relist_get xs ys c x y z h g f
+
+  relist_told : (xs : List (Client K V M O)) (ys : List (Client K V M (Told K V M))) → length ys ≡ length xs
+      → ((c : ℕ) (x : Client K V M O) (y : Client K V M (Told K V M)) → slice_get xs c ≡ Some x → slice_get ys c ≡ Some y → y ≡ told_client puts (with_entries x y.entries))
+      → map (told_client puts) (relist xs ys) ≡ ys
+  relist_told [] [] long each = refl
+  relist_told [] (y ∷ ys) long each = absurd (omega arith)
+  relist_told (x ∷ xs) [] long each = absurd (omega arith)
+  relist_told (x ∷ xs) (y ∷ ys) long each =
+      ap (λ (v : Client K V M (Told K V M)). v ∷ map (told_client puts) (relist xs ys)) (sym (each zero x y refl refl))
+      ∙ ap (λ (vs : List (Client K V M (Told K V M))). y ∷ vs) (relist_told xs ys (omega arith) (λ c a b h g. each (suc c) a b h g))
+
   -- ---- the moves
 
   -- `Lifts Move l n` is that `Move` leads from `l` to a ledger that a store knows as `n`
@@ -242,11 +286,41 @@ module _ {K V M O : Type 0} (puts : O → List (ReplyView K V M)) where
   edit_refusal_told l c change BadRange (x, is_open, why) = let w = open_told l c x is_open in (w.0, w.1, why)
   edit_refusal_told l c change (Input fault) (x, is_open, why) = let w = open_told l c x is_open in (w.0, w.1, why)
 
+  turn_told : (l : Ledger K V M O) (c : ℕ) (x : Client K V M O) (y : Client K V M (Told K V M)) → TurnsClient (told_ledger puts l) c (told_client puts x) y
+      → TurnsClient l c x (with_entries x y.entries)
+  turn_told l c x y t = record { outbox = refl; is_open = refl; refused = refl; long = t.long; each = t.each }
+
+  -- a turn, at which no outbox changes
+  pub turns_told : (l : Ledger K V M O) (n : Ledger K V M (Told K V M)) → Turns (told_ledger puts l) n → Lifts Turns l n
+  turns_told l n t =
+      let long : length n.clients ≡ length l.clients = t.long ∙ told_long l in (
+        record { inputs = l.inputs; clients = relist l.clients n.clients; runs = l.runs },
+        record {
+          inputs = refl;
+          runs = refl;
+          long = relist_long l.clients n.clients;
+          each = λ c x z here there.
+              let lt : c < length l.clients = get_within l.clients c x here in
+              let y = get_there n.clients c (omega arith) in
+              subst (λ (v : Client K V M O). TurnsClient l c x v) (sym (relist_get l.clients n.clients c x y.0 z here y.1 there))
+              (turn_told l c x y.0 (t.each c (told_client puts x) y.0 (told_here l c x here) y.1));
+        },
+        ap (λ (xs : List (Client K V M (Told K V M))). record { inputs = l.inputs; clients = xs; runs = l.runs })
+            (relist_told l.clients n.clients long (λ c x y here there. let w = t.each c (told_client puts x) y (told_here l c x here) there in told_as x y w.outbox w.is_open w.refused))
+            ∙ (ap (λ (i : Table). record { inputs = i; clients = n.clients; runs = l.runs }) (sym t.inputs)
+            ∙ ap (λ (k : ℕ). record { inputs = n.inputs; clients = n.clients; runs = k }) (sym t.runs)),
+      )
+
+  pub turns_if_told : (test : Bool) (l : Ledger K V M O) (n : Ledger K V M (Told K V M)) → TurnsIf test (told_ledger puts l) n → Lifts (TurnsIf test) l n
+  turns_if_told true l n t = turns_told l n t
+  turns_if_told false l n e = (l, refl, sym e)
+
   pub edits_told : (c : ℕ) (change : ChangeView) (answer : Result ℕ EditRefused) (l : Ledger K V M O) (n : Ledger K V M (Told K V M))
       → Edits c change answer (told_ledger puts l) n → Lifts (Edits c change answer) l n
-  edits_told c change (Ok revision) l n (x, is_open, allowed, r_is, e) =
+  edits_told c change (Ok revision) l n (x, is_open, allowed, r_is, t) =
       let w = open_told l c x is_open in
-      (record { inputs = changed l.inputs change; clients = l.clients; runs = l.runs }, (w.0, w.1, allowed, r_is, refl), sym e)
+      let m = turns_if_told (is_turn revision) (edited l change) n t in
+      (m.0, (w.0, w.1, allowed, r_is, m.1), m.2)
   edits_told c change (Err refused) l n (same, why, e) = (l, (same, edit_refusal_told l c change refused.fault why, refl), sym e)
 
   pub starts_told : (answer : Option ℕ) (l : Ledger K V M O) (n : Ledger K V M (Told K V M)) → Starts answer (told_ledger puts l) n → Lifts (Starts answer) l n
@@ -388,6 +462,33 @@ module _ {K V M O : Type 0} (puts : O → List (ReplyView K V M)) where
         told_ended l w.at WasStarved Starved ∙ (ap (λ (y : RunAt K V M (Told K V M)). ended (told_ledger puts l) y WasStarved Starved) (sym w.is) ∙ sym e),
       )
   starves_told run false l n (none, e) = (l, (none_runs_told l run none, refl), sym e)
+
+  -- ---- withdraw
+
+  withdraw_refusal_told : (l : Ledger K V M O) (c : ℕ) (fault : WithdrawFault) → WithdrawRefusal (told_ledger puts l) c fault → WithdrawRefusal l c fault
+  withdraw_refusal_told l c WithdrawNoClient h = let a = told_long l in omega arith
+  withdraw_refusal_told l c WithdrawClosed h = closed_told l c h
+
+  pub withdraws_told : (c : ℕ) (label : Label) (answer : Result Bool WithdrawFault) (l : Ledger K V M O) (n : Ledger K V M (Told K V M))
+      → Withdraws c label answer (told_ledger puts l) n → Lifts (Withdraws c label answer) l n
+  withdraws_told c label (Ok some) l n (x, is_open, tells, (after, each, e)) =
+      let w = open_told l c x is_open in (
+        with_client l c (with_entries w.0 after),
+        (
+          w.0,
+          w.1,
+          subst (λ (y : Client K V M (Told K V M)). TellsSome some label y.entries) w.2 tells,
+          (after, each_told w.0 x w.2 after each, refl),
+        ),
+        told_with l c (with_entries w.0 after) (with_entries x after) n e (ap (λ (y : Client K V M (Told K V M)). with_entries y after) w.2),
+      )
+    where
+      each_told : (client : Client K V M O) (x : Client K V M (Told K V M)) → x ≡ told_client puts client → (after : List (Entry K V M)) → WithdrawsEach (told_ledger puts l) c label x.entries after
+          → WithdrawsEach l c label client.entries after
+      each_told client x is after each =
+          let w = subst (λ (y : Client K V M (Told K V M)). WithdrawsEach (told_ledger puts l) c label y.entries after) is each in
+          record { long = w.long; each = w.each }
+  withdraws_told c label (Err fault) l n (why, e) = (l, (withdraw_refusal_told l c fault why, refl), sym e)
 
   -- ---- close
 

@@ -26,13 +26,15 @@ pub data Place (K V M : Type 0) : Type 0 where
   -- its client was closed before its reply was put
   Dropped : Place K V M
 
--- `Fate` is what befell a request beside its run: nothing, or an allocation failed and it was starved
+-- `Fate` is what befell a request beside its run: nothing; or an allocation failed and it was starved;
+-- or its client withdrew it
 pub data Fate : Type 0 where
   Unharmed : Fate
   WasStarved : Fate
+  WasWithdrawn : Fate
 
 -- `Entry K V M` is an accepted request: the revision at its acceptance, where it is, and whether it
--- was starved
+-- was starved or withdrawn
 pub record Entry (K V M : Type 0) : Type 0 where
   pub request : Request K
   pub accepted : ℕ
@@ -80,6 +82,10 @@ with_client l c client = record { inputs = l.inputs; clients = slice_set l.clien
 -- `with_entry client n entry` is `client` with `entry` as its request `n`
 abbrev pub with_entry : {K V M O : Type 0} → Client K V M O → ℕ → Entry K V M → Client K V M O
 with_entry client n entry = record { entries = slice_set client.entries n entry; outbox = client.outbox; is_open = client.is_open; refused = client.refused }
+
+-- `with_entries client entries` is `client` with the requests `entries`
+abbrev pub with_entries : {K V M O : Type 0} → Client K V M O → List (Entry K V M) → Client K V M O
+with_entries client entries = record { entries = entries; outbox = client.outbox; is_open = client.is_open; refused = client.refused }
 
 -- `moved_to entry place` is `entry` in `place`
 abbrev pub moved_to : {K V M : Type 0} → Entry K V M → Place K V M → Entry K V M

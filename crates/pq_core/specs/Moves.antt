@@ -2,7 +2,7 @@
 -- which ledger is reached. Each relation goes by cases on the answer. A refusal names its
 -- condition; `Memory` comes only where none of the other refusals holds. Every refusal leaves the
 -- ledger as it was and hands back what was handed in.
-use Rattle.std.specs.Prelude.{ℕ, ◌≡◌, ◌≢◌, ◌+◌, ◌-◌, ◌<◌, ◌≤◌, ◌^◌, ◌⊎◌, Bool, true, false, List, [], ◌∷◌, ◌++◌, length, slice_get, slice_set, Option, Some, None, unwrap_or, Ok, Err, Result}
+use Rattle.std.specs.Prelude.{ℕ, ◌≡◌, ◌≢◌, ◌+◌, ◌-◌, ◌<◌, ◌≤◌, ◌^◌, ◌%◌, ◌⊎◌, eqb, Bool, true, false, List, [], ◌∷◌, ◌++◌, length, slice_get, slice_set, Option, Some, None, unwrap_or, Ok, Err, Result}
 use Rattle.std.specs.declared.cmp.Ordering.{Ordering}
 use Rattle.pq_inputs.specs.Sources.{File, Sources, Table, file_in, with_file}
 use Rattle.pq_inputs.specs.Refusal.{refusal}
@@ -15,13 +15,14 @@ use Rattle.pq_core.specs.Points.{Point}
 use Rattle.pq_core.specs.Replies.{ReplyView}
 use Rattle.pq_core.specs.Works.{DoneView, WorkView, IsWorkOf}
 use Rattle.pq_core.specs.Outboxes.{TakesNext}
-use Rattle.pq_core.specs.Ledger.{Out, Place, Waiting, Running, Ready, Put, Dropped, Fate, Unharmed, WasStarved, Entry, Client, Ledger, IsOpen, IsClosed, IsEntry, with_client, with_entry, moved_to, opened, with_outbox, closed}
+use Rattle.pq_core.specs.Ledger.{Out, Place, Waiting, Running, Ready, Put, Dropped, Fate, Unharmed, WasStarved, WasWithdrawn, Entry, Client, Ledger, IsOpen, IsClosed, IsEntry, with_client, with_entry, with_entries, moved_to, opened, with_outbox, closed}
 use Rattle.pq_core.specs.RightReply.{IsValueAt, answer_by}
+use Rattle.pq_core.specs.declared.label.Label.{Label}
 use Rattle.pq_core.specs.declared.request.Request.{Request}
 use Rattle.pq_core.specs.declared.request.Want.{Want}
 use Rattle.pq_core.specs.declared.request.Want.TheVariants.{Demand, Fixed}
 use Rattle.pq_core.specs.declared.outcome.Outcome.{Outcome}
-use Rattle.pq_core.specs.declared.outcome.Outcome.TheVariants.{Answered, Plain, Cancelled, Starved}
+use Rattle.pq_core.specs.declared.outcome.Outcome.TheVariants.{Answered, Plain, Cancelled, Starved, Withdrawn}
 use Rattle.pq_core.specs.declared.fault.OpenFault.{OpenFault}
 use Rattle.pq_core.specs.declared.fault.OpenFault.TheVariants.{TooManyClients, Memory as OpenMemory}
 use Rattle.pq_core.specs.declared.fault.OpenRefused.{OpenRefused}
@@ -36,6 +37,8 @@ use Rattle.pq_core.specs.declared.fault.LookFault.TheVariants.{NoRun, Memory as 
 use Rattle.pq_core.specs.declared.fault.GiveFault.{GiveFault}
 use Rattle.pq_core.specs.declared.fault.GiveFault.TheVariants.{NotThisRun, Memory as GiveMemory}
 use Rattle.pq_core.specs.declared.fault.GiveRefused.{GiveRefused}
+use Rattle.pq_core.specs.declared.fault.WithdrawFault.{WithdrawFault}
+use Rattle.pq_core.specs.declared.fault.WithdrawFault.TheVariants.{NoClient as WithdrawNoClient, Closed as WithdrawClosed}
 use Rattle.pq_core.specs.declared.moves.Move.{Move}
 use Rattle.pq_core.specs.declared.moves.Move.TheVariants.{Carry, Blocked, Stepped, Answered as MoveAnswered, Stopped}
 use Rattle.pq_core.specs.declared.moves.Released.{Released}
@@ -114,6 +117,56 @@ Accepts {K} {V} {M} {O} puts c request (Ok n) l m =
     × (m ≡ with_client l c (with_new client (new_entry c n request l.inputs.revision)))
 Accepts puts c request (Err refused) l m = (refused.request ≡ request) × AcceptRefusal puts l c refused.fault × (m ≡ l)
 
+-- ---- turns
+
+-- `place_ended is_open reply` is where a request is whose run has ended: `reply` is ready, unless
+-- the client was closed
+abbrev pub place_ended : {K V M : Type 0} → Bool → ReplyView K V M → Place K V M
+place_ended true reply = Ready reply
+place_ended false reply = Dropped
+
+-- `turn_length` is the number of revisions from a turn to the next
+abbrev pub turn_length : ℕ
+turn_length = 1024
+
+-- `is_turn revision` is whether the edit that makes `revision` ends every run
+abbrev pub is_turn : ℕ → Bool
+is_turn revision = eqb (revision % turn_length) 0
+
+-- `turned l c n is_open started entry` is `entry`, the request `n` of the client `c`, whose run was
+-- started at the revision `started`, after a turn at `l`: it is cancelled, or dropped where the client
+-- was closed
+abbrev pub turned : {K V M O : Type 0} → Ledger K V M O → ℕ → ℕ → Bool → ℕ → Entry K V M → Entry K V M
+turned l c n is_open started entry =
+    moved_to entry (place_ended is_open (record { client = c; number = n; request = entry.request; revision = l.inputs.revision; outcome = Cancelled started l.inputs.revision }))
+
+-- `TurnsEntry l c n is_open before after` is what a turn at `l` makes of `before`, the request `n` of the
+-- client `c`: if it is in a run, the run is over; else it stays as it is
+abbrev pub TurnsEntry : {K V M O : Type 0} → Ledger K V M O → ℕ → ℕ → Bool → Entry K V M → Entry K V M → Type 0
+TurnsEntry {K} l c n is_open before after =
+    ((run : ℕ) × (started : ℕ) × (out : Option (Out K)) × (before.place ≡ Running run started out) × (after ≡ turned l c n is_open started before))
+    ⊎ (((run started : ℕ) (out : Option (Out K)) → before.place ≡ Running run started out → ⊥) × (after ≡ before))
+
+-- `TurnsClient l c before after` is what it makes of `before`, the client `c`
+pub record TurnsClient {K V M O : Type 0} (l : Ledger K V M O) (c : ℕ) (before after : Client K V M O) : Type 0 where
+  pub outbox : after.outbox ≡ before.outbox
+  pub is_open : after.is_open ≡ before.is_open
+  pub refused : after.refused ≡ before.refused
+  pub long : length after.entries ≡ length before.entries
+  pub each : (n : ℕ) (x y : Entry K V M) → slice_get before.entries n ≡ Some x → slice_get after.entries n ≡ Some y → TurnsEntry l c n before.is_open x y
+
+-- `Turns l m` is that a turn leads from `l` to `m`: each run is over
+pub record Turns {K V M O : Type 0} (l m : Ledger K V M O) : Type 0 where
+  pub inputs : m.inputs ≡ l.inputs
+  pub runs : m.runs ≡ l.runs
+  pub long : length m.clients ≡ length l.clients
+  pub each : (c : ℕ) (x y : Client K V M O) → slice_get l.clients c ≡ Some x → slice_get m.clients c ≡ Some y → TurnsClient l c x y
+
+-- `TurnsIf test l m` is that a turn leads from `l` to `m` if `test` is true, and that else `m` is `l`
+abbrev pub TurnsIf : {K V M O : Type 0} → Bool → Ledger K V M O → Ledger K V M O → Type 0
+TurnsIf true l m = Turns l m
+TurnsIf false l m = m ≡ l
+
 -- ---- edit
 
 -- `text_made files change` is the text of the file of `change` after it, where the sources before are
@@ -168,14 +221,19 @@ EditRefusal {K} {V} {M} {O} l c change BadRange =
 EditRefusal {K} {V} {M} {O} l c change (Input fault) =
     (client : Client K V M O) × IsOpen l c client × FailsToSet l.inputs change fault
 
+-- `edited l change` is `l` after `change`, before any run ends
+abbrev pub edited : {K V M O : Type 0} → Ledger K V M O → ChangeView → Ledger K V M O
+edited l change = record { inputs = changed l.inputs change; clients = l.clients; runs = l.runs }
+
 -- `Edits c change answer l m` is that the open client `c` makes `change`, at the next revision: its
--- ranges are good, and the inputs have no reason to refuse the text that it makes
+-- ranges are good, and the inputs have no reason to refuse the text that it makes. Where the revision
+-- is a turn, every run ends in the same event.
 abbrev pub Edits : {K V M O : Type 0} → ℕ → ChangeView → Result ℕ EditRefused → Ledger K V M O → Ledger K V M O → Type 0
 Edits {K} {V} {M} {O} c change (Ok revision) l m =
     (client : Client K V M O) × IsOpen l c client
     × ((text : Option (List ℕ)) × (text_made l.inputs.files change ≡ Some text) × (refusal l.inputs change.file text ≡ None))
     × (revision ≡ l.inputs.revision + 1)
-    × (m ≡ record { inputs = changed l.inputs change; clients = l.clients; runs = l.runs })
+    × TurnsIf (is_turn revision) (edited l change) m
 Edits c change (Err refused) l m = (refused.change ≡ change) × EditRefusal l c change refused.fault × (m ≡ l)
 
 -- ---- start
@@ -231,12 +289,6 @@ NoneRuns {K} {V} {M} {O} l run = (at : RunAt K V M O) → Runs l run at → ⊥
 abbrev pub IsRequestOf : {K V M O : Type 0} → Ledger K V M O → ℕ → Option (ℕ × ℕ) → Type 0
 IsRequestOf {K} {V} {M} {O} l run (Some named) = (at : RunAt K V M O) × Runs l run at × (named.0 ≡ at.c) × (named.1 ≡ at.n)
 IsRequestOf l run None = NoneRuns l run
-
--- `place_ended is_open reply` is where a request is whose run has ended: `reply` is ready, unless
--- the client was closed
-abbrev pub place_ended : {K V M : Type 0} → Bool → ReplyView K V M → Place K V M
-place_ended true reply = Ready reply
-place_ended false reply = Dropped
 
 -- `reply_at l at outcome` is the reply of `outcome` to the request of the run `at`, at the revision
 -- now
@@ -355,6 +407,64 @@ Gives {R} {K} {P} {V} {M} {O} run done (Err refused) l m = (refused.done ≡ don
 abbrev pub Starves : {K V M O : Type 0} → ℕ → Bool → Ledger K V M O → Ledger K V M O → Type 0
 Starves {K} {V} {M} {O} run true l m = (at : RunAt K V M O) × Runs l run at × (m ≡ ended l at WasStarved Starved)
 Starves run false l m = NoneRuns l run × (m ≡ l)
+
+-- ---- withdraw
+
+-- `IsOwed place` is that a request in `place` waits or is in a run
+abbrev pub IsOwed : {K V M : Type 0} → Place K V M → Type 0
+IsOwed Waiting = Unit {0}
+IsOwed (Running run started out) = Unit {0}
+IsOwed (Ready reply) = ⊥
+IsOwed Put = ⊥
+IsOwed Dropped = ⊥
+
+-- `MayWithdraw label entry` is that `entry` waits or is in a run, and has the label `label`
+pub record MayWithdraw {K V M : Type 0} (label : Label) (entry : Entry K V M) : Type 0 where
+  pub owed : IsOwed entry.place
+  pub labelled : entry.request.label ≡ label
+
+-- `withdrawn l c n entry` is `entry`, the request `n` of the client `c`, after it was withdrawn: the
+-- reply says so, at the revision now. A run that it was in is over.
+abbrev pub withdrawn : {K V M O : Type 0} → Ledger K V M O → ℕ → ℕ → Entry K V M → Entry K V M
+withdrawn l c n entry = record {
+  request = entry.request;
+  accepted = entry.accepted;
+  place = Ready (record { client = c; number = n; request = entry.request; revision = l.inputs.revision; outcome = Withdrawn });
+  fate = WasWithdrawn;
+}
+
+-- `WithdrawsEntry l c label n before after` is that `before`, the request `n` of the client `c`, is
+-- withdrawn exactly where it may be
+abbrev pub WithdrawsEntry : {K V M O : Type 0} → Ledger K V M O → ℕ → Label → ℕ → Entry K V M → Entry K V M → Type 0
+WithdrawsEntry l c label n before after =
+    (MayWithdraw label before × (after ≡ withdrawn l c n before)) ⊎ ((MayWithdraw label before → ⊥) × (after ≡ before))
+
+-- `WithdrawsEach l c label before after` is this of each of the requests `before` of the client `c`
+pub record WithdrawsEach {K V M O : Type 0} (l : Ledger K V M O) (c : ℕ) (label : Label) (before after : List (Entry K V M)) : Type 0 where
+  pub long : length after ≡ length before
+  pub each : (n : ℕ) (x y : Entry K V M) → slice_get before n ≡ Some x → slice_get after n ≡ Some y → WithdrawsEntry l c label n x y
+
+-- `HasLabelled label entries` is that one of `entries` may be withdrawn
+abbrev pub HasLabelled : {K V M : Type 0} → Label → List (Entry K V M) → Type 0
+HasLabelled {K} {V} {M} label entries = (n : ℕ) × (entry : Entry K V M) × (slice_get entries n ≡ Some entry) × MayWithdraw label entry
+
+-- `TellsSome answer label entries` is that `answer` is whether one of `entries` may be withdrawn
+abbrev pub TellsSome : {K V M : Type 0} → Bool → Label → List (Entry K V M) → Type 0
+TellsSome true label entries = HasLabelled label entries
+TellsSome false label entries = HasLabelled label entries → ⊥
+
+-- `WithdrawRefusal l c fault` is that the client `c` may not withdraw a request, because of `fault`
+abbrev pub WithdrawRefusal : {K V M O : Type 0} → Ledger K V M O → ℕ → WithdrawFault → Type 0
+WithdrawRefusal l c WithdrawNoClient = length l.clients ≤ c
+WithdrawRefusal l c WithdrawClosed = IsClosed l c
+
+-- `Withdraws c label answer l m` is that the open client `c` withdraws each of its requests with the
+-- label `label` that waits or is in a run, and no other; the answer is whether there was one
+abbrev pub Withdraws : {K V M O : Type 0} → ℕ → Label → Result Bool WithdrawFault → Ledger K V M O → Ledger K V M O → Type 0
+Withdraws {K} {V} {M} {O} c label (Ok answer) l m =
+    (client : Client K V M O) × IsOpen l c client × TellsSome answer label client.entries
+    × ((after : List (Entry K V M)) × WithdrawsEach l c label client.entries after × (m ≡ with_client l c (with_entries client after)))
+Withdraws c label (Err fault) l m = WithdrawRefusal l c fault × (m ≡ l)
 
 -- ---- release
 

@@ -8,11 +8,11 @@ use Rattle.pq_rules.specs.Turns.{Machine, over}
 use Rattle.pq_rules.specs.Value.{Means}
 use Rattle.pq_core.specs.Points.{Point}
 use Rattle.pq_core.specs.Replies.{ReplyView}
-use Rattle.pq_core.specs.Ledger.{Fate, WasStarved, Entry, Client, Ledger, IsEntry}
+use Rattle.pq_core.specs.Ledger.{Fate, WasStarved, WasWithdrawn, Entry, Client, Ledger, IsEntry}
 use Rattle.pq_core.specs.declared.request.Want.{Want}
 use Rattle.pq_core.specs.declared.request.Want.TheVariants.{Demand, Fixed}
 use Rattle.pq_core.specs.declared.outcome.Outcome.{Outcome}
-use Rattle.pq_core.specs.declared.outcome.Outcome.TheVariants.{Answered, Plain, Cancelled, Starved}
+use Rattle.pq_core.specs.declared.outcome.Outcome.TheVariants.{Answered, Plain, Cancelled, Starved, Withdrawn}
 
 -- `answer_by order machine point stamp at key answer` is that `answer` is that of `key` from scratch,
 -- over the sources of `at`, and that `at` is the point of `stamp`
@@ -30,7 +30,8 @@ pub record IsValueAt {K V M : Type 0} (means : M → Point → K → Answer K V 
 -- `IsTrueOutcome means inputs accepted fate want revision outcome` is that `outcome` at
 -- `revision` is true of a request for `want` that was accepted at `accepted`: an answer is that of
 -- its key at a revision not before the acceptance, with the stamp of that revision; a cancellation names the revision of the run's
--- start and a later one, so an edit was accepted between; a starved one was starved
+-- start and a later one, so an edit was accepted between; a starved one was starved, and a withdrawn
+-- one was withdrawn by its client
 abbrev pub IsTrueOutcome : {K V M : Type 0} → (M → Point → K → Answer K V → Type 0) → Table → (accepted : ℕ) → (fate : Fate) → Want K → (revision : ℕ) → Outcome K V M → Type 0
 IsTrueOutcome means inputs accepted fate (Demand key) revision (Answered answer stamp) =
     (accepted ≤ revision) × (revision ≤ inputs.revision) × IsValueAt means inputs revision key answer stamp
@@ -39,10 +40,13 @@ IsTrueOutcome means inputs accepted fate (Demand key) revision (Cancelled starte
     (accepted ≤ started) × (started < seen) × (seen ≤ inputs.revision) × (revision ≡ seen)
 IsTrueOutcome means inputs accepted fate (Demand key) revision Starved =
     (fate ≡ WasStarved) × (accepted ≤ revision) × (revision ≤ inputs.revision)
+IsTrueOutcome means inputs accepted fate (Demand key) revision Withdrawn =
+    (fate ≡ WasWithdrawn) × (accepted ≤ revision) × (revision ≤ inputs.revision)
 IsTrueOutcome means inputs accepted fate (Fixed text) revision (Answered answer stamp) = ⊥
 IsTrueOutcome means inputs accepted fate (Fixed text) revision Plain = revision ≡ accepted
 IsTrueOutcome means inputs accepted fate (Fixed text) revision (Cancelled started seen) = ⊥
 IsTrueOutcome means inputs accepted fate (Fixed text) revision Starved = ⊥
+IsTrueOutcome means inputs accepted fate (Fixed text) revision Withdrawn = ⊥
 
 -- `IsRightFor means inputs c n entry reply` is that `reply` is right as the one to `entry`, the
 -- request `n` of the client `c`

@@ -1,24 +1,31 @@
 -- How often a rule is started: at most once in a revision, and once more for each run that was
--- stopped or starved while it held the key.
+-- stopped, starved or withdrawn while it held the key.
 --
--- A log has the rules that were started, and the keys that were held by the runs that were stopped
--- or starved. No core keeps a log: contracts alone speak of it. What a call adds to it is a function
--- of its answer and of the core before the call (`log_moved`, `log_starved`); all other calls add
--- nothing. The empty log is counted for a new core, and each call keeps that (`IsCountedFor`). So the
--- bound of `IsCounted` holds of the log of every list of calls. The same holds of a store
--- (`log_moved_in`, `log_starved_in`, `IsCountedIn`), and a core's is that of its store.
-use Rattle.std.specs.Prelude.{ℕ, ◌+◌, ◌≤◌, ◌⊎◌, ◌&&◌, Bool, true, false, eqb, List, [], ◌∷◌, ◌++◌, map, Option, Some, None, Result, Ok, Err}
-use Rattle.std.specs.Ordering.{is_eq}
+-- A log has the rules that were started, and the keys that were held by the runs that were stopped,
+-- starved or withdrawn. No core keeps a log: contracts alone speak of it. What a call adds to it is a
+-- function of its answer and of the core before the call (`log_moved`, `log_starved`,
+-- `log_withdrawn`); all other calls add nothing, an edit that ends every run among them, since no rule
+-- was started at its revision. The empty log is counted for a new core, and each call keeps that
+-- (`IsCountedFor`). So the bound of `IsCounted` holds of the log of every list of calls. The same
+-- holds of a store (`log_moved_in`, `log_starved_in`, `log_withdrawn_in`, `IsCountedIn`), and a core's
+-- is that of its store.
+use Rattle.std.specs.Prelude.{ℕ, ◌+◌, ◌≤◌, ◌⊎◌, ◌&&◌, Bool, true, false, cond, eqb, List, [], ◌∷◌, ◌++◌, map, Option, Some, None, Result, Ok, Err}
+use Rattle.std.specs.Ordering.{is_eq, int_eq}
+use Rattle.std.specs.Str.{bytes_eq}
 use Rattle.std.specs.declared.cmp.Ordering.{Ordering}
 use Rattle.pq_rules.specs.Relations.{Each}
 use Rattle.pq_rules.specs.Turns.{Machine}
 use Rattle.pq_memo.specs.declared.look.Why.{Why}
 use Rattle.pq_memo.specs.Look.{IsUpToDate}
 use Rattle.pq_memo.specs.Table.{memo_at, HasIn}
-use Rattle.pq_claims.specs.Claims.{hold_of}
+use Rattle.pq_claims.specs.Claims.{Hold, hold_of}
 use Rattle.pq_core.specs.Works.{WorkView}
 use Rattle.pq_core.specs.Stores.{StoreView}
 use Rattle.pq_core.specs.Cores.{CoreView}
+use Rattle.pq_core.specs.declared.label.Label.{Label}
+use Rattle.pq_core.specs.declared.label.Label.TheVariants.{None as NoLabel, Unsigned, Negative, Text}
+use Rattle.pq_core.specs.declared.fault.WithdrawFault.{WithdrawFault}
+use Rattle.pq_core.specs.declared.rising.Place.{Place}
 use Rattle.pq_core.specs.declared.moves.Move.{Move}
 use Rattle.pq_core.specs.declared.moves.Move.TheVariants.{Carry, Blocked, Stepped, Answered, Stopped}
 use Rattle.pq_core.specs.aux.Rising.{found}
@@ -26,14 +33,14 @@ use Rattle.pq_core.specs.aux.Runs.{RunView}
 use Rattle.pq_core.specs.aux.Begun.{IsBegunIn}
 
 -- `Event K` is that `run`, which was started at `revision`, started the rule of `key`, or held `key`
--- when it was stopped or starved
+-- when it was stopped, starved or withdrawn
 pub record Event (K : Type 0) : Type 0 where
   pub run : ℕ
   pub key : K
   pub revision : ℕ
 
--- `Log K` is the rules that were started, and the keys that were held by the runs that were stopped
--- or starved, in the order of events
+-- `Log K` is the rules that were started, and the keys that were held by the runs that were stopped,
+-- starved or withdrawn, in the order of events
 pub record Log (K : Type 0) : Type 0 where
   pub starts : List (Event K)
   pub lost : List (Event K)
@@ -77,6 +84,45 @@ abbrev pub log_starved_in : {R K P V M : Type 0} → StoreView R K P V M → ℕ
 log_starved_in store run true log = log_end run (found store.runs.items run) (hold_of store.claims run).keys log
 log_starved_in store run false log = log
 
+-- `same_label a b` is whether the labels `a` and `b` are the same
+abbrev pub same_label : Label → Label → Bool
+same_label NoLabel NoLabel = true
+same_label NoLabel (Unsigned n) = false
+same_label NoLabel (Negative n) = false
+same_label NoLabel (Text text) = false
+same_label (Unsigned n) NoLabel = false
+same_label (Unsigned n) (Unsigned o) = eqb n o
+same_label (Unsigned n) (Negative o) = false
+same_label (Unsigned n) (Text text) = false
+same_label (Negative n) NoLabel = false
+same_label (Negative n) (Unsigned o) = false
+same_label (Negative n) (Negative o) = int_eq n o
+same_label (Negative n) (Text text) = false
+same_label (Text text) NoLabel = false
+same_label (Text text) (Unsigned n) = false
+same_label (Text text) (Negative n) = false
+same_label (Text text) (Text other) = bytes_eq text other
+
+-- `lost_at claims c label run there` is the keys that `run` held, which was `there`, if it was of a
+-- request of the client `c` with the label `label`
+abbrev pub lost_at : {K P : Type 0} → List (ℕ × Hold K) → ℕ → Label → ℕ → Option (RunView K P) → List (Event K)
+lost_at claims c label run None = []
+lost_at claims c label run (Some there) =
+    cond (eqb there.client c && same_label there.request.label label) (events_of run there.started (hold_of claims run).keys) []
+
+-- `lost_among claims c label runs` is the keys that the runs of the requests of the client `c` with the
+-- label `label` held, of all `runs`
+unfoldable pub lost_among : {K P : Type 0} → List (ℕ × Hold K) → ℕ → Label → List (Place (RunView K P)) → List (Event K)
+lost_among claims c label [] = []
+lost_among claims c label (p ∷ runs) = lost_at claims c label p.number p.value ++ lost_among claims c label runs
+
+-- `log_withdrawn_in store c label answer log` is `log` after the client `c` withdrew its requests with
+-- the label `label`, if it was not refused: the keys that their runs held are lost. `store` is the
+-- store before the call.
+abbrev pub log_withdrawn_in : {R K P V M : Type 0} → StoreView R K P V M → ℕ → Label → Result Bool WithdrawFault → Log K → Log K
+log_withdrawn_in store c label (Ok answer) log = record { starts = log.starts; lost = log.lost ++ lost_among store.claims c label store.runs.items }
+log_withdrawn_in store c label (Err fault) log = log
+
 -- `log_moved core run answer log` is `log` after `run` was looked at, or a result was given to it.
 -- `core` is the core before the call.
 abbrev pub log_moved : {R K P V M O E : Type 0} → CoreView R K P V M O → ℕ → Result (Move (WorkView R K P V)) E → Log K → Log K
@@ -86,6 +132,11 @@ log_moved core run answer log = log_moved_in core.store run answer log
 -- run. `core` is the core before the call.
 abbrev pub log_starved : {R K P V M O : Type 0} → CoreView R K P V M O → ℕ → Bool → Log K → Log K
 log_starved core run answer log = log_starved_in core.store run answer log
+
+-- `log_withdrawn core c label answer log` is `log` after the client `c` withdrew its requests with the
+-- label `label`, if it was not refused. `core` is the core before the call.
+abbrev pub log_withdrawn : {R K P V M O : Type 0} → CoreView R K P V M O → ℕ → Label → Result Bool WithdrawFault → Log K → Log K
+log_withdrawn core c label answer log = log_withdrawn_in core.store c label answer log
 
 -- ---- the bound
 
@@ -101,8 +152,8 @@ count order revision key [] = 0
 count order revision key (e ∷ es) = one_if (is_eq (order key e.key) && eqb e.revision revision) + count order revision key es
 
 -- `IsCounted order now taken log` is that in each revision a key's rule was started once at most,
--- and once more for each run that was stopped or starved while it held the key; and that the rule of
--- a key that is not `taken` in the revision `now` may be started once more
+-- and once more for each run that was stopped, starved or withdrawn while it held the key; and that
+-- the rule of a key that is not `taken` in the revision `now` may be started once more
 pub record IsCounted {K : Type 0} (order : K → K → Ordering) (now : ℕ) (taken : K → Type 0) (log : Log K) : Type 0 where
   pub earlier : Each (λ e. e.revision ≤ now) log.starts
   pub each : (revision : ℕ) (key : K) → count order revision key log.starts ≤ count order revision key log.lost + 1

@@ -10,7 +10,7 @@ use Rattle.pq_core.specs.Replies.{ReplyView}
 use Rattle.pq_core.specs.declared.request.Want.{Want}
 use Rattle.pq_core.specs.declared.request.Want.TheVariants.{Demand}
 use Rattle.pq_core.specs.declared.outcome.Outcome.{Outcome}
-use Rattle.pq_core.specs.declared.outcome.Outcome.TheVariants.{Answered, Plain, Cancelled, Starved}
+use Rattle.pq_core.specs.declared.outcome.Outcome.TheVariants.{Answered, Plain, Cancelled, Starved, Withdrawn}
 
 -- `AnswersAt order machine at want answer` is that `want` is for a key, and `answer` that of the key
 -- at the sources of `at`
@@ -27,6 +27,7 @@ IsTold order machine point revision want (Answered answer stamp) =
 IsTold order machine point revision want Plain = Unit {0}
 IsTold order machine point revision want (Cancelled started seen) = Unit {0}
 IsTold order machine point revision want Starved = Unit {0}
+IsTold order machine point revision want Withdrawn = Unit {0}
 
 -- `IsTrueReply order machine point reply` is that of the outcome of `reply`, by the rules `machine` of
 -- some rule set of the type `R`

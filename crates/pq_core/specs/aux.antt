@@ -19,3 +19,6 @@ pub mod Resting
 pub mod Inside
 pub mod RunEnds
 pub mod RunStates
+pub mod Advancing
+pub mod Turning
+pub mod Withdrawing

@@ -10,16 +10,23 @@ ghost use Rattle.pq_core.specs.Truth.{IsTrueReply};
 ghost use Rattle.pq_core.specs.Moves.{window};
 ghost use Rattle.pq_core.specs.Accounts.{no_requests, next_of, IsStage, with_stage, with_request, first_stage, Collects, Sees};
 ghost use Rattle.pq_core.specs.aux.Accounts.{noted, HasMade};
+ghost use Rattle.pq_core.specs.aux.Withdrawing.{IsOwedIn, IsOwedStage, IsWithdrawnIn};
 ghost use Rattle.pq_core.specs.declared.request.Request.{Request};
 ghost use Rattle.pq_core.specs.declared.account.Begun.{Begun};
 ghost use Rattle.pq_core.specs.declared.account.Stage.TheVariants.{Waiting, Running, Made, Collected};
 
 use crate::ids::{ClientId, Number};
+use crate::label::{Label, is_same_label};
 use crate::limits::WINDOW;
+use crate::outcome::Outcome;
 use crate::ready::Ready;
 use crate::reply::Reply;
 use crate::request::{Request, Want};
+use crate::rising::Rising;
+use crate::run::Run;
 use crate::stamp::Stamp;
+use crate::withdrawing::Owed;
+use pq_claims::RunId;
 use pq_inputs::Revision;
 use pq_rules::Rules;
 use std::alloc::{AllocError, Global};
@@ -89,6 +96,17 @@ impl<K: Drop, T: Drop> Stage<K, T> {
     {
         match self {
             Stage::Running(begun) => *begun,
+            _ => unreachable!(),
+        }
+    }
+
+    /// Hands out the request, which waits, and the revision of its acceptance.
+    fn wait_over(&mut self) -> (Request<K>, Revision)
+        requires { (request : Request K) × (accepted : ℕ) × (self.old ≡ Waiting request accepted) }
+        ensures { self.old ≡ Waiting result.0 result.1 }
+    {
+        match mem::replace(self, Stage::Collected) {
+            Stage::Waiting(request, accepted) => (request, accepted),
             _ => unreachable!(),
         }
     }
@@ -197,6 +215,47 @@ impl<R: Rules, M: Stamp> Account<R, M> {
         self.stages[place].make(Ready::new(reply, begun.accepted));
     }
 
+    /// Makes the reply to the request `number` of `client`, which waits: it was withdrawn at the
+    /// revision `now`.
+    pub(crate) fn withdraw(&mut self, client: ClientId, number: u64, now: Revision)
+        requires ruled { R }
+        requires waits { (request : Request R.Key) × (accepted : ℕ) × IsStage self.old number (Waiting request accepted) }
+        ensures { IsWithdrawnIn client number now self.old self.new }
+    {
+        let place = (number - self.seen) as usize;
+        let (request, accepted) = self.stages[place].wait_over();
+        let reply = Reply::new(
+            client,
+            Number::new(number),
+            request,
+            now,
+            Outcome::Withdrawn,
+        );
+        self.made.push_back_reserved(number);
+        self.stages[place].make(Ready::new(reply, accepted));
+    }
+
+    /// The number of the first request whose reply was not acknowledged as put.
+    pub(crate) fn seen(&self) -> u64
+        ensures { result ≡ self.now.seen }
+    {
+        self.seen
+    }
+
+    /// What has to happen before the reply to the request `number` is made, if the request has the
+    /// label `label`. A request in a run is that of one of `runs`.
+    pub(crate) fn owed(&self, runs: &Rising<Run<R>>, number: u64, label: &Label) -> Owed
+        ensures { IsOwedIn self.now runs.now.items number label.now result }
+    {
+        if number < self.seen {
+            return Owed::Nothing;
+        }
+        match self.stages.get((number - self.seen) as usize) {
+            None => return Owed::Nothing,
+            Some(stage) => return owed_at(stage, runs, label),
+        }
+    }
+
     /// Whether a reply is made and was not collected.
     pub(crate) fn has_made(&self) -> bool
         ensures { IsTrue result ↔ HasMade self.now }
@@ -236,6 +295,36 @@ impl<R: Rules, M: Stamp> Account<R, M> {
         }
         drop_first(&mut self.stages, more);
         self.seen = below;
+    }
+}
+
+/// What has to happen before the reply to a request in `stage` is made, if the request has the label
+/// `label`.
+fn owed_at<R: Rules, T: Drop>(
+    stage: &Stage<R::Key, T>,
+    runs: &Rising<Run<R>>,
+    label: &Label,
+) -> Owed
+    ensures { IsOwedStage runs.now.items label.now stage.now result }
+{
+    match stage {
+        Stage::Waiting(request, _) => {
+            if is_same_label(&request.label, label) {
+                return Owed::Waits;
+            }
+            return Owed::Nothing;
+        }
+        Stage::Running(begun) => match runs.get(begun.run) {
+            None => return Owed::Nothing,
+            Some(run) => {
+                if is_same_label(&run.request.label, label) {
+                    return Owed::Runs(RunId::new(begun.run));
+                }
+                return Owed::Nothing;
+            }
+        },
+        Stage::Made(_) => return Owed::Nothing,
+        Stage::Collected => return Owed::Nothing,
     }
 }
 

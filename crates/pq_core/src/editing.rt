@@ -1,12 +1,14 @@
 //! Accepting edits of clients.
 //!
 //! An edit makes the text of the file, if it comes as changes with ranges, and sets it. Where a
-//! caller has prepared the text (`Prepared`), the edit takes that text. No edit waits for a run.
-ghost use Rattle.std.specs.Prelude.{◌≡◌, IfOk, IfErr, IfSome, IfNone, Some, option_map, string_bytes};
+//! caller has prepared the text (`Prepared`), the edit takes that text. No edit waits for a run. An
+//! edit whose revision is a turn ends every run (`turning`).
+ghost use Rattle.std.specs.Prelude.{◌≡◌, ◌<◌, ℕ, IfOk, OnOk, IfErr, IfSome, IfNone, Some, option_map, string_bytes};
+ghost use Rattle.pq_inputs.specs.Refusal.{last_revision};
 ghost use Rattle.pq_inputs.specs.Sources.{file_in};
 ghost use Rattle.pq_core.specs.Bodies.{body_view};
 ghost use Rattle.pq_core.specs.Changes.{ChangeView, set, ranged};
-ghost use Rattle.pq_core.specs.Preparing.{bytes_made};
+ghost use Rattle.pq_core.specs.Preparing.{bytes_made, revision_of};
 ghost use Rattle.pq_core.specs.Points.{point_now};
 ghost use Rattle.pq_core.specs.Moves.{Edits, IsRanged, changed, inputs_after, text_made};
 ghost use Rattle.pq_core.specs.Stores.{Goes};
@@ -14,6 +16,8 @@ ghost use Rattle.pq_core.specs.Starts.{IsCountedIn, Log};
 ghost use Rattle.pq_core.specs.aux.Rising.{found};
 ghost use Rattle.pq_core.specs.Accounts.{AccountView};
 ghost use Rattle.pq_core.specs.aux.Accepting.{MayNotEdit};
+ghost use Rattle.pq_core.specs.aux.Runs.{RunView};
+ghost use Rattle.pq_core.specs.aux.Turning.{Sets};
 
 use crate::fault::{EditFault, EditRefused, Memory};
 use crate::ids::ClientId;
@@ -75,7 +79,7 @@ impl<R: Rules, M: Stamp> Store<R, M> {
         change: Change,
         stamp: M,
     ) -> Result<Revision, EditRefused>
-        requires { M.point stamp ≡ point_now (changed self.old.inputs change) }
+        requires { self.old.inputs.revision < last_revision → M.point stamp ≡ point_now (changed self.old.inputs change) }
         ensures rules { self.new.rules ≡ self.old.rules }
         ensures inputs { self.new.inputs ≡ inputs_after self.old.inputs change result }
         ensures places { self.new.places ≡ self.old.places }
@@ -105,7 +109,8 @@ impl<R: Rules, M: Stamp> Store<R, M> {
         }
     }
 
-    /// Makes a change of `client` whose text was prepared, as `edit` does.
+    /// Makes a change of `client` whose text was prepared, as `edit` does. The body of the change comes
+    /// back, so that a caller who holds a lock can drop it later.
     ///
     /// # Errors
     ///
@@ -115,14 +120,15 @@ impl<R: Rules, M: Stamp> Store<R, M> {
         client: ClientId,
         prepared: Prepared,
         stamp: M,
-    ) -> Result<Revision, EditRefused>
+    ) -> Result<(Revision, Body), EditRefused>
         requires current { (file_in self.old.inputs.files prepared.change.file).text ≡ prepared.before }
-        requires stamp { M.point stamp ≡ point_now (changed self.old.inputs prepared.change) }
+        requires stamp { self.old.inputs.revision < last_revision → M.point stamp ≡ point_now (changed self.old.inputs prepared.change) }
         ensures rules { self.new.rules ≡ self.old.rules }
         ensures inputs { self.new.inputs ≡ inputs_after self.old.inputs prepared.change result }
         ensures places { self.new.places ≡ self.old.places }
+        ensures body { IfOk result (λ made. body_view made.1 ≡ prepared.change.body) }
         ensures back { IfErr result (λ refused. refused.change ≡ prepared.change) }
-        ensures moved { Goes R.Key.cmp (R.machine self.old.rules) M.point self.old self.new (Edits client prepared.change result) }
+        ensures moved { Goes R.Key.cmp (R.machine self.old.rules) M.point self.old self.new (Edits client prepared.change (revision_of result)) }
         ensures counted { (log : Log R.Key) → IsCountedIn R.Key.cmp (R.machine self.old.rules) self.old log → IsCountedIn R.Key.cmp (R.machine self.old.rules) self.new log }
     {
         let Prepared { change, made, .. } = prepared;
@@ -139,7 +145,7 @@ impl<R: Rules, M: Stamp> Store<R, M> {
         change: Change,
         stamp: M,
     ) -> Result<Revision, EditRefused>
-        requires stamp { M.point stamp ≡ point_now (changed self.old.inputs change) }
+        requires stamp { self.old.inputs.revision < last_revision → M.point stamp ≡ point_now (changed self.old.inputs change) }
         requires ranged { IsRanged change.body }
         requires may { (account : AccountView R.Key R.Value M) × (found self.old.accounts.items client ≡ Some account) }
         ensures rules { self.new.rules ≡ self.old.rules }
@@ -150,7 +156,10 @@ impl<R: Rules, M: Stamp> Store<R, M> {
         ensures counted { (log : Log R.Key) → IsCountedIn R.Key.cmp (R.machine self.old.rules) self.old log → IsCountedIn R.Key.cmp (R.machine self.old.rules) self.new log }
     {
         match self.text_of(&change) {
-            Ok(made) => return self.edit_made(client, change, made, stamp),
+            Ok(made) => match self.edit_made(client, change, made, stamp) {
+                Ok((revision, _body)) => return Ok(revision),
+                Err(refused) => return Err(refused),
+            },
             Err(_) => {
                 let fault = EditFault::Input(InputFault::Memory);
                 return Err(EditRefused { fault, change });
@@ -166,22 +175,24 @@ impl<R: Rules, M: Stamp> Store<R, M> {
         text_made(self.alloc, &change.body, before)
     }
 
-    /// Makes a change of the open client `client`, of which `made` is the text.
+    /// Makes a change of the open client `client`, of which `made` is the text. The body of the
+    /// change comes back.
     fn edit_made(
         &mut self,
         client: ClientId,
         change: Change,
         made: Option<Option<String>>,
         stamp: M,
-    ) -> Result<Revision, EditRefused>
-        requires stamp { M.point stamp ≡ point_now (changed self.old.inputs change) }
+    ) -> Result<(Revision, Body), EditRefused>
+        requires stamp { self.old.inputs.revision < last_revision → M.point stamp ≡ point_now (changed self.old.inputs change) }
         requires made { bytes_made made ≡ text_made self.old.inputs.files change }
         requires may { (account : AccountView R.Key R.Value M) × (found self.old.accounts.items client ≡ Some account) }
         ensures rules { self.new.rules ≡ self.old.rules }
         ensures inputs { self.new.inputs ≡ inputs_after self.old.inputs change result }
         ensures places { self.new.places ≡ self.old.places }
+        ensures body { IfOk result (λ made. body_view made.1 ≡ change.body) }
         ensures back { IfErr result (λ refused. refused.change ≡ change) }
-        ensures moved { Goes R.Key.cmp (R.machine self.old.rules) M.point self.old self.new (Edits client change result) }
+        ensures moved { Goes R.Key.cmp (R.machine self.old.rules) M.point self.old self.new (Edits client change (revision_of result)) }
         ensures counted { (log : Log R.Key) → IsCountedIn R.Key.cmp (R.machine self.old.rules) self.old log → IsCountedIn R.Key.cmp (R.machine self.old.rules) self.new log }
     {
         let Some(text) = made else {
@@ -194,12 +205,13 @@ impl<R: Rules, M: Stamp> Store<R, M> {
             durability,
         } = change;
         match self.edit_whole(client, file, text, durability, stamp) {
-            Ok(revision) => return Ok(revision),
+            Ok(revision) => return Ok((revision, body)),
             Err(refused) => return Err(with_body(refused, body)),
         }
     }
 
     /// Sets `file` to `text`, or removes it where there is no text, for the open client `client`.
+    /// Ends every run where the revision is a turn.
     fn edit_whole(
         &mut self,
         client: ClientId,
@@ -209,7 +221,7 @@ impl<R: Rules, M: Stamp> Store<R, M> {
         stamp: M,
     ) -> Result<Revision, EditRefused>
         requires stamp { let change : ChangeView = record { file = file; body = set (option_map string_bytes text); durability = durability } in
-            M.point stamp ≡ point_now (changed self.old.inputs change) }
+            self.old.inputs.revision < last_revision → M.point stamp ≡ point_now (changed self.old.inputs change) }
         requires may { (account : AccountView R.Key R.Value M) × (found self.old.accounts.items client ≡ Some account) }
         ensures rules { self.new.rules ≡ self.old.rules }
         ensures inputs { let change : ChangeView = record { file = file; body = set (option_map string_bytes text); durability = durability } in
@@ -221,10 +233,45 @@ impl<R: Rules, M: Stamp> Store<R, M> {
             Goes R.Key.cmp (R.machine self.old.rules) M.point self.old self.new (Edits client change result) }
         ensures counted { (log : Log R.Key) → IsCountedIn R.Key.cmp (R.machine self.old.rules) self.old log → IsCountedIn R.Key.cmp (R.machine self.old.rules) self.new log }
     {
+        match self.set_whole(client, file, text, durability, stamp) {
+            Ok(revision) => {
+                self.end_runs_at(revision);
+                return Ok(revision);
+            }
+            Err(refused) => return Err(refused),
+        }
+    }
+
+    /// Sets `file` to `text`, or removes it where there is no text, for the open client `client`.
+    /// Every run is as it was, and was started before the revision that this makes.
+    fn set_whole(
+        &mut self,
+        client: ClientId,
+        file: Text,
+        text: Option<String>,
+        durability: Durability,
+        stamp: M,
+    ) -> Result<Revision, EditRefused>
+        requires stamp { let change : ChangeView = record { file = file; body = set (option_map string_bytes text); durability = durability } in
+            self.old.inputs.revision < last_revision → M.point stamp ≡ point_now (changed self.old.inputs change) }
+        requires may { (account : AccountView R.Key R.Value M) × (found self.old.accounts.items client ≡ Some account) }
+        ensures rules { self.new.rules ≡ self.old.rules }
+        ensures inputs { let change : ChangeView = record { file = file; body = set (option_map string_bytes text); durability = durability } in
+            self.new.inputs ≡ inputs_after self.old.inputs change result }
+        ensures places { self.new.places ≡ self.old.places }
+        ensures back { let change : ChangeView = record { file = file; body = set (option_map string_bytes text); durability = durability } in
+            IfErr result (λ refused. refused.change ≡ change) }
+        ensures moved { let change : ChangeView = record { file = file; body = set (option_map string_bytes text); durability = durability } in
+            Goes R.Key.cmp (R.machine self.old.rules) M.point self.old self.new (Sets client change result) }
+        ensures accounts { self.new.accounts ≡ self.old.accounts }
+        ensures late { OnOk result ((r : ℕ) (run : RunView R.Key R.Part) → found self.new.runs.items r ≡ Some run → run.started < self.new.inputs.revision) }
+        ensures counted { (log : Log R.Key) → IsCountedIn R.Key.cmp (R.machine self.old.rules) self.old log → IsCountedIn R.Key.cmp (R.machine self.old.rules) self.new log }
+    {
         let _latest = self.inputs.now();
         kept_is_sound(&self.memos);
         match self.inputs.set(file.as_str(), text, durability) {
             Ok(revision) => {
+                let _bounded = self.inputs.now();
                 self.stamp = stamp;
                 return Ok(revision);
             }

@@ -6,6 +6,7 @@ ghost use Rattle.pq_core.specs.aux.Rising.{found, IsAbove};
 ghost use Rattle.pq_core.specs.aux.Changes.{IsSetAt, IsSameMap};
 ghost use Rattle.pq_core.specs.aux.Accounts.{HasMade};
 ghost use Rattle.pq_core.specs.aux.Queue.{WaitsIn};
+ghost use Rattle.pq_core.specs.aux.Withdrawing.{IsWithdrawnIn};
 ghost use Rattle.pq_core.specs.declared.request.Request.{Request};
 ghost use Rattle.pq_core.specs.declared.account.Begun.{Begun};
 ghost use Rattle.pq_core.specs.declared.account.Stage.TheVariants.{Waiting, Running, Made};
@@ -82,6 +83,25 @@ pub(crate) fn finish_in<R: Rules, M: Stamp>(
     accounts.update(
         client,
         move |account: &mut Account<R, M>| account.finish(number, reply),
+    );
+}
+
+/// Makes the reply to the request `number` of `client`, which waits: it was withdrawn at the revision
+/// `now`.
+pub(crate) fn withdraw_in<R: Rules, M: Stamp>(
+    accounts: &mut Rising<Account<R, M>>,
+    client: ClientId,
+    number: u64,
+    now: Revision,
+)
+    requires ruled { R }
+    requires waits { (request : Request R.Key) × WaitsIn accounts.old.items client number request }
+    ensures { (account : AccountView R.Key R.Value M) × (after : AccountView R.Key R.Value M) × (found accounts.old.items client ≡ Some account)
+        × IsWithdrawnIn client number now account after × IsSetAt accounts.old accounts.new client (Some after) }
+{
+    accounts.update(
+        client.number(),
+        |account: &mut Account<R, M>| account.withdraw(client, number, now),
     );
 }
 

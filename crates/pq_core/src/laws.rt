@@ -6,7 +6,7 @@ ghost use Rattle.std.specs.declared.alloc.AllocError.{AllocError};
 ghost use Rattle.pq_core.specs.Changes.{ChangeView};
 ghost use Rattle.pq_core.specs.Works.{DoneView, WorkView};
 ghost use Rattle.pq_core.specs.Ledger.{Ledger, IsClosed};
-ghost use Rattle.pq_core.specs.Moves.{Opens, Accepts, Edits, Starts, Looks, Gives, Starves, Releases, Closes, TakesOut, RunAt, Runs};
+ghost use Rattle.pq_core.specs.Moves.{Opens, Accepts, Edits, Starts, Looks, Gives, Starves, Withdraws, Releases, Closes, TakesOut, RunAt, Runs};
 ghost use Rattle.pq_core.specs.RightReply.{answer_by};
 ghost use Rattle.pq_core.specs.Kept.{Kept};
 ghost use Rattle.pq_core.specs.Told.{Told, told_puts};
@@ -17,12 +17,14 @@ ghost use Rattle.pq_memo.specs.Sound.{Sound};
 ghost use Rattle.pq_memo.specs.Look.{IsUpToDate};
 ghost use Rattle.pq_memo.specs.Table.{memo_at, HasIn};
 ghost use Rattle.pq_claims.specs.Claims.{AreSound, Holds};
+ghost use Rattle.pq_core.specs.declared.label.Label.{Label};
 ghost use Rattle.pq_core.specs.declared.request.Request.{Request};
 ghost use Rattle.pq_core.specs.declared.fault.OpenRefused.{OpenRefused};
 ghost use Rattle.pq_core.specs.declared.fault.AcceptRefused.{AcceptRefused};
 ghost use Rattle.pq_core.specs.declared.fault.EditRefused.{EditRefused};
 ghost use Rattle.pq_core.specs.declared.fault.LookFault.{LookFault};
 ghost use Rattle.pq_core.specs.declared.fault.GiveRefused.{GiveRefused};
+ghost use Rattle.pq_core.specs.declared.fault.WithdrawFault.{WithdrawFault};
 ghost use Rattle.pq_core.specs.declared.moves.Move.{Move};
 ghost use Rattle.pq_core.specs.declared.moves.Released.{Released};
 
@@ -44,6 +46,7 @@ pub fn moves_keep<R: Rules, M: Stamp, O: Outbox<R, M>>(_rules: &R)
     ensures looks { (run : ℕ) (answer : Result (Move (WorkView R R.Key R.Part R.Value)) LookFault) (l m : Ledger R.Key R.Value M O) → Kept (answer_by R.Key.cmp (R.machine _rules.now) M.point) O.puts l → Looks R.Key.cmp (R.machine _rules.now) M.point _rules.now run answer l m → Kept (answer_by R.Key.cmp (R.machine _rules.now) M.point) O.puts m }
     ensures gives { (run : ℕ) (done : DoneView R R.Key R.Part R.Value) (answer : Result (Move (WorkView R R.Key R.Part R.Value)) (GiveRefused (DoneView R R.Key R.Part R.Value))) (l m : Ledger R.Key R.Value M O) → Kept (answer_by R.Key.cmp (R.machine _rules.now) M.point) O.puts l → Gives run done answer l m → Kept (answer_by R.Key.cmp (R.machine _rules.now) M.point) O.puts m }
     ensures starves { (run : ℕ) (answer : Bool) (l m : Ledger R.Key R.Value M O) → Kept (answer_by R.Key.cmp (R.machine _rules.now) M.point) O.puts l → Starves run answer l m → Kept (answer_by R.Key.cmp (R.machine _rules.now) M.point) O.puts m }
+    ensures withdraws { (client : ℕ) (label : Label) (answer : Result Bool WithdrawFault) (l m : Ledger R.Key R.Value M O) → Kept (answer_by R.Key.cmp (R.machine _rules.now) M.point) O.puts l → Withdraws client label answer l m → Kept (answer_by R.Key.cmp (R.machine _rules.now) M.point) O.puts m }
     ensures releases { (client : ℕ) (answer : Released) (l m : Ledger R.Key R.Value M O) → Kept (answer_by R.Key.cmp (R.machine _rules.now) M.point) O.puts l → Releases O.puts O.takes O.was_full O.was_gone client answer l m → Kept (answer_by R.Key.cmp (R.machine _rules.now) M.point) O.puts m }
     ensures closes { (client : ℕ) (answer : Option O) (l m : Ledger R.Key R.Value M O) → Kept (answer_by R.Key.cmp (R.machine _rules.now) M.point) O.puts l → Closes client answer l m → Kept (answer_by R.Key.cmp (R.machine _rules.now) M.point) O.puts m }
     ensures takes { (client : ℕ) (answer : Result Bool AllocError) (l m : Ledger R.Key R.Value M O) → Kept (answer_by R.Key.cmp (R.machine _rules.now) M.point) O.puts l → TakesOut O.puts O.takes client answer l m → Kept (answer_by R.Key.cmp (R.machine _rules.now) M.point) O.puts m }
@@ -59,6 +62,7 @@ pub fn closed_for_good<R: Rules, M: Stamp, O: Outbox<R, M>>(_rules: &R)
     ensures looks { (c : ℕ) (run : ℕ) (answer : Result (Move (WorkView R R.Key R.Part R.Value)) LookFault) (l m : Ledger R.Key R.Value M O) (shut : IsClosed l c) → Looks R.Key.cmp (R.machine _rules.now) M.point _rules.now run answer l m → (after : IsClosed m c) × (after.client.outbox ≡ shut.client.outbox) }
     ensures gives { (c : ℕ) (run : ℕ) (done : DoneView R R.Key R.Part R.Value) (answer : Result (Move (WorkView R R.Key R.Part R.Value)) (GiveRefused (DoneView R R.Key R.Part R.Value))) (l m : Ledger R.Key R.Value M O) (shut : IsClosed l c) → Gives run done answer l m → (after : IsClosed m c) × (after.client.outbox ≡ shut.client.outbox) }
     ensures starves { (c : ℕ) (run : ℕ) (answer : Bool) (l m : Ledger R.Key R.Value M O) (shut : IsClosed l c) → Starves run answer l m → (after : IsClosed m c) × (after.client.outbox ≡ shut.client.outbox) }
+    ensures withdraws { (c : ℕ) (client : ℕ) (label : Label) (answer : Result Bool WithdrawFault) (l m : Ledger R.Key R.Value M O) (shut : IsClosed l c) → Withdraws client label answer l m → (after : IsClosed m c) × (after.client.outbox ≡ shut.client.outbox) }
     ensures releases { (c : ℕ) (client : ℕ) (answer : Released) (l m : Ledger R.Key R.Value M O) (shut : IsClosed l c) → Releases O.puts O.takes O.was_full O.was_gone client answer l m → (after : IsClosed m c) × (after.client.outbox ≡ shut.client.outbox) }
     ensures closes { (c : ℕ) (client : ℕ) (answer : Option O) (l m : Ledger R.Key R.Value M O) (shut : IsClosed l c) → Closes client answer l m → (after : IsClosed m c) × (after.client.outbox ≡ shut.client.outbox) }
     ensures takes { (c : ℕ) (client : ℕ) (answer : Result Bool AllocError) (l m : Ledger R.Key R.Value M O) (shut : IsClosed l c) → TakesOut O.puts O.takes client answer l m → (after : IsClosed m c) × (after.client.outbox ≡ shut.client.outbox) }
@@ -84,9 +88,9 @@ pub fn store_holds_keys<R: Rules, M: Stamp>(store: &Store<R, M>)
     claims_are_sound(&store.claims);
 }
 
-/// In one revision a key's rule is started at most once, and once more for each run that was stopped
-/// or starved while it held the key. It holds of the log of every list of calls: the empty log is
-/// counted for a new store, and each call keeps that.
+/// In one revision a key's rule is started at most once, and once more for each run that was
+/// stopped, starved or withdrawn while it held the key. It holds of the log of every list of
+/// calls: the empty log is counted for a new store, and each call keeps that.
 pub fn store_counts_starts<R: Rules, M: Stamp>(store: &Store<R, M>)
     ensures { (log : Log R.Key) → IsCountedIn R.Key.cmp (R.machine store.now.rules) store.now log → (revision : ℕ) (key : R.Key) → count R.Key.cmp revision key log.starts ≤ count R.Key.cmp revision key log.lost + 1 }
 {}
@@ -111,9 +115,9 @@ pub fn runs_hold_their_keys<R: Rules, M: Stamp, O: Outbox<R, M>>(core: &Core<R, 
     store_holds_keys(&core.store);
 }
 
-/// In one revision a key's rule is started at most once, and once more for each run that was stopped
-/// or starved while it held the key. It holds of the log of every list of calls: the empty log is
-/// counted for a new core, and each call keeps that.
+/// In one revision a key's rule is started at most once, and once more for each run that was
+/// stopped, starved or withdrawn while it held the key. It holds of the log of every list of
+/// calls: the empty log is counted for a new core, and each call keeps that.
 pub fn starts_are_counted<R: Rules, M: Stamp, O: Outbox<R, M>>(core: &Core<R, M, O>)
     ensures { (log : Log R.Key) → IsCountedFor R.Key.cmp (R.machine core.now.rules) core.now log → (revision : ℕ) (key : R.Key) → count R.Key.cmp revision key log.starts ≤ count R.Key.cmp revision key log.lost + 1 }
 {}

@@ -17,7 +17,8 @@
 //! Modules: `ids`, `label` and `request` (what clients post), `stamp` (of a revision), `outcome` and
 //! `reply`, `fault` (why a call is refused), `moves` (what runs and releases come to), `outbox` (where
 //! replies go), `work` and `job` (a rule that is to be carried out, with a stamp and without), `store`
-//! (the store), `opening`, `accepting`, `editing`, `starting`, `running` and `collecting` (its calls),
+//! (the store), `opening`, `accepting`, `editing`, `starting`, `running`, `withdrawing` and
+//! `collecting` (its calls), `turning` (edits that end every run),
 //! `prepared` (the text of a change, made before its edit), `run_state`,
 //! `run_step` and `run_end` (the state of a run, its step, its end), `account`
 //! and `in_accounts` (what it knows of an open client), `ready` (a reply on its way), `lane`, `cores`
@@ -64,12 +65,14 @@ mod serving;
 mod stamp;
 mod starting;
 mod store;
+mod turning;
+mod withdrawing;
 mod work;
 
 pub use cores::Core;
 pub use fault::{
     AcceptFault, AcceptRefused, EditFault, EditRefused, GiveFault, GiveRefused, LookFault, Memory,
-    OpenFault, OpenRefused,
+    OpenFault, OpenRefused, WithdrawFault,
 };
 pub use ids::{ClientId, Number};
 pub use label::Label;
@@ -78,7 +81,7 @@ pub use laws::{
     closed_for_good, core_is_sound, moves_keep, runs_hold_their_keys, starts_are_counted,
     store_counts_starts, store_holds_keys, store_is_sound,
 };
-pub use limits::{MAX_CLIENTS, WINDOW};
+pub use limits::{MAX_CLIENTS, TURN, WINDOW};
 pub use list_outbox::ListOutbox;
 pub use moves::{Move, Released};
 pub use outbox::{Outbox, PutFault, Taking};
@@ -90,4 +93,5 @@ pub use reply::Reply;
 pub use request::{Body, Change, Request, Want, copy_change, copy_request, is_same_request};
 pub use stamp::{PlainStamp, Stamp};
 pub use store::Store;
+pub use turning::is_turn;
 pub use work::{Done, Work};

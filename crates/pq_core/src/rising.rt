@@ -7,7 +7,7 @@
 ghost use Rattle.std.specs.Prelude.{◌≡◌, ◌+◌, ◌<◌, ◌≤◌, ◌==◌, ◌↔◌, ℕ, IsTrue, if◌then◌else◌, length, filter, Some, None, slice_get, IfSome, IfNone, OnOk, ltb, vec_len, vec_capacity};
 ghost use Rattle.std.specs.Option.{option_copied};
 ghost use Rattle.std.specs.Fn.{FnOnceTakesAtMut, FnOnceReturnsAtMut};
-ghost use Rattle.pq_core.specs.aux.Rising.{found, IsVacant, IsAbove, Rises, has_value, live_count, SameFound, Compacts};
+ghost use Rattle.pq_core.specs.aux.Rising.{found, numbers, IsVacant, IsAbove, Rises, has_value, live_count, SameFound, Compacts};
 ghost use Rattle.pq_core.specs.aux.Changes.{IsSetAt, IsSameMap};
 
 use crate::fault::Memory;
@@ -87,6 +87,7 @@ impl<T: Drop> Rising<T> {
         ensures value { result ≡ found self.old.items number }
         ensures found { (n : ℕ) → found self.new.items n ≡ (if n == number then None else found self.old.items n) }
         ensures vacant { IfSome result (λ _. IsVacant self.new.items number) }
+        ensures numbers { numbers self.new.items ≡ numbers self.old.items }
         ensures room { self.old.room ≤ self.new.room }
         ensures more_room { IfSome result (λ _. self.old.room + 1 ≤ self.new.room) }
         ensures above { (m : ℕ) → IsAbove m self.old.items → IsAbove m self.new.items }

@@ -2,7 +2,7 @@
 //!
 //! A run ends by `Store::end_by`, whatever the cause. That takes no memory: `accept` made the room of
 //! the reply. The run of a client that was closed ends without a reply.
-ghost use Rattle.std.specs.Prelude.{◌≡◌, ◌⊎◌, ◌<◌, ℕ, Some, None};
+ghost use Rattle.std.specs.Prelude.{◌≡◌, ◌⊎◌, ◌<◌, ◌==◌, ℕ, if◌then◌else◌, Some, None};
 ghost use Rattle.pq_core.specs.Accounts.{AccountView, IsStage, with_stage};
 ghost use Rattle.pq_core.specs.Replies.{IsFair};
 ghost use Rattle.pq_core.specs.RightReply.{answer_by};
@@ -11,7 +11,8 @@ ghost use Rattle.pq_core.specs.Stores.{Goes};
 ghost use Rattle.pq_core.specs.Truth.{IsTrueReply};
 ghost use Rattle.pq_core.specs.aux.Changes.{IsSetAt, IsSameMap};
 ghost use Rattle.pq_core.specs.aux.RunEnds.{MayEnd, IsReplyDue, EndsBy, reply_by, log_ended_in};
-ghost use Rattle.pq_core.specs.aux.Rising.{found, IsAbove};
+ghost use Rattle.pq_core.specs.aux.Advancing.{AllGoOn};
+ghost use Rattle.pq_core.specs.aux.Rising.{found, numbers, IsAbove};
 ghost use Rattle.pq_core.specs.declared.account.Begun.{Begun};
 ghost use Rattle.pq_core.specs.declared.account.Stage.TheVariants.{Running, Made};
 ghost use Rattle.pq_core.specs.declared.outcome.Outcome.TheVariants.{Cancelled};
@@ -38,6 +39,8 @@ pub(crate) enum Ending<K, V, M> {
     Answered(Shared<Answer<K, V>>, M),
     /// An allocation failed.
     Starved,
+    /// Its client withdrew the request.
+    Withdrawn,
 }
 
 /// Makes the reply of `outcome` to the request of `run`, which is over, if its client is open.
@@ -109,6 +112,7 @@ fn make_reply<R: Rules, M: Stamp>(
             end_run(accounts, run, now, Outcome::Answered(answer, stamp))
         }
         Ending::Starved => end_run(accounts, run, now, Outcome::Starved),
+        Ending::Withdrawn => end_run(accounts, run, now, Outcome::Withdrawn),
     }
 }
 
@@ -121,6 +125,9 @@ impl<R: Rules, M: Stamp> Store<R, M> {
         ensures inputs { self.new.inputs ≡ self.old.inputs }
         ensures places { self.new.places ≡ self.old.places }
         ensures moved { Goes R.Key.cmp (R.machine self.old.rules) M.point self.old self.new (EndsBy (answer_by R.Key.cmp (R.machine self.old.rules) M.point) run ending) }
+        ensures goes_on { AllGoOn self.old.accounts.items self.new.accounts.items }
+        ensures over { (r : ℕ) → found self.new.runs.items r ≡ (if r == run then None else found self.old.runs.items r) }
+        ensures numbers { numbers self.new.runs.items ≡ numbers self.old.runs.items }
         ensures counted { (log : Log R.Key) → IsCountedIn R.Key.cmp (R.machine self.old.rules) self.old log → IsCountedIn R.Key.cmp (R.machine self.old.rules) self.new (log_ended_in self.old run ending log) }
     {
         let now = self.inputs.now();

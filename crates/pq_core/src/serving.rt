@@ -1,19 +1,23 @@
 //! Calls of a core that end with its store: opening, accepting, and the steps and ends of runs.
 //!
 //! The replies that a call of the store makes are passed on to their lanes in the same call.
-ghost use Rattle.std.specs.Prelude.{◌≡◌, [], IfOk, IfErr};
+ghost use Rattle.std.specs.Prelude.{◌≡◌, ◌<◌, [], IfOk, IfErr};
+ghost use Rattle.pq_inputs.specs.Refusal.{last_revision};
 ghost use Rattle.pq_memo.specs.Table.{memo_at};
 ghost use Rattle.pq_memo.specs.Demand.{NoneLost};
 ghost use Rattle.pq_core.specs.Points.{point_now};
 ghost use Rattle.pq_core.specs.Ledger.{Ledger};
-ghost use Rattle.pq_core.specs.Moves.{Reaches, Opens, Accepts, Edits, Starts, Looks, Gives, Starves, IsMade, IsRequestOf, changed, inputs_after};
+ghost use Rattle.pq_core.specs.Moves.{Reaches, Opens, Accepts, Edits, Starts, Looks, Gives, Starves, Withdraws, IsMade, IsRequestOf, changed, inputs_after};
 ghost use Rattle.pq_core.specs.Cores.{StandsFor, HandsOut, HasCause};
 ghost use Rattle.pq_core.specs.Stores.{NamesHolder};
-ghost use Rattle.pq_core.specs.Starts.{IsCountedFor, Log, log_moved, log_starved};
+ghost use Rattle.pq_core.specs.Starts.{IsCountedFor, Log, log_moved, log_starved, log_withdrawn};
 
 use crate::cores::Core;
-use crate::fault::{AcceptRefused, EditRefused, GiveRefused, LookFault, OpenFault, OpenRefused};
+use crate::fault::{
+    AcceptRefused, EditRefused, GiveRefused, LookFault, OpenFault, OpenRefused, WithdrawFault,
+};
 use crate::ids::{ClientId, Number};
+use crate::label::Label;
 use crate::lane::{Lane, Places};
 use crate::moves::Move;
 use crate::outbox::Outbox;
@@ -110,7 +114,7 @@ impl<R: Rules, M: Stamp, O: Outbox<R, M> + Drop> Core<R, M, O> {
         change: Change,
         stamp: M,
     ) -> Result<Revision, EditRefused>
-        requires { M.point stamp ≡ point_now (changed self.old.inputs change) }
+        requires { self.old.inputs.revision < last_revision → M.point stamp ≡ point_now (changed self.old.inputs change) }
         ensures rules { self.new.rules ≡ self.old.rules }
         ensures inputs { self.new.inputs ≡ inputs_after self.old.inputs change result }
         ensures places { self.new.places ≡ self.old.places }
@@ -205,5 +209,25 @@ impl<R: Rules, M: Stamp, O: Outbox<R, M> + Drop> Core<R, M, O> {
         let was_run = self.store.starve(run);
         pass_on_all(&mut self.store, &mut self.lanes);
         was_run
+    }
+
+    /// Withdraws each request of `client` with the label `label` that waits or is in a run. Returns
+    /// whether there was one. Each of them is ready afterwards, and its reply says so; a run that it
+    /// was in is over. It takes no memory. (LSP 3.17, "Cancellation Support".)
+    ///
+    /// # Errors
+    ///
+    /// `NoClient`, `Closed`, in this order.
+    pub fn withdraw(&mut self, client: ClientId, label: &Label) -> Result<bool, WithdrawFault>
+        ensures rules { self.new.rules ≡ self.old.rules }
+        ensures inputs { self.new.inputs ≡ self.old.inputs }
+        ensures places { self.new.places ≡ self.old.places }
+        ensures moved { (l : Ledger R.Key R.Value M O) → StandsFor R.Key.cmp (R.machine self.old.rules) M.point O.puts self.old l
+            → Reaches (Withdraws client label.now result) l (StandsFor R.Key.cmp (R.machine self.old.rules) M.point O.puts self.new) }
+        ensures counted { (log : Log R.Key) → IsCountedFor R.Key.cmp (R.machine self.old.rules) self.old log → IsCountedFor R.Key.cmp (R.machine self.old.rules) self.new (log_withdrawn self.old client label.now result log) }
+    {
+        let answer = self.store.withdraw(client, label);
+        pass_on_all(&mut self.store, &mut self.lanes);
+        answer
     }
 }

@@ -2,7 +2,8 @@
 //!
 //! A core has the stamp of the last revision, and hands copies of it out with work and with answers.
 //! So whoever holds an answer can say of which sources it is.
-ghost use Rattle.std.specs.Prelude.{◌≡◌, IfOk};
+ghost use Rattle.std.specs.Prelude.{◌≡◌, ◌<◌, IfOk};
+ghost use Rattle.pq_inputs.specs.Refusal.{last_revision};
 ghost use Rattle.pq_core.specs.Points.{Point, point_now};
 ghost use Rattle.pq_core.specs.Moves.{changed};
 
@@ -77,9 +78,10 @@ impl PlainStamp {
         })
     }
 
-    /// The stamp of the next revision, which `change` makes of `inputs`.
+    /// The stamp of the next revision, which `change` makes of `inputs`. The last revision has no
+    /// next one, and no edit takes a stamp there.
     pub fn after(alloc: Global, inputs: &Inputs, change: &Change) -> Result<PlainStamp, Memory>
-        ensures { IfOk result (λ stamp. stamp ≡ point_now (changed inputs.now change.now)) }
+        ensures { inputs.now.revision < last_revision → IfOk result (λ stamp. stamp ≡ point_now (changed inputs.now change.now)) }
     {
         let revision = inputs.now().next();
         let picture = Picture {

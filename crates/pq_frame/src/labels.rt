@@ -39,8 +39,12 @@ fn integer_label_of(number: &Number) -> Option<Label>
 }
 
 /// The label of the member `id`. It is `None` if `id` is absent, a number but not an integer of 64
-/// bits, or of another kind.
-pub(crate) fn label_of(alloc: Global, id: Option<&Value>) -> Result<Label, Memory>
+/// bits, or of another kind. `Message::read` reads the label of a request by it.
+///
+/// # Errors
+///
+/// `Memory` where an allocation fails.
+pub fn label_of(alloc: Global, id: Option<&Value>) -> Result<Label, Memory>
     ensures value { IfOk result
         (λ label. label_model label ≡ label_of_id (option_map (λ d. view d.now) id.entry)) }
     ensures one_form { IfOk result HasOneForm }

@@ -17,7 +17,7 @@ mod reader;
 mod write;
 
 pub use fault::FrameFault;
-pub use labels::{Label, equal_labels};
+pub use labels::{Label, equal_labels, label_of};
 pub use laws::{
     any_pieces, each_stream, empty_stream, frames_of_prefix, one_reading, written_reads,
 };

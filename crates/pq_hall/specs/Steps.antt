@@ -1,16 +1,20 @@
 -- What a post and a step of a run do to the store: each is one call of it, and answers as that call.
-use Rattle.std.specs.Prelude.{ℕ, ◌≡◌, ◌⊎◌, Option, Some, Result, Ok, Err, true, false}
+use Rattle.std.specs.Prelude.{ℕ, ◌≡◌, ◌<◌, ◌⊎◌, ◌++◌, Bool, Option, Some, Result, Ok, Err, true, false}
 use Rattle.std.specs.declared.cmp.Ordering.{Ordering}
 use Rattle.pq_inputs.specs.Sources.{Table}
 use Rattle.pq_inputs.specs.declared.fault.InputFault.{InputFault}
 use Rattle.pq_inputs.specs.declared.fault.InputFault.TheVariants.{TextTooLong, TooManyFiles, RevisionsUsedUp, Memory as NoMemory}
+use Rattle.pq_inputs.specs.Refusal.{last_revision}
 use Rattle.pq_rules.specs.Turns.{Machine}
 use Rattle.pq_core.specs.Changes.{ChangeView}
 use Rattle.pq_core.specs.Points.{Point, point_now}
 use Rattle.pq_core.specs.Works.{DoneView, WorkView}
 use Rattle.pq_core.specs.Ledger.{Ledger}
-use Rattle.pq_core.specs.Moves.{changed, Accepts, Edits, Looks, Gives, Starves}
+use Rattle.pq_core.specs.Moves.{changed, Accepts, Edits, Withdraws, Looks, Gives, Starves}
+use Rattle.pq_core.specs.Starts.{Log, lost_among}
+use Rattle.pq_core.specs.Stores.{StoreView}
 use Rattle.pq_core.specs.Told.{Told, told_puts}
+use Rattle.pq_core.specs.declared.label.Label.{Label}
 use Rattle.pq_core.specs.declared.request.Request.{Request}
 use Rattle.pq_core.specs.declared.fault.AcceptFault.{AcceptFault}
 use Rattle.pq_core.specs.declared.fault.AcceptFault.TheVariants.{NoClient as AcceptNoClient, Closed as AcceptClosed, WindowFull, Memory as AcceptMemory}
@@ -18,16 +22,17 @@ use Rattle.pq_core.specs.declared.fault.AcceptRefused.{AcceptRefused}
 use Rattle.pq_core.specs.declared.fault.EditFault.{EditFault}
 use Rattle.pq_core.specs.declared.fault.EditFault.TheVariants.{NoClient as EditNoClient, Closed as EditClosed, BadRange, Input}
 use Rattle.pq_core.specs.declared.fault.EditRefused.{EditRefused}
+use Rattle.pq_core.specs.declared.fault.WithdrawFault.{WithdrawFault}
 use Rattle.pq_core.specs.declared.fault.LookFault.TheVariants.{NoRun, Memory as LookMemory}
 use Rattle.pq_core.specs.declared.fault.GiveFault.TheVariants.{NotThisRun, Memory as GiveMemory}
 use Rattle.pq_core.specs.declared.fault.GiveRefused.{GiveRefused}
 use Rattle.pq_core.specs.declared.moves.Move.{Move}
 use Rattle.pq_mail.specs.declared.post.Post.{Post}
-use Rattle.pq_mail.specs.declared.post.Post.TheVariants.{Ask, Edit, End}
+use Rattle.pq_mail.specs.declared.post.Post.TheVariants.{Ask, Edit, Withdraw, End}
 use Rattle.pq_hall.specs.declared.fault.HallFault.{HallFault}
 use Rattle.pq_hall.specs.declared.fault.HallFault.TheVariants.{Closed, Edit as EditFailed, Memory}
 use Rattle.pq_hall.specs.declared.posting.Moved.{Moved}
-use Rattle.pq_hall.specs.declared.posting.Moved.TheVariants.{Accepted, Edited, Ended, Later}
+use Rattle.pq_hall.specs.declared.posting.Moved.TheVariants.{Accepted, Edited, Withdrawn, Ended, Later}
 use Rattle.pq_hall.specs.declared.running.Hand.{Hand}
 use Rattle.pq_hall.specs.declared.running.Hand.TheVariants.{Look, Made, Unmade}
 use Rattle.pq_hall.specs.declared.running.Next.{Next}
@@ -36,10 +41,12 @@ use Rattle.pq_hall.specs.declared.running.Next.TheVariants.{Moved as RunMoved, S
 -- ---- posts
 
 -- `IsStampFor point inputs post stamp` is that an edit comes with the stamp of the revision, and of the
--- sources, that it makes of `inputs`
+-- sources, that it makes of `inputs`. At the last revision, where each edit is refused, it is any stamp.
 abbrev pub IsStampFor : {K M : Type 0} → (M → Point) → Table → Post K → Option M → Type 0
 IsStampFor point inputs (Ask request) stamp = Unit {0}
-IsStampFor {K} {M} point inputs (Edit change) stamp = (s : M) × (stamp ≡ Some s) × (point s ≡ point_now (changed inputs change))
+IsStampFor {K} {M} point inputs (Edit change) stamp =
+    (s : M) × (stamp ≡ Some s) × (inputs.revision < last_revision → point s ≡ point_now (changed inputs change))
+IsStampFor point inputs (Withdraw label) stamp = Unit {0}
 IsStampFor point inputs End stamp = Unit {0}
 
 -- `not_asked fault request` is what `post_step` answers where `accept` refuses `request` for `fault`
@@ -73,11 +80,18 @@ abbrev pub edited : {K : Type 0} → Result ℕ EditRefused → Result (Moved K)
 edited (Ok revision) = Ok (Edited revision)
 edited (Err refused) = not_edited refused.fault
 
+-- `withdrew answer` is what `post_step` answers where `withdraw` answers `answer`
+abbrev pub withdrew : {K : Type 0} → Result Bool WithdrawFault → Result (Moved K) HallFault
+withdrew (Ok some) = Ok (Withdrawn some)
+withdrew (Err fault) = Err Closed
+
 -- `Posts c post answer l m` is the call that `post` of the client `c` is: `accept` of a request, `edit`
--- of an edit, and none at the end of the posts; the answer is that of the call
+-- of an edit, `withdraw` of a withdrawal, and none at the end of the posts; the answer is that of the
+-- call
 abbrev pub Posts : {K V M : Type 0} → ℕ → Post K → Result (Moved K) HallFault → Ledger K V M (Told K V M) → Ledger K V M (Told K V M) → Type 0
 Posts {K} {V} {M} c (Ask request) answer l m = (called : Result ℕ (AcceptRefused K)) × Accepts told_puts c request called l m × (answer ≡ asked called)
 Posts {K} {V} {M} c (Edit change) answer l m = (called : Result ℕ EditRefused) × Edits c change called l m × (answer ≡ edited called)
+Posts {K} {V} {M} c (Withdraw label) answer l m = (called : Result Bool WithdrawFault) × Withdraws c label called l m × (answer ≡ withdrew called)
 Posts c End answer l m = (answer ≡ Ok Ended) × (m ≡ l)
 
 -- `inputs_posted inputs post answer` is `inputs` after `post`, which was answered so: an edit that made a
@@ -86,16 +100,29 @@ abbrev pub inputs_posted : {K : Type 0} → Table → Post K → Result (Moved K
 inputs_posted inputs (Ask request) answer = inputs
 inputs_posted inputs (Edit change) (Ok (Accepted n)) = inputs
 inputs_posted inputs (Edit change) (Ok (Edited revision)) = changed inputs change
+inputs_posted inputs (Edit change) (Ok (Withdrawn some)) = inputs
 inputs_posted inputs (Edit change) (Ok Ended) = inputs
 inputs_posted inputs (Edit change) (Ok (Later post)) = inputs
 inputs_posted inputs (Edit change) (Err fault) = inputs
+inputs_posted inputs (Withdraw label) answer = inputs
 inputs_posted inputs End answer = inputs
 
+-- `log_posted store c post answer log` is `log` after `post` of the client `c`, which was answered so: a
+-- withdrawal that was made adds the keys that the runs of its requests held to those lost, and nothing
+-- else adds to it. `store` is the store before the call.
+abbrev pub log_posted : {R K P V M : Type 0} → StoreView R K P V M → ℕ → Post K → Result (Moved K) HallFault → Log K → Log K
+log_posted store c (Ask request) answer log = log
+log_posted store c (Edit change) answer log = log
+log_posted store c (Withdraw label) (Ok moved) log = record { starts = log.starts; lost = log.lost ++ lost_among store.claims c label store.runs.items }
+log_posted store c (Withdraw label) (Err fault) log = log
+log_posted store c End answer log = log
+
 -- `IsAnswerTo post moved` is that `moved` is an answer to `post`: a request is accepted or comes back, an
--- edit is made, and the end of the posts ends them
+-- edit or a withdrawal is made, and the end of the posts ends them
 abbrev pub IsAnswerTo : {K : Type 0} → Post K → Moved K → Type 0
 IsAnswerTo {K} post (Accepted n) = (request : Request K) × (post ≡ Ask request)
 IsAnswerTo post (Edited revision) = (change : ChangeView) × (post ≡ Edit change)
+IsAnswerTo post (Withdrawn some) = (label : Label) × (post ≡ Withdraw label)
 IsAnswerTo post Ended = post ≡ End
 IsAnswerTo post (Later back) = back ≡ post
 
@@ -103,6 +130,7 @@ IsAnswerTo post (Later back) = back ≡ post
 abbrev pub IsEdited : {K : Type 0} → Moved K → Type 0
 IsEdited (Accepted n) = ⊥
 IsEdited (Edited revision) = Unit {0}
+IsEdited (Withdrawn some) = ⊥
 IsEdited Ended = ⊥
 IsEdited (Later post) = ⊥
 

@@ -1,5 +1,6 @@
 //! The vector of marks.
 ghost use Rattle.std.specs.Prelude.{◌≡◌, ◌<◌, ◌↔◌, IfOk, IfSome, Some, None, IsTrue};
+ghost use Rattle.pq_inputs.specs.Refusal.{last_revision};
 ghost use Rattle.pq_core.specs.Moves.{changed};
 ghost use Rattle.pq_core.specs.Points.{point_now};
 
@@ -98,12 +99,13 @@ impl<J: BoardName> Board<J> {
 
     /// Adds the entry of the next revision, which `change` makes of `inputs`, and returns its mark: the
     /// stamp with which the edit is made. Where the edit is refused, `mark` does not answer this entry.
+    /// At the last revision, where each edit is refused, the entry is of that revision again.
     ///
     /// # Errors
     ///
     /// `Memory`. Then no entry was added.
     pub fn push(&self, rt: &impl Wait, inputs: &Inputs, change: &Change) -> Result<Mark<J>, Memory>
-        ensures { IfOk result (λ mark. mark.point ≡ point_now (changed inputs.now change.now)) }
+        ensures { inputs.now.revision < last_revision → IfOk result (λ mark. mark.point ≡ point_now (changed inputs.now change.now)) }
     {
         self.add(rt, Entry::after(inputs, change))
     }

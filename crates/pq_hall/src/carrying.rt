@@ -13,7 +13,7 @@ use crate::one_value::OneValue;
 use crate::posting::{Moved, post_step};
 use crate::preparing::long_change;
 use crate::state::{Client, Collected, State};
-use pq_core::Memory;
+use pq_core::{Memory, is_turn};
 use pq_inputs::Inputs;
 use pq_mail::{PorterEnd, Post};
 use pq_rules::Rules;
@@ -28,7 +28,16 @@ fn settled<K>(moved: Moved<K>) -> Result<Moved<K>, Post<K>>
         Moved::Later(back) => Err(back),
         Moved::Accepted(number) => Ok(Moved::Accepted(number)),
         Moved::Edited(revision) => Ok(Moved::Edited(revision)),
+        Moved::Withdrawn(some) => Ok(Moved::Withdrawn(some)),
         Moved::Ended => Ok(Moved::Ended),
+    }
+}
+
+/// Whether `moved` is an edit that ended every run.
+fn has_turned<K>(moved: &Moved<K>) -> bool {
+    match moved {
+        Moved::Edited(revision) => is_turn(*revision),
+        _ => false,
     }
 }
 
@@ -38,6 +47,8 @@ pub(crate) type Carried<R, J> = (Moved<<R as Rules>::Key>, Collected<R, J>);
 impl<R: Rules + OneValue, J: BoardName, H: Wait + Copy + Drop> Hall<R, J, H> {
     /// Carries the next post of `client` into the store. It waits for a post, and for room in the
     /// window of the client. `Ended` where the client posts nothing more, or its posting end is gone.
+    /// The replies that the post makes are delivered, after an edit that ends every run those of all
+    /// clients.
     ///
     /// # Errors
     ///
@@ -58,6 +69,9 @@ impl<R: Rules + OneValue, J: BoardName, H: Wait + Copy + Drop> Hall<R, J, H> {
             Some(post) => match self.carry_post(rt, client, post) {
                 Ok((moved, collected)) => {
                     self.deliver_all(rt, client, collected);
+                    if has_turned(&moved) {
+                        self.deliver_each(rt);
+                    }
                     return Ok(moved);
                 }
                 Err(fault) => {
@@ -143,6 +157,7 @@ impl<R: Rules + OneValue, J: BoardName, H: Wait + Copy + Drop> Hall<R, J, H> {
                 Ok(Some(mark))
             }
             Post::Ask(_) => Ok(None),
+            Post::Withdraw(_) => Ok(None),
             Post::End => Ok(None),
         }
     }

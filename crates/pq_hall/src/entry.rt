@@ -1,5 +1,6 @@
 //! The entries of the vector of marks.
-ghost use Rattle.std.specs.Prelude.{◌≡◌};
+ghost use Rattle.std.specs.Prelude.{◌≡◌, ◌<◌};
+ghost use Rattle.pq_inputs.specs.Refusal.{last_revision};
 ghost use Rattle.pq_core.specs.Moves.{changed};
 ghost use Rattle.pq_core.specs.Points.{point_now};
 
@@ -39,9 +40,10 @@ impl Entry {
         }
     }
 
-    /// The entry of the next revision, which `change` makes of `inputs`.
+    /// The entry of the next revision, which `change` makes of `inputs`. At the last revision, where
+    /// each edit is refused, it is of that revision again.
     pub(crate) fn after(inputs: &Inputs, change: &Change) -> Entry
-        ensures { result ≡ point_now (changed inputs.now change.now) }
+        ensures { inputs.now.revision < last_revision → result ≡ point_now (changed inputs.now change.now) }
     {
         Entry {
             revision: inputs.now().next(),

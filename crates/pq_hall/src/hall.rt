@@ -118,6 +118,23 @@ impl<R: Rules + OneValue, J: BoardName, H: Wait + Copy + Drop> Hall<R, J, H> {
         }
     }
 
+    /// Delivers what is made to each client.
+    pub(crate) fn deliver_each(&self, rt: &H) {
+        for seat in 0..self.seats.len() {
+            if let Some((client, collected)) = self.collect_at(rt, seat) {
+                self.deliver_all(rt, client, collected);
+            }
+        }
+    }
+
+    /// The client of the seat `seat`, if it has one, and what was collected for it under the lock of
+    /// the store.
+    fn collect_at(&self, rt: &H, seat: usize) -> Option<(Client, Collected<R, J>)> {
+        let mut state = self.state.lock(rt);
+        let client = state.client_at(seat)?;
+        Some((client, state.collect(client)))
+    }
+
     /// Delivers the replies to `client` that are made. A client has at most `WINDOW` of them, and
     /// those made first are collected first.
     fn deliver_rest(&self, rt: &H, client: Client) {

@@ -1,17 +1,22 @@
 //! What a post does to the store: one call of it. It takes no lock and waits for nobody.
 //! `prepared_step` is `post_step` of an edit whose text was made before.
-ghost use Rattle.std.specs.Prelude.{◌≡◌, IfOk};
+ghost use Rattle.std.specs.Prelude.{◌≡◌, ◌<◌, IfOk};
 ghost use Rattle.pq_inputs.specs.Sources.{file_in};
+ghost use Rattle.pq_inputs.specs.Refusal.{last_revision};
+ghost use Rattle.pq_core.specs.Bodies.{body_view};
 ghost use Rattle.pq_core.specs.Moves.{changed};
 ghost use Rattle.pq_core.specs.Points.{point_now};
 ghost use Rattle.pq_core.specs.Stores.{Goes};
 ghost use Rattle.pq_core.specs.Starts.{IsCountedIn, Log};
-ghost use Rattle.pq_hall.specs.Steps.{IsStampFor, IsAnswerTo, IsEdited, Posts, inputs_posted, not_asked, not_edited, not_input};
+ghost use Rattle.pq_hall.specs.Steps.{IsStampFor, IsAnswerTo, IsEdited, Posts, inputs_posted, log_posted, not_asked, not_edited, not_input};
 ghost use Rattle.pq_mail.specs.declared.post.Post.{Post};
 ghost use Rattle.pq_mail.specs.declared.post.Post.TheVariants.{Edit};
 
 use crate::fault::HallFault;
-use pq_core::{AcceptFault, AcceptRefused, ClientId, EditFault, Number, Prepared, Stamp, Store};
+use pq_core::{
+    AcceptFault, AcceptRefused, Body, ClientId, EditFault, EditRefused, Number, Prepared, Stamp,
+    Store,
+};
 use pq_inputs::{InputFault, Revision};
 use pq_mail::Post;
 use pq_rules::Rules;
@@ -23,14 +28,16 @@ pub enum Moved<K> {
     Accepted(Number),
     /// The edit was accepted, and made this revision.
     Edited(Revision),
+    /// The withdrawal was made. This is whether a request waited or was in a run, and was withdrawn.
+    Withdrawn(bool),
     /// The client posts nothing more. The store is as it was.
     Ended,
     /// The window of the client is full. The request comes back, to be posted again.
     Later(Post<K>),
 }
 
-/// Makes the call of `post` to `store`: `accept`, `edit`, or none at the end of the posts. An edit
-/// comes with the stamp of the revision that it makes.
+/// Makes the call of `post` to `store`: `accept`, `edit`, `withdraw`, or none at the end of the posts.
+/// An edit comes with the stamp of the revision that it makes.
 ///
 /// # Errors
 ///
@@ -51,7 +58,7 @@ pub fn post_step<R: Rules, M: Stamp>(
     ensures places { store.new.places ≡ store.old.places }
     ensures answer { IfOk result (λ moved. IsAnswerTo post moved) }
     ensures moved { Goes R.Key.cmp (R.machine store.old.rules) M.point store.old store.new (Posts client post result) }
-    ensures counted { (log : Log R.Key) → IsCountedIn R.Key.cmp (R.machine store.old.rules) store.old log → IsCountedIn R.Key.cmp (R.machine store.old.rules) store.new log }
+    ensures counted { (log : Log R.Key) → IsCountedIn R.Key.cmp (R.machine store.old.rules) store.old log → IsCountedIn R.Key.cmp (R.machine store.old.rules) store.new (log_posted store.old client post result log) }
 {
     match post {
         Post::Ask(request) => match store.accept(client, request) {
@@ -65,11 +72,16 @@ pub fn post_step<R: Rules, M: Stamp>(
             },
             None => unreachable!(),
         },
+        Post::Withdraw(label) => match store.withdraw(client, &label) {
+            Ok(some) => return Ok(Moved::Withdrawn(some)),
+            Err(_) => return Err(HallFault::Closed),
+        },
         Post::End => return Ok(Moved::Ended),
     }
 }
 
-/// Makes the edit of a text that was prepared: what `post_step` does with its change.
+/// Makes the edit of a text that was prepared: what `post_step` does with its change. The body of the
+/// change comes back, so that a caller who holds a lock can drop it later.
 ///
 /// # Errors
 ///
@@ -79,21 +91,25 @@ pub fn prepared_step<R: Rules, M: Stamp>(
     client: ClientId,
     prepared: Prepared,
     stamp: M,
-) -> Result<Moved<R::Key>, HallFault>
+) -> (Result<Moved<R::Key>, HallFault>, Body)
     requires current { (file_in store.old.inputs.files prepared.change.file).text ≡ prepared.before }
-    requires stamp { M.point stamp ≡ point_now (changed store.old.inputs prepared.change) }
+    requires stamp { store.old.inputs.revision < last_revision → M.point stamp ≡ point_now (changed store.old.inputs prepared.change) }
     ensures rules { store.new.rules ≡ store.old.rules }
     ensures inputs { let post : Post R.Key = Edit prepared.change in
-        store.new.inputs ≡ inputs_posted store.old.inputs post result }
+        store.new.inputs ≡ inputs_posted store.old.inputs post result.0 }
     ensures places { store.new.places ≡ store.old.places }
-    ensures answer { IfOk result (λ moved. IsEdited moved) }
+    ensures answer { IfOk result.0 (λ moved. IsEdited moved) }
+    ensures body { body_view result.1 ≡ prepared.change.body }
     ensures moved { let post : Post R.Key = Edit prepared.change in
-        Goes R.Key.cmp (R.machine store.old.rules) M.point store.old store.new (Posts client post result) }
+        Goes R.Key.cmp (R.machine store.old.rules) M.point store.old store.new (Posts client post result.0) }
     ensures counted { (log : Log R.Key) → IsCountedIn R.Key.cmp (R.machine store.old.rules) store.old log → IsCountedIn R.Key.cmp (R.machine store.old.rules) store.new log }
 {
     match store.edit_prepared(client, prepared, stamp) {
-        Ok(revision) => return Ok(Moved::Edited(revision)),
-        Err(refused) => return not_edited(refused.fault),
+        Ok((revision, body)) => return (Ok(Moved::Edited(revision)), body),
+        Err(refused) => {
+            let EditRefused { fault, change } = refused;
+            return (not_edited(fault), change.body);
+        }
     }
 }
 

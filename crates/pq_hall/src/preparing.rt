@@ -4,7 +4,7 @@
 //! store's lock, makes the text after the changes under no lock, and takes the lock again. Where
 //! the file still has the text of the copy, the porter makes the edit; else it begins again. So
 //! other clients wait for the copy, the comparison and the edit, each linear in the text of the
-//! file, and for the drop of the list, which is linear in the count of its changes.
+//! file. The porter drops the list of changes when the lock is free.
 ghost use Rattle.std.specs.Prelude.{◌≡◌, IfOk, IfErr};
 ghost use Rattle.pq_inputs.specs.Sources.{file_in};
 ghost use Rattle.pq_hall.specs.aux.Kinds.{IsKindOf};
@@ -18,7 +18,7 @@ use crate::mark::BoardName;
 use crate::one_value::OneValue;
 use crate::posting::{Moved, prepared_step};
 use crate::state::{Client, State};
-use pq_core::{Change, Memory, Prepared};
+use pq_core::{Body, Change, Memory, Prepared};
 use pq_mail::Post;
 use pq_rules::Rules;
 use std::alloc::Global;
@@ -41,6 +41,7 @@ pub(crate) fn long_change<K>(post: Post<K>) -> Result<Change, Post<K>>
             return Err(Post::Edit(change));
         }
         Post::Ask(request) => return Err(Post::Ask(request)),
+        Post::Withdraw(label) => return Err(Post::Withdraw(label)),
         Post::End => return Err(Post::End),
     }
 }
@@ -95,7 +96,8 @@ impl<R: Rules + OneValue, J: BoardName, H: Wait + Copy + Drop> Hall<R, J, H> {
     }
 
     /// Makes the edit of `prepared` under the lock, if the file still has the text from which it
-    /// was prepared; else the change comes back.
+    /// was prepared; else the change comes back. The changes that were made are dropped when the
+    /// lock is free.
     fn edit_prepared(
         &self,
         rt: &H,
@@ -106,30 +108,51 @@ impl<R: Rules + OneValue, J: BoardName, H: Wait + Copy + Drop> Hall<R, J, H> {
             IfOk result (λ tried. IfOk tried (λ carried. IsKindOf carried.0 post)) }
         ensures back { IfOk result (λ tried. IfErr tried (λ change. change ≡ prepared.change)) }
     {
-        let mut state = self.state.lock(rt);
-        if !prepared.is_current(state.store.inputs()) {
-            return Ok(Err(prepared.into_change()));
-        }
-        let moved = self.step_prepared(rt, &mut state, client, prepared)?;
-        let collected = self.carried(&mut state, client);
-        Ok(Ok((moved, collected)))
+        let (tried, _body) = self.edit_locked(rt, client, prepared);
+        tried
     }
 
-    /// Makes the call of the store. The edit gets a mark before.
+    /// What `edit_prepared` does under the lock. The body of a change that does not come back is
+    /// beside the answer.
+    fn edit_locked(
+        &self,
+        rt: &H,
+        client: Client,
+        prepared: Prepared,
+    ) -> (Result<Tried<R, J>, HallFault>, Option<Body>)
+        ensures made { let post : Post R.Key = Edit prepared.change in
+            IfOk result.0 (λ tried. IfOk tried (λ carried. IsKindOf carried.0 post)) }
+        ensures back { IfOk result.0 (λ tried. IfErr tried (λ change. change ≡ prepared.change)) }
+    {
+        let mut state = self.state.lock(rt);
+        if !prepared.is_current(state.store.inputs()) {
+            return (Ok(Err(prepared.into_change())), None);
+        }
+        let (stepped, body) = self.step_prepared(rt, &mut state, client, prepared);
+        match stepped {
+            Ok(moved) => {
+                let collected = self.carried(&mut state, client);
+                return (Ok(Ok((moved, collected))), Some(body));
+            }
+            Err(fault) => return (Err(fault), Some(body)),
+        }
+    }
+
+    /// Makes the call of the store. The edit gets a mark before. The body of the change comes back.
     fn step_prepared(
         &self,
         rt: &H,
         state: &mut State<R, J>,
         client: Client,
         prepared: Prepared,
-    ) -> Result<Moved<R::Key>, HallFault>
+    ) -> (Result<Moved<R::Key>, HallFault>, Body)
         requires { (file_in state.old.store.inputs.files prepared.change.file).text ≡ prepared.before }
         ensures { let post : Post R.Key = Edit prepared.change in
-            IfOk result (λ moved. IsKindOf moved post) }
+            IfOk result.0 (λ moved. IsKindOf moved post) }
     {
         match self.board.push(rt, state.store.inputs(), prepared.change()) {
             Ok(mark) => return prepared_step(&mut state.store, client.id(), prepared, mark),
-            Err(_) => return Err(HallFault::Memory),
+            Err(_) => return (Err(HallFault::Memory), prepared.into_change().body),
         }
     }
 }

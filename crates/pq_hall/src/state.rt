@@ -101,6 +101,14 @@ impl<R: Rules, J: BoardName> State<R, J> {
         }
     }
 
+    /// The client that has the seat `seat`, if one has.
+    pub(crate) fn client_at(&self, seat: usize) -> Option<Client> {
+        match self.seats.get(seat) {
+            Some(Some(id)) => Some(Client { id: *id, seat }),
+            _ => None,
+        }
+    }
+
     /// The client `id` and its seat. A client that was closed has the number of no seat.
     fn client_of(&self, id: u64) -> Client {
         for seat in 0..self.seats.len() {

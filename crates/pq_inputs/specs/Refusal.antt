@@ -15,7 +15,7 @@ max_files = 4096
 
 -- `last_revision` is the revision at which no change is accepted
 abbrev pub last_revision : ℕ
-last_revision = 65536
+last_revision = 18446744073709551615
 
 -- `was_set files name` is whether the file of this name was ever set
 unfoldable pub was_set : Sources → List ℕ → Bool

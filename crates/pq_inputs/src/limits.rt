@@ -7,4 +7,4 @@ pub const MAX_TEXT: usize = 1_048_576;
 pub const MAX_FILES: usize = 4_096;
 
 /// The last revision, at which no change is accepted.
-pub const LAST_REVISION: u64 = 65_536;
+pub const LAST_REVISION: u64 = 18_446_744_073_709_551_615;

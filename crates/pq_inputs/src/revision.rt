@@ -1,6 +1,8 @@
 //! Revisions: the numbers of the states of the inputs.
-ghost use Rattle.std.specs.Prelude.{◌≡◌, ◌<◌, ◌+◌, ◌^◌};
+ghost use Rattle.std.specs.Prelude.{◌≡◌, ◌<◌, ◌+◌};
+ghost use Rattle.pq_inputs.specs.Refusal.{last_revision};
 
+use crate::limits::LAST_REVISION;
 use std::marker::Model;
 
 /// A revision, the number of a state of the inputs: 0 at first, and one more after each accepted
@@ -29,11 +31,15 @@ impl Revision {
         Revision { number }
     }
 
-    /// The revision after this one, which the next accepted change makes.
+    /// The revision after this one, which the next accepted change makes. No revision comes after
+    /// the last one: that is returned again.
     pub fn next(self) -> Revision
-        requires { self + 1 < 2 ^ 64 }
-        ensures { result ≡ self + 1 }
+        ensures next { self < last_revision → result ≡ self + 1 }
+        ensures last { self ≡ last_revision → result ≡ self }
     {
+        if self.number == LAST_REVISION {
+            return self;
+        }
         Revision {
             number: self.number + 1,
         }

@@ -4,7 +4,7 @@ ghost use Rattle.pq_mail.specs.Posts.{request_of, count_of, IsReceiptOf};
 
 use crate::fault::Memory;
 use crate::line::Item;
-use pq_core::{Change, Number, Reply, Request, copy_request, is_same_request};
+use pq_core::{Change, Label, Number, Reply, Request, copy_request, is_same_request};
 use pq_rules::Rules;
 use std::alloc::Global;
 
@@ -15,6 +15,8 @@ pub enum Post<K> {
     Ask(Request<K>),
     /// An edit of a file, which gets none.
     Edit(Change),
+    /// The client withdraws its requests with this label. It gets no reply of its own.
+    Withdraw(Label),
     /// The client posts nothing more.
     End,
 }
@@ -43,6 +45,7 @@ pub(crate) fn copy_asked<R: Rules>(
     match post {
         Post::Ask(request) => Ok(Some(copy_request(alloc, rules, request)?)),
         Post::Edit(_) => Ok(None),
+        Post::Withdraw(_) => Ok(None),
         Post::End => Ok(None),
     }
 }
@@ -55,6 +58,7 @@ pub(crate) fn counted<K>(number: u64, post: &Post<K>) -> u64
     match post {
         Post::Ask(_) => number + 1,
         Post::Edit(_) => number,
+        Post::Withdraw(_) => number,
         Post::End => number,
     }
 }

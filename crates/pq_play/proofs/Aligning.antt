@@ -7,11 +7,13 @@ use Rattle.pq_core.specs.Replies.{ReplyView}
 use Rattle.pq_core.specs.Changes.{ChangeView}
 use Rattle.pq_core.specs.Works.{DoneView, WorkView}
 use Rattle.pq_core.specs.Outboxes.{Listed, taken_front, HasNoRoom, HasLostEnd}
-use Rattle.pq_core.specs.Ledger.{Ledger, Client, Entry, with_entry, with_outbox, entry_closed, closed, opened}
-use Rattle.pq_core.specs.Moves.{Opens, Accepts, Edits, Starts, LooksFor, Gives, Starves, Releases, Closes, new_entry, with_new}
+use Rattle.pq_core.specs.Ledger.{Ledger, Client, Entry, with_entry, with_entries, with_outbox, entry_closed, closed, opened}
+use Rattle.pq_core.specs.Moves.{Opens, Accepts, TurnsEntry, Turns, TurnsIf, Edits, is_turn, edited, Starts, LooksFor, Gives, Starves, WithdrawsEntry, Withdraws, Releases, Closes, new_entry, with_new}
+use Rattle.pq_core.specs.declared.label.Label.{Label}
 use Rattle.pq_core.specs.declared.request.Request.{Request}
 use Rattle.pq_core.specs.declared.fault.AcceptRefused.{AcceptRefused}
 use Rattle.pq_core.specs.declared.fault.EditRefused.{EditRefused}
+use Rattle.pq_core.specs.declared.fault.WithdrawFault.{WithdrawFault}
 use Rattle.pq_core.specs.declared.fault.LookFault.{LookFault}
 use Rattle.pq_core.specs.declared.fault.LookFault.TheVariants.{NoRun, Memory as LookMemory}
 use Rattle.pq_core.specs.declared.moves.Move.{Move}
@@ -45,6 +47,24 @@ map_append f (a ∷ xs) y = ap (λ zs. f a ∷ zs) (map_append f xs y)
 pub closed_requests : {K V : Type 0} (xs : List (Entry K V Point)) → map request_of (map entry_closed xs) ≡ map request_of xs
 closed_requests [] = refl
 closed_requests (a ∷ xs) = ap (λ zs. a.request ∷ zs) (closed_requests xs)
+
+-- each entry has the same request
+same_requests : {K V : Type 0} (xs ys : List (Entry K V Point)) → length ys ≡ length xs → ((n : ℕ) (x y : Entry K V Point) → slice_get xs n ≡ Some x → slice_get ys n ≡ Some y → y.request ≡ x.request)
+    → map request_of ys ≡ map request_of xs
+same_requests [] [] long each = refl
+same_requests [] (y ∷ ys) long each = absurd (omega arith)
+same_requests (x ∷ xs) [] long each = absurd (omega arith)
+same_requests {K} (x ∷ xs) (y ∷ ys) long each =
+    ap (λ (z : Request K). z ∷ map request_of ys) (each zero x y refl refl) ∙ ap (λ zs. x.request ∷ zs) (same_requests xs ys (omega arith) (λ n a b h g. each (suc n) a b h g))
+
+-- a turn and a withdrawal leave the request as it is
+turned_request : {K V : Type 0} (l : Ledger K V Point (Listed K V Point)) (c n : ℕ) (is_open : Bool) (x y : Entry K V Point) → TurnsEntry l c n is_open x y → y.request ≡ x.request
+turned_request {K} {V} l c n is_open x y (inl (run, started, out, is, e)) = ap (λ (z : Entry K V Point). z.request) e
+turned_request {K} {V} l c n is_open x y (inr w) = ap (λ (z : Entry K V Point). z.request) w.1
+
+withdrawn_request : {K V : Type 0} (l : Ledger K V Point (Listed K V Point)) (c : ℕ) (label : Label) (n : ℕ) (x y : Entry K V Point) → WithdrawsEntry l c label n x y → y.request ≡ x.request
+withdrawn_request {K} {V} l c label n x y (inl w) = ap (λ (z : Entry K V Point). z.request) w.1
+withdrawn_request {K} {V} l c label n x y (inr w) = ap (λ (z : Entry K V Point). z.request) w.1
 
 -- the client is open as before, has the same requests, and of its outbox the same was taken; a
 -- closed one's is as it was
@@ -109,6 +129,19 @@ alike_entry : {K V : Type 0} (client : Client K V Point (Listed K V Point)) (n :
 alike_entry client n entry other here e = alike_same client (with_entry client n other) (map_set request_of client.entries n entry other here e) refl refl
 
 module _ {K V : Type 0} (taken : List (List (ReplyView K V Point))) (seats : List (SeatView K V)) where
+  -- each client is another that is alike
+  aligned_each : (clients others : List (Client K V Point (Listed K V Point))) → length others ≡ length clients
+      → ((c : ℕ) (x y : Client K V Point (Listed K V Point)) → slice_get clients c ≡ Some x → slice_get others c ≡ Some y → Alike x y) → Aligned clients taken seats → Aligned others taken seats
+  aligned_each clients others long alike a = record {
+    counted = a.counted ∙ sym long;
+    places = a.places ∙ sym long;
+    each = λ c y tk seat h i j.
+        let lt : c < length others = get_within others c y h in
+        let same : length others ≡ length clients = long in
+        let there = get_there clients c (omega arith) in
+        seated_alike there.0 y tk seat (alike c there.0 y there.1 h) (a.each c there.0 tk seat there.1 i j);
+  }
+
   aligned_along : (l m : Ledger K V Point (Listed K V Point)) → m ≡ l → Aligned l.clients taken seats → Aligned m.clients taken seats
   aligned_along l m e a = subst (λ (x : Ledger K V Point (Listed K V Point)). Aligned x.clients taken seats) (sym e) a
 
@@ -142,8 +175,21 @@ module _ {K V : Type 0} (taken : List (List (ReplyView K V Point))) (seats : Lis
         shut_so = before.shut_so;
       })))
 
+  -- a turn moves requests alone
+  aligned_turns : (l m : Ledger K V Point (Listed K V Point)) → Turns l m → Aligned l.clients taken seats → Aligned m.clients taken seats
+  aligned_turns l m t a =
+      aligned_each l.clients m.clients t.long
+      (λ c x y h g.
+      let w = t.each c x y h g in
+      alike_same x y (same_requests x.entries y.entries w.long (λ n e f i j. turned_request l c n x.is_open e f (w.each n e f i j))) w.is_open w.outbox)
+      a
+
+  aligned_turns_if : (test : Bool) (l m : Ledger K V Point (Listed K V Point)) → TurnsIf test l m → Aligned l.clients taken seats → Aligned m.clients taken seats
+  aligned_turns_if true l m t a = aligned_turns l m t a
+  aligned_turns_if false l m e a = aligned_along l m e a
+
   pub aligned_edits : (c : ℕ) (change : ChangeView) (answer : Result ℕ EditRefused) (l m : Ledger K V Point (Listed K V Point)) → Edits c change answer l m → Aligned l.clients taken seats → Aligned m.clients taken seats
-  aligned_edits c change (Ok revision) l m s a = aligned_along _ m s.4 a
+  aligned_edits c change (Ok revision) l m s a = aligned_turns_if (is_turn revision) (edited l change) m s.4 a
   aligned_edits c change (Err refused) l m s a = aligned_along l m s.2 a
 
   pub aligned_starts : (answer : Option ℕ) (l m : Ledger K V Point (Listed K V Point)) → Starts answer l m → Aligned l.clients taken seats → Aligned m.clients taken seats
@@ -169,6 +215,15 @@ module _ {K V : Type 0} (taken : List (List (ReplyView K V Point))) (seats : Lis
   pub aligned_starves : (run : ℕ) (answer : Bool) (l m : Ledger K V Point (Listed K V Point)) → Starves run answer l m → Aligned l.clients taken seats → Aligned m.clients taken seats
   aligned_starves run true l m s a = let e = s.1.is_entry in aligned_entry l m s.0.c s.0.client s.0.n s.0.entry _ a e.client_here e.here refl (clients_of _ m s.2)
   aligned_starves run false l m s a = aligned_along l m s.1 a
+
+  pub aligned_withdraws : (c : ℕ) (label : Label) (answer : Result Bool WithdrawFault) (l m : Ledger K V Point (Listed K V Point)) → Withdraws c label answer l m → Aligned l.clients taken seats → Aligned m.clients taken seats
+  aligned_withdraws c label (Ok some) l m s a =
+      let client = s.0 in
+      let after = s.3.0 in
+      aligned_along _ m s.3.2
+      (aligned_set l.clients taken seats c client (with_entries client after) a s.1.here
+      (alike_same client (with_entries client after) (same_requests client.entries after s.3.1.long (λ n x y h g. withdrawn_request l c label n x y (s.3.1.each n x y h g))) refl refl))
+  aligned_withdraws c label (Err fault) l m s a = aligned_along l m s.1 a
 
   pub aligned_releases : (c : ℕ) (answer : Released) (l m : Ledger K V Point (Listed K V Point)) → Releases replies_of taken_front HasNoRoom HasLostEnd c answer l m → Aligned l.clients taken seats → Aligned m.clients taken seats
   aligned_releases c (ReleasedPut n) l m s a =

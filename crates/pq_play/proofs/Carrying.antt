@@ -11,10 +11,15 @@ use Rattle.pq_core.specs.Works.{DoneView, WorkView}
 use Rattle.pq_core.specs.Outboxes.{Listed, taken_front, HasNoRoom, HasLostEnd, TakesNext}
 use Rattle.pq_core.specs.Ledger.{Ledger}
 use Rattle.pq_core.specs.RightReply.{answer_by}
-use Rattle.pq_core.specs.Moves.{Reaches, Opens, Accepts, Edits, Starts, Looks, Gives, Starves, Releases, Closes, TakesOut, IsMade}
+use Rattle.pq_core.specs.Moves.{Reaches, Opens, Accepts, Edits, Starts, Looks, RunAt, Runs, NoneRuns, IsMade, IsOf, Gives, Starves, Withdraws, Releases, Closes, TakesOut}
+use Rattle.pq_core.specs.declared.label.Label.{Label}
 use Rattle.pq_core.specs.declared.request.Request.{Request}
 use Rattle.pq_core.specs.declared.fault.OpenRefused.{OpenRefused}
 use Rattle.pq_core.specs.declared.fault.EditRefused.{EditRefused}
+use Rattle.pq_core.specs.declared.fault.GiveFault.{GiveFault}
+use Rattle.pq_core.specs.declared.fault.GiveFault.TheVariants.{NotThisRun, Memory as GiveMemory}
+use Rattle.pq_core.specs.declared.fault.GiveRefused.{GiveRefused}
+use Rattle.pq_core.specs.declared.fault.WithdrawFault.{WithdrawFault}
 use Rattle.pq_core.specs.declared.moves.Move.{Move}
 use Rattle.pq_core.specs.declared.moves.Released.{Released}
 use Rattle.pq_core.proofs.Lists.{some_one, none_some, get_within, get_there, same_or_other}
@@ -24,11 +29,21 @@ use Rattle.pq_play.specs.aux.Seats.{SeatView, free_seat, with_request, with_left
 use Rattle.pq_play.specs.aux.Running.{OutOf, IsPut, IsSame, KeepsMove}
 use Rattle.pq_play.specs.aux.Playing.{Stood, Carried}
 use Rattle.pq_core.proofs.Writes.{set_back}
-use Rattle.pq_play.proofs.Aligning.{aligned_opens, aligned_accepts, aligned_edits, aligned_starts, aligned_looks, aligned_gives, aligned_starves, aligned_releases, aligned_closes, aligned_takes, aligned_takes_left, seated_at}
-use Rattle.pq_play.proofs.Running.{Ran, ran_same, ran_looks, ran_gives, ran_starves, ran_starts, runs_opens, runs_accepts, runs_edits, runs_releases, runs_closes, runs_takes, same_as, given_of, made_of, none_given}
+use Rattle.pq_play.proofs.Aligning.{aligned_opens, aligned_accepts, aligned_edits, aligned_starts, aligned_looks, aligned_gives, aligned_starves, aligned_withdraws, aligned_releases, aligned_closes, aligned_takes, aligned_takes_left, seated_at}
+use Rattle.pq_play.proofs.Running.{Ran, ran_same, ran_fewer, ran_none, ran_looks, ran_gives, ran_starves, ran_starts, runs_opens, runs_accepts, runs_edits, runs_withdraws, runs_releases, runs_closes, runs_takes, same_as, given_at, given_of, made_of, none_given}
 use Rattle.pq_play.proofs.Leading.{true_or_false}
 use Rattle.pq_play.specs.declared.event.Event.{Event}
-use Rattle.pq_play.specs.declared.event.Event.TheVariants.{Open, Accept, Edit, Start, Step, Give, Starve, Release, Take, Close}
+use Rattle.pq_play.specs.declared.event.Event.TheVariants.{Open, Accept, Edit, Withdraw, Start, Step, Give, Starve, Release, Take, Close}
+
+module _ {R K P V M O : Type 0} where
+  -- a result that is none of the work that is out
+  given_not : (run : ℕ) (done : DoneView R K P V) (refused : GiveRefused (DoneView R K P V)) (l m : Ledger K V M O) → refused.fault ≡ NotThisRun → Gives run done (Err refused) l m
+      → ((at : RunAt K V M O) → Runs l run at → IsOf run at done → ⊥) × (m ≡ l)
+  given_not run done refused l m e s = by_fault refused.fault refused.done e s
+    where
+      by_fault : (fault : GiveFault) (back : DoneView R K P V) → fault ≡ NotThisRun → Gives run done (Err (record { fault = fault; done = back })) l m → ((at : RunAt K V M O) → Runs l run at → IsOf run at done → ⊥) × (m ≡ l)
+      by_fault NotThisRun back f g = (g.1, g.2)
+      by_fault GiveMemory back f g = absurd (cc)
 
 module _ {R K P V : Type 0} (room : ℕ) (order : K → K → Ordering) (machine : Machine K P V) (rules own after_own : R) (Stands After : Ledger K V Point (Listed K V Point) → Type 0) (w : World K V) (seats : List (SeatView K V)) (dones : ℕ → Option (DoneView R K P V)) (s : Stood order machine rules own Stands w seats dones) (same_rules : after_own ≡ own) where
   ran : Ran rules w.ledger dones
@@ -72,7 +87,13 @@ module _ {R K P V : Type 0} (room : ℕ) (order : K → K → Ordering) (machine
   carried_edit c change answer answered r =
       carried (Edit c change) r.0 w.taken seats dones r.2 (answer, answered, r.1, refl)
       (aligned_edits w.taken seats c change answer w.ledger r.0 r.1 s.fits.aligned)
-      (ran_same rules w.ledger r.0 dones dones (runs_edits c change answer w.ledger r.0 r.1) (λ q. refl) ran)
+      (ran_fewer rules w.ledger r.0 dones dones (runs_edits c change answer w.ledger r.0 r.1) (λ q. refl) ran)
+
+  pub carried_withdraw : (c : ℕ) (label : Label) (answer : Result Bool WithdrawFault) → Reaches (Withdraws c label answer) w.ledger After → Carried room order machine rules (Withdraw c label) w after_own After seats dones
+  carried_withdraw c label answer r =
+      carried (Withdraw c label) r.0 w.taken seats dones r.2 (answer, r.1, refl)
+      (aligned_withdraws w.taken seats c label answer w.ledger r.0 r.1 s.fits.aligned)
+      (ran_fewer rules w.ledger r.0 dones dones (runs_withdraws c label answer w.ledger r.0 r.1) (λ q. refl) ran)
 
   pub carried_start : (answer : Option ℕ) → Reaches (Starts answer) w.ledger After → Carried room order machine rules Start w after_own After seats dones
   carried_start answer r =
@@ -97,7 +118,7 @@ module _ {R K P V : Type 0} (room : ℕ) (order : K → K → Ordering) (machine
       → Carried room order machine rules (Give run) w after_own After seats after_dones
   carried_given run done move after_dones e p r =
       let kept : OutOf rules w.ledger run (Some done) = subst (OutOf rules w.ledger run) (sym e) (s.fits.outs run) in
-      let at = given_of rules w.ledger run done kept in
+      let at = given_at run done move w.ledger r.0 r.1 in
       carried (Give run) r.0 w.taken seats after_dones r.2
       (inl (record {
         done = done;
@@ -111,6 +132,21 @@ module _ {R K P V : Type 0} (room : ℕ) (order : K → K → Ordering) (machine
       }))
       (aligned_gives w.taken seats run done move w.ledger r.0 r.1 s.fits.aligned)
       (ran_gives rules run done move w.ledger r.0 dones after_dones r.1 p ran)
+
+  -- the run of a result that is kept is over, and nothing changes
+  pub carried_over : (run : ℕ) (done : DoneView R K P V) (refused : GiveRefused (DoneView R K P V)) (after_dones : ℕ → Option (DoneView R K P V)) → refused.fault ≡ NotThisRun → Some done ≡ dones run → IsPut dones after_dones run None
+      → Reaches (Gives run done (Err refused)) w.ledger After → Carried room order machine rules (Give run) w after_own After seats after_dones
+  carried_over run done refused after_dones fault e p r =
+      let kept : OutOf rules w.ledger run (Some done) = subst (OutOf rules w.ledger run) (sym e) (s.fits.outs run) in
+      let told = given_not run done refused w.ledger r.0 fault r.1 in
+      let none : NoneRuns w.ledger run = λ at runs. told.0 at runs (given_of rules w.ledger run done kept at runs) in
+      carried (Give run) r.0 w.taken seats after_dones r.2
+      (inr (record {
+        none = λ at runs. absurd (none at runs);
+        same = ap (λ (x : Ledger K V Point (Listed K V Point)). record { ledger = x; taken = w.taken }) told.1;
+      }))
+      (subst (λ (x : Ledger K V Point (Listed K V Point)). Aligned x.clients w.taken seats) (sym told.1) s.fits.aligned)
+      (ran_none rules w.ledger r.0 run dones after_dones none told.1 p ran)
 
   pub carried_starve : (run : ℕ) (answer : Bool) (after_dones : ℕ → Option (DoneView R K P V)) → IsPut dones after_dones run None → Reaches (Starves run answer) w.ledger After
       → Carried room order machine rules (Starve run) w after_own After seats after_dones

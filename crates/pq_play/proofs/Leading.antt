@@ -14,8 +14,8 @@ use Rattle.pq_core.specs.Ledger.{Place, Waiting, Running, Ready, Put, Dropped, L
 use Rattle.pq_core.specs.RightReply.{IsRight, IsRightFor, answer_by}
 use Rattle.pq_core.specs.Kept.{PlaceKept, Kept}
 use Rattle.pq_core.proofs.Lists.{some_one, none_some, get_within, get_there}
-use Rattle.pq_core.proofs.Keeping.{kept_opens, kept_accepts, kept_edits, kept_starts, kept_looks, kept_gives, kept_starves, kept_releases, kept_closes, kept_takes}
-use Rattle.pq_core.proofs.Shutting.{shut_opens, shut_accepts, shut_edits, shut_starts, shut_looks, shut_gives, shut_starves, shut_releases, shut_closes, shut_takes}
+use Rattle.pq_core.proofs.Keeping.{kept_opens, kept_accepts, kept_edits, kept_starts, kept_looks, kept_gives, kept_starves, kept_withdraws, kept_releases, kept_closes, kept_takes}
+use Rattle.pq_core.proofs.Shutting.{shut_opens, shut_accepts, shut_edits, shut_starts, shut_looks, shut_gives, shut_starves, shut_withdraws, shut_releases, shut_closes, shut_takes}
 use Rattle.pq_play.specs.World.{World, no_files, beginning, replies_of, own_point}
 use Rattle.pq_play.specs.Headline.{Headline, LeavesClosed}
 use Rattle.pq_play.specs.Steps.{Steps, LeadsTo, empty_list}
@@ -23,7 +23,7 @@ use Rattle.pq_play.specs.aux.Seats.{SeatView, Seated, Aligned}
 use Rattle.pq_play.specs.aux.Running.{Run, run_at, OutOf}
 use Rattle.pq_play.specs.aux.Playing.{Stood, Carried, Carries, Playing}
 use Rattle.pq_play.specs.declared.event.Event.{Event}
-use Rattle.pq_play.specs.declared.event.Event.TheVariants.{Open, Accept, Edit, Start, Step, Give, Starve, Release, Take, Close}
+use Rattle.pq_play.specs.declared.event.Event.TheVariants.{Open, Accept, Edit, Withdraw, Start, Step, Give, Starve, Release, Take, Close}
 
 pub true_or_false : (b : Bool) → (b ≡ true) ⊎ (b ≡ false)
 true_or_false true = inl refl
@@ -94,6 +94,7 @@ module _ {R K P V : Type 0} (room : ℕ) (order : K → K → Ordering) (machine
   kept_steps Open w v s k = kept_opens (answer_by order machine own_point) replies_of (empty_list room) s.0 w.ledger v.ledger refl k s.2
   kept_steps (Accept c request) w v s k = kept_accepts (answer_by order machine own_point) replies_of c request s.0 w.ledger v.ledger k s.2
   kept_steps (Edit c change) w v s k = kept_edits (answer_by order machine own_point) replies_of c change s.0 w.ledger v.ledger k s.2
+  kept_steps (Withdraw c label) w v s k = kept_withdraws (answer_by order machine own_point) replies_of c label s.0 w.ledger v.ledger k s.1
   kept_steps Start w v s k = kept_starts (answer_by order machine own_point) replies_of s.0 w.ledger v.ledger k s.1
   kept_steps (Step run) w v s k = kept_looks (answer_by order machine own_point) replies_of rules run s.0 w.ledger v.ledger k s.2
   kept_steps (Give run) w v s k = elim s [
@@ -115,6 +116,7 @@ module _ {R K P V : Type 0} (room : ℕ) (order : K → K → Ordering) (machine
   closed_steps Open w v s = λ d shut. shut_opens d (empty_list room) s.0 w.ledger v.ledger shut s.2
   closed_steps (Accept c request) w v s = λ d shut. shut_accepts replies_of d c request s.0 w.ledger v.ledger shut s.2
   closed_steps (Edit c change) w v s = λ d shut. shut_edits d c change s.0 w.ledger v.ledger shut s.2
+  closed_steps (Withdraw c label) w v s = λ d shut. shut_withdraws d c label s.0 w.ledger v.ledger shut s.1
   closed_steps Start w v s = λ d shut. shut_starts d s.0 w.ledger v.ledger shut s.1
   closed_steps (Step run) w v s = λ d shut. shut_looks (answer_by order machine own_point) rules d run s.0 w.ledger v.ledger shut s.2
   closed_steps (Give run) w v s = elim s [

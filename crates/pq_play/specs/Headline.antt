@@ -12,8 +12,9 @@ use Rattle.pq_play.specs.World.{World}
 -- requests, one each, in order: the reply that the client `c` took as number `i` names the client
 -- `c`, the number `i` and the request that was accepted from it as number `i`, and it is right. It
 -- is the answer of its key from scratch at the sources of the revision that it names, not older
--- than the request; or it is cancelled, where an edit was accepted after the run's start; or it is
--- starved, where `starve` was called for the request
+-- than the request; or it is cancelled, where an edit was accepted after the run's start; or it says
+-- that its client withdrew it, where it did; or it is starved, where `starve` was called for the
+-- request
 pub record Headline {K V : Type 0} (means : Point → Point → K → Answer K V → Type 0) (w : World K V) : Type 0 where
   pub each : (c i : ℕ) (taken : List (ReplyView K V Point)) (reply : ReplyView K V Point) → slice_get w.taken c ≡ Some taken → slice_get taken i ≡ Some reply → IsRight means w.ledger c i reply
   pub clients : length w.taken ≡ length w.ledger.clients

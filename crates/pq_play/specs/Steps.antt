@@ -11,7 +11,7 @@ use Rattle.pq_core.specs.Works.{DoneView, WorkView}
 use Rattle.pq_core.specs.Outboxes.{Listed, taken_front, HasNoRoom, HasLostEnd, TakesNext}
 use Rattle.pq_core.specs.Ledger.{Client}
 use Rattle.pq_core.specs.RightReply.{answer_by}
-use Rattle.pq_core.specs.Moves.{Opens, Accepts, Edits, Starts, Looks, Gives, Starves, Releases, Closes, TakesOut, RunAt, Runs, IsMade, IsOf}
+use Rattle.pq_core.specs.Moves.{Opens, Accepts, Edits, Withdraws, Starts, Looks, Gives, Starves, Releases, Closes, TakesOut, RunAt, Runs, IsMade, IsOf}
 use Rattle.pq_core.specs.declared.fault.OpenFault.TheVariants.{TooManyClients}
 use Rattle.pq_core.specs.declared.fault.OpenRefused.{OpenRefused}
 use Rattle.pq_core.specs.declared.fault.AcceptFault.{AcceptFault}
@@ -20,6 +20,7 @@ use Rattle.pq_core.specs.declared.fault.AcceptRefused.{AcceptRefused}
 use Rattle.pq_core.specs.declared.fault.EditFault.{EditFault}
 use Rattle.pq_core.specs.declared.fault.EditFault.TheVariants.{NoClient as EditNoClient, Closed as EditClosed, BadRange, Input}
 use Rattle.pq_core.specs.declared.fault.EditRefused.{EditRefused}
+use Rattle.pq_core.specs.declared.fault.WithdrawFault.{WithdrawFault}
 use Rattle.pq_core.specs.declared.fault.LookFault.{LookFault}
 use Rattle.pq_core.specs.declared.fault.LookFault.TheVariants.{NoRun}
 use Rattle.pq_core.specs.declared.moves.Move.{Move}
@@ -27,7 +28,7 @@ use Rattle.pq_core.specs.declared.moves.Released.{Released}
 use Rattle.pq_play.specs.World.{World, replies_of, own_point}
 use Rattle.pq_play.specs.Headline.{Headline, LeavesClosed}
 use Rattle.pq_play.specs.declared.event.Event.{Event}
-use Rattle.pq_play.specs.declared.event.Event.TheVariants.{Open, Accept, Edit, Start, Step, Give, Starve, Release, Take, Close}
+use Rattle.pq_play.specs.declared.event.Event.TheVariants.{Open, Accept, Edit, Withdraw, Start, Step, Give, Starve, Release, Take, Close}
 
 -- ---- answers but those of an allocation failure
 
@@ -135,6 +136,8 @@ Steps {R} {K} {P} {V} room order machine rules (Accept c request) w v =
     (answer : Result ℕ (AcceptRefused K)) × AcceptAnswered answer × Accepts replies_of c request answer w.ledger v.ledger × (v.taken ≡ w.taken)
 Steps room order machine rules (Edit c change) w v =
     (answer : Result ℕ EditRefused) × EditAnswered answer × Edits c change answer w.ledger v.ledger × (v.taken ≡ w.taken)
+Steps room order machine rules (Withdraw c label) w v =
+    (answer : Result Bool WithdrawFault) × Withdraws c label answer w.ledger v.ledger × (v.taken ≡ w.taken)
 Steps room order machine rules Start w v = (answer : Option ℕ) × Starts answer w.ledger v.ledger × (v.taken ≡ w.taken)
 Steps {R} {K} {P} {V} room order machine rules (Step run) w v =
     (answer : Result (Move (WorkView R K P V)) LookFault) × LookAnswered answer × Looks order machine own_point rules run answer w.ledger v.ledger × (v.taken ≡ w.taken)

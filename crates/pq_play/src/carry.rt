@@ -4,15 +4,15 @@ ghost use Rattle.pq_core.specs.Cores.{StandsFor};
 ghost use Rattle.pq_play.specs.World.{World, replies_of, own_point};
 ghost use Rattle.pq_play.specs.aux.Running.{done_of};
 ghost use Rattle.pq_play.specs.aux.Playing.{Stood, Carries};
-ghost use Rattle.pq_play.specs.declared.event.Event.TheVariants.{Open, Accept, Edit, Start, Step, Give, Starve, Release, Take, Close};
+ghost use Rattle.pq_play.specs.declared.event.Event.TheVariants.{Open, Accept, Edit, Withdraw, Start, Step, Give, Starve, Release, Take, Close};
 
 use crate::answered::{accept_answered, edit_answered, look_answered, open_answered};
 use crate::dones::{Dones, keep_move, take_done};
 use crate::event::Event;
 use crate::seat::{Seat, keep_outbox, keep_request, take_left};
 use pq_core::{
-    Change, ClientId, Core, ListOutbox, Memory, PlainStamp, Request, RunId, copy_change,
-    copy_request,
+    Change, ClientId, Core, GiveFault, Label, ListOutbox, Memory, PlainStamp, Request, RunId,
+    copy_change, copy_request,
 };
 use pq_rules::Rules;
 use std::alloc::Global;
@@ -25,7 +25,8 @@ pub(crate) type ListCore<R> = Core<
 >;
 
 /// What is kept while events are played: of each client its requests, and its outbox after its
-/// close; of each run whose work is out the result.
+/// close; of each run whose work is out the result, which stays where a turn or a withdrawal ends the
+/// run.
 #[derive(Drop)]
 pub(crate) struct Sheet<R: Rules> {
     pub(crate) seats: Vec<Seat<R::Key, R::Value>>,
@@ -99,6 +100,20 @@ fn edit<R: Rules>(
     Ok(())
 }
 
+/// Withdraws the requests of `client` with `label`. The result that is kept for a run that is over
+/// stays, and is given to no run.
+fn withdraw<R: Rules>(
+    rules: &R,
+    core: &mut ListCore<R>,
+    sheet: &mut Sheet<R>,
+    client: ClientId,
+    label: &Label,
+)
+    ensures { (room : ℕ) → Carries room R.Key.cmp (R.machine rules.now) rules.now (Withdraw client label.now) core.old.rules (StandsFor R.Key.cmp (R.machine rules.now) own_point replies_of core.old) sheet.old.seats.items (done_of sheet.old.dones) core.new.rules (StandsFor R.Key.cmp (R.machine rules.now) own_point replies_of core.new) sheet.new.seats.items (done_of sheet.new.dones) }
+{
+    let _answer = core.withdraw(client, label);
+}
+
 /// Starts a request that waits.
 fn start<R: Rules>(rules: &R, core: &mut ListCore<R>, sheet: &mut Sheet<R>)
     ensures { (room : ℕ) → Carries room R.Key.cmp (R.machine rules.now) rules.now Start core.old.rules (StandsFor R.Key.cmp (R.machine rules.now) own_point replies_of core.old) sheet.old.seats.items (done_of sheet.old.dones) core.new.rules (StandsFor R.Key.cmp (R.machine rules.now) own_point replies_of core.new) sheet.new.seats.items (done_of sheet.new.dones) }
@@ -126,8 +141,8 @@ fn step<R: Rules>(
     }
 }
 
-/// Gives the result that is kept for `run`, if there is one. It is that of the work that is out, so
-/// only an allocation can fail.
+/// Gives the result that is kept for `run`, if there is one. Where the run exists, it is that of its
+/// work that is out; where the run is over, the result is given to nobody.
 fn give<R: Rules>(
     alloc: Global,
     rules: &R,
@@ -141,7 +156,10 @@ fn give<R: Rules>(
     match take_done(&mut sheet.dones, run) {
         Some(done) => match core.give(alloc, run, done) {
             Ok(_step) => return Ok(()),
-            Err(_refused) => return Err(Memory),
+            Err(refused) => match refused.fault {
+                GiveFault::NotThisRun => return Ok(()),
+                GiveFault::Memory => return Err(Memory),
+            },
         },
         None => return Ok(()),
     }
@@ -214,6 +232,10 @@ pub(crate) fn carry<R: Rules>(
         Event::Open => open(alloc, rules, core, sheet, room),
         Event::Accept(client, request) => accept(alloc, rules, core, sheet, *client, request),
         Event::Edit(client, change) => edit(alloc, rules, core, sheet, *client, change),
+        Event::Withdraw(client, label) => {
+            withdraw(rules, core, sheet, *client, label);
+            Ok(())
+        }
         Event::Start => {
             start(rules, core, sheet);
             Ok(())

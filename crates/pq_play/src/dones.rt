@@ -1,4 +1,5 @@
-//! The results of work that is out, by their runs.
+//! The results of work that is out, by their runs. That of a run that is over can stay: it is given to
+//! nobody.
 ghost use Rattle.std.specs.Prelude.{◌≡◌, OnOk, None, Some};
 ghost use Rattle.pq_play.specs.aux.Running.{done_of, IsPut, KeepsMove};
 
@@ -7,7 +8,7 @@ use pq_rules::Rules;
 use std::alloc::Global;
 use std::collections::BTreeMap;
 
-/// The results of the work that is out, by the numbers of their runs.
+/// The results of the work that was handed out, by the numbers of their runs.
 pub(crate) type Dones<R> = BTreeMap<u64, Done<R, PlainStamp>>;
 
 /// Keeps the result of work.

@@ -1,5 +1,5 @@
 //! Events of a core.
-use pq_core::{Change, ClientId, Request, RunId};
+use pq_core::{Change, ClientId, Label, Request, RunId};
 
 /// A call of a core, a step of a run, or a take.
 #[derive(Drop)]
@@ -10,6 +10,8 @@ pub enum Event<K> {
     Accept(ClientId, Request<K>),
     /// The client makes the change.
     Edit(ClientId, Change),
+    /// The client withdraws its requests with the label.
+    Withdraw(ClientId, Label),
     /// A request that waits is started.
     Start,
     /// The run takes a step. Work that it hands out is carried out, and its result is kept.

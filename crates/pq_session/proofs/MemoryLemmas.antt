@@ -13,7 +13,7 @@ use Rattle.pq_core.specs.Moves.{text_made, file_of}
 use Rattle.pq_session.specs.declared.fault.ScriptFault.{ScriptFault}
 use Rattle.pq_session.specs.declared.fault.ScriptFault.TheVariants.{Write, Memory, Frame, Cut, Edit, BadRange, Read, TooManyReads}
 use Rattle.pq_frame.specs.Messages.{message_of}
-use Rattle.pq_session.specs.Session.{Meaning, asks, says, edits, ignores, ends, meaning_of, next_phase}
+use Rattle.pq_session.specs.Session.{Meaning, asks, says, edits, withdraws, ignores, ends, meaning_of, next_phase}
 use Rattle.pq_session.specs.Responses.{ScriptState, replies, silent, finishes, refuses, bad_range, edit_response, edit_refusal, in_phase, RespondsTo, Responds}
 use Rattle.pq_session.specs.Output.{Ending, exits, refused, at_bad_range, Output, Outputs, ended}
 use Rattle.pq_session.specs.Script.{IsMemoryAlone}
@@ -42,6 +42,7 @@ never_meant : (state : ScriptState) (message : Meaning) (after : ScriptState) â†
 never_meant state (asks label query) after (text, is, e, same) = absurd (cc e)
 never_meant state (says text) after (e, same) = absurd (cc e)
 never_meant state (edits change) after (e, same) = never_edit (text_made state.files change) (edit_refusal state change) (never_refused (record { files = state.files; revision = state.revision; history = [] }) change.file (file_of state.files change).text) (sym e)
+never_meant state (withdraws label) after (e, same) = absurd (cc e)
 never_meant state ignores after (e, same) = absurd (cc e)
 never_meant state (ends status) after (e, same) = absurd (cc e)
 

@@ -7,7 +7,7 @@ use Rattle.serde_json.specs.Read.{read}
 use Rattle.pq_frame.specs.Json.{IsJson}
 use Rattle.pq_frame.specs.Messages.{message_of}
 use Rattle.pq_core.specs.Moves.{text_made}
-use Rattle.pq_session.specs.Session.{Meaning, asks, says, edits, ignores, ends, meaning_of, next_phase}
+use Rattle.pq_session.specs.Session.{Meaning, asks, says, edits, withdraws, ignores, ends, meaning_of, next_phase}
 use Rattle.pq_session.specs.Reply.{out_of_memory_text}
 use Rattle.pq_session.specs.Responses.{Response, replies, silent, finishes, edit_response, edit_refusal, edited, in_phase, ScriptState, RespondsTo, Responds}
 
@@ -27,6 +27,7 @@ meant_some : (state : ScriptState) (message : Meaning) → (told : Response) × 
 meant_some state (asks label key) = (replies (out_of_memory_text label), state, (out_of_memory_text label, inr refl, refl, refl))
 meant_some state (says text) = (replies text, state, (refl, refl))
 meant_some state (edits change) = (edit_response (text_made state.files change) (edit_refusal state change), edited state change (text_made state.files change) (edit_refusal state change), (refl, refl))
+meant_some state (withdraws label) = (silent, state, (refl, refl))
 meant_some state ignores = (silent, state, (refl, refl))
 meant_some state (ends status) = (finishes status, state, (refl, refl))
 

@@ -8,9 +8,9 @@ use Rattle.pq_core.specs.declared.request.Want.{Want}
 use Rattle.pq_core.specs.declared.request.Want.TheVariants.{Demand, Fixed}
 use Rattle.pq_core.specs.declared.request.Request.{Request}
 use Rattle.pq_session.specs.declared.state.items.Item.{Item}
-use Rattle.pq_session.specs.declared.state.items.Item.TheVariants.{Ask, Say, Edit, Ignore, End}
-use Rattle.pq_session.specs.Labels.{label_model}
-use Rattle.pq_session.specs.Session.{Meaning, asks, says, edits, ignores, ends}
+use Rattle.pq_session.specs.declared.state.items.Item.TheVariants.{Ask, Say, Edit, Withdraw, Ignore, End}
+use Rattle.pq_session.specs.Labels.{label_model, HasOneForm}
+use Rattle.pq_session.specs.Session.{Meaning, asks, says, edits, withdraws, ignores, ends}
 
 -- `reply_label message` is the label of the response to `message`, if it gets one.
 abbrev pub reply_label : MessageModel → Option LabelModel
@@ -35,6 +35,7 @@ abbrev pub item_meaning : Item ProtoKey → Meaning
 item_meaning (Ask request) = answer_meaning request
 item_meaning (Say request) = answer_meaning request
 item_meaning (Edit change) = edits change
+item_meaning (Withdraw label) = withdraws (label_model label)
 item_meaning Ignore = ignores
 item_meaning (End status) = ends status
 
@@ -43,6 +44,7 @@ abbrev pub item_label : Item ProtoKey → Option Label
 item_label (Ask request) = Some request.label
 item_label (Say request) = Some request.label
 item_label (Edit change) = None
+item_label (Withdraw label) = None
 item_label Ignore = None
 item_label (End status) = None
 
@@ -51,10 +53,12 @@ abbrev pub is_demand : Want ProtoKey → Bool
 is_demand (Demand key) = true
 is_demand (Fixed text) = false
 
--- `HasFittingWant item` is that an `Ask` has a demand, and a `Say` a fixed response.
+-- `HasFittingWant item` is that an `Ask` has a demand, and a `Say` a fixed response; and that the
+-- label of a `Withdraw` has its one form, as those of requests have.
 abbrev pub HasFittingWant : Item ProtoKey → Type 0
 HasFittingWant (Ask request) = is_demand request.want ≡ true
 HasFittingWant (Say request) = is_demand request.want ≡ false
 HasFittingWant (Edit change) = Unit {0}
+HasFittingWant (Withdraw label) = HasOneForm label
 HasFittingWant Ignore = Unit {0}
 HasFittingWant (End status) = Unit {0}

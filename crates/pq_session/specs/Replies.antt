@@ -9,10 +9,10 @@ use Rattle.pq_proto.specs.declared.value.ProtoValue.TheVariants as values
 use Rattle.pq_core.specs.declared.request.Want.{Want}
 use Rattle.pq_core.specs.declared.request.Want.TheVariants.{Demand, Fixed}
 use Rattle.pq_core.specs.declared.outcome.Outcome.{Outcome}
-use Rattle.pq_core.specs.declared.outcome.Outcome.TheVariants.{Answered, Plain, Cancelled, Starved}
+use Rattle.pq_core.specs.declared.outcome.Outcome.TheVariants.{Answered, Plain, Cancelled, Starved, Withdrawn}
 use Rattle.pq_core.specs.Replies.{ReplyView}
 use Rattle.pq_session.specs.Labels.{label_model}
-use Rattle.pq_session.specs.Reply.{null_text, out_of_memory_text, cancelled_text, diagnostics_text, symbols_text, definition_text, descriptor_text}
+use Rattle.pq_session.specs.Reply.{null_text, out_of_memory_text, withdrawn_text, cancelled_text, diagnostics_text, symbols_text, definition_text, descriptor_text}
 
 -- `value_text root label revision value` is the text of the response of the value `value`. The URI
 -- of a definition is below `root`. No request asks for a value of another kind: its result is null.
@@ -42,6 +42,7 @@ outcome_text root label want revision (Answered answer stamp) = answer_text root
 outcome_text root label want revision Plain = fixed_text label want
 outcome_text root label want revision (Cancelled started seen) = cancelled_text label started seen
 outcome_text root label want revision Starved = out_of_memory_text label
+outcome_text root label want revision Withdrawn = withdrawn_text label
 
 -- `reply_text root reply` is the text of `reply` in a session with the root `root`.
 abbrev pub reply_text : {M : Type 0} → List ℕ → ReplyView ProtoKey ProtoValue M → List ℕ

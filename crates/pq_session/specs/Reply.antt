@@ -16,7 +16,7 @@ use Rattle.pq_proto.specs.Ranges.{range_data}
 use Rattle.pq_proto.specs.declared.key.Place.{Place}
 use Rattle.pq_proto.specs.declared.value.Location.{Location}
 use Rattle.pq_session.specs.declared.protocol.refusals.Refusal.{Refusal}
-use Rattle.pq_session.specs.declared.protocol.refusals.Refusal.TheVariants.{ParseError, InvalidRequest, MethodNotFound, InvalidParams, OutOfMemory, NotInitialized, ContentModified}
+use Rattle.pq_session.specs.declared.protocol.refusals.Refusal.TheVariants.{ParseError, InvalidRequest, MethodNotFound, InvalidParams, OutOfMemory, NotInitialized, ContentModified, RequestCancelled}
 use Rattle.pq_session.specs.Uri.{uri_of}
 
 -- ---- errors
@@ -31,6 +31,7 @@ error_code InvalidParams = neg_ℤ (pos 32602)
 error_code OutOfMemory = neg_ℤ (pos 32603)
 error_code NotInitialized = neg_ℤ (pos 32002)
 error_code ContentModified = neg_ℤ (pos 32801)
+error_code RequestCancelled = neg_ℤ (pos 32800)
 
 -- `error_message refusal` is the message of an error.
 abbrev pub error_message : Refusal → List ℕ
@@ -41,6 +42,7 @@ error_message InvalidParams = codes "invalid params"
 error_message OutOfMemory = codes "out of memory"
 error_message NotInitialized = codes "not initialized"
 error_message ContentModified = codes "content modified"
+error_message RequestCancelled = codes "request cancelled"
 
 -- `error_data id code message` is the response of an error to the request `id`.
 abbrev pub error_data : Data → ℤ → List ℕ → Data
@@ -68,6 +70,10 @@ refusal_text label refusal = error_text label (error_code refusal) (error_messag
 -- `out_of_memory_text label` is the text of the response to a query after an allocation failure.
 abbrev pub out_of_memory_text : LabelModel → List ℕ
 out_of_memory_text label = refusal_text label OutOfMemory
+
+-- `withdrawn_text label` is the text of the response to a request that its client withdrew.
+abbrev pub withdrawn_text : LabelModel → List ℕ
+withdrawn_text label = refusal_text label RequestCancelled
 
 -- `cancelled_text label started seen` is the text of the response to a request that was started at
 -- one revision and stopped at another.

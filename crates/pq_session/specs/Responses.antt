@@ -15,7 +15,7 @@ use Rattle.pq_proto.specs.declared.key.ProtoKey.{ProtoKey}
 use Rattle.pq_proto.specs.declared.value.ProtoValue.{ProtoValue}
 use Rattle.pq_session.specs.declared.state.phase.Phase.{Phase}
 use Rattle.pq_session.specs.declared.state.phase.Phase.TheVariants.{Fresh}
-use Rattle.pq_session.specs.Session.{Meaning, asks, says, edits, ignores, ends, meaning_of, next_phase, root_in}
+use Rattle.pq_session.specs.Session.{Meaning, asks, says, edits, withdraws, ignores, ends, meaning_of, next_phase, root_in}
 use Rattle.pq_session.specs.Reply.{out_of_memory_text}
 use Rattle.pq_session.specs.Replies.{answer_text}
 
@@ -79,6 +79,7 @@ abbrev pub RespondsTo : ScriptState → Meaning → Response → ScriptState →
 RespondsTo state (asks label key) response after = (text : List ℕ) × IsAnswer state label key text × (response ≡ replies text) × (after ≡ state)
 RespondsTo state (says text) response after = (response ≡ replies text) × (after ≡ state)
 RespondsTo state (edits change) response after = (response ≡ edit_response (text_made state.files change) (edit_refusal state change)) × (after ≡ edited state change (text_made state.files change) (edit_refusal state change))
+RespondsTo state (withdraws label) response after = (response ≡ silent) × (after ≡ state)
 RespondsTo state ignores response after = (response ≡ silent) × (after ≡ state)
 RespondsTo state (ends status) response after = (response ≡ finishes status) × (after ≡ state)
 

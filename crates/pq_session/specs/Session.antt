@@ -1,11 +1,11 @@
 -- What the messages of a client mean, by the phase of the session (LSP 3.17, "Server lifecycle",
 -- "Text Document Synchronization", "Document Diagnostics", "Document Symbols Request", "Goto
--- Definition Request"; JSON-RPC 2.0, "Request object", "Notification").
+-- Definition Request", "Cancellation Support"; JSON-RPC 2.0, "Request object", "Notification").
 use Rattle.std.specs.Prelude.{ℕ, nat_le, List, [], ◌∷◌, codes, if◌then◌else◌, Option, Some, None, option_and_then, option_map, is_some}
 use Rattle.std.specs.Str.{bytes_eq}
 use Rattle.serde_json.specs.Data.{Data, Items, no_items, item}
 use Rattle.serde_json.specs.Find.{get, as_array, as_null, as_str, as_number, as_u64}
-use Rattle.pq_frame.specs.Labels.{LabelModel, no_label}
+use Rattle.pq_frame.specs.Labels.{LabelModel, no_label, integer_label, text_label, label_of}
 use Rattle.pq_frame.specs.Messages.{MessageModel, bad_json, invalid, ask, notice, response}
 use Rattle.pq_inputs.specs.declared.durability.Durability.TheVariants.{Low}
 use Rattle.pq_lex.specs.declared.position.Position.{Position}
@@ -19,7 +19,7 @@ use Rattle.pq_session.specs.declared.protocol.methods.QueryMethod.TheVariants.{D
 use Rattle.pq_session.specs.declared.protocol.methods.RequestMethod.{RequestMethod}
 use Rattle.pq_session.specs.declared.protocol.methods.RequestMethod.TheVariants.{Initialize, Shutdown, Query}
 use Rattle.pq_session.specs.declared.protocol.methods.NotificationMethod.{NotificationMethod}
-use Rattle.pq_session.specs.declared.protocol.methods.NotificationMethod.TheVariants.{Exit, DidOpen, DidChange, RemoveFile}
+use Rattle.pq_session.specs.declared.protocol.methods.NotificationMethod.TheVariants.{Exit, DidOpen, DidChange, RemoveFile, CancelRequest}
 use Rattle.pq_session.specs.declared.state.phase.Phase.{Phase}
 use Rattle.pq_session.specs.declared.state.phase.Phase.TheVariants.{Fresh, Serving, Closing}
 use Rattle.pq_session.specs.declared.protocol.refusals.Refusal.TheVariants.{ParseError, InvalidRequest, MethodNotFound, InvalidParams, NotInitialized}
@@ -34,6 +34,8 @@ pub data Meaning : Type 0 where
   says : List ℕ → Meaning
   -- This change of the sources is made.
   edits : ChangeView → Meaning
+  -- The requests with this label that have no response yet are withdrawn.
+  withdraws : LabelModel → Meaning
   ignores : Meaning
   -- The session ends with this status.
   ends : ℕ → Meaning
@@ -63,7 +65,8 @@ notification_method name =
     if bytes_eq name (codes "exit") then Some Exit else
     (if bytes_eq name (codes "textDocument/didOpen") then Some DidOpen else
     (if bytes_eq name (codes "textDocument/didChange") then Some DidChange else
-    (if bytes_eq name (codes "proto/removeFile") then Some RemoveFile else None)))
+    (if bytes_eq name (codes "proto/removeFile") then Some RemoveFile else
+    (if bytes_eq name (codes "$/cancelRequest") then Some CancelRequest else None))))
 
 -- ---- the parameters
 
@@ -226,6 +229,17 @@ abbrev pub remove_meaning : List ℕ → Option (List ℕ) → Meaning
 remove_meaning root None = ends unreadable_parameters
 remove_meaning root (Some uri) = edit_meaning (file_of root uri) (set None)
 
+-- `cancelled_id params` is the member `id` of `params` (LSP 3.17, "CancelParams").
+abbrev pub cancelled_id : Option Data → Option Data
+cancelled_id params = option_and_then (get (codes "id")) params
+
+-- `withdrawal_meaning label` is the meaning of `$/cancelRequest` of the request of this label. It is
+-- ignored if its `id` is no label: neither an integer of 64 bits nor a string.
+abbrev pub withdrawal_meaning : LabelModel → Meaning
+withdrawal_meaning no_label = ignores
+withdrawal_meaning (integer_label n) = withdraws (integer_label n)
+withdrawal_meaning (text_label text) = withdraws (text_label text)
+
 -- `served_meaning root method params` is the meaning of a notification between `initialize` and
 -- `shutdown`, other than `exit`.
 abbrev pub served_meaning : List ℕ → NotificationMethod → Option Data → Meaning
@@ -233,9 +247,10 @@ served_meaning root Exit params = ends (exit_status (Serving root))
 served_meaning root DidOpen params = open_meaning root (document_text (codes "uri") params) (document_text (codes "text") params)
 served_meaning root DidChange params = change_meaning root (document_text (codes "uri") params) (changed_members params)
 served_meaning root RemoveFile params = remove_meaning root (document_text (codes "uri") params)
+served_meaning root CancelRequest params = withdrawal_meaning (label_of (cancelled_id params))
 
 -- `notification_meaning phase method params` is the meaning of a notification. Between `initialize`
--- and `shutdown` edits count, and `exit` always does.
+-- and `shutdown` edits and withdrawals count, and `exit` always does.
 abbrev pub notification_meaning : Phase → Option NotificationMethod → Option Data → Meaning
 notification_meaning phase None params = ignores
 notification_meaning Fresh (Some Exit) params = ends (exit_status Fresh)

@@ -1,12 +1,13 @@
 //! pq_play: lists of events, what is accepted in them and what is taken.
 //!
-//! An event is a line: `open`, `accept CLIENT REQUEST`, `edit CLIENT CHANGE`, `start`, `step RUN`,
-//! `give RUN`, `starve RUN`, `release CLIENT`, `take CLIENT` or `close CLIENT`. The line `run RUN`
-//! stands for `step RUN` and `give RUN` often enough for a run over small files to end.
+//! An event is a line: `open`, `accept CLIENT REQUEST`, `edit CLIENT CHANGE`, `withdraw CLIENT LABEL`,
+//! `start`, `step RUN`, `give RUN`, `starve RUN`, `release CLIENT`, `take CLIENT` or `close CLIENT`.
+//! The line `run RUN` stands for `step RUN` and `give RUN` often enough for a run over small files to
+//! end, and `edits COUNT CLIENT CHANGE` for that many edits.
 mod windows;
 
 use super::cores::lines::{
-    Sample, add_replies, add_request, change_of, client_of, number_of, request_of,
+    Sample, add_replies, add_request, change_of, client_of, label_of, number_of, request_of,
 };
 use crate::checks::check_page;
 use pq_core::{PlainStamp, Reply, Request, RunId};
@@ -25,6 +26,7 @@ fn client_event<K: Sample>(rt: &(impl Abort + AllocGlobal), name: &str, rest: &s
     match name {
         "accept" => Event::Accept(client, request_of(rt, posted)),
         "edit" => Event::Edit(client, change_of(rt, posted)),
+        "withdraw" => Event::Withdraw(client, label_of(rt, posted)),
         "release" => Event::Release(client),
         "take" => Event::Take(client),
         _ => Event::Close(client),
@@ -57,13 +59,22 @@ fn add_steps<K: Sample>(rt: &impl Abort, events: &mut Vec<Event<K>>, run: RunId)
     }
 }
 
+/// Adds the edits that `words` writes, `COUNT CLIENT CHANGE`.
+fn add_edits<K: Sample>(rt: &(impl Abort + AllocGlobal), events: &mut Vec<Event<K>>, words: &str) {
+    let (count, edit) = words.split_once(" ").unwrap_or((words, ""));
+    for _ in 0..number_of(rt, count) {
+        add_event(rt, events, client_event(rt, "edit", edit));
+    }
+}
+
 /// The events that the lines of `script` write.
 fn events_of<K: Sample>(rt: &(impl Abort + AllocGlobal), script: &str) -> Vec<Event<K>> {
     let mut events = Vec::new(rt.alloc());
     for line in script.lines() {
-        match line.strip_prefix("run ") {
-            Some(run) => add_steps(rt, &mut events, RunId::new(number_of(rt, run))),
-            None => add_event(rt, &mut events, event_of(rt, line)),
+        match line.split_once(" ") {
+            Some(("run", run)) => add_steps(rt, &mut events, RunId::new(number_of(rt, run))),
+            Some(("edits", words)) => add_edits(rt, &mut events, words),
+            _ => add_event(rt, &mut events, event_of(rt, line)),
         }
     }
     events
@@ -292,6 +303,84 @@ fn ranged_edits(rt: HostRuntime) {
         accepted 7 Sum a|8 Sum a|\n\
         taken 0 7 Sum a @1 answered 2|1 8 Sum a @2 answered 3|\n\
         revision 2\n\
+        ",
+    );
+}
+
+// Requests with one label are withdrawn: one in a run, one that waits, and none whose reply is ready.
+// The result of a run that is over is given to nobody.
+#[test]
+fn withdrawn(rt: HostRuntime) {
+    check_play(
+        &rt,
+        4,
+        "\
+        open\n\
+        accept 0 7 Sum a\n\
+        accept 0 8 Sum a\n\
+        accept 0 8 say hello\n\
+        start\n\
+        step 0\n\
+        edit 0 low a=b\n\
+        withdraw 0 8\n\
+        withdraw 0 9\n\
+        withdraw 1 7\n\
+        withdraw 0 7\n\
+        give 0\n\
+        step 0\n\
+        start\n\
+        release 0\n\
+        release 0\n\
+        release 0\n\
+        take 0\n\
+        take 0\n\
+        take 0\n\
+        close 0\n\
+        withdraw 0 7\n\
+        ",
+        "\
+        accepted 7 Sum a|8 Sum a|8 say hello|\n\
+        taken 0 7 Sum a @1 withdrawn|1 8 Sum a @1 withdrawn|2 8 say hello @0 plain|\n\
+        revision 1\n\
+        ",
+    );
+}
+
+// The edit that makes revision 1024 ends every run: that of an open client is cancelled, and its result
+// is given to nobody. A request that waits is answered afterwards.
+#[test]
+fn turned(rt: HostRuntime) {
+    check_play(
+        &rt,
+        4,
+        "\
+        open\n\
+        open\n\
+        edits 1023 0 low c=\n\
+        accept 0 7 Sum a\n\
+        accept 1 7 Sum a\n\
+        accept 0 8 Sum a\n\
+        start\n\
+        start\n\
+        step 0\n\
+        close 1\n\
+        edit 0 low a=b\n\
+        give 0\n\
+        step 0\n\
+        step 1\n\
+        start\n\
+        run 2\n\
+        release 0\n\
+        release 0\n\
+        take 0\n\
+        take 0\n\
+        ",
+        "\
+        accepted 7 Sum a|8 Sum a|\n\
+        accepted 7 Sum a|\n\
+        taken 0 7 Sum a @1024 cancelled 1023 1024|1 8 Sum a @1024 answered 2|\n\
+        taken \n\
+        revision 1024\n\
         ",
     );
 }

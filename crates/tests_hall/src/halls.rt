@@ -2,16 +2,18 @@
 //!
 //! A script has a line `CALL => ANSWER` for each call. `ask`, `edit` and `end` post, and answer the
 //! number of the receipt; `changes` of `test_support` says how the texts of edits are written. `carry` carries a post of a client, and `take` takes the reply of its next
-//! receipt. `say` posts what a message asks for, and `text` takes a reply and answers its text. `mark`
-//! says whether a revision has a mark. `free` opens the gate, which holds the work on `held.proto` until
-//! then, and says whether the gate had waited for too long before.
+//! receipt. `withdraw` posts a withdrawal, and `edits` posts and carries that many edits of one text.
+//! `say` posts what a message asks for, and `text` takes a reply and answers its text. `mark`
+//! says whether a revision has a mark. `held` waits until the gate holds work. `free` opens the gate,
+//! which holds the first work on `held.proto` until then, and says whether the gate had waited for too
+//! long before.
 //!
 //! `stored` makes the calls of the stored session.
 mod stored;
 
 ghost use Rattle.std.specs.Prelude.{◌≡◌};
 
-use crate::checks::{check_page, check_row_count, split_row};
+use crate::checks::{check_page, check_row_count, split_row, text_of as text_on};
 use pq_core::{Body, Change, Label, OpenFault, Outcome, Reply, Request, Stamp, Want, Work};
 use pq_frame::Message;
 use pq_hall::{
@@ -37,14 +39,16 @@ use test_support::{Page, changes_of, text_of_word};
 /// The turns for which the gate holds work at most.
 const TURNS: u32 = 100_000;
 
-/// Whether a gate is open, and whether it gave up waiting for that.
+/// Whether work came to a gate that holds it, whether the gate is open, and whether it gave up waiting
+/// for that.
 #[derive(Drop)]
 struct Latch {
+    has_come: AtomicBool,
     is_open: AtomicBool,
     gave_up: AtomicBool,
 }
 
-/// A gate that holds the work on `held.proto`.
+/// A gate that holds the first work on `held.proto`.
 #[derive(Drop)]
 struct Held<'a, R> {
     rt: &'a R,
@@ -53,7 +57,7 @@ struct Held<'a, R> {
 
 impl<S: Texts, R: Clock> Gate<S> for Held<'_, R> {
     fn pass<M: Stamp>(&self, work: &Work<S, M>) {
-        if !S::is_held(work.key()) {
+        if !S::is_held(work.key()) || self.latch.has_come.swap(true, Ordering::SeqCst) {
             return;
         }
         for _ in 0..TURNS {
@@ -392,6 +396,7 @@ fn add_moved<K: Drop>(page: &mut Page, moved: Moved<K>) {
             page.add("edited ");
             page.wide(revision.number());
         }
+        Moved::Withdrawn(some) => page.add(if some { "withdrew" } else { "withdrew none" }),
         Moved::Ended => page.add("ended"),
         Moved::Later(_) => page.add("later"),
     }
@@ -415,6 +420,7 @@ fn add_reply<K, V, M: Stamp>(page: &mut Page, reply: &Reply<K, V, M>) {
         Outcome::Plain => " plain",
         Outcome::Cancelled { .. } => " cancelled",
         Outcome::Starved => " starved",
+        Outcome::Withdrawn => " withdrawn",
     });
 }
 
@@ -435,6 +441,7 @@ fn said(rt: &(impl Abort + AllocGlobal), session: &mut Session, body: &str) -> P
         Item::Ask(request) => Post::Ask(request),
         Item::Say(request) => Post::Ask(request),
         Item::Edit(change) => Post::Edit(change),
+        Item::Withdraw(label) => Post::Withdraw(label),
         Item::Ignore => Post::End,
         Item::End(_) => Post::End,
     }
@@ -449,6 +456,24 @@ where
         Some(porter) => hall.carry(rt, page, guest.client, porter),
         None => page.add("no porter"),
     }
+}
+
+/// Posts and carries as many edits as `word` numbers, which set one text, and writes what became of the
+/// last.
+fn add_edits<F, R>(rt: &R, page: &mut Page, hall: &F, guest: &mut GuestOf<F, R>, word: &str)
+where
+    F: Stage<R>,
+    R: Abort + AllocGlobal,
+{
+    let count = word.parse::<u64>().ok().expect(rt, word);
+    let mut last = Page::new(page.alloc);
+    for _ in 0..count {
+        let mut posted = Page::new(page.alloc);
+        add_post(rt, &mut posted, hall, guest, edit(rt, "c.proto=x"));
+        last = Page::new(page.alloc);
+        add_carried(rt, &mut last, hall, guest);
+    }
+    page.add(text_on(rt, &last));
 }
 
 /// Makes the call `word` of a client, and writes its answer.
@@ -467,6 +492,11 @@ where
     match word {
         "ask" => add_post(rt, page, hall, guest, ask(rt, rest)),
         "edit" => add_post(rt, page, hall, guest, edit(rt, rest)),
+        "edits" => add_edits(rt, page, hall, guest, rest),
+        "withdraw" => {
+            let label = Label::Text(text_of(rt, rest));
+            add_post(rt, page, hall, guest, Post::Withdraw(label));
+        }
         "end" => add_post(rt, page, hall, guest, Post::End),
         "say" => {
             let post = said(rt, &mut guest.session, rest);
@@ -497,11 +527,22 @@ fn revision_of(rt: &(impl Abort + AllocGlobal), word: &str) -> Revision {
     revision
 }
 
+/// Waits until the gate holds work. Returns whether it does.
+fn has_come(rt: &impl Clock, latch: &Latch) -> bool {
+    for _ in 0..TURNS {
+        if latch.has_come.load(Ordering::SeqCst) {
+            return true;
+        }
+        thread::sleep(rt, Duration::from_micros(100));
+    }
+    false
+}
+
 /// Makes the calls of `rows`, and checks their answers.
 fn make_calls<F, R>(rt: &R, hall: &F, latch: &Latch, rows: &str)
 where
     F: Stage<R>,
-    R: Abort + AllocGlobal,
+    R: Abort + AllocGlobal + Clock,
 {
     let mut first = joined(rt, hall);
     let mut second = joined(rt, hall);
@@ -514,6 +555,11 @@ where
                 let has_mark = hall.has_mark(rt, revision_of(rt, rest));
                 page.add(if has_mark { "yes" } else { "none" });
             }
+            "held" => page.add(if has_come(rt, latch) {
+                "yes"
+            } else {
+                "too late"
+            }),
             "free" => {
                 latch.is_open.store(true, Ordering::SeqCst);
                 let gave_up = latch.gave_up.load(Ordering::SeqCst);
@@ -539,7 +585,7 @@ fn run_calls<F, G, R>(rt: &R, hall: &F, gate: &G, latch: &Latch, workers: u8, ro
 where
     F: Stage<R> + Works<G, R>,
     G: Sync,
-    R: Abort + AllocGlobal + Threads + Wait + Sync,
+    R: Abort + AllocGlobal + Clock + Threads + Wait + Sync,
 {
     thread::scope(thread::scope_env(), rt, |scope| {
         for _ in 0..workers {
@@ -568,6 +614,7 @@ where
     let made: Result<Hall<S, J, R>, _> = Hall::new(rt, rt.alloc(), rules, board, inputs);
     let hall = made.expect(rt, "memory");
     let latch = Latch {
+        has_come: AtomicBool::new(false),
         is_open: AtomicBool::new(false),
         gave_up: AtomicBool::new(false),
     };
@@ -686,6 +733,68 @@ fn two_workers(rt: HostRuntime) {
         take 1 - => 0 at 2 answered\n\
         free 0 => in time\n\
         take 0 - => 0 at 2 answered",
+    );
+}
+
+// A withdrawal ends the run whose work a worker has out, and the reply comes at once. The run of another
+// client, which waited for the key of that work, goes on while the worker is held. The result of the
+// work comes too late.
+#[test]
+fn withdrawn_at_work(rt: HostRuntime) {
+    check_calls(
+        &rt,
+        20,
+        2,
+        "\
+        edit 0 held.proto=x => 0\n\
+        carry 0 - => edited 1\n\
+        ask 0 held.proto => 0\n\
+        carry 0 - => accepted 0\n\
+        held 0 => yes\n\
+        ask 1 held.proto => 0\n\
+        carry 1 - => accepted 0\n\
+        withdraw 0 b.proto => 1\n\
+        carry 0 - => withdrew none\n\
+        withdraw 0 held.proto => 1\n\
+        carry 0 - => withdrew\n\
+        text 0 - => {\"error\":{\"code\":-32800,\"message\":\"request cancelled\"},\"id\":\"held.proto\",\"jsonrpc\":\"2.0\"}\n\
+        take 1 - => 0 at 1 answered\n\
+        free 0 => in time\n\
+        ask 0 held.proto => 1\n\
+        carry 0 - => accepted 1\n\
+        take 0 - => 1 at 1 answered\n\
+        close 0 - => closed\n\
+        withdraw 0 held.proto => 2\n\
+        carry 0 - => the client was closed",
+    );
+}
+
+// A turn ends the run of another client while a worker is held with its work, and the porter of the
+// edit delivers the reply. A request that waits is answered later.
+#[test]
+fn turned_at_work(rt: HostRuntime) {
+    check_calls(
+        &rt,
+        17,
+        1,
+        "\
+        edits 0 1022 => edited 1022\n\
+        edit 1 held.proto=x => 0\n\
+        carry 1 - => edited 1023\n\
+        ask 1 held.proto => 0\n\
+        carry 1 - => accepted 0\n\
+        held 0 => yes\n\
+        ask 1 b.proto => 1\n\
+        carry 1 - => accepted 1\n\
+        edits 0 1 => edited 1024\n\
+        text 1 - => {\"error\":{\"code\":-32801,\"data\":{\"seen\":1024,\"started\":1023},\"message\":\"content modified\"},\"id\":\"held.proto\",\"jsonrpc\":\"2.0\"}\n\
+        free 0 => in time\n\
+        take 1 - => 1 at 1024 answered\n\
+        ask 1 held.proto => 2\n\
+        carry 1 - => accepted 2\n\
+        take 1 - => 2 at 1024 answered\n\
+        mark 1024 => yes\n\
+        mark 1025 => none",
     );
 }
 

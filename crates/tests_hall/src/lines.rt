@@ -32,7 +32,7 @@ pub(crate) fn change_of(rt: &(impl Abort + AllocGlobal), text: &str) -> Change {
 }
 
 /// The label that `word` writes.
-fn label_of(rt: &impl Abort, word: &str) -> Label {
+pub(crate) fn label_of(rt: &impl Abort, word: &str) -> Label {
     if word == "none" {
         return Label::None;
     }
@@ -56,12 +56,17 @@ pub(crate) fn request_of(rt: &(impl Abort + AllocGlobal), text: &str) -> Request
     }
 }
 
-/// Writes a request as a line has it.
-pub(crate) fn add_request(page: &mut Page, request: &Request<SumsKey>) {
-    match &request.label {
+/// Writes a label as a line has it.
+pub(crate) fn add_label(page: &mut Page, label: &Label) {
+    match label {
         Label::Unsigned(number) => page.wide(*number),
         _ => page.add("none"),
     }
+}
+
+/// Writes a request as a line has it.
+pub(crate) fn add_request(page: &mut Page, request: &Request<SumsKey>) {
+    add_label(page, &request.label);
     page.add(" ");
     match &request.want {
         Want::Demand(key) => add_key(page, key),

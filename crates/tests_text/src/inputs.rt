@@ -7,9 +7,7 @@
 //! those of the last changes at Low, Medium and High. `now` writes the revision, and `changed` that
 //! of the file's last change.
 use crate::checks::{check_page, check_row_count, check_text, check_that, split_row, text_of};
-use pq_inputs::{
-    Durability, InputFault, Inputs, LAST_REVISION, MAX_FILES, MAX_TEXT, Revision, SetRefused,
-};
+use pq_inputs::{Durability, InputFault, Inputs, MAX_FILES, MAX_TEXT, Revision, SetRefused};
 use std::process::Abort;
 use test_support::{Page, durability_of, is_sendable};
 
@@ -229,32 +227,6 @@ fn too_many_files(rt: HostRuntime) {
         now . . => 4096\n\
         high 4095 - => set\n\
         now . . => 4097\n\
-        ",
-    );
-}
-
-/// Makes as many revisions as there may be, each setting the file `a` to `x`.
-fn check_most_revisions(rt: &(impl Abort + AllocGlobal), inputs: &mut Inputs) {
-    for _revision in 0..LAST_REVISION {
-        check_row(rt, inputs, "low a x => set");
-    }
-}
-
-#[test]
-fn revisions_used_up(rt: HostRuntime) {
-    let mut inputs = Inputs::new(rt.alloc()).expect(&rt, "memory");
-    check_most_revisions(&rt, &mut inputs);
-    check_rows(
-        &rt,
-        &mut inputs,
-        6,
-        "\
-        now . . => 65536\n\
-        changed a . => 1\n\
-        spaces a 1 => RevisionsUsedUp\n\
-        spaces a 1048576 => RevisionsUsedUp\n\
-        spaces a 1048577 => TextTooLong\n\
-        now . . => 65536\n\
         ",
     );
 }

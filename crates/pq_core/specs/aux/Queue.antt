@@ -1,5 +1,5 @@
 -- Auxiliary: the queue of the requests that wait, of all clients.
-use Rattle.std.specs.Prelude.{ℕ, ◌≡◌, List, [], ◌∷◌, Some, Bool, not, eqb}
+use Rattle.std.specs.Prelude.{ℕ, ◌≡◌, List, [], ◌∷◌, Some, Bool, ◌||◌, not, eqb}
 use Rattle.pq_rules.specs.Relations.{In}
 use Rattle.pq_core.specs.Accounts.{AccountView, IsStage}
 use Rattle.pq_core.specs.declared.request.Request.{Request}
@@ -10,6 +10,11 @@ use Rattle.pq_core.specs.aux.Rising.{found}
 -- `is_of_other c seat` is whether `seat`, a client and a number, is of another client than `c`
 abbrev pub is_of_other : ℕ → ℕ × ℕ → Bool
 is_of_other c seat = not (eqb seat.0 c)
+
+-- `is_other_seat c n seat` is whether `seat`, a client and a number, is another than the request `n` of
+-- the client `c`
+abbrev pub is_other_seat : ℕ → ℕ → ℕ × ℕ → Bool
+is_other_seat c n seat = not (eqb seat.0 c) || not (eqb seat.1 n)
 
 -- `WaitsIn accounts c n request` is that `request`, the request `n` of the client `c`, waits
 pub record WaitsIn {K V M : Type 0} (accounts : List (Place (AccountView K V M))) (c n : ℕ) (request : Request K) : Type 0 where

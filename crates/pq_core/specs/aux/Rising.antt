@@ -1,5 +1,5 @@
 -- Auxiliary: a map from numbers to values whose numbers rise, in places of which some are vacant.
-use Rattle.std.specs.Prelude.{ℕ, ◌≡◌, ◌+◌, ◌<◌, Bool, cond, eqb, List, [], ◌∷◌, slice_get, Option, Some, None, is_some}
+use Rattle.std.specs.Prelude.{ℕ, ◌≡◌, ◌+◌, ◌<◌, Bool, cond, eqb, List, [], ◌∷◌, map, slice_get, Option, Some, None, is_some}
 use Rattle.pq_core.specs.Moves.{one_if}
 use Rattle.pq_core.specs.declared.rising.Place.{Place}
 
@@ -13,6 +13,10 @@ pub record Slots (T : Type 0) : Type 0 where
 unfoldable pub found : {T : Type 0} → List (Place T) → ℕ → Option T
 found [] n = None
 found (p ∷ items) n = cond (eqb p.number n) p.value (found items n)
+
+-- `numbers items` is the numbers of all places, vacant ones among them
+abbrev pub numbers : {T : Type 0} → List (Place T) → List ℕ
+numbers items = map (λ p. p.number) items
 
 -- `IsVacant items n` is that a place is kept for the number `n`, which has no value
 pub record IsVacant {T : Type 0} (items : List (Place T)) (n : ℕ) : Type 0 where

@@ -41,21 +41,18 @@ pub record RunsKept {K V M O : Type 0} (l : Ledger K V M O) : Type 0 where
   pub below : (c n : ℕ) (a : Run K) → run_at l.clients c n ≡ Some a → a.number < l.runs
   pub once : (c n d k : ℕ) (a b : Run K) → run_at l.clients c n ≡ Some a → run_at l.clients d k ≡ Some b → a.number ≡ b.number → (c ≡ d) × (n ≡ k)
 
--- `IsKeptFor rules l r done` is that `done` is the result of the work of the run `r` that is out,
--- of `rules` over the sources of the revision of its start
+-- `IsKeptFor rules l r done` is that `done` is a result for the run `r`, which was started, of
+-- `rules` over the sources of the revision of its start; and that it is that of the work of `r` that
+-- is out, if `r` exists
 pub record IsKeptFor {R K P V M O : Type 0} (rules : R) (l : Ledger K V M O) (r : ℕ) (done : DoneView R K P V) : Type 0 where
-  pub c : ℕ
-  pub n : ℕ
-  pub a : Run K
-  pub here : run_at l.clients c n ≡ Some a
-  pub number : a.number ≡ r
   pub run_same : done.run ≡ r
-  pub started : done.started ≡ a.started
-  pub out : a.out ≡ Some (out_of done)
   pub rules_same : done.rules ≡ rules
   pub files : slice_get l.inputs.history done.started ≡ Some done.files
+  pub known : r < l.runs
+  pub of_run : (c n : ℕ) (a : Run K) → run_at l.clients c n ≡ Some a → a.number ≡ r → (done.started ≡ a.started) × (a.out ≡ Some (out_of done))
 
--- `OutOf rules l r kept` is that the result `kept` is that of the work of the run `r` that is out
+-- `OutOf rules l r kept` is that the result `kept` is that of the work of the run `r` that is out,
+-- if `r` exists
 abbrev pub OutOf : {R K P V M O : Type 0} → R → Ledger K V M O → ℕ → Option (DoneView R K P V) → Type 0
 OutOf {R} {K} {P} {V} {M} {O} rules l r None = (c n : ℕ) (a : Run K) → run_at l.clients c n ≡ Some a → a.number ≡ r → a.out ≡ None
 OutOf rules l r (Some done) = IsKeptFor rules l r done

@@ -92,6 +92,7 @@ impl<P: Drop, Q: Drop> Intake<P, Q> {
             Item::Ask(request) => self.hand_in(rt, alloc, floor, Post::Ask(request)),
             Item::Say(request) => self.hand_in(rt, alloc, floor, Post::Ask(request)),
             Item::Edit(change) => self.hand_in(rt, alloc, floor, Post::Edit(change)),
+            Item::Withdraw(label) => self.hand_in(rt, alloc, floor, Post::Withdraw(label)),
             Item::Ignore => Ok(Step::GoesOn),
             Item::End(status) => Ok(Step::Finish(status)),
         }

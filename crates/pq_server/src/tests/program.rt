@@ -145,21 +145,34 @@ fn one_file_too_many(rt: HostRuntime) -> Result<(), Fail> {
     check_end(&rt, input.as_slice(), "3 pq_server: edit refused 2")
 }
 
-/// Frames that initialize, and then open one file `count` times.
-fn opened_again(alloc: Global, count: usize) -> Result<Vec<u8>, Memory> {
+/// A request of the diagnostics of the file `a`.
+const DIAGNOSTIC: &str =
+    r#"{"id":1,"jsonrpc":"2.0","method":"textDocument/diagnostic","params":{"textDocument":{"uri":"file:///a"}}}"#;
+
+/// Frames that initialize, open the file `a` with one text `count` times, and ask for its
+/// diagnostics.
+fn opened_often(alloc: Global, count: usize) -> Result<Vec<u8>, Memory> {
     let mut input = frames(alloc, &[INITIALIZE])?;
     let opened = open_of(alloc, "a", 0)?;
-    let one = frames(alloc, &[opened.as_str()])?;
+    let opened = frames(alloc, &[opened.as_str()])?;
     for _ in 0..count {
-        input.extend_from_slice(one.as_slice())?;
+        input.extend_from_slice(&opened)?;
     }
+    input.extend_from_slice(&frames(alloc, &[DIAGNOSTIC])?)?;
     Ok(input)
 }
 
+// An edit makes a revision, also past 65,536.
 #[test]
-fn one_revision_too_many(rt: HostRuntime) -> Result<(), Fail> {
-    let input = opened_again(rt.alloc(), 65_537)?;
-    check_end(&rt, input.as_slice(), "3 pq_server: edit refused 3")
+fn many_revisions(rt: HostRuntime) -> Result<(), Fail> {
+    let input = opened_often(rt.alloc(), 65_537)?;
+    let mut output = Vec::new(rt.alloc());
+    let found = shown_run(rt.alloc(), input.as_slice(), &mut output)?;
+    check_text(&rt, found.as_str(), "1 ", "the end of the script");
+    let written = String::from_utf8_lossy(rt.alloc(), output.as_slice())?;
+    let is_named = written.as_str().ends_with("\"resultId\":\"65537\"}}");
+    assert!(rt; is_named, "the revision of the diagnostics");
+    Ok(())
 }
 
 #[test]
@@ -202,6 +215,8 @@ fn outcomes_out_of_reach(rt: HostRuntime) -> Result<(), Fail> {
     check_outcome(&rt, ScriptFault::Memory, starved)?;
     check_outcome(&rt, ScriptFault::Frame(FrameFault::Memory), starved)?;
     check_outcome(&rt, ScriptFault::Edit(InputFault::Memory), starved)?;
+    let used_up = ScriptFault::Edit(InputFault::RevisionsUsedUp);
+    check_outcome(&rt, used_up, "3 pq_server: edit refused 3")?;
     check_outcome(&rt, ScriptFault::TooManyReads, "4 pq_server: read failed")
 }
 

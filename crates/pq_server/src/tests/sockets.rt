@@ -62,6 +62,12 @@ const ASK_HELD: &str =
 const REPLY_HELD: &str =
     r#"< {"id":1,"jsonrpc":"2.0","result":{"items":[],"kind":"full","resultId":"2"}}"#;
 
+/// A request that waits for the work that is held, its withdrawal, and its reply.
+const WITHDRAWN: &str =
+    r#"> {"id":1,"jsonrpc":"2.0","method":"textDocument/diagnostic","params":{"textDocument":{"uri":"file:///held.proto"}}}
+> {"jsonrpc":"2.0","method":"$/cancelRequest","params":{"id":1}}
+< {"error":{"code":-32800,"message":"request cancelled"},"id":1,"jsonrpc":"2.0"}"#;
+
 /// A request of the other client, and its reply.
 const ASK_OTHER: &str =
     r#"> {"id":1,"jsonrpc":"2.0","method":"textDocument/diagnostic","params":{"textDocument":{"uri":"file:///b.proto"}}}
@@ -306,7 +312,8 @@ fn waited_for(rt: &impl Clock, flag: &AtomicBool) -> bool {
     false
 }
 
-/// Two clients, of which one waits for work that is held while the other is answered.
+/// Three clients, of which one waits for work that is held while the others are answered: one by its
+/// diagnostics, one since it withdraws its request.
 fn one_is_held<R>(rt: &R, address: SocketAddr, gate: &Held<'_, R>)
 where
     R: Abort + AllocGlobal + Clock + Net<Listener = TcpListener, Stream = TcpStream>,
@@ -318,6 +325,8 @@ where
     take_turns(rt, &held, ASK_HELD);
     assert!(rt; waited_for(rt, gate.has_held), "a worker is held");
     take_turns(rt, &other, ASK_OTHER);
+    let third = begun(rt, address);
+    take_turns(rt, &third, WITHDRAWN);
     gate.is_open.store(true, Ordering::SeqCst);
     take_turns(rt, &held, REPLY_HELD);
     assert!(rt;
@@ -326,7 +335,7 @@ where
     );
 }
 
-// A worker that is held with the work of one client leaves the other one to the other worker.
+// A worker that is held with the work of one client leaves the others to the other worker.
 #[test]
 fn two_clients(rt: HostRuntime) -> Result<(), Fail> {
     let listener = TcpListener::bind(&rt, "127.0.0.1:0")?;
@@ -343,7 +352,7 @@ fn two_clients(rt: HostRuntime) -> Result<(), Fail> {
     };
     let (status, ()) = thread::join(
         &rt,
-        || serve(&rt, rt.alloc(), &listener, library, two_workers(2), &gate),
+        || serve(&rt, rt.alloc(), &listener, library, two_workers(3), &gate),
         || one_is_held(&rt, address, &gate),
     );
     assert_eq!(rt; status, 0);

@@ -99,8 +99,8 @@ pub(crate) fn answer_text(
 /// An answer is printed by the kind of its value: the report of the diagnostics, with the revision
 /// as its `resultId`; the list of the symbols; the location of the definition, or null; the
 /// descriptor, with the revision. A plain reply has the text of its request. A cancelled one is the
-/// error -32801 with the two revisions, and a starved one the error -32603. The stamp of an answer is
-/// not printed.
+/// error -32801 with the two revisions, a starved one the error -32603, and a withdrawn one the error
+/// -32800. The stamp of an answer is not printed.
 ///
 /// Diagnostics and locations are printed into the reply. A text of an answer is copied into it, and
 /// not read again. Only `Memory` is an error, after
@@ -124,5 +124,6 @@ pub fn reply_text<M>(
             cancelled_text(alloc, label, started.number(), seen.number())
         }
         (Outcome::Starved, _) => refusal_text(alloc, label, Refusal::OutOfMemory),
+        (Outcome::Withdrawn, _) => refusal_text(alloc, label, Refusal::RequestCancelled),
     }
 }

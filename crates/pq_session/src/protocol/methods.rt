@@ -65,6 +65,8 @@ pub(crate) enum NotificationMethod {
     DidChange,
     /// `proto/removeFile`
     RemoveFile,
+    /// `$/cancelRequest`
+    CancelRequest,
 }
 
 impl NotificationMethod {
@@ -77,6 +79,7 @@ impl NotificationMethod {
             "textDocument/didOpen" => Some(NotificationMethod::DidOpen),
             "textDocument/didChange" => Some(NotificationMethod::DidChange),
             "proto/removeFile" => Some(NotificationMethod::RemoveFile),
+            "$/cancelRequest" => Some(NotificationMethod::CancelRequest),
             _ => None,
         }
     }

@@ -19,6 +19,8 @@ pub(crate) enum Refusal {
     NotInitialized,
     /// An edit was made before the answer was found.
     ContentModified,
+    /// The client withdrew the request.
+    RequestCancelled,
 }
 
 impl Refusal {
@@ -34,6 +36,7 @@ impl Refusal {
             Refusal::OutOfMemory => -32603,
             Refusal::NotInitialized => -32002,
             Refusal::ContentModified => -32801,
+            Refusal::RequestCancelled => -32800,
         }
     }
 
@@ -49,6 +52,7 @@ impl Refusal {
             Refusal::OutOfMemory => "out of memory",
             Refusal::NotInitialized => "not initialized",
             Refusal::ContentModified => "content modified",
+            Refusal::RequestCancelled => "request cancelled",
         }
     }
 }

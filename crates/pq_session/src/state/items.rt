@@ -6,7 +6,7 @@
 //! both in step.
 //!
 //! The type is generic over the key `K` of a query. `Session::on` makes it of `ProtoKey`.
-use pq_core::{Change, Request};
+use pq_core::{Change, Label, Request};
 
 /// What a message asks for.
 #[derive(Drop)]
@@ -18,6 +18,8 @@ pub enum Item<K> {
     Say(Request<K>),
     /// An edit of the sources.
     Edit(Change),
+    /// A withdrawal of the requests with this label, which is not `None`.
+    Withdraw(Label),
     /// Nothing.
     Ignore,
     /// The end of the session, with this status.

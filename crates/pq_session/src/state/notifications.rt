@@ -2,7 +2,8 @@
 ghost use Rattle.std.specs.Prelude.{◌≡◌, codes, option_map, IfOk, None};
 ghost use Rattle.serde_json.specs.View.{view};
 ghost use Rattle.pq_core.specs.Bodies.{body_view};
-ghost use Rattle.pq_session.specs.Session.{edit_meaning, members_meaning, open_meaning, change_meaning, remove_meaning, served_meaning, notification_meaning, changed_members, document_text as document_text_of};
+ghost use Rattle.pq_frame.specs.Labels.{label_of};
+ghost use Rattle.pq_session.specs.Session.{edit_meaning, members_meaning, open_meaning, change_meaning, remove_meaning, served_meaning, notification_meaning, cancelled_id, withdrawal_meaning, changed_members, document_text as document_text_of};
 ghost use Rattle.pq_session.specs.aux.ItemOf.{IsItemOf};
 
 use crate::protocol::changes::take_changes;
@@ -10,8 +11,10 @@ use crate::protocol::methods::NotificationMethod;
 use crate::protocol::params::{document_text, take_document_text};
 use crate::protocol::root::Root;
 use crate::state::items::Item;
+use crate::state::labels::core_label;
 use crate::state::phase::Phase;
-use pq_core::{Body, Change};
+use pq_core::{Body, Change, Label};
+use pq_frame::label_of;
 use pq_inputs::Durability;
 use pq_lex::TextChange;
 use pq_names::Text;
@@ -86,6 +89,21 @@ fn remove(alloc: Global, root: &Root, params: Option<&Value>) -> Result<Item<Pro
     }
 }
 
+/// The item of `$/cancelRequest` (LSP 3.17, "Cancellation Support"). One whose `id` is neither an
+/// integer of 64 bits nor a string is ignored.
+fn withdraw(alloc: Global, params: Option<&Value>) -> Result<Item<ProtoKey>, AllocError>
+    ensures { IfOk result (IsItemOf (withdrawal_meaning (label_of (cancelled_id (option_map (λ d. view d.now) params.entry)))) None) }
+{
+    let id = match params {
+        Some(params) => params.get("id"),
+        None => None,
+    };
+    match core_label(alloc, label_of(alloc, id)?)? {
+        Label::None => Ok(Item::Ignore),
+        label => Ok(Item::Withdraw(label)),
+    }
+}
+
 /// What a notification asks for.
 pub(crate) fn on_notification(
     alloc: Global,
@@ -101,6 +119,9 @@ pub(crate) fn on_notification(
         (Phase::Serving(root), Some(NotificationMethod::DidChange)) => change(alloc, root, params),
         (Phase::Serving(root), Some(NotificationMethod::RemoveFile)) => {
             remove(alloc, root, params.as_ref())
+        }
+        (Phase::Serving(_), Some(NotificationMethod::CancelRequest)) => {
+            withdraw(alloc, params.as_ref())
         }
         _ => Ok(Item::Ignore),
     }

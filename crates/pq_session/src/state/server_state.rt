@@ -195,6 +195,8 @@ impl ServerState {
                 self.edit(alloc, change)?;
                 Ok(Step::Silence)
             }
+            // Each request was answered before the next message is read.
+            Item::Withdraw(_) => Ok(Step::Silence),
             Item::Ignore => Ok(Step::Silence),
             Item::End(status) => Ok(Step::Finish(status)),
         }

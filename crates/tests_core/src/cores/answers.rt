@@ -4,6 +4,7 @@
 //!   and `close CLIENT` are calls of a client. A close answers the replies that were put, and the
 //!   count of those that were taken. `mute LEFT` opens a client whose taking end is gone after
 //!   `LEFT` puts.
+//! - `withdraw CLIENT LABEL` withdraws the requests of a client with that label.
 //! - `start`, `look RUN`, `starve RUN` and `request RUN` are calls of a run. The work that a look
 //!   hands out is lost.
 //! - `step RUN` takes one step: it looks, carries work out and gives the result.
@@ -13,7 +14,7 @@
 //! - `late RUN CHANGE` makes a change of client 0 before it gives the result of the work of `RUN`.
 //! - `now` is the revision now.
 use super::calls::Calls;
-use super::lines::{change_of, client_of, number_of, request_of};
+use super::lines::{change_of, client_of, label_of, number_of, request_of};
 use super::shown::{add_released, yes_or_no};
 use crate::checks::{check_that, text_of};
 use pq_core::{ClientId, RunId};
@@ -89,6 +90,7 @@ fn client_answer<C: Calls>(
     match call {
         "accept" => core.accepted(page, client, request_of::<SumsKey>(rt, rest)),
         "edit" => core.edited(page, client, change_of(rt, rest)),
+        "withdraw" => core.withdrawn(page, client, &label_of(rt, rest)),
         "release" => add_released(page, core.released(client)),
         "take" => page.add(yes_or_no(core.taken(client).expect(rt, "memory"))),
         _ => core.closed(page, client),
@@ -117,6 +119,7 @@ fn work_answer<C: Calls>(
     match call {
         "step" => core.stepped(page, log, run),
         "finish" => finish(rt, page, core, log, run),
+        "pull" => core.given_withdrawn(page, log, run, &label_of(rt, rest)),
         "late" => core.given_late(page, log, run, change_of(rt, rest)),
         "turns" => turns(rt, page, core, log, run, RunId::new(number_of(rt, rest))),
         _ => core.swapped(page, log, run, RunId::new(number_of(rt, rest))),
@@ -151,7 +154,7 @@ pub(super) fn answer<C: Calls>(
         "look" | "starve" | "request" => {
             run_answer(page, core, call, RunId::new(number_of(rt, first)));
         }
-        "step" | "finish" | "turns" | "late" | "swap" => {
+        "step" | "finish" | "turns" | "late" | "pull" | "swap" => {
             let run = RunId::new(number_of(rt, first));
             work_answer(rt, page, core, log, call, run, more);
         }

@@ -6,10 +6,12 @@ ghost use Rattle.std.specs.Prelude.{◌≡◌, IfOk};
 
 use super::post::Post;
 use super::shown::{
-    add_accepted, add_again, add_closed, add_edited, add_give, add_look, add_opened, add_owner,
-    add_run, add_start,
+    add_accepted, add_again, add_closed, add_edited, add_fault, add_give, add_look, add_opened,
+    add_owner, add_run, add_start, yes_or_no,
 };
-use pq_core::{Change, ClientId, Core, Done, Move, PlainStamp, Released, Request, RunId, Work};
+use pq_core::{
+    Change, ClientId, Core, Done, Label, Move, PlainStamp, Released, Request, RunId, Work,
+};
 use pq_rules::{Memory, Rules, SumsKey, SumsValue};
 use std::alloc::Global;
 use test_support::{Counted, Page};
@@ -40,8 +42,14 @@ pub(super) trait Calls {
     /// Makes a change of client 0 before it gives the result of the work of a run.
     fn given_late(&mut self, page: &mut Page, log: &mut Page, run: RunId, change: Change);
 
+    /// Withdraws the requests of client 0 with a label before it gives the result of the work of a run.
+    fn given_withdrawn(&mut self, page: &mut Page, log: &mut Page, run: RunId, label: &Label);
+
     /// Starves a run.
     fn starved(&mut self, run: RunId) -> bool;
+
+    /// Withdraws the requests of a client with a label.
+    fn withdrawn(&mut self, page: &mut Page, client: ClientId, label: &Label);
 
     /// The request of a run.
     fn owner(&self, page: &mut Page, run: RunId);
@@ -146,8 +154,32 @@ impl<'a> Calls for Core<Counted<'a>, PlainStamp, Post> {
         }
     }
 
+    fn given_withdrawn(&mut self, page: &mut Page, log: &mut Page, run: RunId, label: &Label) {
+        match self.look(page.alloc, run) {
+            Ok(Move::Carry(work)) => match carried(page.alloc, log, work) {
+                Ok(done) => match self.withdraw(ClientId::new(0), label) {
+                    Ok(some) => {
+                        page.add(yes_or_no(some));
+                        page.add("; ");
+                        add_give(page, self.give(page.alloc, run, done));
+                    }
+                    Err(fault) => add_fault(page, fault),
+                },
+                Err(_) => page.cut(),
+            },
+            other => add_look(page, other),
+        }
+    }
+
     fn starved(&mut self, run: RunId) -> bool {
         self.starve(run)
+    }
+
+    fn withdrawn(&mut self, page: &mut Page, client: ClientId, label: &Label) {
+        match self.withdraw(client, label) {
+            Ok(some) => page.add(yes_or_no(some)),
+            Err(fault) => add_fault(page, fault),
+        }
     }
 
     fn owner(&self, page: &mut Page, run: RunId) {

@@ -153,3 +153,50 @@ fn stepped_for_ever(rt: HostRuntime) {
     script.add("|1 8 Total n180 @100 answered 0|0; rest\n");
     check_script(&rt, text_of(&rt, &script));
 }
+
+/// Makes edits of client 0 until `last` is the revision, from the revision `first` on.
+fn add_edits(script: &mut Page, first: u64, last: u64) {
+    for revision in first..last {
+        script.add("edit 0 low a= => ");
+        script.wide(revision + 1);
+        script.add("\n");
+    }
+}
+
+#[test]
+fn turn(rt: HostRuntime) {
+    let mut script = Page::new(rt.alloc());
+    script.add("open 4 => 0; rest\nedit 0 low a= => 1; rest\n");
+    script.add("open 4 => 1; rest\nopen 4 => 2; rest\naccept 1 9 Sum b => 0\nstart => 0\n");
+    script.add("accept 2 9 Sum b => 0\nstart => 1\nclose 2 => 0\n");
+    add_edits(&mut script, 1, 1_023);
+    script.add("accept 0 7 Sum a => 0\nstart => 2\naccept 0 8 Sum a => 1\n");
+    script.add("look 2 => Sum a fresh\n");
+    script.add("edit 0 low a=b => 1024\n");
+    script.add("look 0 => no such run\nlook 1 => no such run\nlook 2 => no such run\n");
+    script.add("release 0 => put 0\nrelease 1 => put 0\nrelease 0 => nothing\n");
+    script.add(
+        "start => 3\nfinish 3 => Sum a fresh;Sum b fresh;answered\nrelease 0 => put 1; rest\n",
+    );
+    script.add(
+        "close 0 => 0 7 Sum a @1024 cancelled 1023 1024|1 8 Sum a @1024 answered 2|0; rest\n",
+    );
+    script.add("close 1 => 0 9 Sum b @1024 cancelled 1 1024|0; rest\n");
+    check_script(&rt, text_of(&rt, &script));
+}
+
+#[test]
+fn turn_at_work(rt: HostRuntime) {
+    let mut script = Page::new(rt.alloc());
+    script.add("open 4 => 0; rest\nedit 0 low a= => 1; rest\n");
+    for revision in 1u64..1_023 {
+        script.add("edit 0 low a= => ");
+        script.wide(revision + 1);
+        script.add("; rest\n");
+    }
+    script.add("accept 0 7 Sum a => 0\nstart => 0\n");
+    script.add("late 0 low a=b => the result is not that of the run's work\n");
+    script.add("release 0 => put 0; rest\n");
+    script.add("close 0 => 0 7 Sum a @1024 cancelled 1023 1024|0; rest\n");
+    check_script(&rt, text_of(&rt, &script));
+}

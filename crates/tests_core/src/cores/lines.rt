@@ -41,7 +41,7 @@ pub(crate) fn client_of(rt: &impl Abort, word: &str) -> ClientId {
 }
 
 /// The label that `word` writes: `none`, an integer, or else a text.
-fn label_of(rt: &(impl Abort + AllocGlobal), word: &str) -> Label {
+pub(crate) fn label_of(rt: &(impl Abort + AllocGlobal), word: &str) -> Label {
     if word == "none" {
         return Label::None;
     }
@@ -157,6 +157,7 @@ fn add_outcome<K: Sample>(
             add_two(page, started.number(), seen.number());
         }
         Outcome::Starved => page.add("starved"),
+        Outcome::Withdrawn => page.add("withdrawn"),
     }
 }
 

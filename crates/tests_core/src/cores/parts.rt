@@ -56,6 +56,7 @@ fn add_end(page: &mut Page, ready: &Ready<Sums, PlainStamp>) {
         Outcome::Plain => page.add(" plain"),
         Outcome::Cancelled { .. } => page.add(" cancelled"),
         Outcome::Starved => page.add(" starved"),
+        Outcome::Withdrawn => page.add(" withdrawn"),
     }
 }
 

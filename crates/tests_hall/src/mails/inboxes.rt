@@ -1,6 +1,6 @@
 //! Inboxes: posts, receipts, and what is carried.
 use crate::checks::{check_number, check_page, check_row_count, split_row};
-use crate::lines::{add_request, change_of, request_of};
+use crate::lines::{add_label, add_request, change_of, label_of, request_of};
 use pq_mail::{PorterEnd, Post, PostEnd, PostFault, PostRefused, Receipt, inbox};
 use pq_rules::{Sums, SumsKey};
 use std::process::Abort;
@@ -24,16 +24,17 @@ fn both_ends(rt: &(impl Abort + AllocGlobal)) -> Ends {
     }
 }
 
-/// The post that `text` writes: `ask REQUEST`, `edit CHANGE` or `end`.
+/// The post that `text` writes: `ask REQUEST`, `withdraw LABEL`, `edit CHANGE` or `end`.
 fn post_of(rt: &(impl Abort + AllocGlobal), text: &str) -> Post<SumsKey> {
     match text.split_once(" ") {
         Some(("ask", request)) => Post::Ask(request_of(rt, request)),
+        Some(("withdraw", label)) => Post::Withdraw(label_of(rt, label)),
         Some((_, change)) => Post::Edit(change_of(rt, change)),
         None => Post::End,
     }
 }
 
-/// Writes a post: `ask REQUEST`, `edit FILE` or `end`.
+/// Writes a post: `ask REQUEST`, `withdraw LABEL`, `edit FILE` or `end`.
 fn add_post(page: &mut Page, post: &Post<SumsKey>) {
     match post {
         Post::Ask(request) => {
@@ -43,6 +44,10 @@ fn add_post(page: &mut Page, post: &Post<SumsKey>) {
         Post::Edit(change) => {
             page.add("edit ");
             page.add(change.file.as_str());
+        }
+        Post::Withdraw(label) => {
+            page.add("withdraw ");
+            add_label(page, label);
         }
         Post::End => page.add("end"),
     }
@@ -116,20 +121,22 @@ fn check_rows(rt: &(impl Abort + AllocGlobal + Wait), count: usize, rows: &str) 
     }
 }
 
-// A receipt has the count of requests posted before; edits and ends are not counted.
+// A receipt has the count of requests posted before; edits, withdrawals and ends are not counted.
 #[test]
 fn receipts(rt: HostRuntime) {
     check_rows(
         &rt,
-        14,
+        16,
         "ask 1 say a => receipt 0 1 say a
 edit f=1 => receipt 1
 ask 2 Sum f => receipt 1 2 Sum f
+withdraw 2 => receipt 2
 ask none say a => receipt 2 none say a
 end => receipt 3
 next => ask 1 say a
 next => edit f
 next => ask 2 Sum f
+next => withdraw 2
 ask 3 say b => receipt 3 3 say b
 next => ask none say a
 next => end

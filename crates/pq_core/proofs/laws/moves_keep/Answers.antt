@@ -1,5 +1,5 @@
 use Rattle.pq_core.specs.RightReply.{answer_by}
-use Rattle.pq_core.proofs.Keeping.{kept_opens, kept_accepts, kept_edits, kept_starts, kept_looks, kept_gives, kept_starves, kept_releases, kept_closes, kept_takes}
+use Rattle.pq_core.proofs.Keeping.{kept_opens, kept_accepts, kept_edits, kept_starts, kept_looks, kept_gives, kept_starves, kept_withdraws, kept_releases, kept_closes, kept_takes}
 use Rattle.pq_core.proofs.laws.moves_keep.Goals as goal
 
 pub returns : goal.returns
@@ -14,6 +14,7 @@ returns g c =
       looks = λ run answer l m k s. kept_looks means puts c.args._rules.now run answer l m k s;
       gives = λ run done answer l m k s. kept_gives means puts run done answer l m k s;
       starves = λ run answer l m k s. kept_starves means puts run answer l m k s;
+      withdraws = λ client label answer l m k s. kept_withdraws means puts client label answer l m k s;
       releases = λ client answer l m k s. kept_releases means puts g.O.Outbox.takes g.O.Outbox.was_full g.O.Outbox.was_gone client answer l m k s;
       closes = λ client answer l m k s. kept_closes means puts client answer l m k s;
       takes = λ client answer l m k s. kept_takes means puts g.O.Outbox.takes client answer l m k s;

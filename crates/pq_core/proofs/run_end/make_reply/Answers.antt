@@ -12,6 +12,9 @@ end_run-requires-clause-told g c = (rw c.in-Answered.is at c.requires.due).1
 pub end_run-requires-in-Starved-clause-told : goal.end_run-requires-in-Starved-clause-told
 end_run-requires-in-Starved-clause-told g c = record { rules = (rw c.in-Starved.is at c.requires.due).0; told = tt }
 
+pub end_run-requires-in-Withdrawn-clause-told : goal.end_run-requires-in-Withdrawn-clause-told
+end_run-requires-in-Withdrawn-clause-told g c = record { rules = (rw c.in-Withdrawn.is at c.requires.due).0; told = tt }
+
 pub returns-in-Stopped-clause-open : goal.returns-in-Stopped-clause-open
 returns-in-Stopped-clause-open g c = rw c.in-Stopped.is c.stop_run.ensures.«open»
 
@@ -20,3 +23,6 @@ returns-in-Answered-clause-open g c = rw c.in-Answered.is c.end_run.ensures.«op
 
 pub returns-in-Starved-clause-open : goal.returns-in-Starved-clause-open
 returns-in-Starved-clause-open g c = rw c.in-Starved.is c.end_run-in-Starved.ensures.«open»
+
+pub returns-in-Withdrawn-clause-open : goal.returns-in-Withdrawn-clause-open
+returns-in-Withdrawn-clause-open g c = rw c.in-Withdrawn.is c.end_run-in-Withdrawn.ensures.«open»

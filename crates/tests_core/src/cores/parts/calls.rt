@@ -118,7 +118,10 @@ impl Storing for Store<Sums, PlainStamp> {
             return Some(prepared.into_change());
         }
         match PlainStamp::after(page.alloc, self.inputs(), prepared.change()) {
-            Ok(stamp) => add_edited(page, self.edit_prepared(client, prepared, stamp)),
+            Ok(stamp) => match self.edit_prepared(client, prepared, stamp) {
+                Ok((revision, _body)) => add_edited(page, Ok(revision)),
+                Err(refused) => add_edited(page, Err(refused)),
+            },
             Err(_) => page.cut(),
         }
         None

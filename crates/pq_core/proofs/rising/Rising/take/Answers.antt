@@ -28,6 +28,13 @@ returns-in-None-take-clause-found g c =
     let w = written xs c.in-Some.at c.args.number c.index_mut.result.now None c.self.invariant.rises here.0 c.index_mut.ensures.value here.1 in
     rw (c.take.ensures.after, ← c.self.view_is) w.finds
 
+pub returns-in-None-take-clause-numbers : goal.returns-in-None-take-clause-numbers
+returns-in-None-take-clause-numbers g c =
+    let xs = c.self.inside.places.items in
+    let here = rw c.deref.ensures.value at c.in-Some.ensures.here in
+    let w = written xs c.in-Some.at c.args.number c.index_mut.result.now None c.self.invariant.rises here.0 c.index_mut.ensures.value here.1 in
+    rw (c.take.ensures.after, ← c.self.view_is) w.numbered
+
 pub overflow_sub-self : goal.overflow_sub-self
 overflow_sub-self g c =
     let xs = c.self.inside.places.items in
@@ -66,6 +73,13 @@ returns-in-Some-take-clause-vacant g c =
     let here = rw c.deref.ensures.value at c.in-Some.ensures.here in
     let w = written xs c.in-Some.at c.args.number c.index_mut.result.now None c.self.invariant.rises here.0 c.index_mut.ensures.value here.1 in
     rw c.take.ensures.after (record { at = c.in-Some.at; here = w.here })
+
+pub returns-in-Some-take-clause-numbers : goal.returns-in-Some-take-clause-numbers
+returns-in-Some-take-clause-numbers g c =
+    let xs = c.self.inside.places.items in
+    let here = rw c.deref.ensures.value at c.in-Some.ensures.here in
+    let w = written xs c.in-Some.at c.args.number c.index_mut.result.now None c.self.invariant.rises here.0 c.index_mut.ensures.value here.1 in
+    rw (c.take.ensures.after, ← c.self.view_is) w.numbered
 
 pub returns-in-Some-take-clause-more_room : goal.returns-in-Some-take-clause-more_room
 returns-in-Some-take-clause-more_room g c =

@@ -1,6 +1,6 @@
 use Rattle.std.proofs.Common.{◌≤◌, length, refl, sym, arith, []}
 use Rattle.pq_rules.proofs.Weight.{Exact}
-use Rattle.pq_core.proofs.Making.{goes_by}
+use Rattle.pq_core.proofs.Making.{goes_by, go_on_all}
 use Rattle.pq_core.specs.Told.{told_puts}
 use Rattle.pq_core.specs.Stores.{held}
 use Rattle.pq_core.specs.aux.Inside.{store_of}
@@ -51,11 +51,24 @@ returns-in-Some-clause-moved g c =
     let may = rw (← c.self.view_is) at c.requires.may in
     rw (← c.self.view_is)
     (goes_by g.R.Key.Ord.cmp (g.R.Rules.machine c.self.inside.memos.rules) g.M.Stamp.point _ _ _
-    (end_advances _ _ c.in-Some.taken.client c.in-Some.taken.number _ (λ account h. ends_of (c.make_reply.ensures.«open» account h)) (λ h k. (c.make_reply.ensures.closed h).found k))
+    (go_on_all _ _ (end_advances _ _ c.in-Some.taken.client c.in-Some.taken.number _ (λ account h. ends_of (c.make_reply.ensures.«open» account h)) (λ h k. (c.make_reply.ensures.closed h).found k)))
     (λ l s. ends_moved g.R.Key.Ord.cmp (g.R.Rules.machine c.self.inside.memos.rules) g.M.Stamp.point told_puts c.self.inside.memos.rules (held (store_of c.self.inside))
     (record (held (store_of c.self.inside)) { accounts = c.make_reply.new.accounts.items; runs = c.take.new.self.items }) l c.args.run c.in-Some.taken c.args.ending s here
     (may_fits g.R.Key.Ord.cmp g.M.Stamp.point (g.R.Rules.machine c.self.inside.memos.rules) (store_of c.self.inside) c.args.run c.args.ending c.in-Some.taken may here)
     runs (λ account h. ends_of (rw c.now-now.ensures.now at (c.make_reply.ensures.«open» account h))) (λ h k. (c.make_reply.ensures.closed h).found k) (record { inputs = refl; opened = refl; clients = refl; started = refl })))
+
+pub returns-in-Some-clause-goes_on : goal.returns-in-Some-clause-goes_on
+returns-in-Some-clause-goes_on g c =
+    rw (← c.self.view_is)
+    (end_advances _ _ c.in-Some.taken.client c.in-Some.taken.number _ (λ account h. ends_of (c.make_reply.ensures.«open» account h)) (λ h k. (c.make_reply.ensures.closed h).found k))
+
+pub returns-in-Some-clause-over : goal.returns-in-Some-clause-over
+returns-in-Some-clause-over g c =
+    let runs = rw c.number.ensures at c.take.ensures.found in
+    rw (← c.self.view_is) runs
+
+pub returns-in-Some-clause-numbers : goal.returns-in-Some-clause-numbers
+returns-in-Some-clause-numbers g c = rw (← c.self.view_is) c.take.ensures.numbers
 
 pub returns-in-Some-clause-counted : goal.returns-in-Some-clause-counted
 returns-in-Some-clause-counted g c =
