@@ -19,7 +19,7 @@ vacant_only (suc n) zero x h = none_vacant x h
 vacant_only (suc n) (suc i) x h = vacant_only n i x h
 
 -- the places after the next reply was put
-shifted : {A : Type 0} (xs : List (Option A)) (i : ℕ) (x : A) → slice_get (after_next xs) i ≡ Some (Some x) → slice_get xs (suc i) ≡ Some (Some x)
+pub shifted : {A : Type 0} (xs : List (Option A)) (i : ℕ) (x : A) → slice_get (after_next xs) i ≡ Some (Some x) → slice_get xs (suc i) ≡ Some (Some x)
 shifted xs i x h = elim (get_append (drop 1 xs) None i (Some x) h) [
   | inl w ↦ absurd (none_vacant x (ap Some (sym w.1)))
   | inr w ↦ sym (drop_get xs i) ∙ w

@@ -1,8 +1,11 @@
 -- Calls of a store: none, one by another relation, and two of which the first leaves the ledger as it
--- was.
-use Rattle.std.proofs.Common.{◌≡◌, ℕ, subst, inl, inr}
+-- was. Calls that lose no memo.
+use Rattle.std.proofs.Common.{◌≡◌, ℕ, List, Option, refl, sym, subst, inl, inr}
 use Rattle.std.specs.declared.cmp.Ordering.{Ordering}
 use Rattle.pq_rules.specs.Turns.{Machine}
+use Rattle.pq_memo.specs.Sound.{Memo}
+use Rattle.pq_memo.specs.Table.{memo_at}
+use Rattle.pq_memo.specs.Demand.{NoneLost}
 use Rattle.pq_core.proofs.Calling.{open_of}
 use Rattle.pq_core.proofs.AccountStanding.{stage_at}
 use Rattle.pq_core.specs.Points.{Point}
@@ -10,7 +13,7 @@ use Rattle.pq_core.specs.Ledger.{Entry, Ledger}
 use Rattle.pq_core.specs.RightReply.{answer_by}
 use Rattle.pq_core.specs.Lanes.{ReadyView}
 use Rattle.pq_core.specs.Told.{Told, told_puts, IsReadyAt}
-use Rattle.pq_core.specs.Stores.{StoreView, held, fields_of, StandsFor, IsMadeIn, Makes, Goes}
+use Rattle.pq_core.specs.Stores.{StoreView, held, fields_of, StandsFor, IsMadeIn, Makes, Goes, KeepsMemos}
 use Rattle.pq_core.specs.declared.account.Stage.TheVariants.{Made}
 use Rattle.pq_core.specs.aux.Accounts.{AccountStands}
 
@@ -72,3 +75,13 @@ pub goes_ruled : {R K P V M : Type 0} (order : K → K → Ordering) (machine : 
     → own ≡ rules → Goes order (machine own) point before after Move → Goes order (machine rules) point before after Move
 goes_ruled {R} order machine point own rules before after Move same moved =
     subst (λ (r : R). Goes order (machine r) point before after Move) same moved
+
+-- no memo is lost by a call that changes no place
+pub memos_stay : {R K P V M : Type 0} (order : K → K → Ordering) (before after : StoreView R K P V M) → after.places ≡ before.places → KeepsMemos order before after
+memos_stay {R} {K} {P} {V} {M} order before after same =
+    subst (λ (places : List (K × Option (Memo K V))). NoneLost (memo_at order before.places) (memo_at order places)) (sym same) (λ key old here. (old, here, λ equal. refl))
+
+-- no memo is lost by a call, and then by one that changes no place
+pub memos_through : {R K P V M : Type 0} (order : K → K → Ordering) (before via after : StoreView R K P V M) → after.places ≡ via.places → KeepsMemos order before via → KeepsMemos order before after
+memos_through {R} {K} {P} {V} {M} order before via after same kept =
+    subst (λ (places : List (K × Option (Memo K V))). NoneLost (memo_at order before.places) (memo_at order places)) (sym same) kept

@@ -116,11 +116,16 @@ unfoldable pub lost_among : {K P : Type 0} → List (ℕ × Hold K) → ℕ → 
 lost_among claims c label [] = []
 lost_among claims c label (p ∷ runs) = lost_at claims c label p.number p.value ++ lost_among claims c label runs
 
+-- `log_lost_in store c label log` is `log` with the keys among those lost that the runs of the requests of
+-- the client `c` with the label `label` hold
+abbrev pub log_lost_in : {R K P V M : Type 0} → StoreView R K P V M → ℕ → Label → Log K → Log K
+log_lost_in store c label log = record { starts = log.starts; lost = log.lost ++ lost_among store.claims c label store.runs.items }
+
 -- `log_withdrawn_in store c label answer log` is `log` after the client `c` withdrew its requests with
 -- the label `label`, if it was not refused: the keys that their runs held are lost. `store` is the
 -- store before the call.
 abbrev pub log_withdrawn_in : {R K P V M : Type 0} → StoreView R K P V M → ℕ → Label → Result Bool WithdrawFault → Log K → Log K
-log_withdrawn_in store c label (Ok answer) log = record { starts = log.starts; lost = log.lost ++ lost_among store.claims c label store.runs.items }
+log_withdrawn_in store c label (Ok answer) log = log_lost_in store c label log
 log_withdrawn_in store c label (Err fault) log = log
 
 -- `log_moved core run answer log` is `log` after `run` was looked at, or a result was given to it.

@@ -7,6 +7,7 @@ use Rattle.pq_inputs.specs.Sources.{Table}
 use Rattle.pq_rules.specs.Turns.{Machine}
 use Rattle.pq_memo.specs.Sound.{Memo}
 use Rattle.pq_memo.specs.Table.{memo_at, HasIn, KeptOver}
+use Rattle.pq_memo.specs.Demand.{NoneLost}
 use Rattle.pq_memo.specs.Cause.{IsCause}
 use Rattle.pq_claims.specs.Claims.{Hold, WaitsFor}
 use Rattle.pq_core.specs.Works.{WorkView, IsWorkOf, HasWhy}
@@ -165,6 +166,10 @@ OnCarry Says (Blocked run) = Unit {0}
 OnCarry Says Stepped = Unit {0}
 OnCarry Says Answered = Unit {0}
 OnCarry Says Stopped = Unit {0}
+
+-- `KeepsMemos order before after` is that no memo of `before` is lost in `after`
+abbrev pub KeepsMemos : {R K P V M : Type 0} → (K → K → Ordering) → StoreView R K P V M → StoreView R K P V M → Type 0
+KeepsMemos order before after = NoneLost (memo_at order before.places) (memo_at order after.places)
 
 -- `HandsOut store run move` is that the work that `move` hands out, if it does, is for `run`, of the
 -- rules of `store` and over its sources

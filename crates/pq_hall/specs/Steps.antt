@@ -1,5 +1,5 @@
 -- What a post and a step of a run do to the store: each is one call of it, and answers as that call.
-use Rattle.std.specs.Prelude.{ℕ, ◌≡◌, ◌<◌, ◌⊎◌, ◌++◌, Bool, Option, Some, Result, Ok, Err, true, false}
+use Rattle.std.specs.Prelude.{ℕ, ◌≡◌, ◌<◌, ◌⊎◌, Bool, Option, Some, Result, Ok, Err, true, false}
 use Rattle.std.specs.declared.cmp.Ordering.{Ordering}
 use Rattle.pq_inputs.specs.Sources.{Table}
 use Rattle.pq_inputs.specs.declared.fault.InputFault.{InputFault}
@@ -11,7 +11,7 @@ use Rattle.pq_core.specs.Points.{Point, point_now}
 use Rattle.pq_core.specs.Works.{DoneView, WorkView}
 use Rattle.pq_core.specs.Ledger.{Ledger}
 use Rattle.pq_core.specs.Moves.{changed, Accepts, Edits, Withdraws, Looks, Gives, Starves}
-use Rattle.pq_core.specs.Starts.{Log, lost_among}
+use Rattle.pq_core.specs.Starts.{Log, log_lost_in}
 use Rattle.pq_core.specs.Stores.{StoreView}
 use Rattle.pq_core.specs.Told.{Told, told_puts}
 use Rattle.pq_core.specs.declared.label.Label.{Label}
@@ -113,7 +113,7 @@ inputs_posted inputs End answer = inputs
 abbrev pub log_posted : {R K P V M : Type 0} → StoreView R K P V M → ℕ → Post K → Result (Moved K) HallFault → Log K → Log K
 log_posted store c (Ask request) answer log = log
 log_posted store c (Edit change) answer log = log
-log_posted store c (Withdraw label) (Ok moved) log = record { starts = log.starts; lost = log.lost ++ lost_among store.claims c label store.runs.items }
+log_posted store c (Withdraw label) (Ok moved) log = log_lost_in store c label log
 log_posted store c (Withdraw label) (Err fault) log = log
 log_posted store c End answer log = log
 
