@@ -23,7 +23,7 @@ import tempfile
 
 import parts
 
-CRATES = ["pq_names", "pq_inputs", "pq_rules", "pq_memo", "pq_claims", "pq_core"]
+CRATES = ["pq_lex", "pq_names", "pq_inputs", "pq_rules", "pq_memo", "pq_claims", "pq_core"]
 USES = "pq_inputs pq_names pq_rules pq_core"
 WINDOW = 32
 CLIENTS = (1, 8, 64)
