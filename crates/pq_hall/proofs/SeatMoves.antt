@@ -1,23 +1,17 @@
 -- What a seat does to its lane, from the calls of the lane that it makes.
-use Rattle.std.proofs.Common.{◌≡◌, ℕ, zero, suc, ◌+◌, ◌-◌, ◌<◌, ◌≤◌, true, length, slice_get, Option, Some, None, Ok, Err, refl, sym, ◌∙◌, ap, subst, inl, inr, arith}
-use Rattle.std.specs.Prelude.{Result}
+use Rattle.std.proofs.Common.{◌≡◌, ℕ, zero, suc, ◌-◌, ◌≤◌, true, slice_get, Some, refl, sym, ◌∙◌, ap, subst, arith}
 use Rattle.pq_core.proofs.Lists.{get_within}
 use Rattle.pq_core.proofs.Trays.{shifted}
 use Rattle.pq_core.specs.Replies.{ReplyView}
 use Rattle.pq_core.specs.Moves.{window}
-use Rattle.pq_core.specs.Lanes.{ReadyView, Tray, HasNext, Fills, TrayKept}
+use Rattle.pq_core.specs.Lanes.{ReadyView, HasNext, TrayKept}
 use Rattle.pq_core.specs.declared.moves.Released.{Released}
 use Rattle.pq_core.specs.declared.moves.Released.TheVariants.{Put, Full, Gone, Nothing}
 use Rattle.pq_mail.specs.Mailbox.{Side}
-use Rattle.pq_hall.specs.Sending.{LaneView, Filled, LetsOut, IsLast, PutsNext, Empties}
+use Rattle.pq_hall.specs.Sending.{LaneView, LetsOut, IsLast, PutsNext, Empties}
 use Rattle.pq_hall.specs.aux.Vacant.{VacantFrom}
 
 module _ {K V M : Type 0} where
-  -- what a lane does with a reply
-  pub filled_by : {A : Type 0} (ready : ReadyView K V M) (answer : Result A (ReadyView K V M)) (l m : LaneView K V M) → Fills ready answer l m → Filled (Some ready) l m
-  filled_by ready (Ok done) l m w = inl w
-  filled_by ready (Err back) l m w = inr (w.1, w.2)
-
   -- a reply was put, and fewer places can be filled
   pub vacant_after : (n left : ℕ) (l via : LaneView K V M) → LetsOut (Put n) l via → VacantFrom left l → VacantFrom (left - 1) via
   vacant_after n left l via (out, first, next, numbered, (o, more, taken, is)) vacant outbox open_yet i ready here le =
