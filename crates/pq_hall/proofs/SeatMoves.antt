@@ -4,7 +4,7 @@ use Rattle.pq_core.proofs.Lists.{get_within}
 use Rattle.pq_core.proofs.Trays.{shifted}
 use Rattle.pq_core.specs.Replies.{ReplyView}
 use Rattle.pq_core.specs.Moves.{window}
-use Rattle.pq_core.specs.Lanes.{ReadyView, HasNext, TrayKept}
+use Rattle.pq_core.specs.Lanes.{HasNext, TrayKept}
 use Rattle.pq_core.specs.declared.moves.Released.{Released}
 use Rattle.pq_core.specs.declared.moves.Released.TheVariants.{Put, Full, Gone, Nothing}
 use Rattle.pq_mail.specs.Mailbox.{Side}
