@@ -1,5 +1,5 @@
 -- What the hand of a worker does to a store, from the one or two calls that it is.
-use Rattle.std.proofs.Common.{◌≡◌, ℕ, Ok, Err, sym, ap, ◌∙◌, subst, inl, inr}
+use Rattle.std.proofs.Common.{◌≡◌, ℕ, Ok, Err, refl, sym, ap, ◌∙◌, subst, inl, inr}
 use Rattle.std.specs.declared.cmp.Ordering.{Ordering}
 use Rattle.pq_inputs.specs.Sources.{Table}
 use Rattle.pq_rules.specs.Turns.{Machine}
@@ -159,21 +159,33 @@ module _ {R K P V M : Type 0} (order : K → K → Ordering) (machine : R → Ma
       none Stopped n w = tt
 
   -- what a log has after a result was taken
-  pub given_counts : {E : Type 0} (given : Move (WorkView R K P V)) (log : Log K)
+  pub given_counts : (E : Type 0) (given : Move (WorkView R K P V)) (log : Log K)
       → IsCountedIn order (machine before.rules) after (log_moved_in {E = E} before run (Ok given) log) → IsCountedIn order (machine before.rules) after (log_moved_in {E = LookFault} before run (Ok given) log)
-  given_counts (Carry work) log x = x
-  given_counts (Blocked other) log x = x
-  given_counts Stepped log x = x
-  given_counts Answered log x = x
-  given_counts Stopped log x = x
+  given_counts E (Carry work) log x = x
+  given_counts E (Blocked other) log x = x
+  given_counts E Stepped log x = x
+  given_counts E Answered log x = x
+  given_counts E Stopped log x = x
 
   -- what a log has after the run of a result that is not given, or of work that came back, was starved
-  pub ungiven_counts : (hand : Hand (WorkView R K P V) (DoneView R K P V)) (next : Next (WorkView R K P V)) (log : Log K)
+  ungiven_counts : (hand : Hand (WorkView R K P V) (DoneView R K P V)) (next : Next (WorkView R K P V)) (log : Log K)
       → Refuses order (machine before.rules) point before before run hand → CountsEnd order (machine before.rules) before after run next log
       → CountsStep order (machine before.rules) point before after run hand next log
   ungiven_counts hand (Moved moved) log refused x = absurd x
   ungiven_counts hand Starved log refused x = (before, refused, x)
   ungiven_counts hand Over log refused x = x
+
+  -- the same of a result
+  pub result_counts : (hand : Hand (WorkView R K P V) (DoneView R K P V)) (done : DoneView R K P V) (next : Next (WorkView R K P V)) (log : Log K) → hand ≡ Made done → done.started ≡ before.inputs.revision
+      → CountsEnd order (machine before.rules) before after run next log → CountsStep order (machine before.rules) point before after run hand next log
+  result_counts hand done next log e now x =
+      subst (λ (h : Hand (WorkView R K P V) (DoneView R K P V)). CountsStep order (machine before.rules) point before after run h next log) (sym e) (ungiven_counts (Made done) next log (inr (refl, now)) x)
+
+  -- the same of work
+  pub work_counts : (hand : Hand (WorkView R K P V) (DoneView R K P V)) (work : WorkView R K P V) (next : Next (WorkView R K P V)) (log : Log K) → hand ≡ Unmade work
+      → CountsEnd order (machine before.rules) before after run next log → CountsStep order (machine before.rules) point before after run hand next log
+  work_counts hand work next log e x =
+      subst (λ (h : Hand (WorkView R K P V) (DoneView R K P V)). CountsStep order (machine before.rules) point before after run h next log) (sym e) (ungiven_counts (Unmade work) next log refl x)
 
   -- `give` refuses a result that is of no work of the run
   pub give_over : (done : DoneView R K P V) (refused : GiveRefused (DoneView R K P V)) → refused.fault ≡ NotThisRun → refused.done ≡ done

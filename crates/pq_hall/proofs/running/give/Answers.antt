@@ -1,4 +1,6 @@
 use Rattle.pq_core.proofs.TwoCalls.{memos_through}
+use Rattle.pq_core.specs.Works.{DoneView}
+use Rattle.pq_core.specs.declared.fault.GiveRefused.{GiveRefused}
 use Rattle.pq_hall.proofs.HandMoves.{give_counts, give_starved, give_over, given_cause, given_counts, given_hands, given_holder}
 use Rattle.pq_hall.proofs.running.give.Goals as goal
 
@@ -31,7 +33,7 @@ returns-in-Ok-clause-holder g c =
 
 pub returns-in-Ok-clause-counted : goal.returns-in-Ok-clause-counted
 returns-in-Ok-clause-counted g c = λ log counted.
-    given_counts g.R.Key.Ord.cmp g.R.Rules.machine g.M.Stamp.point c.args.store.now c.give.new.self c.args.run c.in-Ok.given log (c.in-Ok.ensures.counted log counted)
+    given_counts g.R.Key.Ord.cmp g.R.Rules.machine g.M.Stamp.point c.args.store.now c.give.new.self c.args.run (GiveRefused (DoneView g.row.R.Denot g.row.R-Key.Denot g.row.R-Part.Denot g.row.R-Value.Denot)) c.in-Ok.given log (c.in-Ok.ensures.counted log counted)
 
 pub returns-in-Memory-clause-counted : goal.returns-in-Memory-clause-counted
 returns-in-Memory-clause-counted g c = λ log counted.
