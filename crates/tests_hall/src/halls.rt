@@ -1,24 +1,39 @@
 //! pq_hall: halls with workers, call by call.
 //!
-//! A script has a line `CALL => ANSWER` for each call. `ask`, `edit` and `end` post, and answer the
-//! number of the receipt; `changes` of `test_support` says how the texts of edits are written. `carry` carries a post of a client, and `take` takes the reply of its next
-//! receipt. `withdraw` posts a withdrawal, and `edits` posts and carries that many edits of one text.
-//! `say` posts what a message asks for, and `text` takes a reply and answers its text. `mark`
-//! says whether a revision has a mark. `held` waits until the gate holds work. `free` opens the gate,
-//! which holds the first work on `held.proto` until then, and says whether the gate had waited for too
-//! long before.
+//! A script has a line `CALL => ANSWER` for each call. Three clients, 0, 1 and 2, are open. A call of a
+//! client is `WORD CLIENT REST`.
 //!
-//! Modules: `answers` (what a hall answers, as text), `calls` (the calls, row by row), `gate`, `guests` (the
-//! clients), `stage` (halls, as a script sees them). Of rows: `edits`, `requests`, `stored` (the stored
-//! session), `workers` (what goes on while work is held).
+//! `ask`, `edit`, `withdraw` and `end` post, and answer the number of the receipt; `changes` of
+//! `test_support` says how the texts of edits are written. `call` asks with a label of its own, and `say`
+//! posts what a message asks for. `carry` carries a post. `take` takes the reply of the next receipt,
+//! and `text` answers its text. `asks`, `carries` and `takes` do so many times, and `edits` posts and
+//! carries that many edits of one text. `begin` begins a carry on a thread of its own, `early` says
+//! whether it goes on after a pause, and `over` waits for its answer. `drop` gives up the end whose posts
+//! are carried, and `deaf` the end that takes. `again` closes a client, joins another one in its place,
+//! and closes the first one once more.
+//!
+//! A call of the hall is `WORD REST`. `mark` says whether a revision has a mark. `crowd` joins that many
+//! clients, and answers how many could join. `held` waits until the gate holds work. `free` opens the
+//! gate, which holds the first work on `held.proto` until then, and says whether the gate had waited for
+//! too long before. `shut` shuts the hall, and `left` waits until no worker works. A script that does
+//! not end in time fails.
+//!
+//! Modules: `answers` (what a hall answers, as text), `calls` (the calls, row by row), `gate` (the gate,
+//! and what threads wait for), `guests` (the clients), `stage` (halls, as a script sees them). Of rows:
+//! `closings` (hall and clients that end), `edits`, `numbers` (what each client is told), `requests`,
+//! `stored` (the stored session), `windows` (clients that owe many replies), `workers` (what goes on while
+//! work is held).
 mod answers;
 mod calls;
+mod closings;
 mod edits;
 mod gate;
 mod guests;
+mod numbers;
 mod requests;
 mod stage;
 mod stored;
+mod windows;
 mod workers;
 
 ghost use Rattle.std.specs.Prelude.{◌≡◌};
@@ -33,7 +48,6 @@ use pq_proto::ProtoRules;
 use std::marker::Brand;
 use std::process::Abort;
 use std::sync::Wait;
-use std::sync::atomic::AtomicBool;
 use std::thread::Threads;
 use std::time::Clock;
 
@@ -52,11 +66,7 @@ where
     let inputs = Inputs::new(rt.alloc()).expect(rt, "memory");
     let made: Result<Hall<S, J, R>, _> = Hall::new(rt, rt.alloc(), rules, board, inputs);
     let hall = made.expect(rt, "memory");
-    let latch = Latch {
-        has_come: AtomicBool::new(false),
-        is_open: AtomicBool::new(false),
-        gave_up: AtomicBool::new(false),
-    };
+    let latch = Latch::new();
     let gate = Held { rt, latch: &latch };
     run_calls(rt, &hall, &gate, &latch, workers, rows.as_str());
 }
@@ -70,4 +80,13 @@ where
     let rows = String::from_str(rt.alloc(), rows).expect(rt, "memory");
     let board = NewBoard::new(rt.alloc()).expect(rt, "memory");
     check_hall::<ProtoRules, Brand, R>(rt, ProtoRules, board, workers, rows);
+}
+
+/// Makes the calls of `rows`, which has `count` lines, with one worker and then with two.
+pub(crate) fn check_both<R>(rt: &R, count: usize, rows: &str)
+where
+    R: Abort + AllocGlobal + Clock + Threads + Wait + Copy + Drop + Send + Sync + 'static,
+{
+    check_calls(rt, count, 1, rows);
+    check_calls(rt, count, 2, rows);
 }

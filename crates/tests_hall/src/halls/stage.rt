@@ -62,7 +62,7 @@ pub(crate) trait Stage<H>: Sync {
     type Post: Drop;
 
     /// The end whose posts are carried.
-    type Porter: Drop;
+    type Porter: Send + Drop;
 
     /// The end from which the replies of a client are taken.
     type Take: Drop;
@@ -219,7 +219,7 @@ where
 }
 
 /// `receipt`, if it is that of a request.
-pub(crate) fn asked<K: Drop>(receipt: Receipt<K>) -> Option<Receipt<K>> {
+fn asked<K: Drop>(receipt: Receipt<K>) -> Option<Receipt<K>> {
     if receipt.request.is_none() {
         return None;
     }
