@@ -2,13 +2,13 @@
 use crate::halls::{check_both, check_calls};
 
 // A client that takes nothing has 64 requests carried: 32 replies are put, and 32 wait for room.
-// The next one waits until a reply is taken. The replies come in their order, and the client goes
-// on.
+// The next one waits until a reply is taken, and one more waits again. The replies come in their
+// order, and the client goes on.
 #[test]
 fn replies_taken_late(rt: HostRuntime) {
     check_both(
         &rt,
-        24,
+        28,
         "\
         asks 0 32 a.proto => 31\n\
         carries 0 32 => accepted 31\n\
@@ -22,18 +22,22 @@ fn replies_taken_late(rt: HostRuntime) {
         early 0 => not yet\n\
         take 0 - => 0 at 0 answered\n\
         over 0 - => accepted 64\n\
-        takes 0 63 => 1 at 0 answered to 63\n\
-        take 0 - => 64 at 0 answered\n\
-        asks 0 32 a.proto => 96\n\
-        carries 0 32 => accepted 96\n\
-        asks 0 32 a.proto => 128\n\
-        carries 0 32 => accepted 128\n\
-        takes 0 64 => 65 at 0 answered to 128\n\
+        ask 0 d.proto => 65\n\
+        begin 0 - => begun\n\
+        early 0 => not yet\n\
+        take 0 - => 1 at 0 answered\n\
+        over 0 - => accepted 65\n\
+        takes 0 64 => 2 at 0 answered to 65\n\
+        asks 0 32 a.proto => 97\n\
+        carries 0 32 => accepted 97\n\
+        asks 0 32 a.proto => 129\n\
+        carries 0 32 => accepted 129\n\
+        takes 0 64 => 66 at 0 answered to 129\n\
         edit 1 a.proto=x => 1\n\
         carry 1 - => edited 1\n\
-        ask 0 a.proto => 129\n\
-        carry 0 - => accepted 129\n\
-        take 0 - => 129 at 1 answered",
+        ask 0 a.proto => 130\n\
+        carry 0 - => accepted 130\n\
+        take 0 - => 130 at 1 answered",
     );
 }
 
@@ -143,27 +147,49 @@ fn replies_made_at_once(rt: HostRuntime) {
     );
 }
 
-// A run goes on after the most steps that a worker takes in one hold of the lock: a file has 24
-// imports, all answered before.
+// A run goes on after the most steps that a worker takes in one hold of the lock: after an edit it
+// goes down a chain of 24 files, each of which imports the next.
 #[test]
 fn runs_of_many_steps(rt: HostRuntime) {
     check_both(
         &rt,
-        13,
+        35,
         "\
-        edit 0 a.proto=syntax = \"proto3\"; import \"b.proto\"; import \"d.proto\"; import \"e.proto\"; import \"f.proto\"; import \"g.proto\"; import \"h.proto\"; import \"i.proto\"; import \"j.proto\"; import \"k.proto\"; import \"l.proto\"; import \"m.proto\"; import \"n.proto\"; import \"o.proto\"; import \"p.proto\"; import \"q.proto\"; import \"r.proto\"; import \"s.proto\"; import \"t.proto\"; import \"u.proto\"; import \"v.proto\"; import \"w.proto\"; import \"x.proto\"; import \"y.proto\"; import \"z.proto\"; => 0\n\
-        carry 0 - => edited 1\n\
+        edit 0 a.proto=syntax = \"proto3\"; import \"b.proto\"; => 0\n\
+        edit 0 b.proto=syntax = \"proto3\"; import \"c.proto\"; => 0\n\
+        edit 0 c.proto=syntax = \"proto3\"; import \"d.proto\"; => 0\n\
+        edit 0 d.proto=syntax = \"proto3\"; import \"e.proto\"; => 0\n\
+        edit 0 e.proto=syntax = \"proto3\"; import \"f.proto\"; => 0\n\
+        edit 0 f.proto=syntax = \"proto3\"; import \"g.proto\"; => 0\n\
+        edit 0 g.proto=syntax = \"proto3\"; import \"h.proto\"; => 0\n\
+        edit 0 h.proto=syntax = \"proto3\"; import \"i.proto\"; => 0\n\
+        edit 0 i.proto=syntax = \"proto3\"; import \"j.proto\"; => 0\n\
+        edit 0 j.proto=syntax = \"proto3\"; import \"k.proto\"; => 0\n\
+        edit 0 k.proto=syntax = \"proto3\"; import \"l.proto\"; => 0\n\
+        edit 0 l.proto=syntax = \"proto3\"; import \"m.proto\"; => 0\n\
+        edit 0 m.proto=syntax = \"proto3\"; import \"n.proto\"; => 0\n\
+        edit 0 n.proto=syntax = \"proto3\"; import \"o.proto\"; => 0\n\
+        edit 0 o.proto=syntax = \"proto3\"; import \"p.proto\"; => 0\n\
+        edit 0 p.proto=syntax = \"proto3\"; import \"q.proto\"; => 0\n\
+        edit 0 q.proto=syntax = \"proto3\"; import \"r.proto\"; => 0\n\
+        edit 0 r.proto=syntax = \"proto3\"; import \"s.proto\"; => 0\n\
+        edit 0 s.proto=syntax = \"proto3\"; import \"t.proto\"; => 0\n\
+        edit 0 t.proto=syntax = \"proto3\"; import \"u.proto\"; => 0\n\
+        edit 0 u.proto=syntax = \"proto3\"; import \"v.proto\"; => 0\n\
+        edit 0 v.proto=syntax = \"proto3\"; import \"w.proto\"; => 0\n\
+        edit 0 w.proto=syntax = \"proto3\"; import \"x.proto\"; => 0\n\
+        carries 0 23 => edited 23\n\
         ask 0 a.proto => 0\n\
         carry 0 - => accepted 0\n\
-        take 0 - => 0 at 1 answered\n\
-        edit 0 z.proto=syntax = \"proto3\"; => 1\n\
-        carry 0 - => edited 2\n\
+        take 0 - => 0 at 23 answered\n\
+        edit 0 x.proto=syntax = \"proto3\"; => 1\n\
+        carry 0 - => edited 24\n\
         asks 0 2 a.proto => 2\n\
         asks 1 2 a.proto => 1\n\
         carries 0 2 => accepted 2\n\
         carries 1 2 => accepted 1\n\
-        takes 0 2 => 1 at 2 answered to 2\n\
-        takes 1 2 => 0 at 2 answered to 1",
+        takes 0 2 => 1 at 24 answered to 2\n\
+        takes 1 2 => 0 at 24 answered to 1",
     );
 }
 

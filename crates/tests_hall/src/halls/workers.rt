@@ -1,5 +1,5 @@
 //! What goes on while a worker is held at the gate with the work of a run.
-use crate::halls::check_calls;
+use crate::halls::{check_both, check_calls};
 
 // While a worker is held at the gate with the work of one client, the other client is answered.
 #[test]
@@ -82,5 +82,31 @@ fn turned_at_work(rt: HostRuntime) {
         take 1 - => 2 at 1024 answered\n\
         mark 1024 => yes\n\
         mark 1025 => none",
+    );
+}
+
+// An edit overtakes the run of another client while its work is held. Its reply comes once the gate
+// opens, and a run that needs the same key goes on.
+#[test]
+fn overtaken_at_work(rt: HostRuntime) {
+    check_both(
+        &rt,
+        15,
+        "\
+        edit 0 held.proto=x => 0\n\
+        carry 0 - => edited 1\n\
+        ask 0 held.proto => 0\n\
+        carry 0 - => accepted 0\n\
+        held 0 => yes\n\
+        edit 1 b.proto=y => 0\n\
+        carry 1 - => edited 2\n\
+        ask 1 held.proto => 0\n\
+        carry 1 - => accepted 0\n\
+        free 0 => in time\n\
+        text 0 - => {\"error\":{\"code\":-32801,\"data\":{\"seen\":2,\"started\":1},\"message\":\"content modified\"},\"id\":\"held.proto\",\"jsonrpc\":\"2.0\"}\n\
+        take 1 - => 0 at 2 answered\n\
+        ask 0 held.proto => 1\n\
+        carry 0 - => accepted 1\n\
+        take 0 - => 1 at 2 answered",
     );
 }
