@@ -13,10 +13,10 @@
 //! and closes the first one once more.
 //!
 //! A call of the hall is `WORD REST`. `mark` says whether a revision has a mark. `crowd` joins that many
-//! clients, and answers how many could join. `held` waits until the gate holds work. `free` opens the
-//! gate, which holds the first work on `held.proto` until then, and says whether the gate had waited for
-//! too long before. `shut` shuts the hall, and `left` waits until no worker works. A script that does
-//! not end in time fails.
+//! clients, and answers how many could join. `held 0` waits until the gate holds the first work on
+//! `held.proto`. `free 0` lets that go on, and says whether it had waited for too long. `held 1` and
+//! `free 1` do so with `slow.proto`. `rest` lets other threads go on for a while. `shut` shuts the hall,
+//! and `left` waits until no worker works. A script of which a call does not return in time fails.
 //!
 //! Modules: `answers` (what a hall answers, as text), `calls` (the calls, row by row), `gate` (the gate,
 //! and what threads wait for), `guests` (the clients), `stage` (halls, as a script sees them). Of rows:

@@ -1,6 +1,6 @@
 //! The calls of a script, row by row, while workers work.
 use crate::checks::{check_page, check_that, split_row};
-use crate::halls::gate::{Latch, goes_on, has_come, have_left, watch};
+use crate::halls::gate::{Latch, goes_on, have_left, pause, watch};
 use crate::halls::guests::{add_crowd, add_returned, answer, begin, joined};
 use crate::halls::stage::{Stage, Works};
 use pq_inputs::{Inputs, Revision};
@@ -34,21 +34,24 @@ where
             let has_mark = hall.has_mark(rt, revision_of(rt, rest));
             page.add(if has_mark { "yes" } else { "none" });
         }
-        "held" => page.add(if has_come(rt, latch) {
+        "held" => page.add(if latch.stop(rest).is_held(rt) {
             "yes"
         } else {
             "too late"
         }),
         "free" => {
-            latch.is_open.store(true, Ordering::SeqCst);
-            let gave_up = latch.gave_up.load(Ordering::SeqCst);
-            page.add(if gave_up { "too late" } else { "in time" });
+            let is_late = latch.stop(rest).free();
+            page.add(if is_late { "too late" } else { "in time" });
         }
         "early" => page.add(if goes_on(rt, latch) {
             "not yet"
         } else {
             "returned"
         }),
+        "rest" => {
+            pause(rt);
+            page.add("rested");
+        }
         "crowd" => add_crowd(rt, page, hall, rest),
         "shut" => {
             hall.shut(rt);

@@ -14,18 +14,16 @@ const TURNS: u32 = 100_000;
 /// The milliseconds for which a call may take.
 const PATIENCE: u32 = 15_000;
 
-/// The milliseconds after which a carry that goes on counts as one that waits.
+/// The milliseconds of a rest. A carry that goes on after it counts as one that waits.
 const PAUSE: u64 = 100;
 
 /// What the threads of a script tell each other.
 #[derive(Drop)]
 pub(crate) struct Latch {
-    /// Whether work came to a gate that holds it.
-    pub(crate) has_come: AtomicBool,
-    /// Whether the gate is open.
-    pub(crate) is_open: AtomicBool,
-    /// Whether the gate gave up waiting for that.
-    pub(crate) gave_up: AtomicBool,
+    /// Where the first work on `held.proto` is held.
+    first: Stop,
+    /// Where the first work on `slow.proto` is held.
+    second: Stop,
     /// Whether the last carry that has a thread of its own has returned.
     pub(crate) has_returned: AtomicBool,
     /// The count of workers that work.
@@ -36,22 +34,82 @@ pub(crate) struct Latch {
     pub(crate) is_over: AtomicBool,
 }
 
+/// Where work is held.
+#[derive(Drop)]
+pub(crate) struct Stop {
+    /// Whether work came.
+    has_come: AtomicBool,
+    /// Whether it may go on.
+    is_open: AtomicBool,
+    /// Whether it went on since that took too long.
+    gave_up: AtomicBool,
+}
+
 impl Latch {
     /// The latch of a script at its start.
     pub(crate) fn new() -> Latch {
         Latch {
-            has_come: AtomicBool::new(false),
-            is_open: AtomicBool::new(false),
-            gave_up: AtomicBool::new(false),
+            first: Stop::new(),
+            second: Stop::new(),
             has_returned: AtomicBool::new(false),
             working: AtomicUsize::new(0),
             row: AtomicUsize::new(0),
             is_over: AtomicBool::new(false),
         }
     }
+
+    /// The stop that `word` numbers.
+    pub(crate) fn stop(&self, word: &str) -> &Stop {
+        if word == "0" {
+            return &self.first;
+        }
+        &self.second
+    }
 }
 
-/// A gate that holds the first work on `held.proto`.
+impl Stop {
+    /// A stop to which no work came.
+    fn new() -> Stop {
+        Stop {
+            has_come: AtomicBool::new(false),
+            is_open: AtomicBool::new(false),
+            gave_up: AtomicBool::new(false),
+        }
+    }
+
+    /// Holds the first work that comes, until it may go on.
+    fn hold(&self, rt: &impl Clock) {
+        if self.has_come.swap(true, Ordering::SeqCst) {
+            return;
+        }
+        for _ in 0..TURNS {
+            if self.is_open.load(Ordering::SeqCst) {
+                return;
+            }
+            thread::sleep(rt, Duration::from_micros(100));
+        }
+        self.gave_up.store(true, Ordering::SeqCst);
+    }
+
+    /// Lets the work go on. Returns whether it had waited for too long.
+    pub(crate) fn free(&self) -> bool {
+        self.is_open.store(true, Ordering::SeqCst);
+        self.gave_up.load(Ordering::SeqCst)
+    }
+
+    /// Waits until work is held. Returns whether it is.
+    pub(crate) fn is_held(&self, rt: &impl Clock) -> bool {
+        for _ in 0..TURNS {
+            if self.has_come.load(Ordering::SeqCst) {
+                return true;
+            }
+            thread::sleep(rt, Duration::from_micros(100));
+        }
+        false
+    }
+}
+
+/// A gate that holds the first work on `held.proto`, and the first on `slow.proto`.
 #[derive(Drop)]
 pub(crate) struct Held<'a, R> {
     pub(crate) rt: &'a R,
@@ -60,28 +118,13 @@ pub(crate) struct Held<'a, R> {
 
 impl<S: Texts, R: Clock> Gate<S> for Held<'_, R> {
     fn pass<M: Stamp>(&self, work: &Work<S, M>) {
-        if !S::is_held(work.key()) || self.latch.has_come.swap(true, Ordering::SeqCst) {
-            return;
+        if S::is_parse(work.key(), "held.proto") {
+            self.latch.first.hold(self.rt);
         }
-        for _ in 0..TURNS {
-            if self.latch.is_open.load(Ordering::SeqCst) {
-                return;
-            }
-            thread::sleep(self.rt, Duration::from_micros(100));
+        if S::is_parse(work.key(), "slow.proto") {
+            self.latch.second.hold(self.rt);
         }
-        self.latch.gave_up.store(true, Ordering::SeqCst);
     }
-}
-
-/// Waits until the gate holds work. Returns whether it does.
-pub(crate) fn has_come(rt: &impl Clock, latch: &Latch) -> bool {
-    for _ in 0..TURNS {
-        if latch.has_come.load(Ordering::SeqCst) {
-            return true;
-        }
-        thread::sleep(rt, Duration::from_micros(100));
-    }
-    false
 }
 
 /// Waits until no worker works. Returns whether none does.
@@ -95,9 +138,14 @@ pub(crate) fn have_left(rt: &impl Clock, latch: &Latch) -> bool {
     false
 }
 
+/// Lets other threads go on for a while.
+pub(crate) fn pause(rt: &impl Clock) {
+    thread::sleep(rt, Duration::from_millis(PAUSE));
+}
+
 /// Whether the last carry that has a thread of its own goes on after a pause.
 pub(crate) fn goes_on(rt: &impl Clock, latch: &Latch) -> bool {
-    thread::sleep(rt, Duration::from_millis(PAUSE));
+    pause(rt);
     !latch.has_returned.load(Ordering::SeqCst)
 }
 

@@ -22,8 +22,8 @@ pub(crate) trait Texts: Rules {
         reply: &Reply<Self::Key, Self::Value, M>,
     ) -> Result<String, AllocError>;
 
-    /// Whether the gate holds work of this key.
-    fn is_held(key: &Self::Key) -> bool;
+    /// Whether `key` is that of the parse of the file `name`.
+    fn is_parse(key: &Self::Key, name: &str) -> bool;
 }
 
 impl Texts for ProtoRules {
@@ -39,9 +39,9 @@ impl Texts for ProtoRules {
         reply_text(alloc, &root, reply)
     }
 
-    fn is_held(key: &ProtoKey) -> bool {
+    fn is_parse(key: &ProtoKey, name: &str) -> bool {
         match key {
-            ProtoKey::Parse(file) => file.as_str() == "held.proto",
+            ProtoKey::Parse(file) => file.as_str() == name,
             _ => false,
         }
     }

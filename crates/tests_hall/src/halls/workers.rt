@@ -110,3 +110,33 @@ fn overtaken_at_work(rt: HostRuntime) {
         take 0 - => 1 at 2 answered",
     );
 }
+
+// A run that waits for a key of another run goes on once that is done, while the other one has work
+// again, which is held. So a step of a run wakes a worker that waits.
+#[test]
+fn woken_by_a_step(rt: HostRuntime) {
+    check_calls(
+        &rt,
+        18,
+        2,
+        "\
+        edit 0 held.proto=syntax = \"proto3\"; => 0\n\
+        edit 0 slow.proto=syntax = \"proto3\"; => 0\n\
+        edit 0 a.proto=syntax = \"proto3\"; import \"held.proto\"; import \"slow.proto\"; => 0\n\
+        carries 0 3 => edited 3\n\
+        ask 0 a.proto => 0\n\
+        carry 0 - => accepted 0\n\
+        held 0 => yes\n\
+        ask 1 held.proto => 0\n\
+        carry 1 - => accepted 0\n\
+        ask 2 b.proto => 0\n\
+        carry 2 - => accepted 0\n\
+        take 2 - => 0 at 3 answered\n\
+        rest 0 => rested\n\
+        free 0 => in time\n\
+        held 1 => yes\n\
+        take 1 - => 0 at 3 answered\n\
+        free 1 => in time\n\
+        take 0 - => 0 at 3 answered",
+    );
+}
