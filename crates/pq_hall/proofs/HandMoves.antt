@@ -111,7 +111,7 @@ module _ {R K P V M : Type 0} (order : K → K → Ordering) (machine : R → Ma
       → CountsStep order (machine before.rules) point before after run (Made done) next log
   give_counts done refused next log same e f first counted ends =
       let memory : Goes order (machine before.rules) point before via (Gives run done (Err (no_memory done))) =
-          subst (λ (x : GiveRefused (DoneView R K P V)). Goes order (machine before.rules) point before via (Gives run done (Err x))) (refused_is refused GiveMemory done e f) first in
+      subst (λ (x : GiveRefused (DoneView R K P V)). Goes order (machine before.rules) point before via (Gives run done (Err x))) (refused_is refused GiveMemory done e f) first in
       starved_counts (Made done) next log same (inl memory) (ends (subst (λ (r : R). IsCountedIn order (machine r) via log) (sym same) counted))
 
 module _ {R K P V M : Type 0} (order : K → K → Ordering) (machine : R → Machine K P V) (point : M → Point) (before after : StoreView R K P V M) (run : ℕ) where
