@@ -11,8 +11,8 @@ use std::time::{Clock, Duration};
 /// The turns for which a gate holds work at most, and for which a script waits for another thread.
 const TURNS: u32 = 100_000;
 
-/// The milliseconds for which a call may take.
-const PATIENCE: u32 = 15_000;
+/// The milliseconds that a call may take at least.
+const PATIENCE: u32 = 40_000;
 
 /// The milliseconds of a rest. A carry that goes on after it counts as one that waits.
 const PAUSE: u64 = 100;
