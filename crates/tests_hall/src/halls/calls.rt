@@ -115,8 +115,44 @@ where
     let _ = latch.working.fetch_sub(1, Ordering::SeqCst);
 }
 
-/// Makes the calls of `rows` while `workers` threads work in `hall`, and then shuts it. The workers have
-/// to leave then.
+/// Makes the calls of `rows` while `workers` threads of `scope` work in `hall`, and then shuts it. The
+/// workers have to leave then.
+fn run_in<'s, E, F, G, R>(
+    scope: &Scope<'s, E>,
+    rt: &'s R,
+    hall: &'s F,
+    gate: &'s G,
+    latch: &'s Latch,
+    workers: u8,
+    rows: &str,
+)
+where
+    F: Stage<R> + Works<G, R>,
+    F::Post: 's,
+    F::Porter: 's,
+    F::Take: 's,
+    G: Sync,
+    R: Abort + AllocGlobal + Clock + Threads + Sync,
+{
+    let _ = scope
+        .spawn(move || watch(rt, latch))
+        .ok()
+        .expect(rt, "a thread");
+    for _ in 0..workers {
+        let _ = latch.working.fetch_add(1, Ordering::SeqCst);
+        let _ = scope
+            .spawn(move || work(rt, hall, gate, latch))
+            .ok()
+            .expect(rt, "a thread");
+    }
+    make_calls(scope, rt, hall, latch, rows);
+    hall.shut(rt);
+    check_that(rt, have_left(rt, latch), "a worker works on");
+    latch.is_over.store(true, Ordering::SeqCst);
+}
+
+/// Makes the calls of `rows` while `workers` threads work in `hall`. The closure makes one call, so its
+/// contract is inferred, with all that threads ask of the types of `hall`.
 pub(crate) fn run_calls<F, G, R>(rt: &R, hall: &F, gate: &G, latch: &Latch, workers: u8, rows: &str)
 where
     F: Stage<R> + Works<G, R>,
@@ -124,20 +160,6 @@ where
     R: Abort + AllocGlobal + Clock + Threads + Wait + Sync,
 {
     thread::scope(thread::scope_env(), rt, |scope| {
-        let _ = scope
-            .spawn(move || watch(rt, latch))
-            .ok()
-            .expect(rt, "a thread");
-        for _ in 0..workers {
-            let _ = latch.working.fetch_add(1, Ordering::SeqCst);
-            let _ = scope
-                .spawn(move || work(rt, hall, gate, latch))
-                .ok()
-                .expect(rt, "a thread");
-        }
-        make_calls(scope, rt, hall, latch, rows);
-        hall.shut(rt);
-        check_that(rt, have_left(rt, latch), "a worker works on");
-        latch.is_over.store(true, Ordering::SeqCst);
+        run_in(scope, rt, hall, gate, latch, workers, rows);
     });
 }

@@ -56,19 +56,20 @@ pub(crate) struct Ends<P, C, T> {
     pub(crate) take: T,
 }
 
-/// A hall, as a script sees it, whatever its rules are and whatever names its marks.
+/// A hall, as a script sees it, whatever its rules are and whatever names its marks. A thread that a
+/// script begins uses the hall, so all types of a hall are `Send`: the proof of the thread asks for it.
 pub(crate) trait Stage<H>: Sync {
     /// The end that posts.
-    type Post: Drop;
+    type Post: Send + Drop;
 
     /// The end whose posts are carried.
     type Porter: Send + Drop;
 
     /// The end from which the replies of a client are taken.
-    type Take: Drop;
+    type Take: Send + Drop;
 
     /// What a reply is taken by.
-    type Receipt: Drop;
+    type Receipt: Send + Drop;
 
     /// Opens a client.
     fn join(&self, rt: &H) -> Result<Ends<Self::Post, Self::Porter, Self::Take>, OpenFault>;
