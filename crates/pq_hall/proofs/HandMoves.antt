@@ -1,17 +1,19 @@
 -- What the hand of a worker does to a store, from the one or two calls that it is.
-use Rattle.std.proofs.Common.{◌≡◌, ℕ, Ok, Err, sym, ap, ◌∙◌, subst, inl, inr}
+use Rattle.std.proofs.Common.{◌≡◌, ℕ, Ok, Err, refl, sym, ap, ◌∙◌, subst, inl, inr}
 use Rattle.std.specs.declared.cmp.Ordering.{Ordering}
 use Rattle.pq_inputs.specs.Sources.{Table}
 use Rattle.pq_rules.specs.Turns.{Machine}
 use Rattle.pq_core.proofs.TwoCalls.{goes_as, goes_twice, goes_ruled}
+use Rattle.pq_core.specs.Starts.{Log, IsCountedIn, log_moved_in}
 use Rattle.pq_core.specs.Points.{Point}
 use Rattle.pq_core.specs.Works.{DoneView, WorkView}
 use Rattle.pq_core.specs.Ledger.{Ledger}
 use Rattle.pq_core.specs.Moves.{Looks, Gives}
 use Rattle.pq_core.specs.Told.{Told}
-use Rattle.pq_core.specs.Stores.{StoreView, StandsFor, Goes, HandsOut}
+use Rattle.pq_core.specs.Stores.{StoreView, StandsFor, Goes, HandsOut, HasCause, NamesHolder}
 use Rattle.pq_core.specs.declared.moves.Move.{Move}
 use Rattle.pq_core.specs.declared.moves.Move.TheVariants.{Carry, Blocked, Stepped, Answered, Stopped}
+use Rattle.pq_core.specs.declared.fault.LookFault.{LookFault}
 use Rattle.pq_core.specs.declared.fault.LookFault.TheVariants.{Memory as LookMemory}
 use Rattle.pq_core.specs.declared.fault.GiveFault.{GiveFault}
 use Rattle.pq_core.specs.declared.fault.GiveFault.TheVariants.{NotThisRun, Memory as GiveMemory}
@@ -20,8 +22,8 @@ use Rattle.pq_hall.specs.declared.running.Hand.{Hand}
 use Rattle.pq_hall.specs.declared.running.Hand.TheVariants.{Look, Made, Unmade}
 use Rattle.pq_hall.specs.declared.running.Next.{Next}
 use Rattle.pq_hall.specs.declared.running.Next.TheVariants.{Moved, Starved, Over}
-use Rattle.pq_hall.specs.Steps.{Steps, IsHandOf, OnMoved, no_memory}
-use Rattle.pq_hall.specs.aux.Ends.{Ends, IsEnd, IsFor}
+use Rattle.pq_hall.specs.Steps.{CountsStep, Refuses, Steps, IsHandOf, OnMoved, no_memory}
+use Rattle.pq_hall.specs.aux.Ends.{CountsEnd, Ends, IsEnd, IsFor}
 
 pub on_end : {W : Type 0} (Says : Move W → Type 0) (next : Next W) → IsEnd next → OnMoved Says next
 on_end Says (Moved moved) e = absurd e
@@ -83,6 +85,35 @@ module _ {R K P V M : Type 0} (order : K → K → Ordering) (machine : R → Ma
       both Starved l n g w = (inl g, w)
       both Over l n g w = inr w
 
+  -- what a log has, where a call was refused and then the run was starved
+  starved_counts : (hand : Hand (WorkView R K P V) (DoneView R K P V)) (next : Next (WorkView R K P V)) (log : Log K) → via.rules ≡ before.rules
+      → Refuses order (machine before.rules) point before via run hand
+      → CountsEnd order (machine via.rules) via after run next log
+      → CountsStep order (machine before.rules) point before after run hand next log
+  starved_counts hand (Moved moved) log same refused x = absurd x
+  starved_counts hand Starved log same refused x = (via, refused, subst (λ (r : R). CountsEnd {W = WorkView R K P V} order (machine r) via after run Starved log) same x)
+  starved_counts hand Over log same refused x = subst (λ (r : R). CountsEnd {W = WorkView R K P V} order (machine r) via after run Over log) same x
+
+  -- the same of `look`
+  pub look_counts : (next : Next (WorkView R K P V)) (log : Log K) → via.rules ≡ before.rules
+      → Goes order (machine before.rules) point before via (Looks order (machine before.rules) point before.rules run (Err LookMemory))
+      → IsCountedIn order (machine before.rules) via log
+      → (IsCountedIn order (machine via.rules) via log → CountsEnd order (machine via.rules) via after run next log)
+      → CountsStep order (machine before.rules) point before after run Look next log
+  look_counts next log same refused counted ends =
+      starved_counts Look next log same refused (ends (subst (λ (r : R). IsCountedIn order (machine r) via log) (sym same) counted))
+
+  -- the same of `give`
+  pub give_counts : (done : DoneView R K P V) (refused : GiveRefused (DoneView R K P V)) (next : Next (WorkView R K P V)) (log : Log K) → via.rules ≡ before.rules → refused.fault ≡ GiveMemory → refused.done ≡ done
+      → Goes order (machine before.rules) point before via (Gives run done (Err refused))
+      → IsCountedIn order (machine before.rules) via log
+      → (IsCountedIn order (machine via.rules) via log → CountsEnd order (machine via.rules) via after run next log)
+      → CountsStep order (machine before.rules) point before after run (Made done) next log
+  give_counts done refused next log same e f first counted ends =
+      let memory : Goes order (machine before.rules) point before via (Gives run done (Err (no_memory done))) =
+      subst (λ (x : GiveRefused (DoneView R K P V)). Goes order (machine before.rules) point before via (Gives run done (Err x))) (refused_is refused GiveMemory done e f) first in
+      starved_counts (Made done) next log same (inl memory) (ends (subst (λ (r : R). IsCountedIn order (machine r) via log) (sym same) counted))
+
 module _ {R K P V M : Type 0} (order : K → K → Ordering) (machine : R → Machine K P V) (point : M → Point) (before after : StoreView R K P V M) (run : ℕ) where
   -- the same hand
   pub of_hand : (hand other : Hand (WorkView R K P V) (DoneView R K P V)) (next : Next (WorkView R K P V)) → hand ≡ other
@@ -102,6 +133,59 @@ module _ {R K P V M : Type 0} (order : K → K → Ordering) (machine : R → Ma
       none Stepped n w = tt
       none Answered n w = tt
       none Stopped n w = tt
+
+  -- a result that is taken blocks its run on none
+  pub given_holder : (done : DoneView R K P V) (given : Move (WorkView R K P V)) (l : Ledger K V M (Told K V M)) → StandsFor order (machine before.rules) point before l
+      → Goes order (machine before.rules) point before after (Gives run done (Ok given)) → NamesHolder after.claims run given
+  given_holder done given l s moved = let x = moved l s in none given x.0 x.1
+    where
+      none : (given : Move (WorkView R K P V)) (n : Ledger K V M (Told K V M)) → Gives run done (Ok given) l n → NamesHolder after.claims run given
+      none (Carry work) n w = absurd w
+      none (Blocked other) n w = absurd w
+      none Stepped n w = tt
+      none Answered n w = tt
+      none Stopped n w = tt
+
+  -- a result that is taken names no cause
+  pub given_cause : (done : DoneView R K P V) (given : Move (WorkView R K P V)) (l : Ledger K V M (Told K V M)) → StandsFor order (machine before.rules) point before l
+      → Goes order (machine before.rules) point before after (Gives run done (Ok given)) → HasCause order (machine before.rules) before given
+  given_cause done given l s moved = let x = moved l s in none given x.0 x.1
+    where
+      none : (given : Move (WorkView R K P V)) (n : Ledger K V M (Told K V M)) → Gives run done (Ok given) l n → HasCause order (machine before.rules) before given
+      none (Carry work) n w = absurd w
+      none (Blocked other) n w = tt
+      none Stepped n w = tt
+      none Answered n w = tt
+      none Stopped n w = tt
+
+  -- what a log has after a result was taken
+  pub given_counts : (E : Type 0) (given : Move (WorkView R K P V)) (log : Log K)
+      → IsCountedIn order (machine before.rules) after (log_moved_in {E = E} before run (Ok given) log) → IsCountedIn order (machine before.rules) after (log_moved_in {E = LookFault} before run (Ok given) log)
+  given_counts E (Carry work) log x = x
+  given_counts E (Blocked other) log x = x
+  given_counts E Stepped log x = x
+  given_counts E Answered log x = x
+  given_counts E Stopped log x = x
+
+  -- what a log has after the run of a result that is not given, or of work that came back, was starved
+  ungiven_counts : (hand : Hand (WorkView R K P V) (DoneView R K P V)) (next : Next (WorkView R K P V)) (log : Log K)
+      → Refuses order (machine before.rules) point before before run hand → CountsEnd order (machine before.rules) before after run next log
+      → CountsStep order (machine before.rules) point before after run hand next log
+  ungiven_counts hand (Moved moved) log refused x = absurd x
+  ungiven_counts hand Starved log refused x = (before, refused, x)
+  ungiven_counts hand Over log refused x = x
+
+  -- the same of a result
+  pub result_counts : (hand : Hand (WorkView R K P V) (DoneView R K P V)) (done : DoneView R K P V) (next : Next (WorkView R K P V)) (log : Log K) → hand ≡ Made done → done.started ≡ before.inputs.revision
+      → CountsEnd order (machine before.rules) before after run next log → CountsStep order (machine before.rules) point before after run hand next log
+  result_counts hand done next log e now x =
+      subst (λ (h : Hand (WorkView R K P V) (DoneView R K P V)). CountsStep order (machine before.rules) point before after run h next log) (sym e) (ungiven_counts (Made done) next log (inr (refl, now)) x)
+
+  -- the same of work
+  pub work_counts : (hand : Hand (WorkView R K P V) (DoneView R K P V)) (work : WorkView R K P V) (next : Next (WorkView R K P V)) (log : Log K) → hand ≡ Unmade work
+      → CountsEnd order (machine before.rules) before after run next log → CountsStep order (machine before.rules) point before after run hand next log
+  work_counts hand work next log e x =
+      subst (λ (h : Hand (WorkView R K P V) (DoneView R K P V)). CountsStep order (machine before.rules) point before after run h next log) (sym e) (ungiven_counts (Unmade work) next log refl x)
 
   -- `give` refuses a result that is of no work of the run
   pub give_over : (done : DoneView R K P V) (refused : GiveRefused (DoneView R K P V)) → refused.fault ≡ NotThisRun → refused.done ≡ done

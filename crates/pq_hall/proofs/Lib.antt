@@ -1,3 +1,4 @@
 pub mod PostMoves
 pub mod HandMoves
 pub mod Crosses
+pub mod SeatMoves

@@ -1,4 +1,5 @@
 pub mod Carried
 pub mod Marks
+pub mod Sending
 pub mod Steps
 pub mod aux

@@ -11,8 +11,8 @@ use Rattle.pq_core.specs.Points.{Point, point_now}
 use Rattle.pq_core.specs.Works.{DoneView, WorkView}
 use Rattle.pq_core.specs.Ledger.{Ledger}
 use Rattle.pq_core.specs.Moves.{changed, Accepts, Edits, Withdraws, Looks, Gives, Starves}
-use Rattle.pq_core.specs.Starts.{Log, log_lost_in}
-use Rattle.pq_core.specs.Stores.{StoreView}
+use Rattle.pq_core.specs.Starts.{Log, IsCountedIn, log_lost_in, log_moved_in, log_starved_in}
+use Rattle.pq_core.specs.Stores.{StoreView, Goes}
 use Rattle.pq_core.specs.Told.{Told, told_puts}
 use Rattle.pq_core.specs.declared.label.Label.{Label}
 use Rattle.pq_core.specs.declared.request.Request.{Request}
@@ -23,6 +23,7 @@ use Rattle.pq_core.specs.declared.fault.EditFault.{EditFault}
 use Rattle.pq_core.specs.declared.fault.EditFault.TheVariants.{NoClient as EditNoClient, Closed as EditClosed, BadRange, Input}
 use Rattle.pq_core.specs.declared.fault.EditRefused.{EditRefused}
 use Rattle.pq_core.specs.declared.fault.WithdrawFault.{WithdrawFault}
+use Rattle.pq_core.specs.declared.fault.LookFault.{LookFault}
 use Rattle.pq_core.specs.declared.fault.LookFault.TheVariants.{NoRun, Memory as LookMemory}
 use Rattle.pq_core.specs.declared.fault.GiveFault.TheVariants.{NotThisRun, Memory as GiveMemory}
 use Rattle.pq_core.specs.declared.fault.GiveRefused.{GiveRefused}
@@ -172,3 +173,21 @@ abbrev pub OnMoved : {W : Type 0} → (Move W → Type 0) → Next W → Type 0
 OnMoved Says (RunMoved moved) = Says moved
 OnMoved Says Starved = Unit {0}
 OnMoved Says Over = Unit {0}
+
+-- `Refuses order machine point before via run hand` is that the store `before` refused the call of `hand`
+-- for `run`, since an allocation failed, and became `via`; or that no call was made, and it is `via`: a
+-- result of the revision now was not given, or work came back
+abbrev pub Refuses : {R K P V M : Type 0} → (K → K → Ordering) → Machine K P V → (M → Point) → StoreView R K P V M → StoreView R K P V M → ℕ → Hand (WorkView R K P V) (DoneView R K P V) → Type 0
+Refuses order machine point before via run Look = Goes order machine point before via (Looks order machine point before.rules run (Err LookMemory))
+Refuses order machine point before via run (Made done) =
+    Goes order machine point before via (Gives run done (Err (no_memory done))) ⊎ ((via ≡ before) × (done.started ≡ before.inputs.revision))
+Refuses order machine point before via run (Unmade work) = via ≡ before
+
+-- `CountsStep order machine point before after run hand next log` is that the starts of `log` are bounded
+-- after the step, with what the step adds to `log`: what the move adds; or, where `run` was starved, the
+-- keys that it held in the store that the refused call left
+abbrev pub CountsStep : {R K P V M : Type 0} → (K → K → Ordering) → Machine K P V → (M → Point) → StoreView R K P V M → StoreView R K P V M → ℕ → Hand (WorkView R K P V) (DoneView R K P V) → Next (WorkView R K P V) → Log K → Type 0
+CountsStep order machine point before after run hand (RunMoved moved) log = IsCountedIn order machine after (log_moved_in {E = LookFault} before run (Ok moved) log)
+CountsStep {R} {K} {P} {V} {M} order machine point before after run hand Starved log =
+    (via : StoreView R K P V M) × Refuses order machine point before via run hand × IsCountedIn order machine after (log_starved_in via run true log)
+CountsStep order machine point before after run hand Over log = IsCountedIn order machine after log

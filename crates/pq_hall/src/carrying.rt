@@ -21,6 +21,7 @@ use std::sync::Wait;
 
 /// What a post came to, or the post where its window was full.
 fn settled<K>(moved: Moved<K>) -> Result<Moved<K>, Post<K>>
+    ensures same { IfOk result (λ m. m ≡ moved) }
     ensures carried { IfOk result (λ m. (post : Post K) → IsAnswerTo post moved → IsKindOf m post) }
     ensures back { IfErr result (λ post. moved ≡ Later post) }
 {

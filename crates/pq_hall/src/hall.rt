@@ -4,9 +4,9 @@ ghost use Rattle.std.specs.Prelude.{◌≡◌, IfSome};
 use crate::board::{Board, NewBoard};
 use crate::mark::{BoardName, Mark};
 use crate::one_value::OneValue;
-use crate::seats::{Seat, Sent, free_seats, has_seat, send_in};
+use crate::seats::{Acknowledgement, Seat, Sent, free_seats, has_seat, send_in};
 use crate::state::{Client, Collected, State};
-use pq_core::{ClientId, Memory, Number, Ready, Store, WINDOW};
+use pq_core::{Memory, Ready, Store, WINDOW};
 use pq_inputs::{Inputs, Revision};
 use pq_rules::Rules;
 use std::alloc::Global;
@@ -163,7 +163,7 @@ impl<R: Rules + OneValue, J: BoardName, H: Wait + Copy + Drop> Hall<R, J, H> {
     pub(crate) fn deliver(&self, rt: &H, client: Client, ready: Option<Ready<R, Mark<J>>>) {
         match self.send(rt, client, ready) {
             Sent::Nothing => {}
-            Sent::Below(number) => self.acknowledge(rt, client.id(), number),
+            Sent::Put(seen) => self.acknowledge(rt, seen),
             Sent::Gone => self.close(rt, client),
         }
     }
@@ -177,10 +177,10 @@ impl<R: Rules + OneValue, J: BoardName, H: Wait + Copy + Drop> Hall<R, J, H> {
         send_in(&mut seat, client.id, ready)
     }
 
-    /// Acknowledges that all replies to the client below `number` were put.
-    fn acknowledge(&self, rt: &H, client: ClientId, number: Number) {
+    /// Tells the store what was put.
+    fn acknowledge(&self, rt: &H, seen: Acknowledgement) {
         let mut state = self.state.lock(rt);
-        state.store.put_seen(client, number);
+        seen.tell(&mut state.store);
         self.room_came.notify_all();
     }
 }

@@ -18,7 +18,8 @@
 //! where it makes the vector, so marks of two vectors have two types.
 //!
 //! Definitions: `specs/Marks` (what contracts see of a mark), `specs/Steps` (what a post and a step of
-//! a run do to the store), `specs/Carried` (what was carried of an inbox).
+//! a run do to the store), `specs/Sending` (what a seat does with a reply), `specs/Carried` (what was
+//! carried of an inbox).
 //! Modules: `entry` (of the vector), `mark` (its name and its marks), `board` (the vector), `posting`
 //! and `running` (what posts and workers do to the store), `fault`, `one_value` (the rule sets of
 //! halls), `state` (what lies under the store's lock), `seats` (what lies under a lane's lock), `hall`,

@@ -1,9 +1,10 @@
 //! What a worker does to the store: one step of a run. It takes no lock and waits for nobody.
 ghost use Rattle.std.specs.Prelude.{◌≡◌, IsTrue, false};
 ghost use Rattle.pq_core.specs.Moves.{IsMade};
-ghost use Rattle.pq_core.specs.Stores.{Goes, HandsOut};
-ghost use Rattle.pq_hall.specs.Steps.{IsHandOf, Steps, OnMoved};
-ghost use Rattle.pq_hall.specs.aux.Ends.{Ends, IsEnd};
+ghost use Rattle.pq_core.specs.Starts.{IsCountedIn, Log};
+ghost use Rattle.pq_core.specs.Stores.{Goes, HandsOut, HasCause, KeepsMemos, NamesHolder};
+ghost use Rattle.pq_hall.specs.Steps.{CountsStep, IsHandOf, Steps, OnMoved};
+ghost use Rattle.pq_hall.specs.aux.Ends.{CountsEnd, Ends, IsEnd};
 ghost use Rattle.pq_hall.specs.declared.running.Hand.TheVariants.{Look, Made};
 
 use crate::board::Board;
@@ -51,7 +52,11 @@ pub fn run_step<R: Rules, J: BoardName>(
     ensures rules { store.new.rules ≡ store.old.rules }
     ensures inputs { store.new.inputs ≡ store.old.inputs }
     ensures moved { Goes R.Key.cmp (R.machine store.old.rules) (λ m. m.point) store.old store.new (Steps R.Key.cmp (R.machine store.old.rules) (λ m. m.point) store.old.rules run hand result) }
+    ensures none_lost { KeepsMemos R.Key.cmp store.old store.new }
     ensures handed { OnMoved (HandsOut store.old run) result }
+    ensures cause { OnMoved (HasCause R.Key.cmp (R.machine store.old.rules) store.old) result }
+    ensures holder { OnMoved (NamesHolder store.new.claims run) result }
+    ensures counted { (log : Log R.Key) → IsCountedIn R.Key.cmp (R.machine store.old.rules) store.old log → CountsStep R.Key.cmp (R.machine store.old.rules) (λ m. m.point) store.old store.new run hand result log }
 {
     match hand {
         Hand::Look => return look(store, alloc, run),
@@ -70,7 +75,11 @@ fn look<R: Rules, M: Stamp>(store: &mut Store<R, M>, alloc: Global, run: RunId) 
     ensures rules { store.new.rules ≡ store.old.rules }
     ensures inputs { store.new.inputs ≡ store.old.inputs }
     ensures moved { Goes R.Key.cmp (R.machine store.old.rules) M.point store.old store.new (Steps R.Key.cmp (R.machine store.old.rules) M.point store.old.rules run Look result) }
+    ensures none_lost { KeepsMemos R.Key.cmp store.old store.new }
     ensures handed { OnMoved (HandsOut store.old run) result }
+    ensures cause { OnMoved (HasCause R.Key.cmp (R.machine store.old.rules) store.old) result }
+    ensures holder { OnMoved (NamesHolder store.new.claims run) result }
+    ensures counted { (log : Log R.Key) → IsCountedIn R.Key.cmp (R.machine store.old.rules) store.old log → CountsStep R.Key.cmp (R.machine store.old.rules) M.point store.old store.new run Look result log }
 {
     match store.look(alloc, run) {
         Ok(looked) => return Next::Moved(looked),
@@ -92,7 +101,11 @@ fn give<R: Rules, M: Stamp>(
     ensures rules { store.new.rules ≡ store.old.rules }
     ensures inputs { store.new.inputs ≡ store.old.inputs }
     ensures moved { Goes R.Key.cmp (R.machine store.old.rules) M.point store.old store.new (Steps R.Key.cmp (R.machine store.old.rules) M.point store.old.rules run (Made done) result) }
+    ensures none_lost { KeepsMemos R.Key.cmp store.old store.new }
     ensures handed { OnMoved (HandsOut store.old run) result }
+    ensures cause { OnMoved (HasCause R.Key.cmp (R.machine store.old.rules) store.old) result }
+    ensures holder { OnMoved (NamesHolder store.new.claims run) result }
+    ensures counted { (log : Log R.Key) → IsCountedIn R.Key.cmp (R.machine store.old.rules) store.old log → CountsStep R.Key.cmp (R.machine store.old.rules) M.point store.old store.new run (Made done) result log }
 {
     store_is_sound(store);
     match store.give(alloc, run, done) {
@@ -125,8 +138,10 @@ fn is_of_now<R: Rules, J: BoardName>(
 fn starve<R: Rules, M: Stamp>(store: &mut Store<R, M>, run: RunId) -> Next<Work<R, M>>
     ensures rules { store.new.rules ≡ store.old.rules }
     ensures inputs { store.new.inputs ≡ store.old.inputs }
+    ensures places { store.new.places ≡ store.old.places }
     ensures over { IsEnd result }
     ensures moved { Goes R.Key.cmp (R.machine store.old.rules) M.point store.old store.new (Ends run result) }
+    ensures counted { (log : Log R.Key) → IsCountedIn R.Key.cmp (R.machine store.old.rules) store.old log → CountsEnd R.Key.cmp (R.machine store.old.rules) store.old store.new run result log }
 {
     if store.starve(run) {
         return Next::Starved;

@@ -1,5 +1,9 @@
 //! What lies under the store's lock: the store, and what the threads of a hall tell each other.
-ghost use Rattle.std.specs.Prelude.{◌≡◌};
+ghost use Rattle.std.specs.Prelude.{ℕ, ◌≡◌, ◌↔◌, ◌++◌, ◌∷◌, [], IsTrue, false};
+ghost use Rattle.pq_core.specs.Lanes.{ReadyView};
+ghost use Rattle.pq_core.specs.Stores.{Collects, IsMadeIn};
+ghost use Rattle.pq_hall.specs.Marks.{MarkView};
+ghost use Rattle.pq_hall.specs.declared.state.Parked.{Parked};
 
 use crate::mark::{BoardName, Mark};
 use pq_core::{ClientId, MAX_CLIENTS, Memory, Ready, Store};
@@ -123,9 +127,12 @@ impl<R: Rules, J: BoardName> State<R, J> {
     }
 
     /// Collects a reply to `client`, if one is made.
-    pub(crate) fn collect(&mut self, client: Client) -> Collected<R, J> {
+    pub(crate) fn collect(&mut self, client: Client) -> Collected<R, J>
+        ensures collects { Collects client.id result.ready self.old.store self.new.store }
+        ensures more { IsTrue result.more ↔ ((n : ℕ) × (ready : ReadyView R.Key R.Value (MarkView)) × IsMadeIn self.new.store client.id n ready) }
+    {
         let ready = self.store.collect(client.id());
-        let more = ready.is_some() && self.store.has_made(client.id());
+        let more = self.store.has_made(client.id());
         Collected { ready, more }
     }
 
@@ -168,7 +175,11 @@ impl<R: Rules, J: BoardName> State<R, J> {
     }
 
     /// Parks `task`. Returns whether there was memory for it.
-    pub(crate) fn park(&mut self, task: Task) -> bool {
+    pub(crate) fn park(&mut self, task: Task) -> bool
+        ensures parked { let parked : Parked = record { task = task; seen = self.old.moves } in
+            IsTrue result → self.new.parked.items ≡ self.old.parked.items ++ parked ∷ [] }
+        ensures others { result ≡ false → self.new.parked.items ≡ self.old.parked.items }
+    {
         let seen = self.moves;
         self.parked.push_back(Parked { task, seen }).is_ok()
     }
