@@ -1,7 +1,7 @@
 use Rattle.pq_hall.proofs.Crosses.{hall_sync}
 use Rattle.tests_hall.proofs.halls.check_hall.Goals as goal
 
--- src/halls.rt:565:5
+-- src/halls.rt:71:5
 pub run_calls-requires-sync-F : goal.run_calls-requires-sync-F
 run_calls-requires-sync-F g c κs within = let b = c.type_bounds in let y = hall_sync _ _ _ _ _ g.S.Rules g.S.Key.Ord g.S.Key.PartialEq
     g.S.Key.PartialOrd g.S.Value.PartialEq g.J.BoardName g.J.BoardName-dict _ g.S.Clone g.S.Key.Eq g.S.Value.Eq g.R.Wait b.send-S b.sync-S b.send-J b.sync-J b.send-R b.send-S-Key
