@@ -78,6 +78,27 @@ const ASK_FIRST: &str =
     r#"> {"id":1,"jsonrpc":"2.0","method":"textDocument/diagnostic","params":{"textDocument":{"uri":"file:///b.proto"}}}
 < {"id":1,"jsonrpc":"2.0","result":{"items":[],"kind":"full","resultId":"1"}}"#;
 
+/// A session with a root folder. What comes after its `exit` is not answered.
+const ROOTED: &str =
+    r#"> {"id":0,"jsonrpc":"2.0","method":"initialize","params":{"rootUri":"file:///home/u"}}
+< {"id":0,"jsonrpc":"2.0","result":{"capabilities":{"definitionProvider":true,"diagnosticProvider":{"interFileDependencies":true,"workspaceDiagnostics":false},"documentSymbolProvider":true,"positionEncoding":"utf-16","textDocumentSync":{"change":2,"openClose":true}},"serverInfo":{"name":"pq_server"}}}
+> {"jsonrpc":"2.0","method":"textDocument/didOpen","params":{"textDocument":{"uri":"file:///home/u/a.proto","text":"syntax = \"proto3\";\nmessage M { M m = 1; }"}}}
+> {"id":1,"jsonrpc":"2.0","method":"textDocument/definition","params":{"position":{"character":12,"line":1},"textDocument":{"uri":"file:///home/u/a.proto"}}}
+< {"id":1,"jsonrpc":"2.0","result":{"range":{"end":{"character":9,"line":1},"start":{"character":8,"line":1}},"uri":"file:///home/u/a.proto"}}
+> {"jsonrpc":"2.0","method":"exit"}
+> {"id":2,"jsonrpc":"2.0","method":"none"}"#;
+
+/// The frame of a request, and a header that has no length.
+const BAD_HEADER: &str =
+    "Content-Length: 40\r\n\r\n{\"id\":1,\"jsonrpc\":\"2.0\",\"method\":\"none\"}Content-Length: x\r\n\r\n";
+
+/// The reply of that request.
+const REPLY_NONE: &str =
+    r#"< {"error":{"code":-32601,"message":"method not found"},"id":1,"jsonrpc":"2.0"}"#;
+
+/// The end of a session.
+const EXIT: &str = r#"> {"jsonrpc":"2.0","method":"exit"}"#;
+
 /// How large the servers of these tests are.
 fn two_workers(sessions: u32) -> Size {
     Size {
@@ -213,9 +234,9 @@ fn a_library(rt: HostRuntime) -> Result<(), Fail> {
     Ok(())
 }
 
-/// A frame that opens a file of one byte more than a file may have.
-fn too_long(rt: &(impl Abort + AllocGlobal)) -> Vec<u8> {
-    let spaces = " ".repeat(rt.alloc(), 1_048_577).expect(rt, "memory");
+/// A frame that opens a file of `count` spaces.
+fn opened_spaces(rt: &(impl Abort + AllocGlobal), count: usize) -> Vec<u8> {
+    let spaces = " ".repeat(rt.alloc(), count).expect(rt, "memory");
     let body = format!(in rt.alloc();
         r#"{{"jsonrpc":"2.0","method":"textDocument/didOpen","params":{{"textDocument":{{"uri":"file:///a","text":"{spaces}"}}}}}}"#
     );
@@ -224,7 +245,8 @@ fn too_long(rt: &(impl Abort + AllocGlobal)) -> Vec<u8> {
 }
 
 /// Three clients, of which two make edits that are refused: one has a bad range, and one is too long.
-fn two_are_refused<R>(rt: &R, address: SocketAddr)
+/// Returns the stream of this one.
+fn two_are_refused<R>(rt: &R, address: SocketAddr) -> TcpStream
 where
     R: Abort + AllocGlobal + Net<Listener = TcpListener, Stream = TcpStream>,
 {
@@ -232,7 +254,8 @@ where
     let other = begun(rt, address);
     talk(rt, address, BAD_RANGE);
     take_turns(rt, &other, OPEN_OTHER);
-    let frame = too_long(rt);
+    // A file may have one byte less.
+    let frame = opened_spaces(rt, 1_048_577);
     let mut output = &refused;
     output
         .write_all(frame.as_slice())
@@ -243,15 +266,17 @@ where
         .shutdown(Shutdown::Write)
         .expect(rt, "the end is sent");
     check_ended(rt, &other);
+    refused
 }
 
-// The clients whose edits are refused are closed, and the other one is served.
+// The clients whose edits are refused are closed, and the other one is served. The server ends
+// though a stream that it has ended is open.
 #[test]
 fn a_refused_edit(rt: HostRuntime) -> Result<(), Fail> {
     let listener = TcpListener::bind(&rt, "127.0.0.1:0")?;
     let address = listener.local_addr()?;
     let library = no_library(rt.alloc());
-    let (status, ()) = thread::join(
+    let (status, _refused) = thread::join(
         &rt,
         || serve(
             &rt,
@@ -262,6 +287,102 @@ fn a_refused_edit(rt: HostRuntime) -> Result<(), Fail> {
             &OpenGate,
         ),
         || two_are_refused(&rt, address),
+    );
+    assert_eq!(rt; status, 0);
+    Ok(())
+}
+
+/// Two clients: one has a root folder, and one sends a frame that no read takes in whole, and then a
+/// header that ends its session. Returns the stream of this one.
+fn two_end<R>(rt: &R, address: SocketAddr) -> TcpStream
+where
+    R: Abort + AllocGlobal + Net<Listener = TcpListener, Stream = TcpStream>,
+{
+    let rooted = TcpStream::connect(rt, address).expect(rt, "a connection");
+    take_turns(rt, &rooted, ROOTED);
+    check_ended(rt, &rooted);
+    let bad = begun(rt, address);
+    let frame = opened_spaces(rt, 20_000);
+    let mut output = &bad;
+    output
+        .write_all(frame.as_slice())
+        .expect(rt, "the frame is sent");
+    output
+        .write_all(BAD_HEADER.as_bytes())
+        .expect(rt, "the header is sent");
+    take_turns(rt, &bad, REPLY_NONE);
+    check_ended(rt, &bad);
+    bad
+}
+
+// A session ends by its `exit`, and by an error of its frames, after the replies to what came before.
+// The server ends though the client has not closed its stream.
+#[test]
+fn two_ends(rt: HostRuntime) -> Result<(), Fail> {
+    let listener = TcpListener::bind(&rt, "127.0.0.1:0")?;
+    let address = listener.local_addr()?;
+    let library = no_library(rt.alloc());
+    let (status, _bad) = thread::join(
+        &rt,
+        || serve(
+            &rt,
+            rt.alloc(),
+            &listener,
+            library,
+            two_workers(2),
+            &OpenGate,
+        ),
+        || two_end(&rt, address),
+    );
+    assert_eq!(rt; status, 0);
+    Ok(())
+}
+
+/// Connections of so many clients, whose sessions have begun.
+fn begun_often<R>(rt: &R, address: SocketAddr, count: usize) -> Vec<TcpStream>
+where
+    R: Abort + AllocGlobal + Net<Listener = TcpListener, Stream = TcpStream>,
+{
+    let mut streams = Vec::new(rt.alloc());
+    for _ in 0..count {
+        streams.push(begun(rt, address)).expect(rt, "memory");
+    }
+    streams
+}
+
+/// As many clients as may be open, one more, and one after the first has ended.
+fn all_seats<R>(rt: &R, address: SocketAddr)
+where
+    R: Abort + AllocGlobal + Net<Listener = TcpListener, Stream = TcpStream>,
+{
+    let first = begun(rt, address);
+    let others = begun_often(rt, address, 63);
+    let beyond = TcpStream::connect(rt, address).expect(rt, "a connection");
+    check_ended(rt, &beyond);
+    take_turns(rt, &first, EXIT);
+    check_ended(rt, &first);
+    talk(rt, address, EXIT);
+    drop(others);
+}
+
+// A client beyond the 64 that may be open is turned away, and is no session. A session that has ended
+// leaves its place to another one.
+#[test]
+fn one_client_too_many(rt: HostRuntime) -> Result<(), Fail> {
+    let listener = TcpListener::bind(&rt, "127.0.0.1:0")?;
+    let address = listener.local_addr()?;
+    let library = no_library(rt.alloc());
+    let (status, ()) = thread::join(
+        &rt,
+        || serve(
+            &rt,
+            rt.alloc(),
+            &listener,
+            library,
+            two_workers(65),
+            &OpenGate,
+        ),
+        || all_seats(&rt, address),
     );
     assert_eq!(rt; status, 0);
     Ok(())
