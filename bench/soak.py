@@ -58,7 +58,7 @@ class Files:
 
 
 def write(port, place, edits, start, sink):
-    """Sets one file to one text so many times, in blocks; the connection asks after each block, and reads the reply."""
+    """Sets one file to one text `edits` times, in blocks; the connection asks after each block, and reads the reply."""
     name, text = place + "/w.proto", 'syntax = "proto3";\n'
     client = Connection(port)
     client.begin(opened(name, text))

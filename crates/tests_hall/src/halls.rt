@@ -6,7 +6,7 @@
 //! `ask`, `edit`, `withdraw` and `end` post, and answer the number of the receipt; `changes` of
 //! `test_support` says how the texts of edits are written. `call` asks with a label of its own, and `say`
 //! posts what a message asks for. `carry` carries a post. `take` takes the reply of the next receipt,
-//! and `text` answers its text. `asks`, `carries` and `takes` do so many times, and `edits` posts and
+//! and `text` answers its text. `asks`, `carries` and `takes` repeat these, and `edits` posts and
 //! carries that many edits of one text. `begin` begins a carry on a thread of its own, `early` says
 //! whether it goes on after a pause, and `over` waits for its answer. `drop` gives up the end whose posts
 //! are carried, and `deaf` the end that takes. `again` closes a client, joins another one in its place,
@@ -20,7 +20,7 @@
 //!
 //! Modules: `answers` (what a hall answers, as text), `calls` (the calls, row by row), `gate` (the gate,
 //! and what threads wait for), `guests` (the clients), `stage` (halls, as a script sees them). Of rows:
-//! `closings` (hall and clients that end), `edits`, `numbers` (what each client is told), `requests`,
+//! `closings` (hall and clients that end), `edits`, `numbers` (what each client gets), `requests`,
 //! `stored` (the stored session), `windows` (clients that owe many replies), `workers` (what goes on while
 //! work is held).
 mod answers;

@@ -338,7 +338,7 @@ fn two_ends(rt: HostRuntime) -> Result<(), Fail> {
     Ok(())
 }
 
-/// Connections of so many clients, whose sessions have begun.
+/// Connections of `count` clients, whose sessions have begun.
 fn begun_often<R>(rt: &R, address: SocketAddr, count: usize) -> Vec<TcpStream>
 where
     R: Abort + AllocGlobal + Net<Listener = TcpListener, Stream = TcpStream>,

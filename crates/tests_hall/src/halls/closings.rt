@@ -1,4 +1,4 @@
-//! Halls and clients that end, and runs that a turn ends: who is told, and who goes on.
+//! Halls and clients that end, and runs that a turn ends: who gets a reply, and who goes on.
 use crate::halls::{check_both, check_calls};
 
 // A hall that is shut ends its workers. Requests are carried still, and what was put can be taken.
