@@ -46,6 +46,14 @@ class Server:
             user, system = source.read().rpartition(")")[2].split()[11:13]
         return (int(user) + int(system)) / os.sysconf("SC_CLK_TCK")
 
+    def switches(self):
+        """How often a thread of the server slept so far: the voluntary context switches of the threads that live."""
+        found = 0
+        for task in os.listdir("/proc/%d/task" % self.process.pid):
+            with open("/proc/%d/task/%s/status" % (self.process.pid, task), encoding="ascii") as source:
+                found += next(int(line.split()[1]) for line in source if line.startswith("voluntary_ctxt_switches:"))
+        return found
+
     def stop(self):
         """Kills the server, which must still run."""
         if self.process.poll() is not None:

@@ -4,6 +4,7 @@
 Each part starts a server of its own, and prints ratios of rates that were taken in the same run:
 
     requests    requests a second with 1, 8 and 64 connections and 1, 2 and 4 workers, where nothing changed
+    woken       processor time and sleeps of the server for a small request, one at a time, with 1, 4, 16 and 32 workers
     files       first diagnostics of independent files, 8 connections: 4 workers by 1
     edit        from an edit to its diagnostics, by `listen` and by `script` over pipes
     reach       the same where the file that is asked reaches 1,000 others, for some cases of bench/workspaces.py
@@ -99,6 +100,27 @@ def requests_part(program, quick):
             print("%3d connections, %d workers: %8.0f requests/s, %.1f us of the server's processors each"
                   % (connections, workers, rates[connections, workers], each), flush=True)
     print("64 connections by 1, with 4 workers: %.2f" % (rates[64, 4] / rates[1, 4]))
+    return True
+
+
+def woken_part(program, quick):
+    count = 2_000 if quick else 20_000
+    spent = {}
+    for workers in (1, 4, 16, 32):
+        server = Server(program, workers)
+        client = Connection(server.port)
+        client.begin(opened("small.proto", files.proto_text(300)), diagnosed("first", "small.proto"))
+        client.bodies(1)
+        seconds, switches = server.seconds(), server.switches()
+        for i in range(count):
+            client.send(diagnosed(i, "small.proto"))
+            client.bodies(1)
+        spent[workers] = (server.seconds() - seconds) / count * 1e6
+        print("one small request at a time, %2d workers: %6.1f us of the server's processors each, %.1f sleeps of its threads"
+              % (workers, spent[workers], (server.switches() - switches) / count), flush=True)
+        client.end()
+        server.stop()
+    print("32 workers by 1: %.2f" % (spent[32] / spent[1]))
     return True
 
 
@@ -380,7 +402,7 @@ def marks_part(program, quick):
     return max(found) <= LONGEST
 
 
-PARTS = [("requests", requests_part), ("files", files_part), ("edit", edit_part), ("reach", reach_part), ("flow", flow_part),
+PARTS = [("requests", requests_part), ("woken", woken_part), ("files", files_part), ("edit", edit_part), ("reach", reach_part), ("flow", flow_part),
          ("lazy", lazy_part), ("held", held_part), ("ranges", ranges_part), ("marks", marks_part)]
 
 

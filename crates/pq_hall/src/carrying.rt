@@ -13,7 +13,7 @@ use crate::one_value::OneValue;
 use crate::posting::{Moved, post_step};
 use crate::preparing::long_change;
 use crate::state::{Client, Collected, State};
-use pq_core::{Memory, is_turn};
+use pq_core::{Memory, Want, is_turn};
 use pq_inputs::Inputs;
 use pq_mail::{PorterEnd, Post};
 use pq_rules::Rules;
@@ -38,6 +38,17 @@ fn settled<K>(moved: Moved<K>) -> Result<Moved<K>, Post<K>>
 fn has_turned<K>(moved: &Moved<K>) -> bool {
     match moved {
         Moved::Edited(revision) => is_turn(*revision),
+        _ => false,
+    }
+}
+
+/// Whether `post` is a request whose answer is wanted: one that waits for a run once it is accepted.
+fn wants_answer<K>(post: &Post<K>) -> bool {
+    match post {
+        Post::Ask(request) => match &request.want {
+            Want::Demand(_) => true,
+            Want::Fixed(_) => false,
+        },
         _ => false,
     }
 }
@@ -102,12 +113,13 @@ impl<R: Rules + OneValue, J: BoardName, H: Wait + Copy + Drop> Hall<R, J, H> {
     fn carry(&self, rt: &H, client: Client, post: Post<R::Key>) -> Result<Carried<R, J>, HallFault>
         ensures { IfOk result (λ carried. IsKindOf carried.0 post) }
     {
+        let wants = wants_answer(&post);
         let mut post = post;
         let mut state = self.state.lock(rt);
         for _ in rt.forever() {
             match settled(self.step(rt, &mut state, client, post)?) {
                 Ok(moved) => {
-                    let collected = self.carried(&mut state, client);
+                    let collected = self.carried(&mut state, client, wants);
                     return Ok((moved, collected));
                 }
                 Err(back) => post = back,
@@ -136,10 +148,18 @@ impl<R: Rules + OneValue, J: BoardName, H: Wait + Copy + Drop> Hall<R, J, H> {
         }
     }
 
-    /// Wakes the workers after a post was carried, and collects a reply to `client`.
-    pub(crate) fn carried(&self, state: &mut State<R, J>, client: Client) -> Collected<R, J> {
-        state.moved();
-        self.work_came.notify_all();
+    /// Wakes the workers that can go on after a post was carried, and collects a reply to `client`.
+    /// After a request whose answer is wanted, `wants`, one worker can start its run.
+    pub(crate) fn carried(
+        &self,
+        state: &mut State<R, J>,
+        client: Client,
+        wants: bool,
+    ) -> Collected<R, J> {
+        self.wake_parked(state);
+        if wants {
+            self.work_came.notify_one();
+        }
         state.collect(client)
     }
 

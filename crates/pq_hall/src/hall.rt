@@ -84,6 +84,15 @@ impl<R: Rules + OneValue, J: BoardName, H: Wait + Copy + Drop> Hall<R, J, H> {
         }
     }
 
+    /// Counts a move, after which a parked run may go on, and wakes all workers if one is parked:
+    /// the worker that is woken alone could take a request in its place.
+    pub(crate) fn wake_parked(&self, state: &mut State<R, J>) {
+        state.moved();
+        if state.has_parked() {
+            self.work_came.notify_all();
+        }
+    }
+
     /// Ends `client` in the store and in its lane. Returns its seat.
     fn end_client(&self, rt: &H, client: Client) -> Option<Seat<R, J, H>> {
         let mut state = self.state.lock(rt);
@@ -91,8 +100,7 @@ impl<R: Rules + OneValue, J: BoardName, H: Wait + Copy + Drop> Hall<R, J, H> {
             return None;
         }
         state.leave(client);
-        state.moved();
-        self.work_came.notify_all();
+        self.wake_parked(&mut state);
         self.room_came.notify_all();
         self.take_seat(rt, client)
     }

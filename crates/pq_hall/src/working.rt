@@ -139,7 +139,7 @@ impl<R: Rules + OneValue, J: BoardName, H: Wait + Copy + Drop> Hall<R, J, H> {
                 Move::Carry(work) => return Turn::Carry(Errand { task, work }),
                 Move::Blocked(_) => return self.park(state, task),
                 Move::Stepped => {
-                    self.stepped(state);
+                    self.wake_parked(state);
                     if left == 0 {
                         return Turn::GoesOn(task);
                     }
@@ -153,14 +153,6 @@ impl<R: Rules + OneValue, J: BoardName, H: Wait + Copy + Drop> Hall<R, J, H> {
         }
     }
 
-    /// Counts a step, after which a parked run may go on.
-    fn stepped(&self, state: &mut State<R, J>) {
-        state.moved();
-        if state.has_parked() {
-            self.work_came.notify_all();
-        }
-    }
-
     /// Parks the run of `task`, or keeps it where there is no memory for that.
     fn park(&self, state: &mut State<R, J>, task: Task) -> Turn<R, J> {
         if state.park(task) {
@@ -171,7 +163,7 @@ impl<R: Rules + OneValue, J: BoardName, H: Wait + Copy + Drop> Hall<R, J, H> {
 
     /// Collects a reply to the client of the run of `task`, which is over.
     fn ended(&self, state: &mut State<R, J>, task: Task) -> Turn<R, J> {
-        self.stepped(state);
+        self.wake_parked(state);
         Turn::Reply(task.client, state.collect(task.client))
     }
 }

@@ -140,3 +140,31 @@ fn woken_by_a_step(rt: HostRuntime) {
         take 0 - => 0 at 3 answered",
     );
 }
+
+// An edit overtakes a run that is parked, since another run has out the work that it needs. The run is
+// over at once, while that work is held. So an edit wakes a worker that waits.
+#[test]
+fn woken_by_an_edit(rt: HostRuntime) {
+    check_calls(
+        &rt,
+        16,
+        2,
+        "\
+        edit 0 held.proto=x => 0\n\
+        carry 0 - => edited 1\n\
+        ask 0 held.proto => 0\n\
+        carry 0 - => accepted 0\n\
+        held 0 => yes\n\
+        ask 1 held.proto => 0\n\
+        carry 1 - => accepted 0\n\
+        ask 2 b.proto => 0\n\
+        carry 2 - => accepted 0\n\
+        take 2 - => 0 at 1 answered\n\
+        rest 0 => rested\n\
+        edit 2 b.proto=y => 1\n\
+        carry 2 - => edited 2\n\
+        text 1 - => {\"error\":{\"code\":-32801,\"data\":{\"seen\":2,\"started\":1},\"message\":\"content modified\"},\"id\":\"held.proto\",\"jsonrpc\":\"2.0\"}\n\
+        free 0 => in time\n\
+        text 0 - => {\"error\":{\"code\":-32801,\"data\":{\"seen\":2,\"started\":1},\"message\":\"content modified\"},\"id\":\"held.proto\",\"jsonrpc\":\"2.0\"}",
+    );
+}
