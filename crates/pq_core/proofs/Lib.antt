@@ -19,6 +19,7 @@ pub mod Shutting
 pub mod Slots
 pub mod Writes
 pub mod Queued
+pub mod Turned
 pub mod AccountMoves
 pub mod AccountStanding
 pub mod MadeCounts

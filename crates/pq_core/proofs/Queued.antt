@@ -1,9 +1,10 @@
 -- The queue of the requests that wait, after each change of accounts. Only proofs need these lemmas.
-use Rattle.std.proofs.Common.{◌≡◌, ◌≢◌, ℕ, ◌≤◌, ◌==◌, ◌||◌, if◌then◌else◌, ◌⊎◌, Bool, true, false, cond, not, List, [], ◌∷◌, ◌++◌, length, Option, Some, None, refl, sym, ◌∙◌, ap, subst, inl, inr, arith}
+use Rattle.std.proofs.Common.{◌≡◌, ◌≢◌, ℕ, ◌≤◌, ◌+◌, ◌==◌, ◌||◌, if◌then◌else◌, ◌⊎◌, Bool, true, false, cond, not, List, [], ◌∷◌, ◌++◌, length, Option, Some, None, refl, sym, ◌∙◌, ap, subst, inl, inr, arith}
 use Rattle.std.specs.Prelude.{filter}
 use Rattle.std.specs.List.{items_where_true}
 use Rattle.std.specs.List.Retain.{IsFiltered, ReturnsInTurn}
 use Rattle.std.proofs.lemmas.Bool.{ne_eqb, eq-eqb}
+use Rattle.std.proofs.lemmas.List.{append-nil, length-append}
 use Rattle.pq_rules.specs.Relations.{In}
 use Rattle.pq_core.proofs.Lists.{some_one, none_some, same_or_other}
 use Rattle.pq_core.proofs.AccountMoves.{one_stage, stage_within, was_at, added_at, was_before, other_at, longer_at}
@@ -84,30 +85,51 @@ unfolding IsOnce
 once_filter test [] h = h
 once_filter test (y ∷ ys) h = once_by y (filter test ys) (test y) (λ w. h.0 (out_filter test y ys w).1) (once_filter test ys h.1)
 
--- ---- a longer list
+-- ---- a list with one element more
 
-in_last : {A : Type 0} (xs : List A) (x : A) → In x (xs ++ x ∷ [])
-in_last [] x = inl refl
-in_last (y ∷ ys) x = inr (in_last ys x)
+in_there : {A : Type 0} (xs ys : List A) (x : A) → In x (xs ++ x ∷ ys)
+in_there [] ys x = inl refl
+in_there (z ∷ zs) ys x = inr (in_there zs ys x)
 
-in_longer : {A : Type 0} (xs : List A) (x y : A) → In y xs → In y (xs ++ x ∷ [])
-in_longer [] x y h = absurd h
-in_longer (z ∷ zs) x y h = elim h [ inl e ↦ inl e | inr w ↦ inr (in_longer zs x y w) ]
+in_longer : {A : Type 0} (xs ys : List A) (x y : A) → In y (xs ++ ys) → In y (xs ++ x ∷ ys)
+in_longer [] ys x y h = inr h
+in_longer (z ∷ zs) ys x y h = elim h [ inl e ↦ inl e | inr w ↦ inr (in_longer zs ys x y w) ]
 
-in_before : {A : Type 0} (xs : List A) (x y : A) → In y (xs ++ x ∷ []) → (y ≡ x) ⊎ In y xs
-in_before [] x y h = elim h [ inl e ↦ inl e | inr w ↦ absurd w ]
-in_before (z ∷ zs) x y h = elim h [
+in_before : {A : Type 0} (xs ys : List A) (x y : A) → In y (xs ++ x ∷ ys) → (y ≡ x) ⊎ In y (xs ++ ys)
+in_before [] ys x y h = h
+in_before (z ∷ zs) ys x y h = elim h [
   | inl e ↦ inr (inl e)
-  | inr w ↦ elim (in_before zs x y w) [ inl e ↦ inl e | inr v ↦ inr (inr v) ]
+  | inr w ↦ elim (in_before zs ys x y w) [ inl e ↦ inl e | inr v ↦ inr (inr v) ]
 ]
 
-once_longer : {A : Type 0} (xs : List A) (x : A) → IsOnce xs → (In x xs → ⊥) → IsOnce (xs ++ x ∷ [])
+once_longer : {A : Type 0} (xs ys : List A) (x : A) → IsOnce (xs ++ ys) → (In x (xs ++ ys) → ⊥) → IsOnce (xs ++ x ∷ ys)
 unfolding IsOnce
-once_longer [] x h new = (λ w. w, tt)
-once_longer (y ∷ ys) x h new = (
-  λ w. elim (in_before ys x y w) [ inl e ↦ new (inl (sym e)) | inr v ↦ h.0 v ],
-  once_longer ys x h.1 (λ v. new (inr v)),
+once_longer [] ys x h new = (new, h)
+once_longer (z ∷ zs) ys x h new = (
+  λ w. elim (in_before zs ys x z w) [ inl e ↦ new (inl (sym e)) | inr v ↦ h.0 v ],
+  once_longer zs ys x h.1 (λ v. new (inr v)),
 )
+
+pub long_longer : {A : Type 0} (xs ys : List A) (x : A) → length (xs ++ x ∷ ys) ≡ length (xs ++ ys) + 1
+long_longer [] ys x = omega arith
+long_longer (z ∷ zs) ys x = let a = long_longer zs ys x in omega (arith, a)
+
+-- ---- two parts of a list in the other order
+
+in_passed : {A : Type 0} (xs ys : List A) (y : A) → In y (xs ++ ys) → In y (ys ++ xs)
+in_passed [] ys y h = subst (λ (l : List _). In y l) (sym (append-nil ys)) h
+in_passed (x ∷ xs) ys y h = elim h [
+  | inl e ↦ subst (λ (z : _). In z (ys ++ x ∷ xs)) (sym e) (in_there ys xs x)
+  | inr w ↦ in_longer ys xs x y (in_passed xs ys y w)
+]
+
+once_passed : {A : Type 0} (xs ys : List A) → IsOnce (xs ++ ys) → IsOnce (ys ++ xs)
+unfolding IsOnce
+once_passed [] ys h = subst (λ (l : List _). IsOnce l) (sym (append-nil ys)) h
+once_passed (x ∷ xs) ys h = once_longer ys xs x (once_passed xs ys h.1) (λ w. h.0 (in_passed ys xs x w))
+
+pub long_passed : {A : Type 0} (xs ys : List A) → length (ys ++ xs) ≡ length (xs ++ ys)
+long_passed xs ys = let a = length-append xs ys in let b = length-append ys xs in omega (arith, a, b)
 
 pub once_none : (A : Type 0) → IsOnce {A = A} []
 unfolding IsOnce
@@ -238,6 +260,15 @@ module _ {K V M : Type 0} where
   queue_collected b a queue c n account ready here made set q =
       queue_staged b a queue c n account (Made ready) Collected here made (made_waits_not ready) collected_waits_not set q
 
+  -- the parts of the queue behind its first are in the other order
+  pub queue_passed : (b : List (Place (AccountView K V M))) (first : ℕ × ℕ) (own others : List (ℕ × ℕ)) → IsQueue b (first ∷ (own ++ others)) → IsQueue b (first ∷ (others ++ own))
+  unfolding IsOnce
+  queue_passed b first own others q = record {
+    waits = λ c n w. q.waits c n (elim w [ inl e ↦ inl e | inr v ↦ inr (in_passed others own (c, n) v) ]);
+    queued = λ c n request w. elim (q.queued c n request w) [ inl e ↦ inl e | inr v ↦ inr (in_passed own others (c, n) v) ];
+    once = (λ w. q.once.0 (in_passed others own first w), once_passed own others q.once.1);
+  }
+
   -- the first of the queue is in a run
   pub queue_started : (b a : List (Place (AccountView K V M))) (rest : List (ℕ × ℕ)) (c n accepted : ℕ) (begun : Begun) (account : AccountView K V M) (request : Request K) → found b c ≡ Some account
       → IsStage account n (Waiting request accepted) → ((k : ℕ) → found a k ≡ (if k == c then Some (with_stage account n (Running begun)) else found b k)) → IsQueue b ((c, n) ∷ rest) → IsQueue a rest
@@ -292,14 +323,14 @@ module _ {K V M : Type 0} where
       q
 
   -- it waits
-  pub queue_pushed : (b a : List (Place (AccountView K V M))) (queue after : List (ℕ × ℕ)) (c n revision : ℕ) (account : AccountView K V M) (request : Request K) (want : Want K) → IsDemand want
+  pub queue_pushed : (b a : List (Place (AccountView K V M))) (queue after front back : List (ℕ × ℕ)) (c n revision : ℕ) (account : AccountView K V M) (request : Request K) (want : Want K) → IsDemand want
       → n ≡ next_of account → found b c ≡ Some account → ((k : ℕ) → found a k ≡ (if k == c then Some (with_request account (first_stage c n request revision want)) else found b k))
-      → after ≡ queue ++ (c, n) ∷ [] → IsQueue b queue → IsQueue a after
-  queue_pushed b a queue after c n revision account request (Fixed text) so number here set e q = absurd so
-  queue_pushed b a queue after c n revision account request (Demand key) so number here set e q =
+      → queue ≡ front ++ back → after ≡ front ++ (c, n) ∷ back → IsQueue b queue → IsQueue a after
+  queue_pushed b a queue after front back c n revision account request (Fixed text) so number here set was e given = absurd so
+  queue_pushed b a queue after front back c n revision account request (Demand key) so number here set was e given =
       rw e
       (record {
-        waits = λ k i w. elim (in_before queue (c, n) (k, i) w) [
+        waits = λ k i w. elim (in_before front back (c, n) (k, i) w) [
           | inl v ↦ (
             request,
             waits_set b a c longer set k i request (ap (λ (y : ℕ × ℕ). y.0) v)
@@ -314,14 +345,17 @@ module _ {K V M : Type 0} where
         ];
         queued = λ k i other w. elim (same_or_other k c) [
           | inl is ↦ elim (before_first account i (Waiting request revision) other (waits_there b a c longer set k i other is w)) [
-            | inl x ↦ subst (λ (z : ℕ × ℕ). In z (queue ++ (c, n) ∷ [])) (sym (seat_one c n k i (is, x.0 ∙ sym number))) (in_last queue (c, n))
-            | inr v ↦ in_longer queue (c, n) (k, i) (q.queued k i other (record { account = account; here = ap (found b) is ∙ here; accepted = v.accepted; waits = v.waits }))
+            | inl x ↦ subst (λ (z : ℕ × ℕ). In z (front ++ (c, n) ∷ back)) (sym (seat_one c n k i (is, x.0 ∙ sym number))) (in_there front back (c, n))
+            | inr v ↦ in_longer front back (c, n) (k, i) (q.queued k i other (record { account = account; here = ap (found b) is ∙ here; accepted = v.accepted; waits = v.waits }))
           ]
-          | inr ne ↦ in_longer queue (c, n) (k, i) (q.queued k i other (waits_before b a c (Some longer) set k i other ne w))
+          | inr ne ↦ in_longer front back (c, n) (k, i) (q.queued k i other (waits_before b a c (Some longer) set k i other ne w))
         ];
-        once = once_longer queue (c, n) q.once (λ w. new (q.waits c n w));
+        once = once_longer front back (c, n) q.once (λ w. new (q.waits c n w));
       })
     where
+      q : IsQueue b (front ++ back)
+      q = subst (IsQueue b) was given
+
       longer : AccountView K V M
       longer = with_request account (Waiting request revision)
 

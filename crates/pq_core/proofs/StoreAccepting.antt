@@ -7,6 +7,7 @@ use Rattle.pq_inputs.specs.Sources.{Table}
 use Rattle.pq_rules.specs.Turns.{Machine}
 use Rattle.pq_core.proofs.Lists.{some_one}
 use Rattle.pq_core.proofs.Changing.{if_at, if_other}
+use Rattle.pq_core.proofs.Queued.{long_longer}
 use Rattle.pq_core.proofs.Calling.{open_of, closed_of, run_at}
 use Rattle.pq_core.proofs.Moving.{accept_stands}
 use Rattle.pq_core.proofs.Keeping.{kept_accepts, runs_placed}
@@ -113,14 +114,19 @@ not_full b c account h here = below (length account.stages) (λ full. h.2 (inl (
     below n f = grind (arith, f)
 
 -- the room for runs, after a request was queued
-pub queue_room : {X Y : Type 0} {n : ℕ} {b : Bool} (r : Result X Y) (before after : List (ℕ × ℕ)) (x : ℕ × ℕ) → OnOk r (length before + 1 ≤ n) → b ≡ false → b ≡ is_err r
-    → after ≡ before ++ x ∷ [] → length after ≤ n
-queue_room {n = n} (Ok y) before after x h e f q = let a = long_last before x in subst (λ (xs : List (ℕ × ℕ)). length xs ≤ n) (sym q) (omega (arith, a, h))
-  where
-    long_last : (xs : List (ℕ × ℕ)) (y : ℕ × ℕ) → length (xs ++ y ∷ []) ≡ length xs + 1
-    long_last [] y = refl
-    long_last (z ∷ zs) y = let a = long_last zs y in omega (arith, a)
-queue_room (Err y) before after x h e f q = absurd (cc)
+pub queue_room : {X Y : Type 0} {n : ℕ} {b : Bool} (r : Result X Y) (before after front back : List (ℕ × ℕ)) (x : ℕ × ℕ) → OnOk r (length before + 1 ≤ n) → b ≡ false → b ≡ is_err r
+    → before ≡ front ++ back → after ≡ front ++ x ∷ back → length after ≤ n
+queue_room {n = n} (Ok y) before after front back x h e f was is =
+    let a = long_longer front back x in
+    let was_long = ap (λ (xs : List (ℕ × ℕ)). length xs) was in
+    let is_long = ap (λ (xs : List (ℕ × ℕ)). length xs) is in
+    omega (arith, a, h, was_long, is_long)
+queue_room (Err y) before after front back x h e f was is = absurd (cc)
+
+-- room that was made
+pub ready_so : {X Y P : Type 0} {b : Bool} (r : Result X Y) → OnOk r P → b ≡ false → b ≡ is_err r → P
+ready_so (Ok y) h e f = h
+ready_so (Err y) h e f = absurd (cc)
 
 pub false_true : false ≡ true → ⊥
 false_true e = cc

@@ -15,6 +15,7 @@ pub mod Begun
 pub mod RunSteps
 pub mod Accepting
 pub mod Queue
+pub mod Turns
 pub mod Resting
 pub mod Inside
 pub mod RunEnds

@@ -1,6 +1,5 @@
 //! Accepting requests of clients.
-ghost use Rattle.std.specs.Prelude.{◌≡◌, ◌≤◌, ◌<◌, ◌+◌, IfErr, IfSome, IfNone, OnOk, length, true, false, IsTrue, ◌↔◌};
-ghost use Rattle.std.specs.VecDeque.{deque_capacity};
+ghost use Rattle.std.specs.Prelude.{◌≡◌, ◌≤◌, ◌+◌, IfErr, Some, IfSome, IfNone, OnOk, length, true, false, IsTrue, ◌↔◌};
 ghost use Rattle.pq_core.specs.Kept.{IsDemand};
 ghost use Rattle.pq_core.specs.Moves.{Accepts};
 ghost use Rattle.pq_core.specs.Stores.{Goes};
@@ -12,26 +11,22 @@ ghost use Rattle.pq_core.specs.aux.Accepting.{MayNot, MayPost};
 use crate::fault::{AcceptFault, AcceptRefused, Memory};
 use crate::ids::{ClientId, Number};
 use crate::in_accounts::accept_in;
+use crate::queue::Queue;
 use crate::request::{Request, Want};
 use crate::rising::Rising;
 use crate::stamp::Stamp;
 use crate::store::Store;
 use pq_rules::Rules;
-use std::collections::VecDeque;
 
-/// Makes room for one more request that waits, and for the runs of all that may wait.
-fn make_room<T: Drop>(
-    waiting: &mut VecDeque<(u64, u64)>,
-    runs: &mut Rising<T>,
-) -> Result<(), Memory>
-    ensures queue { waiting.new.items ≡ waiting.old.items }
+/// Makes room for one more request of `client` that waits, and for the runs of all that may wait.
+fn make_room<T: Drop>(waiting: &mut Queue, client: u64, runs: &mut Rising<T>) -> Result<(), Memory>
+    ensures queue { waiting.new.seats ≡ waiting.old.seats }
     ensures runs { IsSameMap runs.old runs.new }
-    ensures room { OnOk result (length waiting.new.items < deque_capacity waiting.new) }
-    ensures run_room { OnOk result (length waiting.new.items + 1 ≤ runs.new.room) }
+    ensures room { OnOk result (waiting.new.ready ≡ Some client) }
+    ensures run_room { OnOk result (length waiting.new.seats + 1 ≤ runs.new.room) }
 {
-    waiting.reserve(1)?;
-    let more = waiting.len().saturating_add(1);
-    runs.reserve(more)?;
+    waiting.reserve(client)?;
+    runs.reserve(waiting.len() + 1)?;
     Ok(())
 }
 
@@ -87,7 +82,7 @@ impl<R: Rules, M: Stamp> Store<R, M> {
         if let Some(fault) = self.accept_refusal(client.number()) {
             return Err(AcceptRefused { fault, request });
         }
-        if make_room(&mut self.waiting, &mut self.runs).is_err() {
+        if make_room(&mut self.waiting, client.number(), &mut self.runs).is_err() {
             let fault = AcceptFault::Memory;
             return Err(AcceptRefused { fault, request });
         }
@@ -96,8 +91,7 @@ impl<R: Rules, M: Stamp> Store<R, M> {
         match accept_in(&mut self.accounts, client, request, revision) {
             Ok(number) => {
                 if waits {
-                    self.waiting
-                        .push_back_reserved((client.number(), number.number()));
+                    self.waiting.push_reserved(client.number(), number.number());
                     return Ok(number);
                 }
                 return Ok(number);

@@ -1,5 +1,5 @@
 //! Replies that leave the store, clients that close, and rest.
-ghost use Rattle.std.specs.Prelude.{◌≡◌, ◌<◌, ◌↔◌, IsTrue, IfSome, IfNone, ℕ, filter};
+ghost use Rattle.std.specs.Prelude.{◌≡◌, ◌<◌, ◌↔◌, IsTrue, IfSome, IfNone, ℕ};
 ghost use Rattle.pq_core.specs.Lanes.{ReadyView};
 ghost use Rattle.pq_core.specs.Ledger.{Ledger};
 ghost use Rattle.pq_core.specs.Moves.{Reaches, NoneWaits, NoneRuns};
@@ -7,7 +7,6 @@ ghost use Rattle.pq_core.specs.Told.{Told, Shuts};
 ghost use Rattle.pq_core.specs.Stores.{StandsFor, Goes, IsMadeIn, NoneMade, Collects, Hears};
 ghost use Rattle.pq_core.specs.Starts.{IsCountedIn, Log};
 ghost use Rattle.pq_core.specs.aux.Passing.{made_in};
-ghost use Rattle.pq_core.specs.aux.Queue.{is_of_other};
 
 use crate::ids::{ClientId, Number};
 use crate::in_accounts::{collect_in, first_made, has_made_in, see_in};
@@ -15,18 +14,6 @@ use crate::ready::Ready;
 use crate::stamp::Stamp;
 use crate::store::Store;
 use pq_rules::Rules;
-use std::collections::VecDeque;
-
-/// Removes the requests of `client` from the queue.
-fn drop_queued(waiting: &mut VecDeque<(u64, u64)>, client: u64)
-    ensures { waiting.new.items ≡ filter (λ seat. is_of_other client seat) waiting.old.items }
-{
-    waiting.retain(
-        |seat: &(u64, u64)| -> bool
-            ensures { result ≡ is_of_other client seat.now }
-        { seat.0 != client },
-    );
-}
 
 impl<R: Rules, M: Stamp> Store<R, M> {
     /// Takes out one reply to `client` that is made and was not collected, if the client is open. It
@@ -95,8 +82,8 @@ impl<R: Rules, M: Stamp> Store<R, M> {
     }
 
     /// Closes `client`. Returns whether it was open. Its replies and the requests that wait are
-    /// dropped. It takes no memory, and looks at each request that waits: of a client that was closed
-    /// only its runs are kept.
+    /// dropped. It takes no memory, and looks at each client with requests that wait: of a client that
+    /// was closed only its runs are kept.
     pub fn close_client(&mut self, client: ClientId) -> bool
         ensures rules { self.new.rules ≡ self.old.rules }
         ensures inputs { self.new.inputs ≡ self.old.inputs }
@@ -108,7 +95,7 @@ impl<R: Rules, M: Stamp> Store<R, M> {
         match self.accounts.take(seat) {
             Some(_account) => {
                 self.opened -= 1;
-                drop_queued(&mut self.waiting, seat);
+                self.waiting.drop_client(seat);
                 return true;
             }
             None => return false,

@@ -23,8 +23,9 @@
 //! `run_step` and `run_end` (the state of a run, its step, its end), `account`
 //! and `in_accounts` (what it knows of an open client), `ready` (a reply on its way), `lane`, `cores`
 //! (the core), `serving` and `releasing` (its calls), `passing` (from the store to the lanes),
-//! `rising` (a map from rising numbers), `run`, `frames`, `confirming` and `entering` (how a run
-//! goes on), `closing` (of a ring of keys), `laws` (what each move keeps).
+//! `queue` (the requests that wait, clients in turn), `rising` (a map from rising numbers), `run`,
+//! `frames`, `confirming` and `entering` (how a run goes on), `closing` (of a ring of keys), `laws`
+//! (what each move keeps).
 #![tactic(auto)]
 
 mod accepting;
@@ -51,6 +52,7 @@ mod outbox;
 mod outcome;
 mod passing;
 mod prepared;
+mod queue;
 mod ready;
 mod releasing;
 mod reply;

@@ -128,8 +128,8 @@ impl<R: Rules, M: Stamp, O: Outbox<R, M> + Drop> Core<R, M, O> {
         answer
     }
 
-    /// Starts a run for the request that waited longest, at the revision now. Returns `None` only
-    /// where no request waits or the numbers of runs are used up. It takes no memory.
+    /// Starts a run for the next client's first request, clients in turn, at the revision now. Returns
+    /// `None` only where no request waits or the numbers of runs are used up. It takes no memory.
     pub fn start(&mut self) -> Option<RunId>
         ensures rules { self.new.rules ≡ self.old.rules }
         ensures inputs { self.new.inputs ≡ self.old.inputs }

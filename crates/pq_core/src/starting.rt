@@ -12,8 +12,8 @@ use pq_claims::RunId;
 use pq_rules::Rules;
 
 impl<R: Rules, M: Stamp> Store<R, M> {
-    /// Starts a run for the request that waited longest, at the revision now. Returns `None` only
-    /// where no request waits or the numbers of runs are used up. It takes no memory.
+    /// Starts a run for the next client's first request, clients in turn, at the revision now. Returns
+    /// `None` only where no request waits or the numbers of runs are used up. It takes no memory.
     pub fn start(&mut self) -> Option<RunId>
         ensures rules { self.new.rules ≡ self.old.rules }
         ensures inputs { self.new.inputs ≡ self.old.inputs }
@@ -25,7 +25,7 @@ impl<R: Rules, M: Stamp> Store<R, M> {
             return None;
         }
         let revision = self.inputs.now();
-        match self.waiting.pop_front() {
+        match self.waiting.pop() {
             Some((client, number)) => {
                 let run = self.started;
                 let request = start_in(&mut self.accounts, client, number, run);

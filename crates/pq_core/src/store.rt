@@ -1,7 +1,7 @@
 //! The store: what a core knows of clients, requests and runs, without outboxes.
 //!
 //! A client that is open has an account; the queue holds the numbers of exactly the requests that
-//! wait; each run keeps its request. Of a closed client only its runs are kept. Accounts and runs are
+//! wait, and hands them out clients in turn; each run keeps its request. Of a closed client only its runs are kept. Accounts and runs are
 //! found by their numbers in logarithmic time. `accept` makes the room that `start` and the end of a
 //! run need, so that starting, starving, collecting and closing take no memory.
 //!
@@ -25,6 +25,7 @@ ghost use Rattle.pq_core.specs.Stores.{StandsFor, NoneMade};
 ghost use Rattle.pq_core.specs.Starts.{IsCountedIn, no_log};
 
 use crate::account::Account;
+use crate::queue::Queue;
 use crate::rising::Rising;
 use crate::run::Run;
 use crate::stamp::Stamp;
@@ -33,7 +34,6 @@ use pq_inputs::Inputs;
 use pq_memo::Memos;
 use pq_rules::Rules;
 use std::alloc::Global;
-use std::collections::VecDeque;
 use std::marker::Model;
 
 /// The store of a core. Each call is one step of the whole, and no call waits.
@@ -46,7 +46,7 @@ pub struct Store<R: Rules, M: Stamp> {
     pub(crate) accounts: Rising<Account<R, M>>,
     pub(crate) opened: usize,
     pub(crate) clients: u64,
-    pub(crate) waiting: VecDeque<(u64, u64)>,
+    pub(crate) waiting: Queue,
     pub(crate) runs: Rising<Run<R>>,
     pub(crate) started: u64,
     pub(crate) claims: Claims<R>,
@@ -84,7 +84,7 @@ impl<R: Rules, M: Stamp> Store<R, M> {
             accounts: Rising::new(alloc),
             opened: 0,
             clients: 0,
-            waiting: VecDeque::new(alloc),
+            waiting: Queue::new(alloc),
             runs: Rising::new(alloc),
             started: 0,
             claims: Claims::new(alloc, rules),

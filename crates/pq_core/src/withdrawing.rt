@@ -3,9 +3,9 @@
 //! A client withdraws each of its requests with a label that waits or is in a run. The reply says
 //! so, at the revision now. A run that the request was in is over, and its claims are free. A
 //! withdrawal looks at the requests of its client that were not acknowledged as put, at most
-//! `WINDOW`; each that waits is searched for in the queue. It takes no memory: `accept` made the
-//! room of the reply.
-ghost use Rattle.std.specs.Prelude.{◌≡◌, IfSome, IfNone, Some, filter};
+//! `WINDOW`; each that waits is searched for among those of its client. It takes no memory: `accept`
+//! made the room of the reply.
+ghost use Rattle.std.specs.Prelude.{◌≡◌, IfSome, IfNone, Some};
 ghost use Rattle.pq_core.specs.Accounts.{AccountView, next_of};
 ghost use Rattle.pq_core.specs.Ledger.{Ledger};
 ghost use Rattle.pq_core.specs.Moves.{Reaches, Withdraws};
@@ -13,7 +13,7 @@ ghost use Rattle.pq_core.specs.Starts.{IsCountedIn, Log, log_withdrawn_in};
 ghost use Rattle.pq_core.specs.Stores.{Goes, StandsFor};
 ghost use Rattle.pq_core.specs.Told.{Told};
 ghost use Rattle.pq_core.specs.aux.Advancing.{AllGoOn};
-ghost use Rattle.pq_core.specs.aux.Queue.{WaitsIn, is_other_seat};
+ghost use Rattle.pq_core.specs.aux.Queue.{WaitsIn};
 ghost use Rattle.pq_core.specs.aux.Rising.{found};
 ghost use Rattle.pq_core.specs.aux.Runs.{AreClaimed};
 ghost use Rattle.pq_core.specs.aux.Withdrawing.{IsOwedIn, IsRunOf, MayNotWithdraw, WithdrawsOne, WithdrawsRuns, WithdrawsWaiting};
@@ -28,7 +28,6 @@ use crate::stamp::Stamp;
 use crate::store::Store;
 use pq_claims::RunId;
 use pq_rules::Rules;
-use std::collections::VecDeque;
 
 /// What has to happen before the reply to a request is made.
 #[derive(Clone, Copy)]
@@ -39,17 +38,6 @@ pub(crate) enum Owed {
     Waits,
     /// This run has to end.
     Runs(RunId),
-}
-
-/// Takes the request `number` of `client` out of `waiting`.
-fn drop_waiting(waiting: &mut VecDeque<(u64, u64)>, client: u64, number: u64)
-    ensures { waiting.new.items ≡ filter (λ seat. is_other_seat client number seat) waiting.old.items }
-{
-    waiting.retain(
-        |seat: &(u64, u64)| -> bool
-            ensures { result ≡ is_other_seat client number seat.now }
-        { seat.0 != client || seat.1 != number },
-    );
 }
 
 impl<R: Rules, M: Stamp> Store<R, M> {
@@ -105,7 +93,7 @@ impl<R: Rules, M: Stamp> Store<R, M> {
         ensures one { (l : Ledger R.Key R.Value M (Told R.Key R.Value M)) → StandsFor R.Key.cmp (R.machine self.old.rules) M.point self.old l → Reaches (WithdrawsWaiting client number) l (StandsFor R.Key.cmp (R.machine self.old.rules) M.point self.new) }
     {
         let now = self.inputs.now();
-        drop_waiting(&mut self.waiting, client.number(), number);
+        self.waiting.drop_one(client.number(), number);
         withdraw_in(&mut self.accounts, client, number, now);
     }
 

@@ -4,6 +4,8 @@
 //!   and `close CLIENT` are calls of a client. A close answers the replies that were put, and the
 //!   count of those that were taken. `mute LEFT` opens a client whose taking end is gone after
 //!   `LEFT` puts.
+//! - `posts CLIENT COUNT REQUEST` accepts that many such requests. `starts COUNT` starts that many
+//!   runs, and answers the request of each.
 //! - `withdraw CLIENT LABEL` withdraws the requests of a client with that label.
 //! - `start`, `look RUN`, `starve RUN` and `request RUN` are calls of a run. The work that a look
 //!   hands out is lost.
@@ -16,7 +18,7 @@
 use super::calls::Calls;
 use super::lines::{change_of, client_of, label_of, number_of, request_of};
 use super::shown::{add_released, yes_or_no};
-use crate::checks::{check_that, text_of};
+use crate::checks::{check_that, split_row, text_of};
 use pq_core::{ClientId, RunId};
 use pq_rules::SumsKey;
 use std::process::Abort;
@@ -78,6 +80,29 @@ fn turns<C: Calls>(
     check_that(rt, false, "two runs go on and on");
 }
 
+/// Accepts requests of `client`: `text` is their count and one of them. Writes the answer to each.
+fn post_each<C: Calls>(
+    rt: &(impl Abort + AllocGlobal),
+    page: &mut Page,
+    core: &mut C,
+    client: ClientId,
+    text: &str,
+) {
+    let (count, request) = split_row(rt, text, " ");
+    for _ in 0..number_of(rt, count) {
+        core.accepted(page, client, request_of::<SumsKey>(rt, request));
+        page.add("|");
+    }
+}
+
+/// Starts `count` runs. Writes the request of each.
+fn start_each<C: Calls>(page: &mut Page, core: &mut C, count: u64) {
+    for _ in 0..count {
+        core.begun(page);
+        page.add("|");
+    }
+}
+
 /// Makes a call of the client `client`.
 fn client_answer<C: Calls>(
     rt: &(impl Abort + AllocGlobal),
@@ -89,6 +114,7 @@ fn client_answer<C: Calls>(
 ) {
     match call {
         "accept" => core.accepted(page, client, request_of::<SumsKey>(rt, rest)),
+        "posts" => post_each(rt, page, core, client, rest),
         "edit" => core.edited(page, client, change_of(rt, rest)),
         "withdraw" => core.withdrawn(page, client, &label_of(rt, rest)),
         "release" => add_released(page, core.released(client)),
@@ -135,6 +161,7 @@ fn plain_answer<C: Calls>(rt: &impl Abort, page: &mut Page, core: &mut C, call: 
             core.opened(page, left, left);
         }
         "start" => core.started(page),
+        "starts" => start_each(page, core, number_of(rt, rest)),
         _ => page.wide(core.now()),
     }
 }
@@ -150,7 +177,9 @@ pub(super) fn answer<C: Calls>(
     let (call, rest) = line.split_once(" ").unwrap_or((line, ""));
     let (first, more) = rest.split_once(" ").unwrap_or((rest, ""));
     match call {
-        "open" | "mute" | "start" | "now" => plain_answer(rt, page, core, call, rest),
+        "open" | "mute" | "start" | "starts" | "now" => {
+            plain_answer(rt, page, core, call, rest);
+        }
         "look" | "starve" | "request" => {
             run_answer(page, core, call, RunId::new(number_of(rt, first)));
         }

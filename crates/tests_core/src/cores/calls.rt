@@ -30,6 +30,9 @@ pub(super) trait Calls {
     /// Starts a run.
     fn started(&mut self, page: &mut Page);
 
+    /// Starts a run, and writes its request.
+    fn begun(&mut self, page: &mut Page);
+
     /// Looks at a run. Work is lost.
     fn looked(&mut self, page: &mut Page, run: RunId);
 
@@ -106,6 +109,13 @@ impl<'a> Calls for Core<Counted<'a>, PlainStamp, Post> {
 
     fn started(&mut self, page: &mut Page) {
         add_run(page, self.start());
+    }
+
+    fn begun(&mut self, page: &mut Page) {
+        match self.start() {
+            Some(run) => add_owner(page, self.request_of(run)),
+            None => page.add("none"),
+        }
     }
 
     fn looked(&mut self, page: &mut Page, run: RunId) {

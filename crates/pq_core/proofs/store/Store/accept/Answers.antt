@@ -1,11 +1,11 @@
-use Rattle.std.proofs.Common.{◌≡◌, ◌≤◌, ◌∷◌, ◌++◌, [], length, refl, sym, ◌∙◌, subst, arith}
+use Rattle.std.proofs.Common.{◌≡◌, ◌≤◌, [], length, Some, ap, refl, sym, ◌∙◌, subst, arith}
 use Rattle.pq_core.proofs.Making.{goes_by, all_same, all_set, advances_longer, first_not_collected}
 use Rattle.pq_core.specs.Told.{told_puts}
 use Rattle.pq_core.specs.Stores.{StoreView, held}
 use Rattle.pq_core.specs.aux.Accepting.{MayNot, MayPost}
 use Rattle.pq_core.proofs.RunsKept.{same_runs}
 use Rattle.pq_core.proofs.StoreOpening.{unmoved}
-use Rattle.pq_core.proofs.StoreAccepting.{accept_refusal_so, may_post, accept_moved, queue_room, not_full, false_true}
+use Rattle.pq_core.proofs.StoreAccepting.{accept_refusal_so, may_post, accept_moved, queue_room, ready_so, not_full, false_true}
 use Rattle.pq_core.proofs.Queued.{queue_same, queue_pushed, queue_fixed}
 use Rattle.pq_rules.proofs.Weight.{Exact}
 use Rattle.pq_memo.specs.Table.{memo_at}
@@ -36,7 +36,7 @@ invariant_of-self g c =
       runs_above = c.make_room.ensures.runs.above c.self.inside.started w.runs_above;
       queue = rw c.make_room.ensures.queue w.queue;
       room =
-          let a : length c.self.inside.waiting.items ≤ c.self.inside.runs.room = w.room in
+          let a : length c.self.inside.waiting.seats ≤ c.self.inside.runs.room = w.room in
           let b : c.self.inside.runs.room ≤ c.make_room.new.runs.room = c.make_room.ensures.runs.room in
           rw c.make_room.ensures.queue (omega arith);
       runs = same_runs _ _ _ _ _ _ _ c.make_room.ensures.runs.found w.runs;
@@ -77,14 +77,19 @@ returns-then-is_err-clause-moved g c =
           s,
     )))
 
+pub push_reserved-requires : goal.push_reserved-requires
+push_reserved-requires g c =
+    ready_so c.make_room.result c.make_room.ensures.room c.if-is_err.false c.is_err.ensures.value
+    ∙ ap Some (c.number-2.ensures ∙ sym c.number-then-waits.ensures)
+
 pub invariant_of-self-then-waits : goal.invariant_of-self-then-waits
 invariant_of-self-then-waits g c =
     let w = c.self.invariant in
     let may : MayPost (held (store_of c.self.inside)) c.args.client =
     subst (λ (v : StoreView g.row.R.Denot g.row.R-Key.Denot g.row.R-Part.Denot g.row.R-Value.Denot g.row.M.Denot). MayPost (held v) c.args.client) (sym c.self.view_is) (rw c.number.ensures at (c.in_default.ensures {u = tt}).may) in
     let told = (c.in-Ok.ensures {u = tt}).accepted in
-    let pushed : c.push_back_reserved.new.self.items ≡ c.self.inside.waiting.items ++ (c.args.client, c.in-Ok.number) ∷ [] =
-    rw c.make_room.ensures.queue at (rw c.number-then-waits-2.ensures at (rw c.number-then-waits.ensures at c.push_back_reserved.ensures.items)) in
+    let pushed = rw (c.number-then-waits.ensures, c.number-then-waits-2.ensures) at c.push_reserved.ensures in
+    let was = sym c.make_room.ensures.queue ∙ pushed.2 in
     let moved = accept_moved g.R.Key.Ord.cmp (g.R.Rules.machine c.self.inside.memos.rules) g.M.Stamp.point told_puts
     (held (store_of c.self.inside))
     (record (held (store_of c.self.inside)) { accounts = c.accept_in.new.accounts.items; runs = c.make_room.new.runs.items })
@@ -96,9 +101,9 @@ invariant_of-self-then-waits g c =
       kept = w.kept;
       accounts_above = told.3.above c.self.inside.clients w.accounts_above;
       runs_above = c.make_room.ensures.runs.above c.self.inside.started w.runs_above;
-      queue = queue_pushed _ _ _ _ c.args.client c.in-Ok.number c.now-revision.result told.0 c.args.request c.args.request.want (c.is_demand-waits.ensures.0 c.if-waits.true)
-          told.2 told.1 told.3.found pushed w.queue;
-      room = queue_room c.make_room.result c.make_room.new.waiting.items c.push_back_reserved.new.self.items _ c.make_room.ensures.run_room c.if-is_err.false c.is_err.ensures.value c.push_back_reserved.ensures.items;
+      queue = queue_pushed _ _ _ _ pushed.0 pushed.1 c.args.client c.in-Ok.number c.now-revision.result told.0 c.args.request c.args.request.want (c.is_demand-waits.ensures.0 c.if-waits.true)
+          told.2 told.1 told.3.found was pushed.3 w.queue;
+      room = queue_room c.make_room.result _ _ pushed.0 pushed.1 _ c.make_room.ensures.run_room c.if-is_err.false c.is_err.ensures.value pushed.2 pushed.3;
       runs = same_runs _ _ _ _ _ _ _ c.make_room.ensures.runs.found w.runs;
       ledger = (moved.0, moved.2);
     }
@@ -139,7 +144,7 @@ invariant_of-self-else-waits g c =
           (queue_fixed _ _ _ c.args.client c.in-Ok.number c.now-revision.result told.0 c.args.request c.args.request.want (λ d. false_true (sym c.if-waits.false ∙ c.is_demand-waits.ensures.1 d))
           told.1 told.3.found w.queue);
       room =
-          let a : length c.self.inside.waiting.items ≤ c.self.inside.runs.room = w.room in
+          let a : length c.self.inside.waiting.seats ≤ c.self.inside.runs.room = w.room in
           let b : c.self.inside.runs.room ≤ c.make_room.new.runs.room = c.make_room.ensures.runs.room in
           rw c.make_room.ensures.queue (omega arith);
       runs = same_runs _ _ _ _ _ _ _ c.make_room.ensures.runs.found w.runs;
@@ -171,7 +176,7 @@ invariant_of-self-in-Err g c =
       runs_above = c.make_room.ensures.runs.above c.self.inside.started w.runs_above;
       queue = rw c.make_room.ensures.queue (queue_same _ _ _ same.found w.queue);
       room =
-          let a : length c.self.inside.waiting.items ≤ c.self.inside.runs.room = w.room in
+          let a : length c.self.inside.waiting.seats ≤ c.self.inside.runs.room = w.room in
           let b : c.self.inside.runs.room ≤ c.make_room.new.runs.room = c.make_room.ensures.runs.room in
           rw c.make_room.ensures.queue (omega arith);
       runs = same_runs _ _ _ _ _ _ _ c.make_room.ensures.runs.found w.runs;

@@ -23,14 +23,14 @@ invariant_of-self g c =
     w.ledger.0 here c.take.ensures.found
     (record { inputs = refl; clients = refl; runs = refl; started = refl }) (less_one c.self.inside.opened some)
     w.ledger.1 in
-    let fewer = no_longer c.number-seat.result _ _ c.drop_queued.ensures in
+    let fewer = no_longer c.number-seat.result _ _ c.drop_client.ensures in
     let room = w.room in
     record {
       stamped = c.self.invariant.stamped;
       kept = w.kept;
       accounts_above = c.take.ensures.above c.self.inside.clients w.accounts_above;
       runs_above = w.runs_above;
-      queue = queue_closed _ _ _ _ c.number-seat.result c.take.ensures.found c.drop_queued.ensures w.queue;
+      queue = queue_closed _ _ _ _ c.number-seat.result c.take.ensures.found c.drop_client.ensures w.queue;
       room = omega arith;
       runs = w.runs;
       ledger = (moved.0, moved.2);

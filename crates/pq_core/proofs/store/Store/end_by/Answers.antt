@@ -37,7 +37,7 @@ invariant_of-self g c =
       queue = end_queue _ _ _ c.in-Some.taken.client c.in-Some.taken.number _
           (λ account h. ends_of (c.make_reply.ensures.«open» account h)) (λ h k. (c.make_reply.ensures.closed h).found k) w.queue;
       room =
-          let a : length c.self.inside.waiting.items ≤ c.self.inside.runs.room = w.room in
+          let a : length c.self.inside.waiting.seats ≤ c.self.inside.runs.room = w.room in
           let b : c.self.inside.runs.room ≤ c.take.new.self.room = c.take.ensures.room in
           omega arith;
       runs = stopped_runs _ _ _ _ _ _ _ c.args.run c.release_all.new.self runs c.release_all.ensures.released w.runs;

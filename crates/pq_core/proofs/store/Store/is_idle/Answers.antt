@@ -9,9 +9,9 @@ returns-then-not-is_empty g c =
     rw (← c.self.view_is)
     (λ l s. (
       λ t. absurd (cc),
-      λ rest. absurd (waits_not_idle g.R.Key.Ord.cmp (g.R.Rules.machine c.self.inside.memos.rules) g.M.Stamp.point told_puts _ c.self.inside.waiting.items l c.self.invariant.queue
+      λ rest. absurd (waits_not_idle g.R.Key.Ord.cmp (g.R.Rules.machine c.self.inside.memos.rules) g.M.Stamp.point told_puts _ c.self.inside.waiting.seats l c.self.invariant.queue
           (λ none. not_both c.is_empty.result c.if-not-is_empty.true
-          (c.is_empty.ensures ∙ eq-eqb _ 0 (c.self.inside.waiting.ok.0 ∙ ap (λ (xs : List (ℕ × ℕ)). length xs) none))) s rest.0),
+          (c.is_empty.ensures ∙ eq-eqb _ 0 (ap (λ (xs : List (ℕ × ℕ)). length xs) none))) s rest.0),
     ))
 
 pub returns : goal.returns
@@ -19,7 +19,7 @@ returns g c =
     rw (← c.self.view_is)
     (λ l s. (
       λ t. all_idle g.R.Key.Ord.cmp (g.R.Rules.machine c.self.inside.memos.rules) g.M.Stamp.point told_puts _ l s
-          (rw (no_length c.self.inside.waiting.items (sym c.self.inside.waiting.ok.0 ∙ eqb-true _ 0 (sym c.is_empty.ensures ∙ c.if-not-is_empty.false))) at c.self.invariant.queue)
+          (rw (no_length c.self.inside.waiting.seats (eqb-true _ 0 (sym c.is_empty.ensures ∙ c.if-not-is_empty.false))) at c.self.invariant.queue)
           (c.is_empty-2.ensures.0 t),
       λ rest. all_true c.is_empty-2.result
           (λ e. runs_not_idle g.R.Key.Ord.cmp (g.R.Rules.machine c.self.inside.memos.rules) g.M.Stamp.point told_puts _ l s

@@ -16,12 +16,12 @@ invariant_of-result g c =
       kept = record { memos = λ k memo h. absurd (none_some memo (sym (c.new.ensures.empty k) ∙ h)) };
       accounts_above = c.new-2.ensures.above 0;
       runs_above = c.new-4.ensures.above 0;
-      queue = rw c.new-3.ensures.items (record {
+      queue = rw c.new-3.ensures (record {
         waits = λ k n w. absurd w;
         queued = λ k n request w. absurd (none_some w.account (sym (c.new-2.ensures.none k) ∙ w.here));
         once = once_none _;
       });
-      room = rw c.new-3.ensures.items (omega arith);
+      room = rw c.new-3.ensures (omega arith);
       runs = no_runs _ _ _ _ _ _ (λ r. ap (λ (h : Hold g.row.R-Key.Denot). h.keys) (c.new-5.ensures.empty r)) c.new-4.ensures.none;
       ledger = (
         unused c.args.inputs,

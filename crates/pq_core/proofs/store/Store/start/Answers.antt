@@ -1,12 +1,11 @@
-use Rattle.std.proofs.Common.{◌≡◌, ◌^◌, ◌≤◌, ◌+◌, ℕ, List, ◌∷◌, length, refl, ap, inl, arith, []}
+use Rattle.std.proofs.Common.{◌≡◌, ◌^◌, ◌≤◌, ◌+◌, ℕ, List, ◌++◌, length, refl, ◌∙◌, ap, inl, arith, []}
 use Rattle.pq_core.proofs.Making.{goes_by, all_same, all_set, advances_staged}
 use Rattle.pq_core.specs.Told.{told_puts}
 use Rattle.pq_core.specs.Stores.{held, run_seen}
 use Rattle.pq_core.proofs.Slots.{found_above}
 use Rattle.pq_core.proofs.RunsKept.{started_runs}
 use Rattle.pq_core.proofs.Changing.{above_next}
-use Rattle.pq_core.proofs.Queued.{queue_started}
-use Rattle.pq_core.proofs.StoreResting.{no_length}
+use Rattle.pq_core.proofs.Queued.{queue_passed, queue_started, long_passed}
 use Rattle.pq_core.proofs.StoreAccepting.{run_past}
 use Rattle.pq_core.proofs.StoreStarting.{seen_of, start_full, start_none, start_moved}
 use Rattle.pq_rules.proofs.Weight.{Exact}
@@ -17,13 +16,15 @@ use Rattle.pq_core.proofs.store.Store.start.Goals as goal
 
 pub start_in-request-requires : goal.start_in-request-requires
 start_in-request-requires g c =
-    let q = rw (c.in-Some.ensures {u = tt}).items at c.self.invariant.queue in
+    let x = (c.in-Some.ensures {u = tt}).some in
+    let q = rw x.2 at c.self.invariant.queue in
     q.waits c.in-Some.client c.in-Some.number (inl refl)
 
 pub invariant_of-self : goal.invariant_of-self
 invariant_of-self g c =
     let w = c.self.invariant in
-    let q = rw (c.in-Some.ensures {u = tt}).items at w.queue in
+    let next = (c.in-Some.ensures {u = tt}).some in
+    let q = queue_passed _ (c.in-Some.client, c.in-Some.number) next.0 next.1 (rw next.2 at w.queue) in
     let x = c.start_in-request.ensures.0 in
     let set = c.start_in-request.ensures.1 in
     let moved = start_moved g.R.Key.Ord.cmp (g.R.Rules.machine c.self.inside.memos.rules) g.M.Stamp.point told_puts _ _ c.in-Some.client c.in-Some.number x.accepted x.account c.start_in-request.result c.new-made.result w.ledger.0
@@ -35,13 +36,13 @@ invariant_of-self g c =
       kept = w.kept;
       accounts_above = set.above c.self.inside.clients w.accounts_above;
       runs_above = c.push_reserved.ensures.above (c.self.inside.started + 1) (omega arith) (above_next _ _ w.runs_above);
-      queue = queue_started _ _ c.pop_front.new.self.items c.in-Some.client c.in-Some.number x.accepted _ x.account c.start_in-request.result x.here x.waits set.found q;
+      queue = rw next.3 (queue_started _ _ (next.1 ++ next.0) c.in-Some.client c.in-Some.number x.accepted _ x.account c.start_in-request.result x.here x.waits set.found q);
       room =
-          let a : length c.self.inside.waiting.items ≤ c.self.inside.runs.room = w.room in
+          let a : length c.self.inside.waiting.seats ≤ c.self.inside.runs.room = w.room in
           let b : c.self.inside.runs.room ≤ c.push_reserved.new.self.room + 1 = c.push_reserved.ensures.room in
-          let d : length c.self.inside.waiting.items ≡ length ((c.in-Some.client, c.in-Some.number) ∷ c.pop_front.new.self.items) =
-          ap (λ (xs : List (ℕ × ℕ)). length xs) (c.in-Some.ensures {u = tt}).items in
-          omega arith;
+          let d = ap (λ (xs : List (ℕ × ℕ)). length xs) next.2 in
+          let e = ap (λ (xs : List (ℕ × ℕ)). length xs) next.3 ∙ long_passed next.0 next.1 in
+          omega (arith, a, b, d, e);
       runs = started_runs _ _ c.self.inside.inputs _ _ _ _ c.self.inside.started c.new-made.result c.push_reserved.ensures.found
           (found_above c.self.inside.started _ w.runs_above) (rw c.new-made.ensures refl) (rw c.new-made.ensures refl) (rw c.new-made.ensures (λ k. tt))
           (rw c.new-made.ensures c.now-revision.ensures.now)
@@ -71,9 +72,7 @@ returns-then-self-clause-moved g c =
 
 pub returns-in-None-clause-moved : goal.returns-in-None-clause-moved
 returns-in-None-clause-moved g c =
-    let ok = c.self.inside.waiting.ok in
-    let cases = (c.in-None.ensures {u = tt}).cases in
-    let none = rw (no_length c.self.inside.waiting.items (omega arith)) at c.self.invariant.queue in
+    let none = rw (c.in-None.ensures {u = tt}).none.0 at c.self.invariant.queue in
     rw (← c.self.view_is)
     (goes_by g.R.Key.Ord.cmp (g.R.Rules.machine c.self.inside.memos.rules) g.M.Stamp.point _ _ _ (all_same _ _ (λ k. refl))
     (λ l s. start_none g.R.Key.Ord.cmp (g.R.Rules.machine c.self.inside.memos.rules) g.M.Stamp.point told_puts _ l none s))

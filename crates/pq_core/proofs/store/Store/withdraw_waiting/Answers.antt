@@ -13,7 +13,7 @@ invariant_of-self g c =
     let w = c.self.invariant in
     let y = c.withdraw_in.ensures in
     let gone = rw c.now-now.ensures.now at y.3 in
-    let left = rw c.number.ensures at c.drop_waiting.ensures in
+    let left = rw c.number.ensures at c.drop_one.ensures in
     let moved = waiting_withdrawn g.R.Key.Ord.cmp (g.R.Rules.machine c.self.inside.memos.rules) g.M.Stamp.point told_puts (held (store_of c.self.inside))
     (record (held (store_of c.self.inside)) { accounts = c.withdraw_in.new.accounts.items }) c.args.client c.args.number y.0 y.1 w.ledger.0 w.ledger.1 y.2 gone y.4.found
     (record { inputs = refl; clients = refl; runs = refl; started = refl }) refl in
@@ -24,8 +24,8 @@ invariant_of-self g c =
       runs_above = w.runs_above;
       queue = withdrawn_queue _ _ _ _ c.args.client c.args.number _ y.0 y.1 y.2 gone y.4.found left w.queue;
       room =
-          let a : length c.self.inside.waiting.items ≤ c.self.inside.runs.room = w.room in
-          let b : length c.drop_waiting.new.waiting.items ≤ length c.self.inside.waiting.items = rw left (few_filter (λ seat. is_other_seat c.args.client c.args.number seat) c.self.inside.waiting.items) in
+          let a : length c.self.inside.waiting.seats ≤ c.self.inside.runs.room = w.room in
+          let b : length c.drop_one.new.self.seats ≤ length c.self.inside.waiting.seats = rw left (few_filter (λ seat. is_other_seat c.args.client c.args.number seat) c.self.inside.waiting.seats) in
           omega arith;
       runs = w.runs;
       ledger = (moved.0, moved.2);
