@@ -20,6 +20,7 @@ pub mod Slots
 pub mod Writes
 pub mod Queued
 pub mod Turned
+pub mod InTurn
 pub mod AccountMoves
 pub mod AccountStanding
 pub mod MadeCounts

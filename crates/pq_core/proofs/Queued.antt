@@ -80,18 +80,18 @@ unfolding IsOnce
 once_by y rest true new h = (new, h)
 once_by y rest false new h = h
 
-once_filter : {A : Type 0} (test : A → Bool) (xs : List A) → IsOnce xs → IsOnce (filter test xs)
+pub once_filter : {A : Type 0} (test : A → Bool) (xs : List A) → IsOnce xs → IsOnce (filter test xs)
 unfolding IsOnce
 once_filter test [] h = h
 once_filter test (y ∷ ys) h = once_by y (filter test ys) (test y) (λ w. h.0 (out_filter test y ys w).1) (once_filter test ys h.1)
 
 -- ---- a list with one element more
 
-in_there : {A : Type 0} (xs ys : List A) (x : A) → In x (xs ++ x ∷ ys)
+pub in_there : {A : Type 0} (xs ys : List A) (x : A) → In x (xs ++ x ∷ ys)
 in_there [] ys x = inl refl
 in_there (z ∷ zs) ys x = inr (in_there zs ys x)
 
-in_longer : {A : Type 0} (xs ys : List A) (x y : A) → In y (xs ++ ys) → In y (xs ++ x ∷ ys)
+pub in_longer : {A : Type 0} (xs ys : List A) (x y : A) → In y (xs ++ ys) → In y (xs ++ x ∷ ys)
 in_longer [] ys x y h = inr h
 in_longer (z ∷ zs) ys x y h = elim h [ inl e ↦ inl e | inr w ↦ inr (in_longer zs ys x y w) ]
 
@@ -123,7 +123,7 @@ in_passed (x ∷ xs) ys y h = elim h [
   | inr w ↦ in_longer ys xs x y (in_passed xs ys y w)
 ]
 
-once_passed : {A : Type 0} (xs ys : List A) → IsOnce (xs ++ ys) → IsOnce (ys ++ xs)
+pub once_passed : {A : Type 0} (xs ys : List A) → IsOnce (xs ++ ys) → IsOnce (ys ++ xs)
 unfolding IsOnce
 once_passed [] ys h = subst (λ (l : List _). IsOnce l) (sym (append-nil ys)) h
 once_passed (x ∷ xs) ys h = once_longer ys xs x (once_passed xs ys h.1) (λ w. h.0 (in_passed ys xs x w))

@@ -1,16 +1,15 @@
 -- The turns of the queue, after each change. Only proofs need these lemmas.
-use Rattle.std.proofs.Common.{◌≡◌, ◌≢◌, ℕ, zero, suc, ◌+◌, ◌-◌, ◌≤◌, ◌<◌, ◌^◌, ◌==◌, ◌||◌, Bool, true, false, cond, not, List, [], ◌∷◌, ◌++◌, map, length, slice_get, slice_set, get_or, Option, Some, IfSome, refl, sym, ◌∙◌, ap, subst, arith, take, drop}
-use Rattle.std.specs.List.{remove}
+use Rattle.std.proofs.Common.{◌≡◌, ◌≢◌, ℕ, zero, suc, ◌+◌, ◌≤◌, ◌<◌, ◌==◌, ◌||◌, Bool, true, false, cond, not, List, [], ◌∷◌, ◌++◌, map, length, slice_get, slice_set, get_or, Some, refl, sym, ◌∙◌, ap, subst, arith, take, drop}
 use Rattle.std.specs.Prelude.{filter}
 use Rattle.std.proofs.lemmas.Bool.{ne_eqb, eq-eqb}
 use Rattle.std.proofs.lemmas.Grind.{flat_map-append}
-use Rattle.std.proofs.lemmas.List.{append-nil, append_assoc, length-append, length-map, take_more, take_more_set, drop-set-lt, get_or-drop}
+use Rattle.std.proofs.lemmas.List.{append-nil, length-append, length-map, take_more, take_more_set, drop-set-lt, get_or-drop}
 use Rattle.std.proofs.lemmas.List.Folds.{length-flat_map-take}
 use Rattle.std.proofs.lemmas.List.Elements.{filter-append}
-use Rattle.pq_core.proofs.AccountMoves.{drop_more, read_at}
+use Rattle.pq_core.proofs.AccountMoves.{drop_more}
 use Rattle.pq_core.proofs.Lists.{some_one, none_some}
 use Rattle.pq_core.specs.aux.Queue.{is_of_other, is_other_seat}
-use Rattle.pq_core.specs.aux.Turns.{IsTurnOf, seats_in, seats_of, HasRoomAt, IsKept, FirstWaits}
+use Rattle.pq_core.specs.aux.Turns.{seats_in, seats_of, FirstWaits}
 use Rattle.pq_core.specs.declared.queue.Turn.{Turn}
 
 -- ---- lists
@@ -21,7 +20,7 @@ module _ {A B : Type 0} (f : A → B) (q : B → Bool) where
   kept_by x xs ys false b e h = h ∙ ap (λ (t : Bool). cond t (f x ∷ ys) ys) (sym e)
 
   -- a filter after a map, by the test before it
-  filter_after : (p : A → Bool) (xs : List A) → ((x : A) → q (f x) ≡ p x) → map f (filter p xs) ≡ filter q (map f xs)
+  pub filter_after : (p : A → Bool) (xs : List A) → ((x : A) → q (f x) ≡ p x) → map f (filter p xs) ≡ filter q (map f xs)
   filter_after p [] h = refl
   filter_after p (x ∷ xs) h = kept_by x (filter p xs) (filter q (map f xs)) (p x) (q (f x)) (h x) (filter_after p xs h)
 
@@ -65,7 +64,7 @@ last_there (y ∷ xs) x = last_there xs x
 -- ---- one turn
 
 -- `seats c ns` is the requests `ns` of the client `c`
-abbrev seats : ℕ → List ℕ → List (ℕ × ℕ)
+abbrev pub seats : ℕ → List ℕ → List (ℕ × ℕ)
 seats c ns = map (λ (n : ℕ). (c, n)) ns
 
 pub seats_one : (c d : ℕ) (ns ms : List ℕ) → d ≡ c → ms ≡ ns → seats d ms ≡ seats c ns
@@ -105,116 +104,21 @@ same_turn [] place t u h e = absurd (none_some t h)
 same_turn (v ∷ turns) zero t u h e = ap (λ l. l ++ seats_of turns) (e ∙ ap seats_in (sym (some_one v t h)))
 same_turn (v ∷ turns) (suc place) t u h e = ap (λ l. seats_in v ++ l) (same_turn turns place t u h e)
 
--- `Grows turns after seat` is that `after` has the requests of `turns` and `seat` somewhere
-pub record Grows (turns after : List Turn) (seat : ℕ × ℕ) : Type 0 where
-  pub before : List (ℕ × ℕ)
-  pub behind : List (ℕ × ℕ)
-  pub was : seats_of turns ≡ before ++ behind
-  pub is : seats_of after ≡ before ++ seat ∷ behind
-
--- a turn gets one more request
-pub longer_turn : (turns : List Turn) (place : ℕ) (t u : Turn) (seat : ℕ × ℕ) → slice_get turns place ≡ Some t → seats_in u ≡ seats_in t ++ seat ∷ [] → Grows turns (slice_set turns place u) seat
-longer_turn [] place t u seat h e = absurd (none_some t h)
-longer_turn (v ∷ turns) zero t u seat h e = record {
-  before = seats_in v;
-  behind = seats_of turns;
-  was = refl;
-  is = ap (λ l. l ++ seats_of turns) (e ∙ ap (λ (w : Turn). seats_in w ++ seat ∷ []) (sym (some_one v t h))) ∙ append_assoc (seats_in v) (seat ∷ []) (seats_of turns);
-}
-longer_turn (v ∷ turns) (suc place) t u seat h e =
-    let w = longer_turn turns place t u seat h e in
-    record {
-      before = seats_in v ++ w.before;
-      behind = w.behind;
-      was = ap (λ l. seats_in v ++ l) w.was ∙ sym (append_assoc (seats_in v) w.before w.behind);
-      is = ap (λ l. seats_in v ++ l) w.is ∙ sym (append_assoc (seats_in v) w.before (seat ∷ w.behind));
-    }
-
--- there is one request more
-pub grown : (turns after : List Turn) (seat : ℕ × ℕ) → Grows turns after seat → length (seats_of after) ≡ length (seats_of turns) + 1
-grown turns after seat g =
-    let was = ap (λ l. length l) g.was ∙ length-append g.before g.behind in
-    let is = ap (λ l. length l) g.is ∙ length-append g.before (seat ∷ g.behind) in
-    omega (arith, was, is)
+-- the last request of a turn
+pub seats_last : (c n : ℕ) (ns : List ℕ) → seats c (ns ++ n ∷ []) ≡ seats c ns ++ (c, n) ∷ []
+seats_last c n [] = refl
+seats_last c n (x ∷ ns) = ap (λ l. (c, x) ∷ l) (seats_last c n ns)
 
 pub seats_pushed : (c d n : ℕ) (ns ms : List ℕ) → d ≡ c → ms ≡ ns ++ n ∷ [] → seats d ms ≡ seats c ns ++ (c, n) ∷ []
-seats_pushed c d n ns ms e f = seats_one c d (ns ++ n ∷ []) ms e f ∙ last ns
-  where
-    last : (xs : List ℕ) → seats c (xs ++ n ∷ []) ≡ seats c xs ++ (c, n) ∷ []
-    last [] = refl
-    last (x ∷ xs) = ap (λ l. (c, x) ∷ l) (last xs)
+seats_pushed c d n ns ms e f = seats_one c d (ns ++ n ∷ []) ms e f ∙ seats_last c n ns
 
--- the turn of a client for which the queue is ready gets one more request
-pub turn_pushed : (turns : List Turn) (count place client number : ℕ) (ready : Option ℕ) (x u : Turn) → IsKept turns count ready place → ready ≡ Some client
-    → x ≡ get_or turns place x → u.client ≡ x.client → u.numbers.items ≡ x.numbers.items ++ number ∷ [] → Grows turns (slice_set turns place u) (client, number)
-turn_pushed turns count place client number ready x u kept is read same longer =
-    subst (λ (k : ℕ). Grows turns (slice_set turns place u) (k, number)) w.is_of
-    (longer_turn turns place w.turn u (w.turn.client, number) w.here
-    (seats_pushed w.turn.client u.client number w.turn.numbers.items u.numbers.items (same ∙ ap (λ (t : Turn). t.client) there)
-    (longer ∙ ap (λ (t : Turn). t.numbers.items ++ number ∷ []) there)))
-  where
-    w : HasRoomAt turns place client
-    w = (subst (λ (r : Option ℕ). IfSome r (λ k. (count + 1 < 2 ^ 64) × HasRoomAt turns place k)) is kept.room).1
+-- ---- the first turn
 
-    there : x ≡ w.turn
-    there = read_at turns place x w.turn w.here read
-
--- a turn without requests is dropped
+-- it has no request, and is dropped
 pub empty_first : (turns rest : List Turn) (t : Turn) → turns ≡ t ∷ rest → t.numbers.items ≡ [] → seats_of (drop 1 turns) ≡ seats_of turns
 empty_first turns rest t e none =
     ap (λ (ts : List Turn). seats_of (drop 1 ts)) e
     ∙ sym (ap seats_of e ∙ ap (λ (ns : List ℕ). seats t.client ns ++ seats_of rest) none)
-
--- a turn without requests goes behind the others
-without_turn : (turns : List Turn) (place : ℕ) (t : Turn) → slice_get turns place ≡ Some t → seats_in t ≡ [] → seats_of (remove turns place) ≡ seats_of turns
-without_turn [] place t h e = absurd (none_some t h)
-without_turn (v ∷ turns) zero t h e = sym (ap (λ l. l ++ seats_of turns) (ap seats_in (some_one v t h) ∙ e))
-without_turn (v ∷ turns) (suc place) t h e = ap (λ l. seats_in v ++ l) (without_turn turns place t h e)
-
-pub moved_last : (turns after : List Turn) (place client n : ℕ) (w : IsTurnOf turns place client) → w.turn.numbers.items ≡ [] → after ≡ remove turns place ++ w.turn ∷ [] → n ≡ length after
-    → (1 ≤ n) × (seats_of after ≡ seats_of turns) × IsTurnOf after (n - 1) client
-moved_last turns after place client n w none is long = (
-  omega (arith, long, all),
-  ap seats_of is
-      ∙ flat_map-append seats_in (remove turns place) (w.turn ∷ [])
-      ∙ ap (λ l. seats_of (remove turns place) ++ (l ++ [])) empty
-      ∙ append-nil (seats_of (remove turns place))
-      ∙ without_turn turns place w.turn w.here empty,
-  record {
-    turn = w.turn;
-    here = subst (λ (ts : List Turn). slice_get ts (n - 1) ≡ Some w.turn) (sym is)
-        (subst (λ (m : ℕ). slice_get (remove turns place ++ w.turn ∷ []) m ≡ Some w.turn) last (last_there (remove turns place) w.turn));
-    is_of = w.is_of;
-  },
-)
-  where
-    empty : seats_in w.turn ≡ []
-    empty = ap (seats w.turn.client) none
-
-    all : length after ≡ length (remove turns place) + 1
-    all = ap (λ l. length l) is ∙ length-append (remove turns place) (w.turn ∷ [])
-
-    last : length (remove turns place) ≡ n - 1
-    last = omega (arith, long, all)
-
--- `Passes turns after` is that the requests of a turn went behind those of the others
-pub record Passes (turns after : List Turn) : Type 0 where
-  pub own : List (ℕ × ℕ)
-  pub others : List (ℕ × ℕ)
-  pub was : seats_of turns ≡ own ++ others
-  pub is : seats_of after ≡ others ++ own
-
--- the first turn goes behind the others
-pub passed_on : (turns : List Turn) → 0 < length turns → Passes turns (drop 1 turns ++ take 1 turns)
-passed_on [] h = absurd (omega arith)
-passed_on (t ∷ turns) h = record {
-  own = seats_in t;
-  others = seats_of turns;
-  was = refl;
-  is = flat_map-append seats_in turns (t ∷ []) ∙ ap (λ l. seats_of turns ++ l) (append-nil (seats_in t));
-}
-
--- ---- the first turn
 
 pub none_waits : (turns : List Turn) → length turns ≡ 0 → FirstWaits turns
 unfolding FirstWaits
@@ -238,14 +142,6 @@ some_waits (t ∷ turns) h w =
     let all = length-append (seats_in t) (seats_of turns) in
     let own = length-map {B = ℕ × ℕ} t.numbers.items (λ (n : ℕ). (t.client, n)) in
     omega (arith, all, own)
-
--- the first turn is replaced
-pub first_taken : (turns : List Turn) (t u : Turn) (seat : ℕ × ℕ) → turns ≡ t ∷ drop 1 turns → seats_in t ≡ seat ∷ seats_in u → seats_of turns ≡ seat ∷ seats_of (slice_set turns 0 u)
-first_taken [] t u seat e h = absurd (not_so e)
-  where
-    not_so : [] ≡ t ∷ [] → ⊥
-    not_so f = cc
-first_taken (v ∷ turns) t u seat e h = ap (λ (w : List Turn). seats_of w) e ∙ ap (λ l. l ++ seats_of turns) h
 
 -- a request is dropped from the turns one by one
 pub dropped_at : (test : ℕ × ℕ → Bool) (now old : List Turn) (i : ℕ) (x u : Turn) → i < length now → length now ≡ length old → x ≡ get_or now i x → drop i now ≡ drop i old

@@ -1,17 +1,18 @@
 //! The queue of the requests that wait: clients in turn, each client's own requests in their order.
 //!
 //! A turn is a client with the numbers of its requests that wait. `pop` takes the first number of the
-//! first turn and moves that turn behind all others (round robin). So a request waits for the
-//! requests of its own client before it, and for at most as many of each other client.
+//! first turn, and moves that turn behind all others (round robin). A client that comes to wait goes
+//! behind all others too. So before the k-th request of a client that waits, at most k of each other
+//! client are started.
 //!
-//! `pop` takes constant time, apart from turns without numbers: it removes those that come first, each
-//! once. The other calls are linear in the turns, at most one for each open client, or in the numbers
+//! `pop` takes constant time, apart from turns without numbers: it drops those that come first, each
+//! once. The other calls are linear in the turns, of which a client has at most one, or in the numbers
 //! of one client. Only `reserve` allocates.
 ghost use Rattle.std.specs.List.{remove};
 ghost use Rattle.std.specs.Prelude.{◌≡◌, ◌+◌, ◌<◌, ◌==◌, ◌^◌, ℕ, List, ◌∷◌, ◌++◌, [], length, filter, drop, slice_get, not, eqb, Some, IfSome, IfNone, IfOk, OnOk, IsTrue};
 ghost use Rattle.std.specs.VecDeque.{deque_len, deque_capacity};
 ghost use Rattle.pq_core.specs.aux.Queue.{is_of_other, is_other_seat};
-ghost use Rattle.pq_core.specs.aux.Turns.{seats_in, seats_of, IsTurnOf, HasRoomAt, FirstWaits};
+ghost use Rattle.pq_core.specs.aux.Turns.{Pops, Pushes, seats_in, seats_of, AreApart, IsTurnOf, IsSettledAt, HasRoomAt, FirstWaits};
 
 use crate::fault::Memory;
 use std::alloc::Global;
@@ -69,7 +70,8 @@ impl Turn {
     /// Takes out the first request.
     fn take(&mut self) -> (u64, u64)
         requires { 0 < length self.old.numbers.items }
-        ensures { seats_in self.old ≡ result ∷ seats_in self.new }
+        ensures client { self.new.client ≡ self.old.client }
+        ensures seats { seats_in self.old ≡ result ∷ seats_in self.new }
     {
         match self.numbers.pop_front() {
             Some(number) => (self.client, number),
@@ -79,7 +81,8 @@ impl Turn {
 
     /// Drops the request `number`, if the turn is of `client`.
     fn leave_out(&mut self, client: u64, number: u64)
-        ensures { seats_in self.new ≡ filter (λ seat. is_other_seat client number seat) (seats_in self.old) }
+        ensures client { self.new.client ≡ self.old.client }
+        ensures seats { seats_in self.new ≡ filter (λ seat. is_other_seat client number seat) (seats_in self.old) }
     {
         if self.client != client {
             return;
@@ -119,7 +122,8 @@ fn move_last(turns: &mut VecDeque<Turn>, place: usize)
 fn settle(turns: &mut VecDeque<Turn>, place: usize, client: u64) -> usize
     requires { IsTurnOf turns.old.items place client }
     ensures seats { seats_of turns.new.items ≡ seats_of turns.old.items }
-    ensures here { IsTurnOf turns.new.items result client }
+    ensures apart { AreApart turns.old.items → AreApart turns.new.items }
+    ensures here { IsSettledAt turns.new.items result client }
 {
     if !turns[place].numbers.is_empty() {
         return place;
@@ -131,7 +135,8 @@ fn settle(turns: &mut VecDeque<Turn>, place: usize, client: u64) -> usize
 /// The place of the turn of `client`. A client without a request gets its turn behind the others.
 fn turn_of(turns: &mut VecDeque<Turn>, alloc: Global, client: u64) -> Result<usize, Memory>
     ensures seats { seats_of turns.new.items ≡ seats_of turns.old.items }
-    ensures here { IfOk result (λ place. IsTurnOf turns.new.items place client) }
+    ensures apart { AreApart turns.old.items → AreApart turns.new.items }
+    ensures here { IfOk result (λ place. IsSettledAt turns.new.items place client) }
 {
     match place_of(turns, client) {
         Some(place) => return Ok(settle(turns, place, client)),
@@ -149,8 +154,9 @@ fn turn_of(turns: &mut VecDeque<Turn>, alloc: Global, client: u64) -> Result<usi
 
 /// Makes room for one more number in the turn of `client`, which is at `place`.
 fn make_room(turns: &mut VecDeque<Turn>, place: usize, client: u64) -> Result<(), Memory>
-    requires { IsTurnOf turns.old.items place client }
+    requires { IsSettledAt turns.old.items place client }
     ensures seats { seats_of turns.new.items ≡ seats_of turns.old.items }
+    ensures apart { AreApart turns.old.items → AreApart turns.new.items }
     ensures here { OnOk result (HasRoomAt turns.new.items place client) }
 {
     turns[place].reserve()
@@ -170,6 +176,7 @@ fn is_first_empty(turns: &VecDeque<Turn>) -> bool
 /// Drops the turns without numbers that come first.
 fn drop_empty(turns: &mut VecDeque<Turn>)
     ensures seats { seats_of turns.new.items ≡ seats_of turns.old.items }
+    ensures apart { AreApart turns.old.items → AreApart turns.new.items }
     ensures first { FirstWaits turns.new.items }
 {
     'turns: while is_first_empty(turns) {
@@ -184,28 +191,23 @@ fn drop_front(turns: &mut VecDeque<Turn>)
     let _first = turns.pop_front();
 }
 
-/// Moves the first turn behind the others.
-fn pass_on(turns: &mut VecDeque<Turn>)
-    requires { 0 < deque_len turns.old }
-    ensures { (own others : List (ℕ × ℕ)) × (seats_of turns.old.items ≡ own ++ others) × (seats_of turns.new.items ≡ others ++ own) }
-{
-    turns.rotate_left(1);
-}
-
 /// Takes out the first request of the first turn. What is left of that turn goes behind the others.
 fn take_first(turns: &mut VecDeque<Turn>) -> (u64, u64)
     requires some { 0 < deque_len turns.old }
     requires first { FirstWaits turns.old.items }
-    ensures { (own others : List (ℕ × ℕ)) × (seats_of turns.old.items ≡ result ∷ (own ++ others)) × (seats_of turns.new.items ≡ others ++ own) }
+    requires apart { AreApart turns.old.items }
+    ensures apart { AreApart turns.new.items }
+    ensures pops { Pops result (seats_of turns.old.items) (seats_of turns.new.items) }
 {
     let seat = turns[0].take();
-    pass_on(turns);
+    turns.rotate_left(1);
     seat
 }
 
 /// Drops the turns of `client`.
 fn drop_turns(turns: &mut VecDeque<Turn>, client: u64)
-    ensures { seats_of turns.new.items ≡ filter (λ seat. is_of_other client seat) (seats_of turns.old.items) }
+    ensures apart { AreApart turns.old.items → AreApart turns.new.items }
+    ensures seats { seats_of turns.new.items ≡ filter (λ seat. is_of_other client seat) (seats_of turns.old.items) }
 {
     turns.retain(
         |turn: &Turn| -> bool
@@ -216,7 +218,8 @@ fn drop_turns(turns: &mut VecDeque<Turn>, client: u64)
 
 /// Drops the request `number` of `client`.
 fn drop_number(turns: &mut VecDeque<Turn>, client: u64, number: u64)
-    ensures { seats_of turns.new.items ≡ filter (λ seat. is_other_seat client number seat) (seats_of turns.old.items) }
+    ensures apart { AreApart turns.old.items → AreApart turns.new.items }
+    ensures seats { seats_of turns.new.items ≡ filter (λ seat. is_other_seat client number seat) (seats_of turns.old.items) }
 {
     for place in 0..turns.len() {
         turns[place].leave_out(client, number);
@@ -283,7 +286,7 @@ impl Queue {
     /// Adds the request `number` of `client` behind the others of `client`. There is room for it.
     pub(crate) fn push_reserved(&mut self, client: u64, number: u64)
         requires { self.old.ready ≡ Some client }
-        ensures { (before after : List (ℕ × ℕ)) × (self.old.seats ≡ before ++ after) × (self.new.seats ≡ before ++ (client, number) ∷ after) }
+        ensures { Pushes client number self.old.seats self.new.seats }
     {
         self.ready = None;
         self.turns[self.place].push(number);
@@ -293,7 +296,7 @@ impl Queue {
     /// Takes out the first request of the client whose turn it is. The others of that client go behind
     /// those of all other clients.
     pub(crate) fn pop(&mut self) -> Option<(u64, u64)>
-        ensures some { IfSome result (λ seat. (own others : List (ℕ × ℕ)) × (self.old.seats ≡ seat ∷ (own ++ others)) × (self.new.seats ≡ others ++ own)) }
+        ensures some { IfSome result (λ seat. Pops seat self.old.seats self.new.seats) }
         ensures none { IfNone result ((self.old.seats ≡ []) × (self.new.seats ≡ [])) }
     {
         self.ready = None;

@@ -8,4 +8,4 @@ pub count_of-self-inside-requires : goal.count_of-self-inside-requires
 count_of-self-inside-requires c =
     let few = few_filter (λ seat. is_other_seat c.args.client c.args.number seat) (seats_of c.self.inside.turns.items) in
     let counted = c.self.invariant.counted in
-    rw c.drop_number.ensures (omega arith)
+    rw c.drop_number.ensures.seats (omega arith)

@@ -1,4 +1,4 @@
-use Rattle.std.proofs.Common.{◌≡◌, ◌≤◌, [], length, Some, ap, refl, sym, ◌∙◌, subst, arith}
+use Rattle.std.proofs.Common.{◌≤◌, [], length, Some, ap, refl, sym, ◌∙◌, subst, arith}
 use Rattle.pq_core.proofs.Making.{goes_by, all_same, all_set, advances_longer, first_not_collected}
 use Rattle.pq_core.specs.Told.{told_puts}
 use Rattle.pq_core.specs.Stores.{StoreView, held}
@@ -89,7 +89,7 @@ invariant_of-self-then-waits g c =
     subst (λ (v : StoreView g.row.R.Denot g.row.R-Key.Denot g.row.R-Part.Denot g.row.R-Value.Denot g.row.M.Denot). MayPost (held v) c.args.client) (sym c.self.view_is) (rw c.number.ensures at (c.in_default.ensures {u = tt}).may) in
     let told = (c.in-Ok.ensures {u = tt}).accepted in
     let pushed = rw (c.number-then-waits.ensures, c.number-then-waits-2.ensures) at c.push_reserved.ensures in
-    let was = sym c.make_room.ensures.queue ∙ pushed.2 in
+    let was = sym c.make_room.ensures.queue ∙ pushed.was in
     let moved = accept_moved g.R.Key.Ord.cmp (g.R.Rules.machine c.self.inside.memos.rules) g.M.Stamp.point told_puts
     (held (store_of c.self.inside))
     (record (held (store_of c.self.inside)) { accounts = c.accept_in.new.accounts.items; runs = c.make_room.new.runs.items })
@@ -101,9 +101,9 @@ invariant_of-self-then-waits g c =
       kept = w.kept;
       accounts_above = told.3.above c.self.inside.clients w.accounts_above;
       runs_above = c.make_room.ensures.runs.above c.self.inside.started w.runs_above;
-      queue = queue_pushed _ _ _ _ pushed.0 pushed.1 c.args.client c.in-Ok.number c.now-revision.result told.0 c.args.request c.args.request.want (c.is_demand-waits.ensures.0 c.if-waits.true)
-          told.2 told.1 told.3.found was pushed.3 w.queue;
-      room = queue_room c.make_room.result _ _ pushed.0 pushed.1 _ c.make_room.ensures.run_room c.if-is_err.false c.is_err.ensures.value pushed.2 pushed.3;
+      queue = queue_pushed _ _ _ _ pushed.front pushed.back c.args.client c.in-Ok.number c.now-revision.result told.0 c.args.request c.args.request.want (c.is_demand-waits.ensures.0 c.if-waits.true)
+          told.2 told.1 told.3.found was pushed.is w.queue;
+      room = queue_room c.make_room.result _ _ pushed.front pushed.back _ c.make_room.ensures.run_room c.if-is_err.false c.is_err.ensures.value pushed.was pushed.is;
       runs = same_runs _ _ _ _ _ _ _ c.make_room.ensures.runs.found w.runs;
       ledger = (moved.0, moved.2);
     }

@@ -17,14 +17,14 @@ use Rattle.pq_core.proofs.store.Store.start.Goals as goal
 pub start_in-request-requires : goal.start_in-request-requires
 start_in-request-requires g c =
     let x = (c.in-Some.ensures {u = tt}).some in
-    let q = rw x.2 at c.self.invariant.queue in
+    let q = rw x.was at c.self.invariant.queue in
     q.waits c.in-Some.client c.in-Some.number (inl refl)
 
 pub invariant_of-self : goal.invariant_of-self
 invariant_of-self g c =
     let w = c.self.invariant in
     let next = (c.in-Some.ensures {u = tt}).some in
-    let q = queue_passed _ (c.in-Some.client, c.in-Some.number) next.0 next.1 (rw next.2 at w.queue) in
+    let q = queue_passed _ (c.in-Some.client, c.in-Some.number) next.own next.others (rw next.was at w.queue) in
     let x = c.start_in-request.ensures.0 in
     let set = c.start_in-request.ensures.1 in
     let moved = start_moved g.R.Key.Ord.cmp (g.R.Rules.machine c.self.inside.memos.rules) g.M.Stamp.point told_puts _ _ c.in-Some.client c.in-Some.number x.accepted x.account c.start_in-request.result c.new-made.result w.ledger.0
@@ -36,12 +36,12 @@ invariant_of-self g c =
       kept = w.kept;
       accounts_above = set.above c.self.inside.clients w.accounts_above;
       runs_above = c.push_reserved.ensures.above (c.self.inside.started + 1) (omega arith) (above_next _ _ w.runs_above);
-      queue = rw next.3 (queue_started _ _ (next.1 ++ next.0) c.in-Some.client c.in-Some.number x.accepted _ x.account c.start_in-request.result x.here x.waits set.found q);
+      queue = rw next.is (queue_started _ _ (next.others ++ next.own) c.in-Some.client c.in-Some.number x.accepted _ x.account c.start_in-request.result x.here x.waits set.found q);
       room =
           let a : length c.self.inside.waiting.seats ≤ c.self.inside.runs.room = w.room in
           let b : c.self.inside.runs.room ≤ c.push_reserved.new.self.room + 1 = c.push_reserved.ensures.room in
-          let d = ap (λ (xs : List (ℕ × ℕ)). length xs) next.2 in
-          let e = ap (λ (xs : List (ℕ × ℕ)). length xs) next.3 ∙ long_passed next.0 next.1 in
+          let d = ap (λ (xs : List (ℕ × ℕ)). length xs) next.was in
+          let e = ap (λ (xs : List (ℕ × ℕ)). length xs) next.is ∙ long_passed next.own next.others in
           omega (arith, a, b, d, e);
       runs = started_runs _ _ c.self.inside.inputs _ _ _ _ c.self.inside.started c.new-made.result c.push_reserved.ensures.found
           (found_above c.self.inside.started _ w.runs_above) (rw c.new-made.ensures refl) (rw c.new-made.ensures refl) (rw c.new-made.ensures (λ k. tt))
