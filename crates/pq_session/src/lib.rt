@@ -30,7 +30,7 @@ pub use laws::{
 pub use protocol::answers::reply_text;
 pub use protocol::root::Root;
 pub use run::{MAX_READS, at_end, script, script_over};
-pub use send::write_all;
+pub use send::{write_all, write_frame};
 pub use state::items::Item;
 pub use state::notifications::UNREADABLE_PARAMETERS;
 pub use state::sessions::Session;
