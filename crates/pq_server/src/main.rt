@@ -22,7 +22,7 @@ use serving::{OpenGate, Size, serve};
 use status::{START_FAILED, refused, run_script, served, unannounced, unread};
 use std::net::{Ipv4Addr, Net, SocketAddr, TcpListener, TcpStream};
 use std::process::ExitCode;
-use std::rt::{Env, Files};
+use std::rt::{Clock, Env, Files};
 use std::sync::Wait;
 use std::thread::Threads;
 use std::{env, io};
@@ -57,7 +57,7 @@ fn run_on_streams(rt: HostRuntime, library: Option<&str>) -> u8 {
 fn run_on_port<R>(rt: &R, port: u16, dir: Option<&str>, size: Size) -> (u8, &'static str)
 where
     R: Net<Listener = TcpListener, Stream = TcpStream> + Files + Print + AllocGlobal,
-    R: Threads + Wait + Log + Copy + Drop + Send + Sync + 'static,
+    R: Threads + Wait + Clock + Log + Copy + Drop + Send + Sync + 'static,
 {
     let address = SocketAddr::from((Ipv4Addr::LOCALHOST, port));
     let Ok(listener) = TcpListener::bind(rt, address) else {
@@ -73,7 +73,7 @@ where
         None => no_library(rt.alloc()),
         Some(dir) => read_library(rt, dir),
     };
-    served(serve(rt, rt.alloc(), &listener, library, size, &OpenGate))
+    served(serve(rt, rt.alloc(), listener, library, size, &OpenGate))
 }
 
 /// Says on standard error why `clap` refuses the words of the command line. Returns the exit status.
