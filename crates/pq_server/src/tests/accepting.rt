@@ -123,10 +123,10 @@ fn passed<H: Clock + Log>(
     count: u32,
 ) -> u32 {
     let error = io::Error::from_raw_os_error(code);
-    let mut passed = 0;
+    let mut passed = 0u32;
     for _ in 0..count {
         if failures.is_passed(rt, &error, running) {
-            passed += 1;
+            passed = passed.saturating_add(1);
         }
     }
     passed

@@ -6,7 +6,7 @@ use crate::serving::{OpenGate, serve};
 use std::io::{Read, Write};
 use std::net::{Net, SocketAddr, TcpListener, TcpStream};
 use std::process::Abort;
-use std::sync::Arc;
+use std::sync::{Arc, Wait};
 use std::test::Fail;
 use std::thread;
 use std::time::{Clock, Duration};
@@ -149,37 +149,63 @@ where
     Ok(pairs)
 }
 
-/// Whether the accepted end of `pair` was shut down. Nothing was sent to its client.
-fn is_shut(rt: &impl Abort, pair: &Pair) -> bool {
-    let short = Duration::from_millis(20);
-    pair.client
-        .set_read_timeout(Some(short))
-        .expect(rt, "a timeout");
-    let mut input = &pair.client;
-    let mut byte = [0u8; 1];
-    matches!(input.read(&mut byte), Ok(0))
+/// The sessions that linger, and the connections that begin to, by their places.
+#[derive(Drop)]
+struct Bench {
+    sessions: Sessions,
+    pairs: Vec<Pair>,
+}
+
+impl Bench {
+    /// The connection at this place.
+    fn pair(&self, rt: &impl Abort, place: usize) -> &Pair {
+        match self.pairs.get(place) {
+            Some(pair) => pair,
+            None => panic!(rt; "a pair"),
+        }
+    }
+
+    /// The session of the connection at this place begins to linger.
+    fn begin(&self, rt: &(impl Abort + Wait), place: usize) {
+        let stream = &self.pair(rt, place).accepted;
+        let number = self.sessions.begin_to_linger(rt, stream);
+        assert!(rt; number.is_some(), "memory");
+    }
+
+    /// Whether the accepted end of the connection at this place was shut down. Nothing was sent to its
+    /// client.
+    fn is_shut(&self, rt: &impl Abort, place: usize) -> bool {
+        let client = &self.pair(rt, place).client;
+        client
+            .set_read_timeout(Some(Duration::from_millis(20)))
+            .expect(rt, "a timeout");
+        let mut input = client;
+        let mut byte = [0u8; 1];
+        matches!(input.read(&mut byte), Ok(0))
+    }
 }
 
 // The oldest of 65 is cut, and no other. One that has ended makes room.
 #[test]
 fn the_oldest_is_cut(rt: HostRuntime) -> Result<(), Fail> {
-    let pairs = pairs(&rt, 67)?;
-    let sessions = Sessions::new(rt.alloc())?;
-    for (number, pair) in pairs[..64].iter().enumerate() {
-        let given = sessions.begin_to_linger(&rt, &pair.accepted);
-        assert_eq!(rt; given, Some(number as u64));
+    let bench = Bench {
+        sessions: Sessions::new(rt.alloc())?,
+        pairs: pairs(&rt, 67)?,
+    };
+    for place in 0..64 {
+        bench.begin(&rt, place);
     }
-    assert!(rt; !is_shut(&rt, &pairs[0]), "64 may linger");
-    sessions.begin_to_linger(&rt, &pairs[64].accepted);
-    assert!(rt; is_shut(&rt, &pairs[0]), "the oldest is cut");
-    sessions.end_to_linger(&rt, 0);
-    sessions.end_to_linger(&rt, 2);
-    sessions.begin_to_linger(&rt, &pairs[65].accepted);
-    assert!(rt; !is_shut(&rt, &pairs[1]), "there was room");
-    sessions.begin_to_linger(&rt, &pairs[66].accepted);
-    assert!(rt; is_shut(&rt, &pairs[1]), "the next one is cut");
-    assert!(rt; !is_shut(&rt, &pairs[2]), "one that has ended is not cut");
-    assert!(rt; !is_shut(&rt, &pairs[66]), "the newest is not cut");
+    assert!(rt; !bench.is_shut(&rt, 0), "64 may linger");
+    bench.begin(&rt, 64);
+    assert!(rt; bench.is_shut(&rt, 0), "the oldest is cut");
+    bench.sessions.end_to_linger(&rt, 0);
+    bench.sessions.end_to_linger(&rt, 2);
+    bench.begin(&rt, 65);
+    assert!(rt; !bench.is_shut(&rt, 1), "there was room");
+    bench.begin(&rt, 66);
+    assert!(rt; bench.is_shut(&rt, 1), "the next one is cut");
+    assert!(rt; !bench.is_shut(&rt, 2), "one that has ended is not cut");
+    assert!(rt; !bench.is_shut(&rt, 66), "the newest is not cut");
     Ok(())
 }
 
