@@ -1,4 +1,4 @@
-use Rattle.std.proofs.Common.{[], ◌∷◌, List, ℕ, subst}
+use Rattle.std.proofs.Common.{[], List, ℕ, subst}
 use Rattle.std.proofs.lemmas.Result.{err_from_is_err_and}
 use Rattle.pq_session.specs.Script.{StopsWriting}
 use Rattle.std.specs.Prelude.{string_bytes}
