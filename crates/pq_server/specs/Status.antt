@@ -1,7 +1,9 @@
 -- The exit status of `pq_server script`, and its line of standard error: the table of the program.
-use Rattle.std.specs.Prelude.{ℕ, ◌==◌, List, [], ◌∷◌, ◌++◌, codes, if◌then◌else◌, Result, Ok, Err}
+use Rattle.std.specs.Prelude.{ℕ, ◌==◌, List, [], ◌∷◌, ◌++◌, codes, if◌then◌else◌, Option, Some, None, Result, Ok, Err}
 use Rattle.std.specs.declared.io.ErrorKind.{ErrorKind}
 use Rattle.std.specs.declared.io.ErrorKind.TheVariants as io
+use Rattle.clap.specs.declared.error.kind.ErrorKind.{ErrorKind as WordsKind}
+use Rattle.clap.specs.declared.error.kind.ErrorKind.TheVariants as words
 use Rattle.pq_frame.specs.declared.fault.FrameFault.{FrameFault}
 use Rattle.pq_frame.specs.declared.fault.FrameFault.TheVariants as frame
 use Rattle.pq_inputs.specs.declared.fault.InputFault.{InputFault}
@@ -82,6 +84,17 @@ unread_status _ = 64
 abbrev pub unread_line : ErrorKind → List ℕ
 unread_line io.OutOfMemory = line (codes "pq_server: out of memory")
 unread_line _ = line (codes "pq_server: the command line is not UTF-8")
+
+-- `refused_status kind` is the exit status if the words are no command line, by an error of this kind.
+abbrev pub refused_status : WordsKind → ℕ
+refused_status words.OutOfMemory = 5
+refused_status _ = 64
+
+-- `refused_line kind` is the line of standard error if the words are no command line. It is None for
+-- the text of the library that reads command lines.
+abbrev pub refused_line : WordsKind → Option (List ℕ)
+refused_line words.OutOfMemory = Some (line (codes "pq_server: out of memory"))
+refused_line _ = None
 
 -- `start_status fault` is the exit status if the library was not taken.
 abbrev pub start_status : LibraryFault → ℕ

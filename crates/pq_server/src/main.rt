@@ -13,15 +13,16 @@ mod status;
 #[cfg(test)]
 mod tests;
 
+use clap::Error;
 use command::{Task, task_of};
 use library::{no_library, read_library, run_library_script};
 use log::Log;
 use pq_session::Counted;
 use serving::{OpenGate, Size, serve};
-use status::{COMMAND_LINE, START_FAILED, run_script, served, unannounced, unread};
+use status::{START_FAILED, refused, run_script, served, unannounced, unread};
 use std::net::{Ipv4Addr, Net, SocketAddr, TcpListener, TcpStream};
 use std::process::ExitCode;
-use std::rt::{Env, Files};
+use std::rt::{Clock, Env, Files};
 use std::sync::Wait;
 use std::thread::Threads;
 use std::{env, io};
@@ -56,7 +57,7 @@ fn run_on_streams(rt: HostRuntime, library: Option<&str>) -> u8 {
 fn run_on_port<R>(rt: &R, port: u16, dir: Option<&str>, size: Size) -> (u8, &'static str)
 where
     R: Net<Listener = TcpListener, Stream = TcpStream> + Files + Print + AllocGlobal,
-    R: Threads + Wait + Log + Copy + Drop + Send + Sync + 'static,
+    R: Threads + Wait + Clock + Log + Copy + Drop + Send + Sync + 'static,
 {
     let address = SocketAddr::from((Ipv4Addr::LOCALHOST, port));
     let Ok(listener) = TcpListener::bind(rt, address) else {
@@ -72,7 +73,17 @@ where
         None => no_library(rt.alloc()),
         Some(dir) => read_library(rt, dir),
     };
-    served(serve(rt, rt.alloc(), &listener, library, size, &OpenGate))
+    served(serve(rt, rt.alloc(), listener, library, size, &OpenGate))
+}
+
+/// Says on standard error why `clap` refuses the words of the command line. Returns the exit status.
+fn say_refused(rt: &impl Eprint, error: &Error) -> u8 {
+    let (status, line) = refused(error.kind());
+    let _ = match line {
+        Some(line) => eprint!(rt; "{line}"),
+        None => eprint!(rt; "{error}"),
+    };
+    status
 }
 
 /// Runs the command line. A failed write to standard error is ignored, since the status says it.
@@ -89,8 +100,7 @@ fn main(rt: HostRuntime) -> ExitCode {
     let task = match task_of(words.as_slice(), alloc) {
         Ok(task) => task,
         Err(error) => {
-            let _ = eprint!(rt; "{error}");
-            return ExitCode::from(COMMAND_LINE);
+            return ExitCode::from(say_refused(&rt, &error));
         }
     };
     let status = match task {

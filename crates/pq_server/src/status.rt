@@ -12,16 +12,17 @@
 //!
 //! `specs/Status` has this table for the outcomes of a script and for the faults of a library, with
 //! the lines. [`run_script`] and `run_library_script` are proved to follow it.
-ghost use Rattle.std.specs.Prelude.{◌≡◌, ◌+◌, ◌<◌, ◌^◌, ℕ, List, Result, Err};
+ghost use Rattle.std.specs.Prelude.{◌≡◌, ◌+◌, ◌<◌, ◌^◌, ℕ, List, Result, Err, option_map};
 ghost use Rattle.std.specs.Io.KnownBytes.{Appends, Consumes, IsAtEnd};
 ghost use Rattle.pq_session.specs.Counts.{inner_of, failed_of, reads_of};
 ghost use Rattle.pq_session.specs.Responses.{fresh};
 ghost use Rattle.pq_session.specs.Script.{Scripts, IsMemoryAlone, FailsToRead, FailsToWrite};
 ghost use Rattle.pq_session.specs.declared.fault.ScriptFault.{ScriptFault};
 ghost use Rattle.pq_session.specs.declared.fault.ScriptFault.TheVariants.{Write};
-ghost use Rattle.pq_server.specs.Status.{status_of, line_of, frame_line, edit_line, unread_status, unread_line, start_status, start_line, server_line};
+ghost use Rattle.pq_server.specs.Status.{status_of, line_of, frame_line, edit_line, unread_status, unread_line, refused_status, refused_line, start_status, start_line, server_line};
 
 use crate::library::LibraryFault;
+use clap::error;
 use pq_frame::FrameFault;
 use pq_inputs::InputFault;
 use pq_session::{Counted, ScriptFault, UNREADABLE_PARAMETERS, script, write_all};
@@ -52,6 +53,18 @@ pub(crate) fn unread(kind: ErrorKind) -> (u8, &'static str)
     match kind {
         ErrorKind::OutOfMemory => (OUT_OF_MEMORY, "pq_server: out of memory\n"),
         _ => (COMMAND_LINE, "pq_server: the command line is not UTF-8\n"),
+    }
+}
+
+/// The exit status if `clap` refuses the words of the command line by an error of this kind, and the
+/// line of standard error: memory ran out, or `None` for the text of that error.
+pub(crate) fn refused(kind: error::ErrorKind) -> (u8, Option<&'static str>)
+    ensures status { result.0 ≡ refused_status kind }
+    ensures line { option_map (λ line. line.now) result.1 ≡ refused_line kind }
+{
+    match kind {
+        error::ErrorKind::OutOfMemory => (OUT_OF_MEMORY, Some("pq_server: out of memory\n")),
+        _ => (COMMAND_LINE, None),
     }
 }
 

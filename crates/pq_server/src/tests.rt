@@ -1,9 +1,11 @@
 //! Tests of the program: its command line, its statuses, sessions through devices that fail, and
-//! sessions over sockets.
+//! sessions over sockets, with how they end and which connections become one.
 //!
 //! They cover what no contract says. All other tests are rows of `cases/`, or stand in crates of
 //! tests alone.
+mod accepting;
 mod libraries;
+mod lingering;
 mod over_library;
 mod program;
 mod scratch;

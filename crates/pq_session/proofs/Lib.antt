@@ -11,4 +11,5 @@ pub mod TakeLemmas
 pub mod MemoryLemmas
 pub mod PrefixLemmas
 pub mod ScriptLemmas
+pub mod FrameLemmas
 pub mod GatherLemmas

@@ -13,14 +13,14 @@ use Rattle.std.proofs.Transfers.{starts_with_of_append}
 use Rattle.pq_session.specs.Output.{Ending, exits, refused, at_bad_range, Output, Outputs, After, no_output, prefixed, ended, Stopped}
 use Rattle.pq_session.specs.aux.Answered.{Answered}
 use Rattle.std.specs.Prelude.{Err}
-use Rattle.pq_session.specs.Script.{FailsToWrite}
+use Rattle.pq_session.specs.Script.{FailsToWrite, StopsWriting}
 use Rattle.pq_session.specs.aux.Steps.{Refuses, Fails}
 use Rattle.pq_frame.specs.Bodies.{bodies_of}
 use Rattle.pq_session.proofs.Total.{tells_some}
 
 -- ---- an output that begins
 
-starts_rest : (out bytes : List ℕ) → StartsWith bytes out → bytes ≡ out ++ drop (length out) bytes
+pub starts_rest : (out bytes : List ℕ) → StartsWith bytes out → bytes ≡ out ++ drop (length out) bytes
 starts_rest out bytes h = sym (take-append-drop (length out) bytes) ∙ ap (λ (s : List ℕ). s ++ drop (length out) bytes) h
 
 with_bytes : List ℕ → Output → Output
@@ -182,3 +182,14 @@ refused_counts n m body (Frame fault) a h = refl
 refused_counts n m body Cut a h = refl
 refused_counts n m body Read a h = refl
 refused_counts n m body TooManyReads a h = refl
+
+-- a reply that was not written in full
+pub reply_fails : (n m : ScriptState) (body reply out : List ℕ) (fault : ScriptFault) → Responds n body (replies reply) m → StopsWriting (written reply) out fault → Fails n (body ∷ []) out fault
+reply_fails n m body reply out Write h part = one_stopped n m body reply out h part
+reply_fails n m body reply out Memory h none = subst (λ (s : List ℕ). Stopped n (body ∷ []) s) (sym none) (stopped_none n (body ∷ []))
+reply_fails n m body reply out (Edit fault) h part = absurd part
+reply_fails n m body reply out BadRange h part = absurd part
+reply_fails n m body reply out (Frame fault) h part = absurd part
+reply_fails n m body reply out Cut h part = absurd part
+reply_fails n m body reply out Read h part = absurd part
+reply_fails n m body reply out TooManyReads h part = absurd part

@@ -1,6 +1,7 @@
 -- What a script does with its input: the relation between the bytes that were read, the bytes that
 -- were written and the result.
 use Rattle.std.specs.Prelude.{◌≡◌, ◌≢◌, ℕ, ◌≤◌, ◌+◌, ◌⊎◌, List, [], ◌++◌, length, Some, None, Result, Ok, Err}
+use Rattle.std.specs.Io.{StartsWith}
 use Rattle.pq_frame.specs.Frames.{Frames, State, Reading, Failed}
 use Rattle.pq_frame.specs.declared.fault.FrameFault.TheVariants as frame
 use Rattle.pq_inputs.specs.declared.fault.InputFault.TheVariants as input
@@ -64,6 +65,13 @@ IsMemoryAlone _ = Unit {0}
 abbrev pub FailsToWrite : {A : Type 0} → Result A ScriptFault → ℕ → ℕ → Type 0
 FailsToWrite (Err Write) before after = after ≡ before + 1
 FailsToWrite _ before after = after ≡ before
+
+-- `StopsWriting bytes out fault` is that the writing of `bytes` stopped by `fault`, after `out` was
+-- written: a prefix of `bytes` if a call failed, and nothing if an allocation failed.
+abbrev pub StopsWriting : List ℕ → List ℕ → ScriptFault → Type 0
+StopsWriting bytes out Write = StartsWith bytes out
+StopsWriting bytes out Memory = out ≡ []
+StopsWriting bytes out _ = ⊥
 
 -- `FailsToRead result before after` is that the count of the reader's failed calls went from
 -- `before` to `after`: one call failed if `result` is `Read`, and none otherwise.

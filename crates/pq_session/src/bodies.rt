@@ -13,7 +13,7 @@ ghost use Rattle.pq_session.specs.aux.Steps.{Fails, exit_of};
 
 use crate::counted::Counted;
 use crate::fault::ScriptFault;
-use crate::send::send;
+use crate::send::send_frame;
 use crate::state::server_state::{ServerState, Step};
 use std::alloc::Global;
 use std::io::Write;
@@ -39,8 +39,7 @@ fn answer_body<W: Write>(
         Step::Silence => Ok(None),
         Step::Finish(status) => Ok(Some(status)),
         Step::Reply(reply) => {
-            let text = pq_frame::frame(alloc, reply.as_bytes())?;
-            send(writer, &text)?;
+            send_frame(alloc, writer, reply.as_bytes())?;
             Ok(None)
         }
     }

@@ -28,9 +28,10 @@ pub use laws::{
     descriptor_spliced, each_output, stops_at_a_front, symbols_spliced, uris_come_back,
 };
 pub use protocol::answers::reply_text;
+pub use protocol::replies::out_of_memory_text;
 pub use protocol::root::Root;
 pub use run::{MAX_READS, at_end, script, script_over};
-pub use send::write_all;
+pub use send::{write_all, write_frame};
 pub use state::items::Item;
 pub use state::notifications::UNREADABLE_PARAMETERS;
 pub use state::sessions::Session;

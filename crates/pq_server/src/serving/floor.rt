@@ -2,21 +2,40 @@
 //!
 //! They see the hall through a trait, and the hall's rule set through one. So the code that starts
 //! threads is proved for any rule set, without the values of proto3 files.
-use pq_core::{OpenFault, Reply, Stamp};
+ghost use Rattle.std.specs.Prelude.{◌≡◌, Ok, IfOk, OnErr, string_bytes};
+ghost use Rattle.pq_session.specs.Labels.{label_model};
+ghost use Rattle.pq_session.specs.Reply.{out_of_memory_text};
+
+use pq_core::{Label, OpenFault, Reply, Stamp};
 use pq_hall::{BoardName, Client, ClientEnds, Gate, Hall, HallFault, Mark, Moved, OneValue};
 use pq_mail::{MailEnd, PorterEnd, Post, PostEnd, PostFault, Receipt, TakeEnd};
 use pq_proto::{ProtoKey, ProtoRules, ProtoValue};
 use pq_rules::Rules;
-use pq_session::{Root, reply_text};
+use pq_session::{Root, out_of_memory_text, reply_text};
 use std::alloc::{AllocError, Global};
 use std::sync::Wait;
+
+/// `text` or, if an allocation failed for it, the text that says so to the request with this label.
+pub(crate) fn text_or_refusal(
+    alloc: Global,
+    text: Result<String, AllocError>,
+    label: &Label,
+) -> Result<String, AllocError>
+    ensures made { IfOk text (λ made. result ≡ Ok made) }
+    ensures refused { OnErr text (IfOk result (λ said. string_bytes said ≡ out_of_memory_text (label_model label.now))) }
+{
+    match text {
+        Ok(text) => Ok(text),
+        Err(_) => out_of_memory_text(alloc, label),
+    }
+}
 
 /// Why a receipt has no text.
 #[derive(Clone, Copy, Debug, PartialEq, Eq)]
 pub(crate) enum NoText {
     /// The client was closed, and no reply comes.
     Closed,
-    /// An allocation failed.
+    /// An allocation failed, also for the text that says so.
     Memory,
 }
 
@@ -106,7 +125,8 @@ pub(crate) trait Floor<H>: Posting<H, Post: Send, Receipt: Send> + Sync {
     /// why the client was closed.
     fn carry(&self, rt: &H, client: Client, porter: &mut Self::Porter) -> Result<bool, HallFault>;
 
-    /// The text of the reply of `receipt`, for a session with the root `root`.
+    /// The text of the reply of `receipt`, for a session with the root `root`. If an allocation fails
+    /// for it, it is the text that says so.
     fn text(
         &self,
         rt: &H,
@@ -222,8 +242,10 @@ where
         receipt: &Receipt<S::Key>,
         root: &Root,
     ) -> Result<String, NoText> {
-        let reply = self.take_one(rt, client, take, receipt)?;
-        Ok(S::text_of(alloc, root, reply.reply())?)
+        let taken = self.take_one(rt, client, take, receipt)?;
+        let reply = taken.reply();
+        let text = S::text_of(alloc, root, reply);
+        Ok(text_or_refusal(alloc, text, &reply.request().label)?)
     }
 
     fn close(&self, rt: &H, client: Client) {

@@ -1,9 +1,14 @@
 //! The listener: it accepts connections, and starts workers and sessions.
+//!
+//! Its port is open while it accepts. It is closed once the last session was accepted, and when the
+//! port has failed, though sessions still run then.
 ghost use Rattle.std.specs.Prelude.{◌≡◌};
 
 use crate::library::LibraryFault;
+use crate::serving::arrivals::Arrivals;
+use crate::serving::failures::Failures;
 use crate::serving::floor::{Floor, Texts, Works};
-use crate::serving::session::run_session;
+use crate::serving::sessions::Sessions;
 use crate::status::{OUT_OF_MEMORY, START_FAILED, not_started};
 use log::Log;
 use pq_core::{Stamp, Work};
@@ -12,10 +17,11 @@ use pq_inputs::Inputs;
 use pq_proto::ProtoRules;
 use std::alloc::Global;
 use std::marker::Brand;
-use std::net::{TcpListener, TcpStream};
+use std::net::TcpListener;
 use std::sync::Wait;
 use std::thread;
 use std::thread::{Scope, Threads};
+use std::time::Clock;
 
 /// A gate that holds nothing back.
 pub(crate) struct OpenGate;
@@ -36,21 +42,22 @@ pub(crate) struct Size {
 /// Serves the connections of `listener` over the sources of `library`, with the workers and for the
 /// sessions of `size`. Each work passes `gate` before it is carried out.
 ///
-/// A connection beyond the clients that may be open is closed unanswered, and is no session.
+/// A connection beyond the clients that may be open is closed unanswered, and is no session. The port
+/// is closed once the last session was accepted.
 ///
-/// Returns 0 when so many sessions have ended. Returns 4 if no library was read, and if a connection
-/// could not be accepted; then the sessions that run have ended. Returns 5 if an allocation failed
-/// for the hall, or no thread could be started for a worker.
+/// Returns 0 when so many sessions have ended. Returns 4 if no library was read, and if the port has
+/// failed; then the sessions that run have ended. Returns 5 if an allocation failed for the hall, or
+/// no thread could be started for a worker.
 pub(crate) fn serve<R, G>(
     rt: &R,
     alloc: Global,
-    listener: &TcpListener,
+    listener: TcpListener,
     library: Result<Inputs, LibraryFault>,
     size: Size,
     gate: &G,
 ) -> u8
 where
-    R: Threads + Wait + Log + Copy + Drop + Send + Sync + 'static,
+    R: Threads + Wait + Clock + Log + Copy + Drop + Send + Sync + 'static,
     G: Gate<ProtoRules> + Sync,
 {
     let inputs = match library {
@@ -71,7 +78,7 @@ fn serve_in<S, J, R, G>(
     alloc: Global,
     rules: S,
     board: NewBoard,
-    listener: &TcpListener,
+    listener: TcpListener,
     inputs: Inputs,
     size: Size,
     gate: &G,
@@ -82,7 +89,7 @@ where
     S::Value: Send + Sync,
     S::Part: Send,
     J: BoardName + Send + Sync + 'static,
-    R: Threads + Wait + Log + Copy + Drop + Send + Sync + 'static,
+    R: Threads + Wait + Clock + Log + Copy + Drop + Send + Sync + 'static,
     G: Gate<S> + Sync,
     requires { board ≡ J.vector }
 {
@@ -94,20 +101,13 @@ where
 }
 
 /// Starts the workers, serves the sessions, and ends the workers.
-fn run<F, R, G>(
-    rt: &R,
-    alloc: Global,
-    floor: &F,
-    listener: &TcpListener,
-    size: Size,
-    gate: &G,
-) -> u8
+fn run<F, R, G>(rt: &R, alloc: Global, floor: &F, listener: TcpListener, size: Size, gate: &G) -> u8
 where
     F: Floor<R> + Works<G, R>,
-    R: Threads + Wait + Log + Sync,
+    R: Threads + Wait + Clock + Log + Sync,
     G: Sync,
 {
-    thread::scope(thread::scope_env(), rt, |scope| {
+    thread::scope(thread::scope_env(), rt, move |scope| {
         let mut status = 0;
         for _ in 0..size.workers {
             if scope.spawn(move || floor.work_with(rt, gate)).is_err() {
@@ -122,79 +122,62 @@ where
     })
 }
 
-/// Accepts the connections of so many sessions. Returns when these have ended.
+/// Accepts the connections of `count` sessions. Returns when these have ended.
 fn accept_all<F, R>(
     rt: &R,
     alloc: Global,
     floor: &F,
-    listener: &TcpListener,
-    sessions: Option<u32>,
+    listener: TcpListener,
+    count: Option<u32>,
 ) -> u8
 where
     F: Floor<R>,
-    R: Threads + Wait + Log + Sync,
+    R: Threads + Wait + Clock + Log + Sync,
 {
-    thread::scope(thread::scope_env(), rt, |scope| {
-        accept_in(scope, rt, alloc, floor, listener, sessions)
+    let Ok(sessions) = Sessions::new(alloc) else {
+        return OUT_OF_MEMORY;
+    };
+    let sessions = &sessions;
+    thread::scope(thread::scope_env(), rt, move |scope| {
+        accept_in(scope, rt, alloc, floor, listener, sessions, count)
     })
 }
 
-/// Accepts the connections of so many sessions, each with a thread of `scope`.
+/// Accepts the connections of `count` sessions, each with a thread of `scope`. The port is closed when
+/// it returns.
 fn accept_in<'s, E, F, R>(
     scope: &Scope<'s, E>,
     rt: &'s R,
     alloc: Global,
     floor: &'s F,
-    listener: &TcpListener,
-    sessions: Option<u32>,
+    listener: TcpListener,
+    sessions: &'s Sessions,
+    count: Option<u32>,
 ) -> u8
 where
     F: Floor<R>,
     F::Post: 's,
     F::Porter: 's,
     F::Take: 's,
-    R: Threads + Wait + Log + Sync,
+    R: Threads + Wait + Clock + Log + Sync,
 {
-    let mut accepted = 0u32;
+    let mut failures = Failures::new();
+    let mut arrivals = Arrivals::new();
     for stream in listener.incoming() {
-        let Ok(stream) = stream else {
-            return START_FAILED;
-        };
-        if start(scope, rt, alloc, floor, stream) {
-            accepted = accepted.saturating_add(1);
-        }
-        if Some(accepted) == sessions {
-            break;
+        match stream {
+            Ok(stream) => {
+                failures.end_row();
+                arrivals.receive(scope, rt, alloc, floor, sessions, stream);
+                if Some(arrivals.accepted()) == count {
+                    break;
+                }
+            }
+            Err(error) => {
+                if !failures.is_passed(rt, &error, sessions.running()) {
+                    return START_FAILED;
+                }
+            }
         }
     }
     0
-}
-
-/// Opens a client for `stream`, and starts the thread of its session. Returns whether it is one:
-/// otherwise the stream is closed unanswered.
-fn start<'s, E, F, R>(
-    scope: &Scope<'s, E>,
-    rt: &'s R,
-    alloc: Global,
-    floor: &'s F,
-    stream: TcpStream,
-) -> bool
-where
-    F: Floor<R>,
-    F::Post: 's,
-    F::Porter: 's,
-    F::Take: 's,
-    R: Threads + Wait + Log + Sync,
-{
-    let Ok((client, ends)) = floor.join(rt) else {
-        return false;
-    };
-    if scope
-        .spawn(move || run_session(rt, alloc, floor, client, ends, &stream))
-        .is_ok()
-    {
-        return true;
-    }
-    floor.close(rt, client);
-    false
 }

@@ -1,7 +1,11 @@
 //! A session: one client on one connection, served by three threads.
+//!
+//! After its end it lingers: it ends the output, and takes in what its client still sends, for two
+//! seconds at most. `sessions` bounds how many do.
 use crate::serving::floor::{Ends, Floor};
 use crate::serving::porter::carry_all;
 use crate::serving::reader::{Intake, read_all};
+use crate::serving::sessions::{Sessions, SharedStream};
 use crate::serving::writer::write_replies;
 use log::{Log, warn};
 use pq_hall::Client;
@@ -12,34 +16,39 @@ use std::net::{Shutdown, TcpStream};
 use std::sync::Wait;
 use std::thread;
 use std::thread::Threads;
-use std::time::Duration;
+use std::time::{Clock, Duration, Instant};
 
 /// The receipts that may wait for the writer of a session.
 const RECEIPTS: usize = 32;
 
-/// The reads that a session makes at most after its end, to take in what its client still sends.
-const LAST_READS: usize = 64;
+/// How long a session lingers at most, in seconds.
+const LINGERING: u64 = 2;
 
-/// Serves `client` on `stream` until its session ends. The client is closed then. A session that ends
-/// by an error gives one line to the log.
+/// The shortest wait of a read for what the client still sends, in milliseconds.
+const SHORTEST_WAIT: u64 = 1;
+
+/// Serves `client` on `stream` until its session ends. The client is closed then, and the session
+/// lingers. A session that ends by an error gives one line to the log. `sessions` counts it.
 pub(crate) fn run_session<F, H>(
     rt: &H,
     alloc: Global,
     floor: &F,
+    sessions: &Sessions,
     client: Client,
     ends: Ends<F::Post, F::Porter, F::Take>,
-    stream: &TcpStream,
+    stream: SharedStream,
 )
 where
     F: Floor<H>,
-    H: Threads + Wait + Log + Sync,
+    H: Threads + Wait + Clock + Log + Sync,
 {
-    // A reply is written in one piece, and is not to wait for the next one.
+    // A reply is not to wait for the next one.
     let _ = stream.set_nodelay(true);
-    let outcome = run_threads(rt, alloc, floor, client, ends, stream);
+    let outcome = run_threads(rt, alloc, floor, client, ends, &stream);
     floor.close(rt, client);
-    take_leave(stream);
     report(rt, client, outcome);
+    take_leave(rt, sessions, &stream);
+    sessions.end();
 }
 
 /// Reads on this thread, and carries and writes on two others. Returns when all three have ended.
@@ -91,23 +100,47 @@ fn outcome_of(
 }
 
 /// Ends the output, and takes in what the client still sends: a stream that is closed before loses
-/// the replies that the client has not read. It waits for a second at most at each read.
-fn take_leave(stream: &TcpStream) {
+/// the replies that the client has not read. If the clock cannot be read, or an allocation fails, the
+/// stream is closed at once.
+fn take_leave<H: Wait + Clock>(rt: &H, sessions: &Sessions, stream: &SharedStream) {
     let _ = stream.shutdown(Shutdown::Write);
-    if stream
-        .set_read_timeout(Some(Duration::from_secs(1)))
-        .is_err()
-    {
+    let Ok(start) = Instant::now(rt) else {
         return;
-    }
+    };
+    let Some(number) = sessions.begin_to_linger(rt, stream) else {
+        return;
+    };
+    linger(rt, stream, start);
+    sessions.end_to_linger(rt, number);
+}
+
+/// Takes in what the client sends, until the input has ended, or the time since `start` is over.
+fn linger<H: Wait + Clock>(rt: &H, stream: &TcpStream, start: Instant) {
     let mut input = stream;
     let mut buffer = [0u8; 16384];
-    for _ in 0..LAST_READS {
+    for _ in rt.forever() {
+        let Some(left) = time_left(rt, start) else {
+            return;
+        };
+        if stream.set_read_timeout(Some(left)).is_err() {
+            return;
+        }
         match input.read(&mut buffer) {
             Ok(count) if count > 0 => {}
             _ => return,
         }
     }
+}
+
+/// How much longer a session may linger that began to at `start`. `None` if its time is over, and if
+/// the clock cannot be read.
+fn time_left(rt: &impl Clock, start: Instant) -> Option<Duration> {
+    let now = Instant::now(rt).ok()?;
+    let left = Duration::from_secs(LINGERING).checked_sub(now.duration_since(start))?;
+    if left < Duration::from_millis(SHORTEST_WAIT) {
+        return None;
+    }
+    Some(left)
 }
 
 /// Writes the line of a session that ended by an error.

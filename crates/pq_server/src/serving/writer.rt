@@ -2,9 +2,8 @@
 use crate::serving::floor::{Floor, NoText};
 use crate::serving::reader::Owed;
 use crossbeam_channel::Receiver;
-use pq_frame::frame;
 use pq_hall::Client;
-use pq_session::{Counted, ScriptFault, write_all};
+use pq_session::{Counted, ScriptFault, write_frame};
 use std::alloc::Global;
 use std::net::{Shutdown, TcpStream};
 use std::sync::Wait;
@@ -55,11 +54,8 @@ fn write_one<F: Floor<H>, H: Wait>(
         Err(NoText::Closed) => return Err(None),
         Err(NoText::Memory) => return Err(Some(ScriptFault::Memory)),
     };
-    let Ok(bytes) = frame(alloc, text.as_bytes()) else {
-        return Err(Some(ScriptFault::Memory));
-    };
     let mut output = Counted::new(stream);
-    match write_all(&mut output, bytes.as_slice()) {
+    match write_frame(alloc, &mut output, text.as_bytes()) {
         Ok(()) => Ok(()),
         Err(fault) => Err(Some(fault)),
     }

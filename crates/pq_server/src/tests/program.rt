@@ -2,7 +2,8 @@
 use super::support::{check_row_count, check_text, frames, split_row};
 use crate::command::{Task, task_of};
 use crate::library::{LibraryFault, read_library, run_library_script};
-use crate::status::{COMMAND_LINE, line_of, not_started, run_script, status_of, unread};
+use crate::status::{COMMAND_LINE, line_of, not_started, refused, run_script, status_of, unread};
+use clap::error;
 use pq_frame::FrameFault;
 use pq_inputs::InputFault;
 use pq_session::{Counted, Memory, ScriptFault};
@@ -355,4 +356,25 @@ fn words_that_are_not_utf_8(rt: HostRuntime) -> Result<(), Fail> {
         io::ErrorKind::OutOfMemory,
         "5 pq_server: out of memory",
     )
+}
+
+/// Checks the status and the line if `clap` refused the words by an error of `kind`. A dash is the
+/// text of that error.
+fn check_refused(
+    rt: &(impl Abort + AllocGlobal),
+    kind: error::ErrorKind,
+    want: &str,
+) -> Result<(), Fail> {
+    let (status, line) = refused(kind);
+    let found = shown_end(rt.alloc(), status, line.unwrap_or("-").as_bytes())?;
+    check_text(rt, found.as_str(), want, want);
+    Ok(())
+}
+
+#[test]
+fn words_that_are_refused(rt: HostRuntime) -> Result<(), Fail> {
+    let memory = error::ErrorKind::OutOfMemory;
+    check_refused(&rt, memory, "5 pq_server: out of memory")?;
+    check_refused(&rt, error::ErrorKind::UnknownArgument, "64 -")?;
+    check_refused(&rt, error::ErrorKind::DisplayHelp, "64 -")
 }

@@ -97,10 +97,10 @@ const REPLY_NONE: &str =
     r#"< {"error":{"code":-32601,"message":"method not found"},"id":1,"jsonrpc":"2.0"}"#;
 
 /// The end of a session.
-const EXIT: &str = r#"> {"jsonrpc":"2.0","method":"exit"}"#;
+pub(super) const EXIT: &str = r#"> {"jsonrpc":"2.0","method":"exit"}"#;
 
 /// How large the servers of these tests are.
-fn two_workers(sessions: u32) -> Size {
+pub(super) fn two_workers(sessions: u32) -> Size {
     Size {
         workers: 2,
         sessions: Some(sessions),
@@ -108,7 +108,7 @@ fn two_workers(sessions: u32) -> Size {
 }
 
 /// Sends the frames of the rows of a client, and checks that the rows of the server come.
-fn take_turns(rt: &(impl Abort + AllocGlobal), stream: &TcpStream, rows: &str) {
+pub(super) fn take_turns(rt: &(impl Abort + AllocGlobal), stream: &TcpStream, rows: &str) {
     let sent = frames_of(rt, rows, ">").expect(rt, "memory");
     let wanted = frames_of(rt, rows, "<").expect(rt, "memory");
     let mut output = stream;
@@ -129,7 +129,7 @@ fn check_same(rt: &(impl Abort + AllocGlobal), found: &[u8], wanted: &[u8], rows
 }
 
 /// Checks that the server has ended `stream`.
-fn check_ended(rt: &impl Abort, stream: &TcpStream) {
+pub(super) fn check_ended(rt: &impl Abort, stream: &TcpStream) {
     let mut input = stream;
     let mut byte = [0u8; 1];
     match input.read(&mut byte) {
@@ -139,7 +139,7 @@ fn check_ended(rt: &impl Abort, stream: &TcpStream) {
 }
 
 /// A connection whose session has begun.
-fn begun<R>(rt: &R, address: SocketAddr) -> TcpStream
+pub(super) fn begun<R>(rt: &R, address: SocketAddr) -> TcpStream
 where
     R: Abort + AllocGlobal + Net<Listener = TcpListener, Stream = TcpStream>,
 {
@@ -149,7 +149,7 @@ where
 }
 
 /// A session of `rows`.
-fn talk<R>(rt: &R, address: SocketAddr, rows: &str)
+pub(super) fn talk<R>(rt: &R, address: SocketAddr, rows: &str)
 where
     R: Abort + AllocGlobal + Net<Listener = TcpListener, Stream = TcpStream>,
 {
@@ -185,7 +185,7 @@ fn the_stored_session(rt: HostRuntime) -> Result<(), Fail> {
         || serve(
             &rt,
             rt.alloc(),
-            &listener,
+            listener,
             library,
             two_workers(1),
             &OpenGate,
@@ -212,7 +212,7 @@ fn a_library(rt: HostRuntime) -> Result<(), Fail> {
         || serve(
             &rt,
             rt.alloc(),
-            &listener,
+            listener,
             library,
             two_workers(1),
             &OpenGate,
@@ -222,10 +222,11 @@ fn a_library(rt: HostRuntime) -> Result<(), Fail> {
     assert_eq!(rt; status, 0);
     fs::remove_dir_all(&rt, base.as_str())?;
     let library = read_library(&rt, base.as_str());
+    let listener = TcpListener::bind(&rt, "127.0.0.1:0")?;
     let status = serve(
         &rt,
         rt.alloc(),
-        &listener,
+        listener,
         library,
         two_workers(1),
         &OpenGate,
@@ -281,7 +282,7 @@ fn a_refused_edit(rt: HostRuntime) -> Result<(), Fail> {
         || serve(
             &rt,
             rt.alloc(),
-            &listener,
+            listener,
             library,
             two_workers(3),
             &OpenGate,
@@ -327,7 +328,7 @@ fn two_ends(rt: HostRuntime) -> Result<(), Fail> {
         || serve(
             &rt,
             rt.alloc(),
-            &listener,
+            listener,
             library,
             two_workers(2),
             &OpenGate,
@@ -339,7 +340,7 @@ fn two_ends(rt: HostRuntime) -> Result<(), Fail> {
 }
 
 /// Connections of `count` clients, whose sessions have begun.
-fn begun_often<R>(rt: &R, address: SocketAddr, count: usize) -> Vec<TcpStream>
+pub(super) fn begun_often<R>(rt: &R, address: SocketAddr, count: usize) -> Vec<TcpStream>
 where
     R: Abort + AllocGlobal + Net<Listener = TcpListener, Stream = TcpStream>,
 {
@@ -377,7 +378,7 @@ fn one_client_too_many(rt: HostRuntime) -> Result<(), Fail> {
         || serve(
             &rt,
             rt.alloc(),
-            &listener,
+            listener,
             library,
             two_workers(65),
             &OpenGate,
@@ -473,7 +474,7 @@ fn two_clients(rt: HostRuntime) -> Result<(), Fail> {
     };
     let (status, ()) = thread::join(
         &rt,
-        || serve(&rt, rt.alloc(), &listener, library, two_workers(3), &gate),
+        || serve(&rt, rt.alloc(), listener, library, two_workers(3), &gate),
         || one_is_held(&rt, address, &gate),
     );
     assert_eq!(rt; status, 0);

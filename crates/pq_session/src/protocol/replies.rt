@@ -5,7 +5,7 @@ ghost use Rattle.serde_json.specs.Written.{has_float};
 ghost use Rattle.serde_json.specs.Data.{null};
 ghost use Rattle.pq_frame.specs.Labels.{label_data};
 ghost use Rattle.pq_session.specs.Labels.{label_model};
-ghost use Rattle.pq_session.specs.Reply.{error_code, error_message, error_data, cancelled_data, reply_data, initialized_data, refusal_text as text_of_refusal, cancelled_text as text_of_cancelled, initialized_text as text_of_initialized, null_text as text_of_null};
+ghost use Rattle.pq_session.specs.Reply.{error_code, error_message, error_data, cancelled_data, reply_data, initialized_data, refusal_text as text_of_refusal, out_of_memory_text as text_of_out_of_memory, cancelled_text as text_of_cancelled, initialized_text as text_of_initialized, null_text as text_of_null};
 
 use crate::protocol::refusals::Refusal;
 use pq_core::Label;
@@ -97,6 +97,14 @@ pub(crate) fn refusal_text(
     ensures { IfOk result (λ s. string_bytes s ≡ text_of_refusal (label_model label.now) refusal) }
 {
     error_value(alloc, label, refusal)?.to_string(alloc)
+}
+
+/// The response to a request after an allocation failure: the error -32603 (JSON-RPC 2.0, "Error
+/// object"). Only `Memory` is an error, after an allocation failure of its own.
+pub fn out_of_memory_text(alloc: Global, label: &Label) -> Result<String, AllocError>
+    ensures { IfOk result (λ s. string_bytes s ≡ text_of_out_of_memory (label_model label.now)) }
+{
+    refusal_text(alloc, label, Refusal::OutOfMemory)
 }
 
 /// The response to `initialize` (LSP 3.17, "InitializeResult").
