@@ -1,19 +1,19 @@
 //! A thousand files, each of which imports the next, and the last the first: by `compile`, by an
 //! engine, and by two runs of a core that are looked at in turns.
 //!
-//! Each file is on the ring, so its one diagnostic is P105, at its import. The text has the names of
-//! the ring from the least on, and that name again.
+//! Each file is on the ring, so its one diagnostic is P105, at its import. The text has the names
+//! of the ring from the least on, and that name again.
 use crate::checks::{check_page, check_pages, check_that, text_of};
 use crate::edits::add_diagnostic;
 use crate::sets::inputs_of;
 use pq_core::{
-    ClientId, Core, Label, ListOutbox, LookFault, Move, Outcome, PlainStamp, Released, Reply,
-    Request, RunId, Want,
+    ClientId, Core, Done, GiveRefused, Label, ListOutbox, LookFault, Move, Outcome, PlainStamp,
+    Released, Reply, Request, RunId, Want, Work,
 };
 use pq_inputs::Inputs;
 use pq_memo::Engine;
 use pq_proto::{ProtoKey, ProtoRules, ProtoValue, compile};
-use pq_rules::{Answer, Text};
+use pq_rules::{Answer, Rules, Text};
 use std::alloc::Global;
 use std::process::Abort;
 use test_support::Page;
@@ -109,7 +109,7 @@ trait Runs {
     /// Accepts a request of the client 0, and starts it. Writes the number of its run.
     fn asked(&mut self, page: &mut Page, key: ProtoKey);
 
-    /// Takes a step of `run`. Writes that it waits for another run, or that it is answered.
+    /// Takes a step of `run`. Writes that it waits for a run, or how it ended.
     fn stepped(&mut self, page: &mut Page, run: RunId);
 
     /// Puts the next reply to the client 0. Returns whether there was one.
@@ -142,15 +142,10 @@ impl Runs for RingCore {
     fn stepped(&mut self, page: &mut Page, run: RunId) {
         match self.look(page.alloc, run) {
             Ok(Move::Carry(work)) => match work.carry_out(page.alloc) {
-                Ok(done) => add_given(page, self.give(page.alloc, run, done).is_ok()),
+                Ok(done) => add_given(page, self.give(page.alloc, run, done)),
                 Err(_) => page.cut(),
             },
-            Ok(Move::Blocked(other)) => add_wait(page, run, other),
-            Ok(Move::Stepped) => {}
-            Ok(Move::Answered) => page.add("answered;"),
-            Ok(Move::Stopped) => page.add("stopped;"),
-            Err(LookFault::NoRun) => {}
-            Err(LookFault::Memory) => page.cut(),
+            other => add_look(page, other),
         }
     }
 
@@ -174,18 +169,44 @@ fn client() -> ClientId {
     ClientId::new(0)
 }
 
-/// Writes that a result was refused.
-fn add_given(page: &mut Page, is_taken: bool) {
-    if !is_taken {
-        page.add("refused;");
+/// Writes what a step came to: that the run waits for a run, or how it ended.
+fn add_move<R: Rules<Key = ProtoKey, Value = ProtoValue>>(
+    page: &mut Page,
+    step: &Move<Work<R, PlainStamp>>,
+) {
+    match step {
+        Move::Carry(_work) => {}
+        Move::Blocked(run) => {
+            page.add("waits for ");
+            page.wide(run.number());
+            page.add(";");
+        }
+        Move::Stepped => {}
+        Move::Answered => page.add("answered;"),
+        Move::Stopped => page.add("stopped;"),
     }
 }
 
-/// Writes that `run` waits for `other`, if that is another run.
-fn add_wait(page: &mut Page, run: RunId, other: RunId) {
-    if run != other {
-        page.wide(run.number());
-        page.add(" waits;");
+/// Writes what a look came to. A run that is over is passed over.
+fn add_look<R: Rules<Key = ProtoKey, Value = ProtoValue>>(
+    page: &mut Page,
+    answer: Result<Move<Work<R, PlainStamp>>, LookFault>,
+) {
+    match answer {
+        Ok(step) => add_move(page, &step),
+        Err(LookFault::NoRun) => {}
+        Err(LookFault::Memory) => page.cut(),
+    }
+}
+
+/// Writes what the giving of a result came to.
+fn add_given<R: Rules<Key = ProtoKey, Value = ProtoValue>>(
+    page: &mut Page,
+    answer: Result<Move<Work<R, PlainStamp>>, GiveRefused<Done<R, PlainStamp>>>,
+) {
+    match answer {
+        Ok(step) => add_move(page, &step),
+        Err(_refused) => page.add("refused;"),
     }
 }
 
@@ -230,9 +251,7 @@ fn check_file<A: Answering>(rt: &(impl Abort + AllocGlobal), answering: &mut A, 
 
 #[test]
 fn a_long_ring_is_compiled(rt: HostRuntime) {
-    let mut inputs = ring(&rt);
-    check_file(&rt, &mut inputs, "f0500.proto");
-    check_file(&rt, &mut inputs, "f0000.proto");
+    check_file(&rt, &mut ring(&rt), "f0500.proto");
 }
 
 #[test]
@@ -253,8 +272,8 @@ fn turns<C: Runs>(page: &mut Page, core: &mut C) {
     }
 }
 
-/// Checks the replies to two requests, whose runs are looked at in turns. Each run meets the keys of
-/// the other one on the ring.
+/// Checks the replies to two requests, whose runs are looked at in turns. Run 0 needs a key of run 1
+/// first. Then run 1 needs one of run 0, which closes the ring for both.
 fn check_runs<C: Runs>(rt: &(impl Abort + AllocGlobal), core: &mut C) {
     check_that(rt, core.opened(rt.alloc()), "a client");
     let mut runs = Page::new(rt.alloc());
@@ -263,7 +282,7 @@ fn check_runs<C: Runs>(rt: &(impl Abort + AllocGlobal), core: &mut C) {
     check_page(rt, &runs, "01", "two runs");
     let mut ends = Page::new(rt.alloc());
     turns(&mut ends, core);
-    check_page(rt, &ends, "0 waits;answered;answered;", "turns");
+    check_page(rt, &ends, "waits for 1;answered;answered;", "turns");
     check_that(rt, core.released() && core.released(), "two replies");
     let mut found = Page::new(rt.alloc());
     core.closed(&mut found);

@@ -1,4 +1,4 @@
-//! pq_session, call by call: cut sessions, devices that fail, the texts of replies, the longest text.
+//! pq_session, call by call: cut sessions, devices that fail, texts of replies, the longest text.
 mod cuts;
 mod devices;
 mod longest;

@@ -1,7 +1,7 @@
 //! Scripts over the stored session that is cut at each place, read as it comes and byte by byte.
 //!
-//! The session is `examples/first_session.in`, byte for byte. A row is `BODY => REPLY`, `-` if there
-//! is none. What is written after a cut are the replies to the messages that are whole before it.
+//! The session is `examples/first_session.in`, byte for byte. A row is `BODY => REPLY`, `-` if
+//! there is none. Written are the replies to the messages that are whole before the cut.
 use super::check_outcome;
 use super::longest::add_frame;
 use crate::checks::{check_number, check_pages, text_of};
@@ -97,10 +97,11 @@ fn check_cuts(rt: &(impl Abort + AllocGlobal), most: usize) {
     add_session(&mut session);
     check_number(rt, session.len(), 550, "the length of the session");
     let bytes = text_of(rt, &session).as_bytes();
-    for cut in 0..bytes.len() + 1 {
+    for cut in 0..bytes.len() {
         let (sent, _rest) = bytes.split_at(cut);
         check_cut(rt, sent, most);
     }
+    check_cut(rt, bytes, most);
 }
 
 // Where a cut is between two frames, the script ends as a client ends that sends no `exit`.

@@ -1,8 +1,8 @@
 //! A client that goes away after each line of its script, while another one stays.
 //!
-//! Client 0 makes the first lines of its script, and goes away. Client 1 makes its lines then, which are
-//! one text for all rows: its replies are those of a run in which client 0 stays. In this text `%` is
-//! the revision, which counts the edits that were carried.
+//! Client 0 makes the first lines of its script, and goes away. Client 1 makes its lines then, which
+//! are one text for all rows: its replies are those of a run in which client 0 stays. In this text
+//! `%` is the revision, which counts the edits that were carried.
 use crate::checks::text_of;
 use crate::halls::check_both;
 use std::process::Abort;
@@ -11,8 +11,8 @@ use std::thread::Threads;
 use std::time::Clock;
 use test_support::Page;
 
-/// The lines of client 0: a reply at once, an edit, a run, and a run whose work is held, with two more
-/// requests of its key behind it. An edit overtakes the run, and a withdrawal ends it.
+/// The lines of client 0: a reply at once, an edit, a run, and a run whose work is held, with two
+/// more requests of its key behind it. An edit overtakes the run, and a withdrawal ends it.
 const GOES: &str = r#"say 0 {"id":0,"jsonrpc":"2.0","method":"initialize","params":{}} => 0
 carry 0 - => accepted 0
 take 0 - => 0 at 0 plain
@@ -33,9 +33,9 @@ carry 0 - => withdrew
 end 0 - => 5
 carry 0 - => ended"#;
 
-/// How client 0 goes away: each line is a way, in which `|` is a line feed. By the first it stays. By the
-/// next ones it gives up the end whose posts are carried, gives up the end that takes, and is closed. By
-/// the last it does all three. 64 clients can be open, and three joined before.
+/// How client 0 goes away: each line is a way, in which `|` is a line feed. By the first it stays.
+/// By the next ones it gives up the end whose posts are carried, gives up the end that takes, and is
+/// closed. By the last it does all three. 64 clients can be open, and three joined before.
 const WAYS: &str = "\
     crowd 70 => 61|\n\
     drop 0 - => dropped|ask 0 b.proto => nobody carries the posts|\n\
