@@ -272,8 +272,8 @@ fn turns<C: Runs>(page: &mut Page, core: &mut C) {
     }
 }
 
-/// Checks the replies to two requests, whose runs are looked at in turns. Run 0 needs a key of run 1
-/// first. Then run 1 needs one of run 0, which closes the ring for both.
+/// Checks the replies to two requests, whose runs are looked at in turns. Run 0 needs a key of run
+/// 1 first. Then run 1 needs one of run 0, which closes the ring for both.
 fn check_runs<C: Runs>(rt: &(impl Abort + AllocGlobal), core: &mut C) {
     check_that(rt, core.opened(rt.alloc()), "a client");
     let mut runs = Page::new(rt.alloc());

@@ -1,6 +1,6 @@
 //! A client that goes away after each line of its script, while another one stays.
 //!
-//! Client 0 makes the first lines of its script, and goes away. Client 1 makes its lines then, which
+//! Client 0 makes the first lines of its script, and goes away. Client 1 makes its lines then. They
 //! are one text for all rows: its replies are those of a run in which client 0 stays. In this text
 //! `%` is the revision, which counts the edits that were carried.
 use crate::checks::text_of;
@@ -34,8 +34,8 @@ end 0 - => 5
 carry 0 - => ended"#;
 
 /// How client 0 goes away: each line is a way, in which `|` is a line feed. By the first it stays.
-/// By the next ones it gives up the end whose posts are carried, gives up the end that takes, and is
-/// closed. By the last it does all three. 64 clients can be open, and three joined before.
+/// By the next ones it gives up the end whose posts are carried, gives up the end that takes, and
+/// is closed. By the last it does all three. 64 clients can be open, and three joined before.
 const WAYS: &str = "\
     crowd 70 => 61|\n\
     drop 0 - => dropped|ask 0 b.proto => nobody carries the posts|\n\
