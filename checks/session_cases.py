@@ -193,22 +193,23 @@ def marks_of(top):
     return dict(row.text.split(" ", 1) for row in rows_of(top, MARKS))
 
 
-def repeated(text):
-    """`text` with each `<<COUNT*PART>>` replaced by PART, COUNT times."""
-    return re.sub(r"<<(\d+)\*(.*?)>>", lambda found: found[2] * int(found[1]), text)
+def spelled(text):
+    """The bytes of a text, in which `<<COUNT*PART>>` is PART, COUNT times, and `<<HH HH ..>>` the bytes with those hex digits."""
+    text = re.sub(r"<<(\d+)\*(.*?)>>", lambda found: found[2] * int(found[1]), text)
+    pieces = re.split(r"<<((?:[0-9a-f]{2} )*[0-9a-f]{2})>>", text)
+    return b"".join(bytes.fromhex(piece) if at % 2 else piece.encode() for at, piece in enumerate(pieces))
 
 
 def frame(body):
-    """The frame of a body."""
-    body = body.encode()
+    """The frame of a body, which is bytes."""
     return b"Content-Length: %d\r\n\r\n%s" % (len(body), body)
 
 
 def bytes_of(line, marks):
     """The bytes of a line after its first character: a frame after a blank, bytes where `|` is CR LF after `| `."""
     if line[1:3] == "| ":
-        return repeated(line[3:].replace("|", "\r\n")).encode()
-    return frame(repeated(marks.get(line[2:], line[2:])))
+        return spelled(line[3:].replace("|", "\r\n"))
+    return frame(spelled(marks.get(line[2:], line[2:])))
 
 
 def session_of(name, row, replies, lines, marks):

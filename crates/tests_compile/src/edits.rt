@@ -121,7 +121,7 @@ fn add_start(page: &mut Page, start: &Carried<ProtoKey>) {
 }
 
 /// Writes `diagnostic`, in one line of `file`, as `CODE LINE:FIRST-END ` in UTF-16 columns.
-fn add_diagnostic(page: &mut Page, file: &ParsedFile, diagnostic: &Diagnostic) {
+pub(crate) fn add_diagnostic(page: &mut Page, file: &ParsedFile, diagnostic: &Diagnostic) {
     let start = position_in(file, diagnostic.start);
     page.add(diagnostic.code.as_str());
     page.add(" ");

@@ -6,8 +6,9 @@
 //!
 //! Modules: `checks` (what tests assert), `schema` (links, definitions and references of small sets
 //! of files), `sets` (small sets of files), `keys` (the answer of each key), `edits` (demands
-//! between edits), `session` (devices that fail and replies, call by call). Random sets and random
-//! edits are in `checks/random_models/`.
+//! between edits), `ring` (a thousand files that import one another), `session` (cut sessions,
+//! devices that fail and replies, call by call). Random sets and random edits are in
+//! `checks/random_models/`.
 #![tactic(auto)]
 
 #[cfg(test)]
@@ -16,6 +17,8 @@ mod checks;
 mod edits;
 #[cfg(test)]
 mod keys;
+#[cfg(test)]
+mod ring;
 #[cfg(test)]
 mod schema;
 #[cfg(test)]

@@ -1,4 +1,5 @@
-//! pq_session, call by call: devices that fail, the texts of replies, and the longest text.
+//! pq_session, call by call: cut sessions, devices that fail, texts of replies, the longest text.
+mod cuts;
 mod devices;
 mod longest;
 mod replies;

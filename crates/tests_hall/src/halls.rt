@@ -20,10 +20,11 @@
 //!
 //! Modules: `answers` (what a hall answers, as text), `calls` (the calls, row by row), `gate` (the gate,
 //! and what threads wait for), `guests` (the clients), `stage` (halls, as a script sees them). Of rows:
-//! `closings` (hall and clients that end), `edits`, `numbers` (what each client gets), `requests`,
-//! `stored` (the stored session), `windows` (clients that owe many replies), `workers` (what goes on while
-//! work is held).
+//! `away` (a client that goes away at each line), `closings` (hall and clients that end), `edits`,
+//! `numbers` (what each client gets), `requests`, `stored` (the stored session), `windows` (clients
+//! that owe many replies), `workers` (what goes on while work is held).
 mod answers;
+mod away;
 mod calls;
 mod closings;
 mod edits;

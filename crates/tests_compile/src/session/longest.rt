@@ -28,7 +28,7 @@ const OPEN: &str =
     r#"{"jsonrpc":"2.0","method":"textDocument/didOpen","params":{"textDocument":{"uri":"file:///a.proto","text":""#;
 
 /// Writes the frame of `body`.
-fn add_frame(page: &mut Page, body: &str) {
+pub(super) fn add_frame(page: &mut Page, body: &str) {
     match frame(page.alloc, body.as_bytes()) {
         Ok(bytes) => page.bytes(bytes.as_slice()),
         Err(_) => page.cut(),
