@@ -95,19 +95,29 @@ impl Answering for Engine<ProtoRules> {
     }
 }
 
-/// A reply to a request of diagnostics.
-type RingReply = Reply<ProtoKey, ProtoValue, PlainStamp>;
+/// A rule set whose answers can be written. What holds a core is proved for any such rule set,
+/// without the values of proto3 files.
+trait Shown: Rules {
+    /// Writes an answer.
+    fn add(page: &mut Page, answer: &Answer<Self::Key, Self::Value>);
+}
 
-/// A core with the files.
-type RingCore = Core<ProtoRules, PlainStamp, ListOutbox<ProtoKey, ProtoValue, PlainStamp>>;
+impl Shown for ProtoRules {
+    fn add(page: &mut Page, answer: &Answer<ProtoKey, ProtoValue>) {
+        add_answer(page, answer);
+    }
+}
 
-/// The calls of a core. Only these short methods hold one.
-trait Runs {
+/// An outbox of replies by the rules `R`.
+type Outbox<R> = ListOutbox<<R as Rules>::Key, <R as Rules>::Value, PlainStamp>;
+
+/// The calls of a core with keys of the type `K`. Only these short methods hold a core.
+trait Runs<K> {
     /// Opens a client, with room for two replies. Returns whether it could be opened.
     fn opened(&mut self, alloc: Global) -> bool;
 
     /// Accepts a request of the client 0, and starts it. Writes the number of its run.
-    fn asked(&mut self, page: &mut Page, key: ProtoKey);
+    fn asked(&mut self, page: &mut Page, key: K);
 
     /// Takes a step of `run`. Writes that it waits for a run, or how it ended.
     fn stepped(&mut self, page: &mut Page, run: RunId);
@@ -119,7 +129,7 @@ trait Runs {
     fn closed(&mut self, page: &mut Page);
 }
 
-impl Runs for RingCore {
+impl<R: Shown> Runs<R::Key> for Core<R, PlainStamp, Outbox<R>> {
     fn opened(&mut self, alloc: Global) -> bool {
         match ListOutbox::new(alloc, 2) {
             Ok(outbox) => self.open_client(alloc, outbox).is_ok(),
@@ -127,7 +137,7 @@ impl Runs for RingCore {
         }
     }
 
-    fn asked(&mut self, page: &mut Page, key: ProtoKey) {
+    fn asked(&mut self, page: &mut Page, key: R::Key) {
         let label = Label::None;
         let want = Want::Demand(key);
         if self.accept(client(), Request { label, want }).is_err() {
@@ -158,7 +168,7 @@ impl Runs for RingCore {
 
     fn closed(&mut self, page: &mut Page) {
         match self.close_client(client()) {
-            Some(outbox) => add_replies(page, outbox),
+            Some(outbox) => add_replies::<R>(page, outbox),
             None => page.add("no client"),
         }
     }
@@ -170,10 +180,7 @@ fn client() -> ClientId {
 }
 
 /// Writes what a step came to: that the run waits for a run, or how it ended.
-fn add_move<R: Rules<Key = ProtoKey, Value = ProtoValue>>(
-    page: &mut Page,
-    step: &Move<Work<R, PlainStamp>>,
-) {
+fn add_move<R: Rules>(page: &mut Page, step: &Move<Work<R, PlainStamp>>) {
     match step {
         Move::Carry(_work) => {}
         Move::Blocked(run) => {
@@ -188,10 +195,7 @@ fn add_move<R: Rules<Key = ProtoKey, Value = ProtoValue>>(
 }
 
 /// Writes what a look came to. A run that is over is passed over.
-fn add_look<R: Rules<Key = ProtoKey, Value = ProtoValue>>(
-    page: &mut Page,
-    answer: Result<Move<Work<R, PlainStamp>>, LookFault>,
-) {
+fn add_look<R: Rules>(page: &mut Page, answer: Result<Move<Work<R, PlainStamp>>, LookFault>) {
     match answer {
         Ok(step) => add_move(page, &step),
         Err(LookFault::NoRun) => {}
@@ -200,7 +204,7 @@ fn add_look<R: Rules<Key = ProtoKey, Value = ProtoValue>>(
 }
 
 /// Writes what the giving of a result came to.
-fn add_given<R: Rules<Key = ProtoKey, Value = ProtoValue>>(
+fn add_given<R: Rules>(
     page: &mut Page,
     answer: Result<Move<Work<R, PlainStamp>>, GiveRefused<Done<R, PlainStamp>>>,
 ) {
@@ -211,20 +215,20 @@ fn add_given<R: Rules<Key = ProtoKey, Value = ProtoValue>>(
 }
 
 /// Writes a reply as `NUMBER DIAGNOSTICS`.
-fn add_reply(page: &mut Page, reply: &RingReply) {
+fn add_reply<R: Shown>(page: &mut Page, reply: &Reply<R::Key, R::Value, PlainStamp>) {
     page.wide(reply.number().number());
     page.add(" ");
     match reply.outcome() {
-        Outcome::Answered(answer, _stamp) => add_answer(page, answer.get()),
+        Outcome::Answered(answer, _stamp) => R::add(page, answer.get()),
         _ => page.add("another outcome"),
     }
 }
 
 /// Writes the replies of an outbox.
-fn add_replies(page: &mut Page, outbox: ListOutbox<ProtoKey, ProtoValue, PlainStamp>) {
+fn add_replies<R: Shown>(page: &mut Page, outbox: Outbox<R>) {
     let (replies, _taken) = outbox.into_parts();
     for reply in &replies {
-        add_reply(page, reply);
+        add_reply::<R>(page, reply);
     }
 }
 
@@ -262,7 +266,7 @@ fn a_long_ring_is_demanded(rt: HostRuntime) {
 }
 
 /// Takes steps of the runs 0 and 1 in turns, and writes what they come to, until both are over.
-fn turns<C: Runs>(page: &mut Page, core: &mut C) {
+fn turns<C: Runs<ProtoKey>>(page: &mut Page, core: &mut C) {
     for _ in 0..MOST_ROUNDS {
         core.stepped(page, RunId::new(0));
         core.stepped(page, RunId::new(1));
@@ -274,7 +278,7 @@ fn turns<C: Runs>(page: &mut Page, core: &mut C) {
 
 /// Checks the replies to two requests, whose runs are looked at in turns. Run 0 needs a key of run
 /// 1 first. Then run 1 needs one of run 0, which closes the ring for both.
-fn check_runs<C: Runs>(rt: &(impl Abort + AllocGlobal), core: &mut C) {
+fn check_runs<C: Runs<ProtoKey>>(rt: &(impl Abort + AllocGlobal), core: &mut C) {
     check_that(rt, core.opened(rt.alloc()), "a client");
     let mut runs = Page::new(rt.alloc());
     core.asked(&mut runs, diagnostics(rt, "f0500.proto"));
@@ -298,6 +302,11 @@ fn check_runs<C: Runs>(rt: &(impl Abort + AllocGlobal), core: &mut C) {
 fn a_long_ring_is_met_by_two_runs(rt: HostRuntime) {
     let inputs = ring(&rt);
     let stamp = PlainStamp::of(rt.alloc(), &inputs).expect(&rt, "memory");
-    let mut core: RingCore = Core::new(rt.alloc(), ProtoRules, inputs, stamp);
+    let mut core: Core<ProtoRules, PlainStamp, Outbox<ProtoRules>> = Core::new(
+        rt.alloc(),
+        ProtoRules,
+        inputs,
+        stamp,
+    );
     check_runs(&rt, &mut core);
 }
