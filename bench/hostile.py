@@ -23,6 +23,7 @@ import multiprocessing
 import os
 import socket
 import sys
+import threading
 import time
 
 import files
@@ -44,9 +45,12 @@ def middle(times):
 
 
 def served(words, workers, *before):
-    """A server with the limits of the launcher, begun by the words of `before`."""
+    """A server with the limits of the launcher, begun by the words of `before`. What it prints as errors is read all along: a
+    server whose lines are not read would wait for that."""
     os.environ["PQ_SERVER_MEMORY"] = str(words.memory)
-    return Server(words.program, workers, before=list(before) + [LIMITED])
+    server = Server(words.program, workers, before=list(before) + [LIMITED])
+    threading.Thread(target=server.process.stderr.read, daemon=True).start()
+    return server
 
 
 def honest(port, name, start, stop, sink):
@@ -125,6 +129,18 @@ def outcome(client, data):
     return "refused" if b'"code":-32603,' in begun[:200] else "a reply of %.0f MB" % (length / 1e6)
 
 
+def asked_dear(port, fields):
+    """What a client gets that opens a text of so many equal fields, and asks for its diagnostics."""
+    client = Connection(port)
+    try:
+        client.begin(opened("hostile.proto", dear_text(fields)))
+    except (OSError, EOFError):
+        return "closed"
+    found = outcome(client, diagnosed("dear", "hostile.proto"))
+    client.socket.close()
+    return found
+
+
 def closed():
     raise EOFError("the server closed the connection")
 
@@ -153,10 +169,7 @@ def reply_part(words):
     with Beside(server.port) as beside:
         found = []
         for fields in (60_000, 78_000, 60_000):
-            client = Connection(server.port)
-            client.begin(opened("hostile.proto", dear_text(fields)))
-            found.append("%.1f GB: " % (fields * 50e-6) + outcome(client, diagnosed("dear", "hostile.proto")))
-            client.socket.close()
+            found.append("%.1f GB: " % (fields * 50e-6) + asked_dear(server.port, fields))
     after = settled(server, server.port)
     server.stop()
     print("reply: %s; the server has %.0f MB after it and had %.0f before (%d allowed)" % ("; ".join(found), after, before, KEPT))
