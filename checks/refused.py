@@ -196,7 +196,7 @@ def sessions(library, program, folder, mode):
     environment = dict(os.environ, LD_PRELOAD=library, REFUSE_RECORDS=path, REFUSE_INPUT=given)
     if mode:
         environment["REFUSE_MODE"] = mode
-    ends, count, bad = collections.Counter(), 0, 0
+    ends, count, bad = collections.Counter(), 0, collections.defaultdict(list)
     for name, session in stored():
         with open(given, "wb") as it:
             it.write(session)
@@ -209,9 +209,10 @@ def sessions(library, program, folder, mode):
             ends["status %d" % it.status] += 1
             ends["with -32603"] += it.out.count(b'"code":-32603') > runs[-1].out.count(b'"code":-32603')
             if wrong:
-                bad += 1
-                print("%s: growth %d: %s" % (name, it.n, wrong))
-    print("%d sessions, %s, %d wrong" % (count, ", ".join("%s: %d" % it for it in sorted(ends.items())), bad))
+                bad[wrong].append("growth %d of %s" % (it.n, name))
+    for wrong, places in bad.items():
+        print("%d runs, as %s: %s" % (len(places), ", ".join(places[:3]), wrong))
+    print("%d sessions, %s" % (count, ", ".join("%s: %d" % it for it in sorted(ends.items()))))
     return not bad and count > 0
 
 
