@@ -9,7 +9,7 @@ the middle and the longest wait for a reply, how many replies were the error -32
     body        bodies of 16 MiB of small JSON objects, and the server's memory after them
     short       1,320 connections that send two bytes, which end the session by an error, and stay open
     drip        70 such connections that go on to send a byte each 0.2 seconds
-    files       400 connections to a server that may open 256 files
+    files       400 connections to a server that may open 48 files
     crowd       connections beyond the 64 that may be open
     turns       one worker: 30 dear requests of one client, and then a small one of another
     held        two workers: the same, with a dear request for each worker before the small one comes
@@ -238,7 +238,7 @@ def drip_part(words):
 
 
 def files_part(words):
-    server = served(words, 2, "sh", "-c", 'ulimit -n 256; exec "$@"', "sh")
+    server = served(words, 2, "sh", "-c", 'ulimit -n 48; exec "$@"', "sh")
     with Beside(server.port) as beside:
         held = []
         for _ in range(400):
@@ -252,7 +252,7 @@ def files_part(words):
     client.begin()
     client.end()
     server.stop()
-    print("files: 400 connections to a server that may open 256 files: it serves a client after them")
+    print("files: 400 connections to a server that may open 48 files: it serves a client after them")
     return beside.says("files", BUSY)
 
 
