@@ -297,20 +297,21 @@ def dear_asked(words, workers, small_after):
     return wait, each
 
 
-def turns_part(words):
-    wait, each = dear_asked(words, 1, 0.02)
+def waits_for_two(words, title, workers):
+    """Whether a small request waits for at most two dear ones of another client. Prints the times."""
+    wait, each = dear_asked(words, workers, 0.02)
     good = wait <= 2.5 * each
-    print("turns: 1 worker, 30 requests of %.0f ms of another client: a small request waits %.0f ms (two of them allowed)%s"
-          % (each * 1e3, wait * 1e3, "" if good else "  <- past its limit"), flush=True)
+    print("%s: %d workers, 30 requests of %.0f ms of another client: a small request waits %.0f ms (two of them allowed)%s"
+          % (title, workers, each * 1e3, wait * 1e3, "" if good else "  <- past its limit"), flush=True)
     return good
+
+
+def turns_part(words):
+    return waits_for_two(words, "turns", 1)
 
 
 def held_part(words):
-    wait, each = dear_asked(words, 2, 0.02)
-    good = wait <= 2.5 * each
-    print("held: 2 workers, 30 requests of %.0f ms of another client: a small request waits %.0f ms (two of them allowed)%s"
-          % (each * 1e3, wait * 1e3, "" if good else "  <- past its limit"), flush=True)
-    return good
+    return waits_for_two(words, "held", 2)
 
 
 PARTS = [("reply", reply_part), ("body", body_part), ("short", short_part), ("drip", drip_part), ("files", files_part),
