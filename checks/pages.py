@@ -28,9 +28,9 @@ import reach
 RE_EXPORTED = {"Memory", "RunId", "Text", "Shared", "Items"}
 HANDLES = {"pq_mail", "pq_hall", "pq_server"}
 HANDLE = re.compile(r"\b(?:std::thread|std::net|Mutex|RwLock|Condvar|mpsc|TcpListener|TcpStream)\b")
-TESTS = re.compile(r"^(?:test_support|stored_sessions|refused|tests_\w+)$")
+TESTS = re.compile(r"^(?:test_support|stored_sessions|tests_\w+)$")
 # These come and go: crates of tests, rows of cases, lists of wrong bodies.
-OPTIONAL = re.compile(r"^(?:cases/|checks/edits/|crates/(?:test_support|stored_sessions|refused|tests_\w+)|crates/pq_server/(?:stdin|stdout))")
+OPTIONAL = re.compile(r"^(?:cases/|checks/edits/|crates/(?:test_support|stored_sessions|tests_\w+)|crates/pq_server/(?:stdin|stdout))")
 TO_COME = set()
 GATE_LINES = 60
 PLAIN = ["README.md", "CONTRIBUTING.md", "docs/ARCHITECTURE.md", "docs/GATE.md", "docs/THEOREMS.md"]

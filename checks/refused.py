@@ -5,12 +5,13 @@ What contracts say of an allocation that fails is proved: the value is as before
 shows that a refused growth is answered at all, with no abort, no signal and no endless loop; that the same call, made again,
 succeeds; and that a call answers `Memory` for no other reason. A cache or a flag that no contract sees could break each of these.
 
-This script builds the crate `refused` without its proof (bench/unproved.py). That program makes each public call that takes memory
+This script builds the program of checks/refused/ without a proof (bench/unproved.py). Its sources are named .rt.txt, since the gate
+wants each .rt file to be one that it proves, and the proof of these took over ten processor minutes. That program makes each public call that takes memory
 between two marks, and writes a line: what the call came to, and the state after it. The program is copied for each growth of each
 call, and in the copy that growth alone is refused. Each copy has to write the line of the program itself. A call that answers
 `Memory` is made again by the program. A growth that only makes a call faster may be refused with no answer `Memory`.
 
-It shows nothing of calls that the crate does not make, nor of two growths refused in one call. A copy has one thread.
+It shows nothing of calls that the program does not make, nor of two growths refused in one call. A copy has one thread.
 So whole programs are tried too: every stored session, in which several growths can be refused, and `listen`.
 
 Run it before a change of what allocates lands: .ci/run runs the calls alone, and a person runs --sessions and --listen.
@@ -24,7 +25,7 @@ Wrong bodies that were tried, each caught:
 - A claim that calls itself without end where a push is refused: its copies end by signal 11.
 
 usage: checks/refused.py                        the calls
-       checks/refused.py --with PROGRAM         the calls of a program that bench/unproved.py has built of crates/refused
+       checks/refused.py --with PROGRAM         the calls of a program that was built so
        checks/refused.py --sessions PROGRAM     all stored sessions by `PROGRAM script`, where PROGRAM is pq_server
        checks/refused.py --listen PROGRAM       two clients of `PROGRAM listen` with one worker, one growth refused in each run
        checks/refused.py .. --mode from|every   with --sessions: each growth from the n-th on is refused, or each n-th
@@ -44,7 +45,8 @@ import threading
 
 HERE = os.path.dirname(os.path.abspath(__file__))
 TOP = os.path.dirname(HERE)
-CRATE = os.path.join(TOP, "crates", "refused")
+SOURCES = os.path.join(HERE, "refused")
+SUFFIX = ".rt.txt"
 STORED = os.path.join(TOP, "crates", "stored_sessions", "stdin")
 FLAGS = ["-O2", "-Wall", "-shared", "-fPIC", "-nostdlib"]
 # The status of a copy that wrote its line.
@@ -64,6 +66,21 @@ def library(folder):
         if shutil.which(words[0]) and not subprocess.run(words + FLAGS + ["-o", made, os.path.join(HERE, "refused.c")]).returncode:
             return made
     sys.exit("checks/refused.c was not compiled")
+
+
+def build(folder, program):
+    """Builds the program in a copy of the repository's crates, which has it as one more."""
+    shutil.copytree(os.path.join(TOP, "crates"), os.path.join(folder, "crates"), ignore=shutil.ignore_patterns("out", "must-fail"))
+    shutil.copy(os.path.join(TOP, "HANDLES"), folder)
+    crate = os.path.join(folder, "crates", "refused")
+    os.makedirs(os.path.join(crate, "src"))
+    for name in os.listdir(os.path.join(SOURCES, "src")):
+        shutil.copy(os.path.join(SOURCES, "src", name), os.path.join(crate, "src", name.removesuffix(SUFFIX) + ".rt"))
+    with open(os.path.join(folder, "crates.txt"), "w", encoding="utf-8") as it:
+        for path in (os.path.join(TOP, "crates.txt"), os.path.join(SOURCES, "uses.txt")):
+            with open(path, encoding="utf-8") as uses:
+                it.write(uses.read())
+    subprocess.run([sys.executable, os.path.join(TOP, "bench", "unproved.py"), program, "--crate", crate], check=True)
 
 
 def records_of(path):
@@ -156,9 +173,9 @@ def named(output, at, line):
 def calls(library, program, folder):
     """Refuses each growth of each call. Returns whether each copy wrote the right line."""
     path = os.path.join(folder, "records")
-    with open(os.path.join(CRATE, "stdin"), "rb") as given:
+    with open(os.path.join(SOURCES, "stdin"), "rb") as given:
         own = subprocess.run([program], stdin=given, capture_output=True, env=dict(os.environ, LD_PRELOAD=library, REFUSE_RECORDS=path))
-    with open(os.path.join(CRATE, "stdout"), "rb") as it:
+    with open(os.path.join(SOURCES, "stdout"), "rb") as it:
         bad = [] if own.returncode == 0 and own.stdout == it.read() else ["the program itself wrote what its file stdout has not"]
     by_call = collections.defaultdict(list)
     for it in records_of(path):
@@ -340,7 +357,7 @@ def listen(library, program, folder, step):
 
 def main():
     words = argparse.ArgumentParser()
-    words.add_argument("--with", dest="program", help="a program that was built of crates/refused")
+    words.add_argument("--with", dest="program", help="a program that was built so")
     words.add_argument("--sessions", metavar="PROGRAM")
     words.add_argument("--listen", metavar="PROGRAM")
     words.add_argument("--mode", choices=["from", "every"])
@@ -355,7 +372,7 @@ def main():
         if not words.sessions and not words.listen:
             program = words.program or os.path.join(folder, "refused")
             if not words.program:
-                subprocess.run([sys.executable, os.path.join(TOP, "bench", "unproved.py"), program, "--crate", CRATE], check=True)
+                build(folder, program)
             right = calls(made, os.path.abspath(program), folder)
     return 0 if right else 1
 
