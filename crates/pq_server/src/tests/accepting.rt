@@ -177,12 +177,13 @@ fn one_line_for_two_turned_away(rt: HostRuntime) -> Result<(), Fail> {
     let logged = Logged::new(Stopped(rt), Level::Warn, lines);
     let listener = TcpListener::bind(&rt, "127.0.0.1:0")?;
     let address = listener.local_addr()?;
-    let library = no_library(rt.alloc());
-    let (status, ()) = thread::join(
+    let alloc = rt.alloc();
+    let library = no_library(alloc);
+    let (status, _said) = thread::join(
         &rt,
-        || serve(
+        move || serve(
             &logged,
-            rt.alloc(),
+            alloc,
             listener,
             library,
             two_workers(65),
