@@ -2,11 +2,12 @@
 //! Here are the words of the command line, the library that they may name, the standard streams, and
 //! the port.
 //! `command` reads the words, `library` reads the library before the first message, `serving` serves
-//! many clients over TCP, and `status` maps the outcome of a script to the exit status and the line of
+//! many clients over TCP, `editor` serves one editor with what editors need beside the protocol, and `status` maps the outcome of a script to the exit status and the line of
 //! standard error.
 #![tactic(auto)]
 
 mod command;
+mod editor;
 mod library;
 mod serving;
 mod status;
@@ -15,6 +16,7 @@ mod tests;
 
 use clap::Error;
 use command::{Task, task_of};
+use editor::{Setup, serve_editor};
 use library::{no_library, read_library, run_library_script};
 use log::Log;
 use pq_session::Counted;
@@ -76,6 +78,30 @@ where
     served(serve(rt, rt.alloc(), listener, library, size, &OpenGate))
 }
 
+/// The roots of these folders, as whole paths.
+fn roots_of<R: Env + AllocGlobal>(rt: &R, folders: &[&str]) -> Result<Vec<Root>, AllocError> {
+    let mut roots = Vec::new(rt.alloc());
+    for folder in folders {
+        let path = absolute_of(rt, folder)?;
+        roots.push(Root::at(rt.alloc(), path.as_str())?)?;
+    }
+    Ok(roots)
+}
+
+/// Serves one editor on the standard streams. Returns the exit status.
+fn run_for_editor(rt: HostRuntime, workers: u8, folders: &[&str]) -> u8 {
+    let alloc = rt.alloc();
+    let outcome = match roots_of(&rt, folders) {
+        Ok(roots) => {
+            let setup = Setup { workers, roots };
+            serve_editor(&rt, alloc, rt.stdin(), rt.stdout(), setup, &OpenGate)
+        }
+        Err(_) => Err(ScriptFault::Memory),
+    };
+    let _ = eprint!(rt; "{}", line_of(outcome));
+    status_of(outcome)
+}
+
 /// Says on standard error why `clap` refuses the words of the command line. Returns the exit status.
 fn say_refused(rt: &impl Eprint, error: &Error) -> u8 {
     let (status, line) = refused(error.kind());
@@ -115,6 +141,7 @@ fn main(rt: HostRuntime) -> ExitCode {
             let _ = eprint!(rt; "{line}");
             status
         }
+        Task::Stdio { workers, roots } => run_for_editor(rt, workers, roots.as_slice()),
     };
     ExitCode::from(status)
 }

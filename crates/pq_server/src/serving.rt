@@ -12,7 +12,7 @@ mod arrivals;
 pub(crate) mod failures;
 pub(crate) mod floor;
 mod listener;
-mod porter;
+pub(crate) mod porter;
 mod reader;
 mod session;
 pub(crate) mod sessions;

@@ -88,6 +88,17 @@ pub(crate) struct Ends<P, C, T> {
     pub(crate) take: T,
 }
 
+/// What a post came to that was carried.
+#[derive(Clone, Copy, Debug, PartialEq, Eq)]
+pub(crate) enum Carried {
+    /// An edit made this revision.
+    Edited(u64),
+    /// A request was accepted, or a withdrawal made.
+    Other,
+    /// The client posts nothing more.
+    Ended,
+}
+
 /// A hall as the reader of a session sees it, whatever its rules are.
 ///
 /// The reader keeps its end on one thread, so no type here is bound by `Send`.
@@ -121,9 +132,13 @@ pub(crate) trait Floor<H>: Posting<H, Post: Send, Receipt: Send> + Sync {
         rt: &H,
     ) -> Result<(Client, Ends<Self::Post, Self::Porter, Self::Take>), OpenFault>;
 
-    /// Carries the next post of `client` into the store. Returns whether there was one. An error says
-    /// why the client was closed.
-    fn carry(&self, rt: &H, client: Client, porter: &mut Self::Porter) -> Result<bool, HallFault>;
+    /// Carries the next post of `client` into the store. An error says why the client was closed.
+    fn carry(
+        &self,
+        rt: &H,
+        client: Client,
+        porter: &mut Self::Porter,
+    ) -> Result<Carried, HallFault>;
 
     /// The text of the reply of `receipt`, for a session with the root `root`. If an allocation fails
     /// for it, it is the text that says so.
@@ -228,9 +243,9 @@ where
         rt: &H,
         client: Client,
         porter: &mut PorterEnd<S::Key>,
-    ) -> Result<bool, HallFault> {
+    ) -> Result<Carried, HallFault> {
         let moved = self.carry_one(rt, client, porter)?;
-        Ok(!is_end(moved))
+        Ok(carried(moved))
     }
 
     fn text(
@@ -257,11 +272,12 @@ where
     }
 }
 
-/// Whether `moved` is the end of the posts.
-fn is_end<K: Drop>(moved: Moved<K>) -> bool {
+/// What `moved` says of a post.
+fn carried<K: Drop>(moved: Moved<K>) -> Carried {
     match moved {
-        Moved::Ended => true,
-        _ => false,
+        Moved::Edited(revision) => Carried::Edited(revision.number()),
+        Moved::Ended => Carried::Ended,
+        _ => Carried::Other,
     }
 }
 

@@ -1,5 +1,5 @@
 //! The porter of a session: it carries the posts of the client into the hall.
-use crate::serving::floor::Floor;
+use crate::serving::floor::{Carried, Floor};
 use pq_core::EditFault;
 use pq_hall::{Client, HallFault};
 use pq_session::ScriptFault;
@@ -20,8 +20,8 @@ pub(crate) fn carry_all<F: Floor<H>, H: Wait>(
     let mut porter = porter;
     for _ in rt.forever() {
         match floor.carry(rt, client, &mut porter) {
-            Ok(true) => {}
-            Ok(false) => return Ok(()),
+            Ok(Carried::Ended) => return Ok(()),
+            Ok(_) => {}
             Err(fault) => {
                 let _ = stream.shutdown(Shutdown::Both);
                 return ended_by(fault);
@@ -33,12 +33,20 @@ pub(crate) fn carry_all<F: Floor<H>, H: Wait>(
 
 /// The outcome of a session whose post was refused with this error.
 fn ended_by(fault: HallFault) -> Result<(), ScriptFault> {
+    match fault_of(fault) {
+        Some(fault) => Err(fault),
+        None => Ok(()),
+    }
+}
+
+/// The error of a session whose post was refused with this error. `None` if its client was closed.
+pub(crate) fn fault_of(fault: HallFault) -> Option<ScriptFault> {
     match fault {
-        HallFault::Edit(EditFault::Input(fault)) => Err(ScriptFault::Edit(fault)),
-        HallFault::Edit(EditFault::NoClient) => Ok(()),
-        HallFault::Edit(EditFault::Closed) => Ok(()),
-        HallFault::Edit(EditFault::BadRange) => Err(ScriptFault::BadRange),
-        HallFault::Closed => Ok(()),
-        HallFault::Memory => Err(ScriptFault::Memory),
+        HallFault::Edit(EditFault::Input(fault)) => Some(ScriptFault::Edit(fault)),
+        HallFault::Edit(EditFault::NoClient) => None,
+        HallFault::Edit(EditFault::Closed) => None,
+        HallFault::Edit(EditFault::BadRange) => Some(ScriptFault::BadRange),
+        HallFault::Closed => None,
+        HallFault::Memory => Some(ScriptFault::Memory),
     }
 }

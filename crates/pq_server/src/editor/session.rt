@@ -1,0 +1,228 @@
+//! The session of an editor: its hall, its workers, and its three threads.
+ghost use Rattle.std.specs.Prelude.{◌≡◌};
+
+use crate::editor::desk::Desk;
+use crate::editor::line::Line;
+use crate::editor::output::Output;
+use crate::editor::pusher::{Pusher, push_all};
+use crate::editor::reader::{Pushes, read_all_messages};
+use crate::editor::replies::{EditorTexts, Replies};
+use crate::editor::rounds::Rounds;
+use crate::editor::writer::write_all_replies;
+use crate::library::no_library;
+use crate::serving::floor::{Ends, Works};
+use pq_hall::{BoardName, Client, Gate, Hall, NewBoard, OneValue};
+use pq_inputs::Inputs;
+use pq_proto::ProtoRules;
+use pq_session::{Root, ScriptFault};
+use std::alloc::Global;
+use std::io::{Read, Write};
+use std::marker::Brand;
+use std::rt::Files;
+use std::sync::Wait;
+use std::thread;
+use std::thread::Threads;
+
+/// The receipts that may wait for the writer.
+const RECEIPTS: usize = 32;
+
+/// How a session is set up.
+#[derive(Drop)]
+pub(crate) struct Setup {
+    /// The number of workers, from 1 to 32.
+    pub(crate) workers: u8,
+    /// The roots that the command line names.
+    pub(crate) roots: Vec<Root>,
+}
+
+/// A client of a hall and the ends of its mailboxes.
+type Joined<P, C, T> = (Client, Ends<P, C, T>);
+
+/// Serves one editor from `input` to `output`. Each work passes `gate` before it is carried out.
+///
+/// Returns the status with which the session ended. `Memory` also says that a thread could not be
+/// started.
+pub(crate) fn serve_editor<R, I, W, G>(
+    rt: &R,
+    alloc: Global,
+    input: I,
+    output: W,
+    setup: Setup,
+    gate: &G,
+) -> Result<u8, ScriptFault>
+where
+    R: Threads + Wait + Files + AllocGlobal + Eprint + Copy + Drop + Send + Sync + 'static,
+    I: Read,
+    W: Write + Copy + Send + Sync,
+    G: Gate<ProtoRules> + Sync,
+{
+    let Ok(inputs) = no_library(alloc) else {
+        return Err(ScriptFault::Memory);
+    };
+    match NewBoard::new(alloc) {
+        Ok(board) => serve_in::<ProtoRules, Brand, R, I, W, G>(
+            rt, alloc, ProtoRules, board, inputs, input, output, setup, gate,
+        ),
+        Err(_) => Err(ScriptFault::Memory),
+    }
+}
+
+/// Serves over a hall of `rules` whose marks are those of `board`, which `J` names.
+fn serve_in<S, J, R, I, W, G>(
+    rt: &R,
+    alloc: Global,
+    rules: S,
+    board: NewBoard,
+    inputs: Inputs,
+    input: I,
+    output: W,
+    setup: Setup,
+    gate: &G,
+) -> Result<u8, ScriptFault>
+where
+    S: EditorTexts + OneValue + Send + Sync + 'static,
+    S::Key: Send + Sync,
+    S::Value: Send + Sync,
+    S::Part: Send,
+    J: BoardName + Send + Sync + 'static,
+    R: Threads + Wait + Files + AllocGlobal + Eprint + Copy + Drop + Send + Sync + 'static,
+    I: Read,
+    W: Write + Copy + Send + Sync,
+    G: Gate<S> + Sync,
+    requires { board ≡ J.vector }
+{
+    let made: Result<Hall<S, J, R>, _> = Hall::new(rt, alloc, rules, board, inputs);
+    match made {
+        Ok(hall) => run(rt, alloc, &hall, input, output, setup, gate),
+        Err(_) => Err(ScriptFault::Memory),
+    }
+}
+
+/// Starts the workers, serves the session, and ends the workers.
+fn run<F, R, I, W, G>(
+    rt: &R,
+    alloc: Global,
+    floor: &F,
+    input: I,
+    output: W,
+    setup: Setup,
+    gate: &G,
+) -> Result<u8, ScriptFault>
+where
+    F: Replies<R> + Works<G, R>,
+    R: Threads + Wait + Files + AllocGlobal + Eprint + Clone + Drop + Sync,
+    I: Read,
+    W: Write + Copy + Send + Sync,
+    G: Sync,
+{
+    let Setup { workers, roots } = setup;
+    thread::scope(thread::scope_env(), rt, move |scope| {
+        let mut has_all = true;
+        for _ in 0..workers {
+            if scope.spawn(move || floor.work_with(rt, gate)).is_err() {
+                has_all = false;
+            }
+        }
+        let outcome = if has_all {
+            run_clients(rt, alloc, floor, input, output, roots)
+        } else {
+            Err(ScriptFault::Memory)
+        };
+        floor.shut(rt);
+        outcome
+    })
+}
+
+/// Serves the session over two clients of the hall: the editor, and the pusher.
+fn run_clients<F, R, I, W>(
+    rt: &R,
+    alloc: Global,
+    floor: &F,
+    input: I,
+    output: W,
+    roots: Vec<Root>,
+) -> Result<u8, ScriptFault>
+where
+    F: Replies<R>,
+    R: Threads + Wait + Files + AllocGlobal + Eprint + Clone + Drop + Sync,
+    I: Read,
+    W: Write + Copy + Send + Sync,
+{
+    let Ok(editor) = floor.join(rt) else {
+        return Err(ScriptFault::Memory);
+    };
+    let Ok(pusher) = floor.join(rt) else {
+        return Err(ScriptFault::Memory);
+    };
+    let output = Output::new(alloc, output);
+    let rounds = Rounds::new();
+    run_threads(
+        rt, alloc, floor, editor, pusher, &rounds, input, &output, roots,
+    )
+}
+
+/// Reads on this thread, and writes and pushes on two others. Returns when all three have ended.
+fn run_threads<F, R, I, W>(
+    rt: &R,
+    alloc: Global,
+    floor: &F,
+    editor: Joined<F::Post, F::Porter, F::Take>,
+    pusher: Joined<F::Post, F::Porter, F::Take>,
+    rounds: &Rounds,
+    input: I,
+    output: &Output<W>,
+    roots: Vec<Root>,
+) -> Result<u8, ScriptFault>
+where
+    F: Replies<R>,
+    R: Threads + Wait + Files + AllocGlobal + Eprint + Clone + Drop + Sync,
+    I: Read,
+    W: Write + Copy + Send + Sync,
+{
+    let (client, Ends { post, porter, take }) = editor;
+    let (pushing, ends) = pusher;
+    let (receipts, owed) = crossbeam_channel::bounded(alloc, RECEIPTS)?;
+    let (bell, heard) = crossbeam_channel::bounded(alloc, 1)?;
+    let desk = Desk::new(alloc, Line::new(client, post, porter), receipts, roots)?;
+    let line = Line::new(pushing, ends.post, ends.porter);
+    let pusher = Pusher::new(alloc, line, ends.take);
+    let pushes = Pushes { rounds, bell };
+    thread::scope(thread::scope_env(), rt, move |scope| {
+        let writes = scope.spawn(move || write_all_replies(
+            rt, alloc, floor, client, take, owed, output,
+        ));
+        let pushed = scope.spawn(move || push_all(rt, floor, pusher, rounds, heard, output));
+        match (writes, pushed) {
+            (Ok(writes), Ok(pushed)) => {
+                let read = read_all_messages(rt, alloc, floor, desk, pushes, input, output);
+                floor.close(rt, pushing);
+                let written = writes.join(rt);
+                let pushed = pushed.join(rt);
+                floor.close(rt, client);
+                outcome_of(written, pushed, read)
+            }
+            _ => {
+                drop(desk);
+                drop(pushes);
+                floor.close(rt, pushing);
+                floor.close(rt, client);
+                Err(ScriptFault::Memory)
+            }
+        }
+    })
+}
+
+/// How a session ended: by the error of the writer or of the pusher, which end the reader too, or as
+/// the reader says. A session that another thread ended without an error was out of memory.
+fn outcome_of(
+    written: Result<(), ScriptFault>,
+    pushed: Result<(), ScriptFault>,
+    read: Result<Option<u8>, ScriptFault>,
+) -> Result<u8, ScriptFault> {
+    written?;
+    pushed?;
+    match read? {
+        Some(status) => Ok(status),
+        None => Err(ScriptFault::Memory),
+    }
+}
