@@ -5,6 +5,7 @@ pub mod Labels
 pub mod Items
 pub mod Reply
 pub mod Replies
+pub mod Editor
 pub mod Responses
 pub mod Output
 pub mod Script

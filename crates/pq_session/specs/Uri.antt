@@ -72,6 +72,10 @@ file_below path (Some rest) = name_of (without_slashes rest)
 abbrev pub file_at : List ℕ → List ℕ → Option (List ℕ)
 file_at root path = file_below path (below root path)
 
+-- `name_below root path` is the name of the file at `path`, if `path` is below `root`.
+abbrev pub name_below : List ℕ → List ℕ → Option (List ℕ)
+name_below root path = option_and_then (λ rest. name_of (without_slashes rest)) (below root path)
+
 -- `file_of root uri` is the name of the file of `uri`, if it names one.
 unfoldable pub file_of : List ℕ → List ℕ → Option (List ℕ)
 file_of root uri = option_and_then (file_at root) (decoded_path uri)

@@ -15,6 +15,7 @@
 
 mod bodies;
 mod counted;
+mod editor;
 mod fault;
 mod laws;
 mod protocol;
@@ -23,6 +24,12 @@ mod send;
 mod state;
 
 pub use counted::Counted;
+pub use editor::edits::{asked_file, change_to, diagnostics_of, renamed, text_after};
+pub use editor::events::{Event, Greeting, event_of, without_root};
+pub use editor::last_sent::LastSent;
+pub use editor::lists::{DiagnosticList, diagnostic_list};
+pub use editor::published::{WATCH_FILES, empty_list, published_text};
+pub use editor::shown::{definition_file, editor_text};
 pub use fault::ScriptFault;
 pub use laws::{
     descriptor_spliced, each_output, stops_at_a_front, symbols_spliced, uris_come_back,

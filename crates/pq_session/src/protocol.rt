@@ -1,7 +1,7 @@
 //! What is on the wire: methods, parameters, URIs, and the texts of responses.
 //!
 //! `answers` prints replies by their outcome and the kind of their answer: `reports` the
-//! diagnostics, `locations` the definitions. `results` has what comes before and after a result.
+//! diagnostics with their `severities`, `locations` the definitions. `results` has what comes before and after a result.
 //! `replies` and `refusals` have the responses that name no file.
 
 pub(crate) mod answers;
@@ -14,4 +14,5 @@ pub(crate) mod replies;
 pub(crate) mod reports;
 pub(crate) mod results;
 pub(crate) mod root;
+pub(crate) mod severities;
 pub(crate) mod uris;

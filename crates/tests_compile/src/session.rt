@@ -1,8 +1,11 @@
-//! pq_session, call by call: cut sessions, devices that fail, texts of replies, the longest text.
+//! pq_session, call by call: cut sessions, devices that fail, texts of replies, the longest text,
+//! what messages tell, what an editor is shown.
 mod cuts;
 mod devices;
+mod events;
 mod longest;
 mod replies;
+mod shown;
 
 use crate::checks::check_page;
 use pq_frame::FrameFault;

@@ -1,7 +1,8 @@
 //! The texts of replies, by the outcome of the request and by the kind of its answer.
 ghost use Rattle.std.specs.Prelude.{◌≡◌, IfOk, string_bytes};
 ghost use Rattle.pq_session.specs.Labels.{label_model};
-ghost use Rattle.pq_session.specs.Reply.{diagnostics_text as text_of_diagnostics, location_text as text_of_location};
+ghost use Rattle.pq_session.specs.Editor.{shown_text};
+ghost use Rattle.pq_session.specs.Reply.{location_text as text_of_location};
 ghost use Rattle.pq_session.specs.Replies.{value_text as text_of_value, answer_text as text_of_answer, reply_text as text_of_reply};
 
 use crate::protocol::locations::print_location;
@@ -16,19 +17,21 @@ use pq_proto::{Location, Printer, ProtoKey, ProtoValue};
 use pq_rules::Answer;
 use std::alloc::{AllocError, Global};
 
-/// The response that reports the diagnostics `diagnosed` of a file at a revision of the sources.
-fn diagnostics_text(
+/// The response that reports the diagnostics `diagnosed` of a file at a revision of the sources, with
+/// the severities of an editor where `unread` is true.
+pub(crate) fn diagnostics_text(
     alloc: Global,
     label: &Label,
+    unread: bool,
     diagnosed: &Diagnosed,
     revision: u64,
 ) -> Result<String, AllocError>
     ensures { IfOk result (λ s. string_bytes s
-        ≡ text_of_diagnostics (label_model label.now) diagnosed.now revision) }
+        ≡ shown_text (label_model label.now) unread diagnosed.now revision) }
 {
     let mut out = Printer::new(alloc);
     print_start(&mut out, label)?;
-    print_report(alloc, &mut out, diagnosed, revision)?;
+    print_report(alloc, &mut out, unread, diagnosed, revision)?;
     out.end_object()?;
     Ok(out.into_string())
 }
@@ -52,6 +55,7 @@ fn location_text(
 
 /// The response of `value`, which a key has at `revision`. A value that no request asks for gives
 /// null.
+#[tactic(auto, using(crate::proofs::EditorLemmas::plain_text))]
 fn value_text(
     alloc: Global,
     root: &Root,
@@ -64,7 +68,7 @@ fn value_text(
 {
     match value {
         ProtoValue::Diagnostics(diagnosed) => {
-            diagnostics_text(alloc, label, diagnosed.get(), revision)
+            diagnostics_text(alloc, label, false, diagnosed.get(), revision)
         }
         ProtoValue::Symbols(symbols) => result_text(alloc, label, symbols.as_str()),
         ProtoValue::Definition(Some(location)) => location_text(alloc, root, label, location),

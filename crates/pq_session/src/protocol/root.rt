@@ -4,9 +4,11 @@
 //! itself. So the escapes that a client writes make no other name, and the names of files below the
 //! root are those that import statements write.
 ghost use Rattle.std.specs.Prelude.{◌≡◌, option_map, string_bytes, IfOk};
-ghost use Rattle.pq_session.specs.Uri.{root_of, file_of, uri_of};
+ghost use Rattle.pq_session.specs.Uri.{root_of, file_of, uri_of, without_last_slashes, name_below as name_below_root};
 
-use crate::protocol::uris::{decoded_path, file_at, is_absolute, push_encoded, trim_last_slashes};
+use crate::protocol::uris::{
+    decoded_path, file_at, is_absolute, name_below, push_encoded, trim_last_slashes,
+};
 use pq_names::Text;
 use std::alloc::{AllocError, Global};
 use std::marker::Model;
@@ -48,6 +50,15 @@ impl Root {
         })
     }
 
+    /// The root folder at `path`.
+    pub fn at(alloc: Global, path: &str) -> Result<Root, AllocError>
+        ensures { IfOk result (λ root. root ≡ without_last_slashes path.now) }
+    {
+        Ok(Root {
+            path: Text::new(alloc, trim_last_slashes(path))?,
+        })
+    }
+
     /// A copy, which takes no memory. `Memory` comes only where a long path has as many copies as
     /// can be counted.
     pub fn copy(&self) -> Result<Root, AllocError>
@@ -63,6 +74,13 @@ impl Root {
         ensures { result.now ≡ self.now }
     {
         self.path.as_str()
+    }
+
+    /// The name of the file at `path`, if `path` is below the root.
+    pub fn name_below<'a>(&self, path: &'a str) -> Option<&'a str>
+        ensures { option_map (λ name. name.now) result ≡ name_below_root self.now path.now }
+    {
+        name_below(self.path.as_str(), path)
     }
 
     /// The name of the file of `uri`, if it names one.

@@ -5,7 +5,7 @@
 //! section 2.1; RFC 8089, section 2).
 ghost use Rattle.std.specs.Prelude.{◌≡◌, ◌++◌, option_map, string_bytes, IfOk, OnOk};
 ghost use Rattle.std.specs.Cow.{cow_str_bytes};
-ghost use Rattle.pq_session.specs.Uri.{strip_prefix as strip_prefix_of, is_absolute as is_absolute_path, path_of as path_of_uri, without_slashes, without_last_slashes, file_at as file_at_path, text_of, decoded_path as decoded_path_of, encoded};
+ghost use Rattle.pq_session.specs.Uri.{strip_prefix as strip_prefix_of, is_absolute as is_absolute_path, path_of as path_of_uri, without_slashes, without_last_slashes, below as below_root, name_of as name_of_text, name_below as name_below_root, file_at as file_at_path, text_of, decoded_path as decoded_path_of, encoded};
 
 use percent_encoding::{
     AsciiSet, DecodeError, NON_ALPHANUMERIC, ascii_set, percent_decode, utf8_percent_encode,
@@ -60,18 +60,36 @@ pub(crate) fn trim_last_slashes(path: &str) -> &str
     path.trim_end_matches('/')
 }
 
+/// What follows `root` and `/` in `path`, if `path` begins with them.
+fn below<'a>(root: &str, path: &'a str) -> Option<&'a str>
+    ensures { option_map (λ rest. rest.now) result ≡ below_root root.now path.now }
+{
+    strip_prefix(strip_prefix(path, root)?, "/")
+}
+
+/// `text` without the slashes at its start, if something is left.
+fn name_in(text: &str) -> Option<&str>
+    ensures { option_map (λ name. name.now) result ≡ name_of_text (without_slashes text.now) }
+{
+    let name = trim_slashes(text);
+    if name.is_empty() { None } else { Some(name) }
+}
+
+/// The name of the file at `path`, if `path` is below `root`.
+pub(crate) fn name_below<'a>(root: &str, path: &'a str) -> Option<&'a str>
+    ensures { option_map (λ name. name.now) result ≡ name_below_root root.now path.now }
+{
+    name_in(below(root, path)?)
+}
+
 /// The name of the file at `path`: the path below the root, or `path` itself if it is not there.
 pub(crate) fn file_at<'a>(root: &str, path: &'a str) -> Option<&'a str>
     ensures { option_map (λ name. name.now) result ≡ file_at_path root.now path.now }
 {
-    let Some(below) = strip_prefix(path, root) else {
-        return Some(path);
-    };
-    let Some(rest) = strip_prefix(below, "/") else {
-        return Some(path);
-    };
-    let name = trim_slashes(rest);
-    if name.is_empty() { None } else { Some(name) }
+    match below(root, path) {
+        Some(rest) => name_in(rest),
+        None => Some(path),
+    }
 }
 
 /// `path` with each escape replaced by its byte, if that is UTF-8.

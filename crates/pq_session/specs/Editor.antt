@@ -1,0 +1,229 @@
+-- What one editor is shown (LSP 3.17, "Diagnostic", "PublishDiagnosticsParams"): the diagnostics of
+-- a file with their severities, the lists that are sent without being asked for, and the texts that
+-- edits make.
+use Rattle.std.specs.Prelude.{ℕ, ℤ, Bool, true, false, not, ◌&&◌, nat_le, List, ◌++◌, map, list_any, codes, decimal, if◌then◌else◌, Option, Some, None, option_and_then, option_map}
+use Rattle.std.specs.Fmt.{signed_decimal}
+use Rattle.std.specs.Str.{bytes_eq}
+use Rattle.serde_json.specs.Data.{Data, Members, number, string, object, unsigned, member, no_members}
+use Rattle.serde_json.specs.Find.{of_integer}
+use Rattle.serde_json.specs.Written.{compact_text}
+use Rattle.pq_frame.specs.Labels.{LabelModel, label_data}
+use Rattle.pq_links.specs.declared.files.ParsedFile.{ParsedFile}
+use Rattle.pq_rules.specs.declared.turn.Answer.{Answer}
+use Rattle.pq_rules.specs.declared.turn.Answer.TheVariants.{Value, Cycle}
+use Rattle.pq_checks.specs.Codes.{code_text, severity, severity_number}
+use Rattle.pq_checks.specs.declared.code.Code.{Code}
+use Rattle.pq_checks.specs.declared.code.Code.TheVariants.{ImportWithError, TypeNotFound}
+use Rattle.pq_checks.specs.declared.code.Severity.TheVariants.{Information}
+use Rattle.pq_checks.specs.declared.diagnostic.Diagnostic.{Diagnostic}
+use Rattle.pq_checks.specs.declared.diagnostic.Diagnosed.{Diagnosed}
+use Rattle.pq_proto.specs.Compile.{position_in}
+use Rattle.pq_proto.specs.Lists.{list_data}
+use Rattle.pq_proto.specs.Ranges.{range_data}
+use Rattle.pq_proto.specs.Keys.{own_name}
+use Rattle.pq_proto.specs.declared.key.ProtoKey.{ProtoKey}
+use Rattle.pq_proto.specs.declared.key.ProtoKey.TheVariants as keys
+use Rattle.pq_proto.specs.declared.value.Location.{Location}
+use Rattle.pq_proto.specs.declared.value.ProtoValue.{ProtoValue}
+use Rattle.pq_proto.specs.declared.value.ProtoValue.TheVariants as values
+use Rattle.pq_core.specs.declared.request.Want.{Want}
+use Rattle.pq_core.specs.declared.request.Want.TheVariants.{Demand, Fixed}
+use Rattle.pq_core.specs.declared.outcome.Outcome.{Outcome}
+use Rattle.pq_core.specs.declared.outcome.Outcome.TheVariants.{Answered, Plain, Cancelled, Starved, Withdrawn}
+use Rattle.pq_core.specs.Replies.{ReplyView}
+use Rattle.pq_session.specs.Labels.{label_model}
+use Rattle.pq_session.specs.Reply.{reply_data}
+use Rattle.pq_session.specs.Replies.{reply_text}
+
+-- ---- the severities
+
+-- `is_unread c` is whether `c` is the code of an import that is not read: the imported file has a
+-- syntax error, as each file of another version of the language has.
+abbrev pub is_unread : Code → Bool
+is_unread ImportWithError = true
+is_unread _ = false
+
+-- `has_unread ds` is whether one of the diagnostics `ds` is an import that is not read.
+abbrev pub has_unread : List Diagnostic → Bool
+has_unread ds = list_any (λ (f : Diagnostic). is_unread f.code) ds
+
+-- `may_follow c` is whether an error of the code `c` may follow from an import that is not read: the
+-- import itself, or a name of a type that resolves to nothing.
+abbrev pub may_follow : Code → Bool
+may_follow ImportWithError = true
+may_follow TypeNotFound = true
+may_follow _ = false
+
+-- `shown_severity unread c` is the number of the severity that is shown of an error of the code `c`,
+-- where `unread` is whether an import of the file is not read: what may follow from that is
+-- information.
+abbrev pub shown_severity : Bool → Code → ℕ
+shown_severity unread c = if unread && may_follow c then severity_number Information else severity_number (severity c)
+
+-- ---- lists and reports
+
+-- `item_data number file f` is the error `f` of a file that is read as `file`, with the severity of
+-- this number (LSP 3.17, "Diagnostic").
+abbrev pub item_data : ℕ → ParsedFile → Diagnostic → Data
+item_data n file f =
+    object (member (codes "code") (string (code_text f.code)) (member (codes "message") (string f.text)
+    (member (codes "range") (range_data (position_in file f.start) (position_in file f.end))
+    (member (codes "severity") (number (unsigned n)) (member (codes "source") (string (codes "proto")) no_members)))))
+
+-- `shown_data unread file f` is the error `f` of a file that is read as `file`, as it is shown.
+abbrev pub shown_data : Bool → ParsedFile → Diagnostic → Data
+shown_data unread file f = item_data (shown_severity unread f.code) file f
+
+-- `shown_items unread d` is the list of the diagnostics `d`, as they are shown.
+abbrev pub shown_items : Bool → Diagnosed → Data
+shown_items unread d = list_data (map (shown_data unread d.file) d.diagnostics)
+
+-- `shown_list d` is the text of the list of the diagnostics `d`, as they are shown.
+unfoldable pub shown_list : Diagnosed → List ℕ
+shown_list d = compact_text (shown_items (has_unread d.diagnostics) d)
+
+-- `shown_report unread d revision` is the report of the diagnostics `d` at a revision of the sources,
+-- its `resultId` (LSP 3.17, "RelatedFullDocumentDiagnosticReport"), as they are shown.
+abbrev pub shown_report : Bool → Diagnosed → ℕ → Data
+shown_report unread d revision =
+    object (member (codes "items") (shown_items unread d) (member (codes "kind") (string (codes "full")) (member (codes "resultId") (string (decimal revision)) no_members)))
+
+-- `shown_text label unread d revision` is the text of the response that reports the diagnostics `d`
+-- at `revision`, as they are shown.
+unfoldable pub shown_text : LabelModel → Bool → Diagnosed → ℕ → List ℕ
+shown_text label unread d revision = compact_text (reply_data (label_data label) (shown_report unread d revision))
+
+-- ---- what a reply answers
+
+-- `value_diagnostics value` is the diagnostics that `value` is, if it is diagnostics.
+abbrev pub value_diagnostics : ProtoValue → Option Diagnosed
+value_diagnostics (values.Diagnostics d) = Some d
+value_diagnostics _ = None
+
+-- `value_file value` is the file of the definition that `value` is, if it is one.
+abbrev pub value_file : ProtoValue → Option (List ℕ)
+value_file (values.Definition d) = option_map (λ (l : Location). l.file) d
+value_file _ = None
+
+-- `answer_value answer` is the value of `answer`, if it is not a cycle.
+abbrev pub answer_value : Answer ProtoKey ProtoValue → Option ProtoValue
+answer_value (Value value) = Some value
+answer_value (Cycle ring) = None
+
+-- `outcome_value outcome` is the value of a request that ended in `outcome`, if it was answered with
+-- one.
+abbrev pub outcome_value : {M : Type 0} → Outcome ProtoKey ProtoValue M → Option ProtoValue
+outcome_value (Answered answer stamp) = answer_value answer
+outcome_value Plain = None
+outcome_value (Cancelled started seen) = None
+outcome_value Starved = None
+outcome_value Withdrawn = None
+
+-- `answered_diagnostics reply` is the diagnostics that `reply` answers, if it answers some.
+abbrev pub answered_diagnostics : {M : Type 0} → ReplyView ProtoKey ProtoValue M → Option Diagnosed
+answered_diagnostics reply = option_and_then value_diagnostics (outcome_value reply.outcome)
+
+-- `definition_file reply` is the file of the definition that `reply` answers, if it answers one.
+abbrev pub definition_file : {M : Type 0} → ReplyView ProtoKey ProtoValue M → Option (List ℕ)
+definition_file reply = option_and_then value_file (outcome_value reply.outcome)
+
+-- `ListView` is a list of diagnostics that is shown: the revision at which it holds, and its text.
+pub record ListView : Type 0 where
+  pub revision : ℕ
+  pub text : List ℕ
+
+-- `list_of reply` is the list of the diagnostics that `reply` answers, at the revision of `reply`.
+abbrev pub list_of : {M : Type 0} → ReplyView ProtoKey ProtoValue M → Option ListView
+list_of reply = option_map (λ d. record { revision = reply.revision; text = shown_list d }) (answered_diagnostics reply)
+
+-- `shown_or_text root reply answered` is the text of `reply`, where `answered` is the diagnostics
+-- that it answers: they are shown, and any other reply has its text.
+abbrev pub shown_or_text : {M : Type 0} → List ℕ → ReplyView ProtoKey ProtoValue M → Option Diagnosed → List ℕ
+shown_or_text root reply None = reply_text root reply
+shown_or_text root reply (Some d) = shown_text (label_model reply.request.label) (has_unread d.diagnostics) d reply.revision
+
+-- `editor_reply_text root reply` is the text of `reply` for an editor with the root `root`.
+abbrev pub editor_reply_text : {M : Type 0} → List ℕ → ReplyView ProtoKey ProtoValue M → List ℕ
+editor_reply_text root reply = shown_or_text root reply (answered_diagnostics reply)
+
+-- ---- lists that are sent
+
+-- `version_text version` is the member `version` of a notification, if it has one.
+abbrev pub version_text : Option ℤ → List ℕ
+version_text None = codes ""
+version_text (Some version) = codes ",\"version\":" ++ signed_decimal version
+
+-- `published_text uri version list` is the notification that the file of `uri` has the diagnostics
+-- whose list is the JSON text `list` (LSP 3.17, "PublishDiagnostics Notification"). The law
+-- `published_spliced` says of which data it is the compact text.
+unfoldable pub published_text : List ℕ → Option ℤ → List ℕ → List ℕ
+published_text uri version list =
+    codes "{\"jsonrpc\":\"2.0\",\"method\":\"textDocument/publishDiagnostics\",\"params\":{\"diagnostics\":"
+    ++ (list ++ (codes ",\"uri\":" ++ (compact_text (string uri) ++ (version_text version ++ codes "}}"))))
+
+-- `version_member version` is the members of the parameters from `version` on.
+abbrev pub version_member : Option ℤ → Members
+version_member None = no_members
+version_member (Some version) = member (codes "version") (number (of_integer version)) no_members
+
+-- `published_data uri version d` is the notification that the file of `uri` has the list `d` of
+-- diagnostics (LSP 3.17, "PublishDiagnosticsParams").
+abbrev pub published_data : List ℕ → Option ℤ → Data → Data
+published_data uri version d =
+    object (member (codes "jsonrpc") (string (codes "2.0"))
+    (member (codes "method") (string (codes "textDocument/publishDiagnostics"))
+    (member (codes "params") (object (member (codes "diagnostics") d (member (codes "uri") (string uri) (version_member version))))
+    no_members)))
+
+-- `LastView` is what was sent for a document: the revision of the last list that was taken, and the
+-- text that was sent last, if one was.
+pub record LastView : Type 0 where
+  pub revision : ℕ
+  pub text : Option (List ℕ)
+
+-- `is_last last text` is whether `text` is the text that was sent last.
+abbrev pub is_last : Option (List ℕ) → List ℕ → Bool
+is_last None text = false
+is_last (Some sent) text = bytes_eq sent text
+
+-- `is_current last list` is whether `list` is of no older revision than the last one that was taken.
+abbrev pub is_current : LastView → ListView → Bool
+is_current last list = nat_le last.revision list.revision
+
+-- `is_news last list` is whether `list` is to be sent: it is not older than the last one that was
+-- taken, and its text is not the one that was sent last.
+abbrev pub is_news : LastView → ListView → Bool
+is_news last list = is_current last list && not (is_last last.text list.text)
+
+-- `after last list` is what was sent after `list` came: an older list changes nothing.
+abbrev pub after : LastView → ListView → LastView
+after last list = if is_current last list then record { revision = list.revision; text = Some list.text } else last
+
+-- ---- requests
+
+-- `with_file key name` is the query of `key`, about the file `name`.
+abbrev pub with_file : ProtoKey → List ℕ → ProtoKey
+with_file (keys.Input file) name = keys.Input name
+with_file (keys.Parse file) name = keys.Parse name
+with_file (keys.Items file) name = keys.Items name
+with_file (keys.Imports file) name = keys.Imports name
+with_file (keys.Linked file) name = keys.Linked name
+with_file (keys.Defs file) name = keys.Defs name
+with_file (keys.Scope file) name = keys.Scope name
+with_file (keys.Resolved file) name = keys.Resolved name
+with_file (keys.Checks file) name = keys.Checks name
+with_file (keys.Diagnostics file) name = keys.Diagnostics name
+with_file (keys.Descriptor file) name = keys.Descriptor name
+with_file (keys.Symbols file) name = keys.Symbols name
+with_file (keys.Definition file place) name = keys.Definition name place
+
+-- `asked_file want` is the file that a request asks about. A request with a fixed text asks about
+-- no file.
+abbrev pub asked_file : Want ProtoKey → Option (List ℕ)
+asked_file (Demand key) = Some (own_name key)
+asked_file (Fixed text) = None
+
+-- `renamed want name` is what answers the same request about the file `name`. A fixed text stays.
+abbrev pub renamed : Want ProtoKey → List ℕ → Want ProtoKey
+renamed (Demand key) name = Demand (with_file key name)
+renamed (Fixed text) name = Fixed text

@@ -1,0 +1,79 @@
+//! Which lists of diagnostics are sent.
+//!
+//! Lists come from several threads. So a list may come after one of a later revision, and is then not
+//! sent: after a list no list of an older revision is sent.
+ghost use Rattle.std.specs.Prelude.{◌≡◌, [], unwrap_or};
+ghost use Rattle.pq_session.specs.Editor.{is_last as is_last_text, is_news, after};
+
+use crate::editor::lists::DiagnosticList;
+use std::marker::Model;
+
+/// The list of diagnostics that was sent last for a document, and the revision of the last list that
+/// was taken.
+#[derive(Debug, Drop)]
+pub struct LastSent {
+    revision: u64,
+    text: Option<String>,
+}
+
+impl Model for LastSent {
+    ghost use Rattle.std.specs.Prelude.{option_map, string_bytes};
+    ghost use Rattle.pq_session.specs.Editor.{LastView};
+
+    ghost Value = { LastView };
+
+    ghost view = { λ last. record { revision = last.revision; text = option_map string_bytes last.text } };
+}
+
+impl LastSent {
+    /// What was sent for a document before its first list: nothing.
+    pub fn new() -> LastSent
+        ensures { result ≡ record { revision = 0; text = None } }
+    {
+        LastSent {
+            revision: 0,
+            text: None,
+        }
+    }
+
+    /// The text that was sent last, `""` before the first.
+    pub fn text(&self) -> &str
+        ensures { result.now ≡ unwrap_or self.now.text [] }
+    {
+        match &self.text {
+            Some(text) => text.as_str(),
+            None => "",
+        }
+    }
+
+    /// Whether `text` is the text that was sent last.
+    fn is_last(&self, text: &str) -> bool
+        ensures { result ≡ is_last_text self.now.text text.now }
+    {
+        match &self.text {
+            Some(sent) => sent.as_str() == text,
+            None => false,
+        }
+    }
+
+    /// Takes `list`, and returns whether it is to be sent: it is of no older revision than the last
+    /// list that was taken, and its text is not the one that was sent last.
+    ///
+    /// An older list changes nothing. After another one its revision is the last, and its text the one
+    /// that was sent last.
+    pub fn replace(&mut self, list: DiagnosticList) -> bool
+        ensures news { result ≡ is_news self.old list }
+        ensures after { self.new ≡ after self.old list }
+    {
+        let DiagnosticList { revision, text } = list;
+        if revision < self.revision {
+            return false;
+        }
+        self.revision = revision;
+        if self.is_last(text.as_str()) {
+            return false;
+        }
+        self.text = Some(text);
+        true
+    }
+}

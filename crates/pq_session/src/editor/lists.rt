@@ -1,0 +1,104 @@
+//! The list of the diagnostics that a reply answers, as it is sent to an editor.
+//!
+//! The list is printed once, in time linear in its text.
+ghost use Rattle.std.specs.Prelude.{◌≡◌, option_map, string_bytes, IfOk};
+ghost use Rattle.pq_session.specs.Editor.{shown_list as list_shown, list_of, answered_diagnostics as diagnostics_answered, outcome_value};
+
+use crate::protocol::reports::print_list;
+use crate::protocol::severities::has_unread;
+use pq_checks::Diagnosed;
+use pq_core::{Outcome, Reply};
+use pq_proto::{Printer, ProtoKey, ProtoValue};
+use pq_rules::Answer;
+use std::alloc::{AllocError, Global};
+use std::marker::Model;
+
+/// The diagnostics of a file as an editor is shown them: a JSON array of them (LSP 3.17,
+/// "Diagnostic"), and the revision at which they hold.
+#[derive(Debug, Drop)]
+pub struct DiagnosticList {
+    pub(crate) revision: u64,
+    pub(crate) text: String,
+}
+
+impl Model for DiagnosticList {
+    ghost use Rattle.std.specs.Prelude.{string_bytes};
+    ghost use Rattle.pq_session.specs.Editor.{ListView};
+
+    ghost Value = { ListView };
+
+    ghost view = { λ list. record { revision = list.revision; text = string_bytes list.text } };
+}
+
+impl DiagnosticList {
+    /// The number of the revision of the sources at which the diagnostics hold.
+    pub fn revision(&self) -> u64
+        ensures { result ≡ self.now.revision }
+    {
+        self.revision
+    }
+
+    /// The JSON array of the diagnostics, without white space.
+    pub fn text(&self) -> &str
+        ensures { result.now ≡ self.now.text }
+    {
+        self.text.as_str()
+    }
+}
+
+/// The value of a request that ended in `outcome`, if it was answered with one.
+pub(crate) fn outcome_value<M>(outcome: &Outcome<ProtoKey, ProtoValue, M>) -> Option<&ProtoValue>
+    ensures { option_map (λ value. value.now) result ≡ outcome_value outcome.now }
+{
+    match outcome {
+        Outcome::Answered(answer, _) => match answer.get() {
+            Answer::Value(value) => Some(value),
+            Answer::Cycle(_) => None,
+        },
+        _ => None,
+    }
+}
+
+/// The diagnostics that `reply` answers, if it answers some.
+pub(crate) fn answered_diagnostics<M>(reply: &Reply<ProtoKey, ProtoValue, M>) -> Option<&Diagnosed>
+    ensures { option_map (λ d. d.now) result ≡ diagnostics_answered reply.now }
+{
+    match outcome_value(reply.outcome())? {
+        ProtoValue::Diagnostics(diagnosed) => Some(diagnosed.get()),
+        _ => None,
+    }
+}
+
+/// The JSON array of the diagnostics `diagnosed`.
+fn shown_list(alloc: Global, diagnosed: &Diagnosed) -> Result<String, AllocError>
+    ensures { IfOk result (λ text. string_bytes text ≡ list_shown diagnosed.now) }
+{
+    let unread = has_unread(diagnosed.diagnostics.as_slice());
+    let mut out = Printer::new(alloc);
+    print_list(&mut out, unread, diagnosed)?;
+    Ok(out.into_string())
+}
+
+/// The list of the diagnostics that `reply` answers, at the revision of `reply`. It is `None` for each
+/// reply that answers no diagnostics: a cancelled, starved, withdrawn or plain one, and an answer of
+/// another kind.
+///
+/// Where an import of the file is not read, since the imported file has a syntax error, that error and
+/// the names of types that resolve to nothing have the severity of information (LSP 3.17,
+/// "DiagnosticSeverity"). Each other error has the severity of its code.
+///
+/// Only `Memory` is an error, after an allocation failure.
+pub fn diagnostic_list<M>(
+    alloc: Global,
+    reply: &Reply<ProtoKey, ProtoValue, M>,
+) -> Result<Option<DiagnosticList>, AllocError>
+    ensures { IfOk result (λ list. list ≡ list_of reply.now) }
+{
+    match answered_diagnostics(reply) {
+        Some(diagnosed) => Ok(Some(DiagnosticList {
+            revision: reply.revision().number(),
+            text: shown_list(alloc, diagnosed)?,
+        })),
+        None => Ok(None),
+    }
+}

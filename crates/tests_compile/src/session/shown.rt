@@ -1,0 +1,218 @@
+//! What an editor is shown: lists of diagnostics, replies, and notifications.
+//!
+//! The severities are those of the rule: where an import is not read, P104 and P150 are 3.
+use crate::checks::{check_text, check_that};
+use crate::sets::inputs_of;
+use pq_core::{Body, ClientId, Number, Outcome, Reply, Request, Want};
+use pq_inputs::{Durability, Inputs};
+use pq_names::Text;
+use pq_proto::{Place, ProtoKey, ProtoValue, compile};
+use pq_rules::Shared;
+use pq_session::{
+    LastSent, Root, ScriptFault, asked_file, change_to, definition_file, diagnostic_list,
+    diagnostics_of, editor_text, empty_list, published_text, renamed, text_after,
+};
+use std::process::Abort;
+use test_support::changes_of;
+
+/// A reply without a stamp.
+type BareReply = Reply<ProtoKey, ProtoValue, ()>;
+
+/// The reply to `request` for `key`, at the sources of `inputs`.
+fn answered(
+    rt: &(impl Abort + AllocGlobal),
+    inputs: &Inputs,
+    request: Request<ProtoKey>,
+    key: &ProtoKey,
+) -> BareReply {
+    let answer = compile(rt.alloc(), inputs, key).expect(rt, "memory");
+    let answer = Shared::new(rt.alloc(), answer).expect(rt, "memory");
+    let outcome = Outcome::Answered(answer, ());
+    Reply::new(
+        ClientId::new(0),
+        Number::new(1),
+        request,
+        inputs.now(),
+        outcome,
+    )
+}
+
+/// The name of a file.
+fn text(rt: &(impl Abort + AllocGlobal), name: &str) -> Text {
+    Text::new(rt.alloc(), name).expect(rt, "memory")
+}
+
+/// The reply to a request for the diagnostics of `name`.
+fn reply_of(rt: &(impl Abort + AllocGlobal), inputs: &Inputs, name: &str) -> BareReply {
+    let key = ProtoKey::Diagnostics(text(rt, name));
+    let request = diagnostics_of(rt.alloc(), name).expect(rt, "memory");
+    answered(rt, inputs, request, &key)
+}
+
+/// Checks the list of the diagnostics of `name`.
+fn check_list(rt: &(impl Abort + AllocGlobal), inputs: &Inputs, name: &str, want: &str) {
+    let reply = reply_of(rt, inputs, name);
+    let list = diagnostic_list(rt.alloc(), &reply).expect(rt, "memory");
+    let list = list.expect(rt, "a list");
+    check_text(rt, list.text(), want, name);
+    check_that(rt, list.revision() == inputs.now().number(), name);
+}
+
+const FILES: &str = r#"bad= hi
+a: import "bad"; message M { N n = 1; M m = 1; }
+b: message M { N n = 1; }
+c: message M { M m = 1; }"#;
+
+/// The list of `a`: the type may be defined in `bad`, and the number is wrong in any case.
+const OF_A: &str =
+    r#"[{"code":"P104","message":"import \"bad\" has a syntax fault","range":{"end":{"character":12,"line":1},"start":{"character":7,"line":1}},"severity":3,"source":"proto"},{"code":"P150","message":"type \"N\" is not found","range":{"end":{"character":27,"line":1},"start":{"character":26,"line":1}},"severity":3,"source":"proto"},{"code":"P122","message":"field number 1 is used twice","range":{"end":{"character":42,"line":1},"start":{"character":41,"line":1}},"severity":1,"source":"proto"}]"#;
+
+/// The list of `b`, whose imports are read.
+const OF_B: &str =
+    r#"[{"code":"P150","message":"type \"N\" is not found","range":{"end":{"character":13,"line":1},"start":{"character":12,"line":1}},"severity":1,"source":"proto"}]"#;
+
+#[test]
+fn errors_after_an_unread_import_are_information(rt: HostRuntime) {
+    let inputs = inputs_of(&rt, FILES);
+    check_list(&rt, &inputs, "a", OF_A);
+    check_list(&rt, &inputs, "b", OF_B);
+    check_list(&rt, &inputs, "c", empty_list());
+}
+
+/// The text of `reply` that an editor is shown.
+fn check_reply(rt: &(impl Abort + AllocGlobal), reply: &BareReply, want: &str) {
+    let root = Root::at(rt.alloc(), "/p").expect(rt, "memory");
+    let found = editor_text(rt.alloc(), &root, reply).expect(rt, "memory");
+    check_text(rt, found.as_str(), want, want);
+}
+
+/// Checks that `reply` answers no diagnostics.
+fn check_no_list(rt: &(impl Abort + AllocGlobal), reply: &BareReply) {
+    let list = diagnostic_list(rt.alloc(), reply).expect(rt, "memory");
+    check_that(rt, list.is_none(), "a list");
+}
+
+#[test]
+fn replies_for_an_editor(rt: HostRuntime) {
+    let inputs = inputs_of(&rt, "bad= hi\na: import \"bad\";");
+    let reply = reply_of(&rt, &inputs, "a");
+    check_reply(
+        &rt,
+        &reply,
+        r#"{"id":null,"jsonrpc":"2.0","result":{"items":[{"code":"P104","message":"import \"bad\" has a syntax fault","range":{"end":{"character":12,"line":1},"start":{"character":7,"line":1}},"severity":3,"source":"proto"}],"kind":"full","resultId":"2"}}"#,
+    );
+    check_that(&rt, definition_file(&reply).is_none(), "no definition");
+}
+
+#[test]
+fn the_file_of_a_definition(rt: HostRuntime) {
+    let inputs = inputs_of(
+        &rt,
+        "b: message B {}\na: import \"b\"; message M { B b = 1; }",
+    );
+    let place = Place {
+        line: 1,
+        character: 24,
+    };
+    let key = ProtoKey::Definition(text(&rt, "a"), place);
+    let request = diagnostics_of(rt.alloc(), "a").expect(&rt, "memory");
+    let reply = answered(&rt, &inputs, request, &key);
+    check_text(&rt, definition_file(&reply).unwrap_or("-"), "b", "the file");
+    check_no_list(&rt, &reply);
+    check_reply(
+        &rt,
+        &reply,
+        r#"{"id":null,"jsonrpc":"2.0","result":{"range":{"end":{"character":9,"line":1},"start":{"character":8,"line":1}},"uri":"file:///p/b"}}"#,
+    );
+}
+
+/// Gives the list of `a` to `last`: whether it is sent.
+fn is_sent(rt: &(impl Abort + AllocGlobal), last: &mut LastSent, inputs: &Inputs) -> bool {
+    let reply = reply_of(rt, inputs, "a");
+    let list = diagnostic_list(rt.alloc(), &reply).expect(rt, "memory");
+    last.replace(list.expect(rt, "a list"))
+}
+
+#[test]
+fn lists_are_sent_where_they_differ(rt: HostRuntime) {
+    let empty = inputs_of(&rt, "b: message B {}");
+    let good = inputs_of(&rt, "b: message B {}\na: import \"b\";");
+    let bad = inputs_of(
+        &rt,
+        "b: message B {}\na: import \"b\";\na: import \"b\"; enum E {}",
+    );
+    let mut last = LastSent::new();
+    check_text(&rt, last.text(), "", "before the first");
+    check_that(&rt, is_sent(&rt, &mut last, &empty), "the first");
+    check_that(&rt, !is_sent(&rt, &mut last, &good), "the same");
+    check_text(&rt, last.text(), empty_list(), "no diagnostics");
+    check_that(&rt, is_sent(&rt, &mut last, &bad), "another");
+    check_that(&rt, !is_sent(&rt, &mut last, &good), "an older one");
+    check_that(&rt, last.text() != empty_list(), "the later one");
+}
+
+/// Checks the notification of a document.
+fn check_published(
+    rt: &(impl Abort + AllocGlobal),
+    uri: &str,
+    version: Option<i64>,
+    list: &str,
+    want: &str,
+) {
+    let found = published_text(rt.alloc(), uri, version, list).expect(rt, "memory");
+    check_text(rt, found.as_str(), want, want);
+}
+
+#[test]
+fn notifications_of_diagnostics(rt: HostRuntime) {
+    check_published(
+        &rt,
+        "file:///a.proto",
+        Some(-7),
+        empty_list(),
+        r#"{"jsonrpc":"2.0","method":"textDocument/publishDiagnostics","params":{"diagnostics":[],"uri":"file:///a.proto","version":-7}}"#,
+    );
+    check_published(
+        &rt,
+        "a\"b",
+        None,
+        "[{}]",
+        r#"{"jsonrpc":"2.0","method":"textDocument/publishDiagnostics","params":{"diagnostics":[{}],"uri":"a\"b"}}"#,
+    );
+}
+
+/// Checks that the request for the diagnostics of `a` is one about `b` after it was renamed.
+fn check_renamed(rt: &(impl Abort + AllocGlobal)) {
+    let request = diagnostics_of(rt.alloc(), "a").expect(rt, "memory");
+    check_text(rt, asked_file(&request).unwrap_or("-"), "a", "the file");
+    let request = renamed(rt.alloc(), request, "b").expect(rt, "memory");
+    check_text(
+        rt,
+        asked_file(&request).unwrap_or("-"),
+        "b",
+        "the other file",
+    );
+}
+
+#[test]
+fn requests_about_other_files(rt: HostRuntime) {
+    check_renamed(&rt);
+    let request = diagnostics_of(rt.alloc(), "a").expect(&rt, "memory");
+    let label = request.label;
+    let want = Want::Fixed(text(&rt, "{}"));
+    let request = renamed(rt.alloc(), Request { label, want }, "b").expect(&rt, "memory");
+    check_that(&rt, asked_file(&request).is_none(), "no file");
+}
+
+#[test]
+fn texts_after_edits(rt: HostRuntime) {
+    let changes = changes_of(rt.alloc(), "0:1-0:2 i").expect(&rt, "memory");
+    let after = text_after(rt.alloc(), Some("ho"), Body::Ranged(changes)).ok();
+    let after = after.expect(&rt, "a text").expect(&rt, "a text");
+    check_text(&rt, after.as_str(), "hi", "a change");
+    let changes = changes_of(rt.alloc(), "0:1-0:2 i").expect(&rt, "memory");
+    let after = text_after(rt.alloc(), None, Body::Ranged(changes));
+    check_that(&rt, after == Err(ScriptFault::BadRange), "no text");
+    let change = change_to(rt.alloc(), "a", None, Durability::High).expect(&rt, "memory");
+    check_text(&rt, change.file.as_str(), "a", "the file of a change");
+}
