@@ -14,11 +14,15 @@ mod folder;
 mod names;
 mod paths;
 mod serving;
+mod stub;
 mod texts;
 mod walk;
 
 pub(crate) use fault::LibraryFault;
 pub(crate) use folder::{no_library, read_library};
+pub(crate) use names::in_order;
+pub(crate) use paths::joined;
 pub(crate) use serving::run_library_script;
+pub(crate) use stub::{absolute_of, is_file_at, names_found, report_file, text_found};
 #[cfg(test)]
 pub(crate) use walk::MAX_DEPTH;

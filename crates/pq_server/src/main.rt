@@ -17,11 +17,16 @@ mod tests;
 use clap::Error;
 use command::{Task, task_of};
 use editor::{Setup, serve_editor};
-use library::{no_library, read_library, run_library_script};
+use library::{
+    LibraryFault, absolute_of, no_library, read_library, report_file, run_library_script,
+};
 use log::Log;
-use pq_session::Counted;
+use pq_session::{Counted, Root};
 use serving::{OpenGate, Size, serve};
-use status::{START_FAILED, refused, run_script, served, unannounced, unread};
+use status::{
+    START_FAILED, line_of, not_started, refused, run_script, served, status_of, unannounced, unread,
+};
+use std::io::{Read, Write};
 use std::net::{Ipv4Addr, Net, SocketAddr, TcpListener, TcpStream};
 use std::process::ExitCode;
 use std::rt::{Clock, Env, Files};
@@ -78,28 +83,46 @@ where
     served(serve(rt, rt.alloc(), listener, library, size, &OpenGate))
 }
 
-/// The roots of these folders, as whole paths.
-fn roots_of<R: Env + AllocGlobal>(rt: &R, folders: &[&str]) -> Result<Vec<Root>, AllocError> {
+/// The root of the folder `dir`, as a whole path. If that is not known, a line says why.
+fn root_of<R: Env + Files + AllocGlobal + Eprint>(rt: &R, dir: &str) -> Result<Root, LibraryFault> {
+    match absolute_of(rt, dir) {
+        Ok(path) => Ok(Root::at(rt.alloc(), path.as_str())?),
+        Err(error) => {
+            let fault = LibraryFault::from(error);
+            Err(fault)
+        }
+    }
+}
+
+/// The roots of these folders.
+fn roots_of<R: Env + Files + AllocGlobal + Eprint>(
+    rt: &R,
+    folders: &[&str],
+) -> Result<Vec<Root>, LibraryFault> {
     let mut roots = Vec::new(rt.alloc());
     for folder in folders {
-        let path = absolute_of(rt, folder)?;
-        roots.push(Root::at(rt.alloc(), path.as_str())?)?;
+        roots.push(root_of(rt, folder)?)?;
     }
     Ok(roots)
 }
 
-/// Serves one editor on the standard streams. Returns the exit status.
-fn run_for_editor(rt: HostRuntime, workers: u8, folders: &[&str]) -> u8 {
-    let alloc = rt.alloc();
-    let outcome = match roots_of(&rt, folders) {
+/// Serves one editor from `input` to `output`. Returns the exit status.
+fn run_for_editor<R, I, W>(rt: &R, input: I, output: W, workers: u8, folders: &[&str]) -> u8
+where
+    R: Threads + Wait + Env + Files + Eprint + AllocGlobal + Copy + Drop + Send + Sync + 'static,
+    I: Read + Drop,
+    W: Write + Copy + Send + Sync,
+{
+    let (status, line) = match roots_of(rt, folders) {
         Ok(roots) => {
             let setup = Setup { workers, roots };
-            serve_editor(&rt, alloc, rt.stdin(), rt.stdout(), setup, &OpenGate)
+            let outcome = serve_editor(rt, rt.alloc(), input, output, setup, &OpenGate);
+            (status_of(outcome), line_of(outcome))
         }
-        Err(_) => Err(ScriptFault::Memory),
+        Err(fault) => not_started(fault),
     };
-    let _ = eprint!(rt; "{}", line_of(outcome));
-    status_of(outcome)
+    let _ = eprint!(rt; "{line}");
+    status
 }
 
 /// Says on standard error why `clap` refuses the words of the command line. Returns the exit status.
@@ -141,7 +164,9 @@ fn main(rt: HostRuntime) -> ExitCode {
             let _ = eprint!(rt; "{line}");
             status
         }
-        Task::Stdio { workers, roots } => run_for_editor(rt, workers, roots.as_slice()),
+        Task::Stdio { workers, roots } => {
+            run_for_editor(&rt, rt.stdin(), rt.stdout(), workers, roots.as_slice())
+        }
     };
     ExitCode::from(status)
 }

@@ -62,7 +62,7 @@ pub(crate) struct Desk<P, C, Q> {
     is_ready: bool,
 }
 
-impl<P: Drop, C: Drop, Q: Drop> Desk<P, C, Q> {
+impl<P: Drop + Send, C: Drop + Send, Q: Drop + Send> Desk<P, C, Q> {
     /// The desk of a session whose client has sent nothing.
     pub(crate) fn new(
         alloc: Global,

@@ -2,7 +2,7 @@
 use crate::editor::roots::Roots;
 use crate::library::{in_order, joined, names_found, text_found};
 use pq_session::Memory;
-use std::rt::{Eprint, Files};
+use std::rt::Files;
 
 /// A file of a library: its name and its text.
 #[derive(Drop)]

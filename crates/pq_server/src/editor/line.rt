@@ -29,7 +29,7 @@ pub(crate) struct Line<P, C> {
     porter: C,
 }
 
-impl<P: Drop, C: Drop> Line<P, C> {
+impl<P: Drop + Send, C: Drop + Send> Line<P, C> {
     /// The line of `client`.
     pub(crate) fn new(client: Client, post: P, porter: C) -> Line<P, C> {
         Line {

@@ -36,7 +36,7 @@ pub(crate) struct Pusher<P, C, T> {
     sent: Vec<Sent>,
 }
 
-impl<P: Drop, C: Drop, T: Drop> Pusher<P, C, T> {
+impl<P: Drop + Send, C: Drop + Send, T: Drop + Send> Pusher<P, C, T> {
     /// A pusher that has sent nothing.
     pub(crate) fn new(alloc: Global, line: Line<P, C>, take: T) -> Pusher<P, C, T> {
         Pusher {

@@ -20,12 +20,19 @@ pub(crate) struct Pushes<'a> {
 
 /// Hands on what the messages of one piece have left to do: a round of pushes, and the request to
 /// watch files.
-fn hand_on<P: Drop, C: Drop, Q: Drop, H: Wait, W: Write + Copy>(
+fn hand_on<P, C, Q, H, W>(
     rt: &H,
     desk: &mut Desk<P, C, Q>,
     pushes: &Pushes<'_>,
     output: &Output<W>,
-) -> Result<(), ScriptFault> {
+) -> Result<(), ScriptFault>
+where
+    P: Drop + Send,
+    C: Drop + Send,
+    Q: Drop + Send,
+    H: Wait,
+    W: Write + Copy,
+{
     if desk.asks_to_watch() {
         output.send(rt, WATCH_FILES)?;
     }
@@ -73,7 +80,7 @@ pub(crate) fn read_all_messages<F, H, I, W>(
 where
     F: Floor<H>,
     H: Wait + Files + AllocGlobal + Eprint + Clone + Drop,
-    I: Read,
+    I: Read + Drop,
     W: Write + Copy,
 {
     let mut desk = desk;

@@ -52,7 +52,7 @@ pub(crate) fn serve_editor<R, I, W, G>(
 ) -> Result<u8, ScriptFault>
 where
     R: Threads + Wait + Files + AllocGlobal + Eprint + Copy + Drop + Send + Sync + 'static,
-    I: Read,
+    I: Read + Drop,
     W: Write + Copy + Send + Sync,
     G: Gate<ProtoRules> + Sync,
 {
@@ -86,7 +86,7 @@ where
     S::Part: Send,
     J: BoardName + Send + Sync + 'static,
     R: Threads + Wait + Files + AllocGlobal + Eprint + Copy + Drop + Send + Sync + 'static,
-    I: Read,
+    I: Read + Drop,
     W: Write + Copy + Send + Sync,
     G: Gate<S> + Sync,
     requires { board ≡ J.vector }
@@ -111,7 +111,7 @@ fn run<F, R, I, W, G>(
 where
     F: Replies<R> + Works<G, R>,
     R: Threads + Wait + Files + AllocGlobal + Eprint + Clone + Drop + Sync,
-    I: Read,
+    I: Read + Drop,
     W: Write + Copy + Send + Sync,
     G: Sync,
 {
@@ -145,7 +145,7 @@ fn run_clients<F, R, I, W>(
 where
     F: Replies<R>,
     R: Threads + Wait + Files + AllocGlobal + Eprint + Clone + Drop + Sync,
-    I: Read,
+    I: Read + Drop,
     W: Write + Copy + Send + Sync,
 {
     let Ok(editor) = floor.join(rt) else {
@@ -176,7 +176,7 @@ fn run_threads<F, R, I, W>(
 where
     F: Replies<R>,
     R: Threads + Wait + Files + AllocGlobal + Eprint + Clone + Drop + Sync,
-    I: Read,
+    I: Read + Drop,
     W: Write + Copy + Send + Sync,
 {
     let (client, Ends { post, porter, take }) = editor;

@@ -11,7 +11,7 @@ use pq_session::{Memory, ScriptFault, asked_file, renamed};
 use std::rt::Files;
 use std::sync::{Arc, Wait};
 
-impl<P: Drop, C: Drop, Q: Drop> Desk<P, C, Q> {
+impl<P: Drop + Send, C: Drop + Send, Q: Drop + Send> Desk<P, C, Q> {
     /// Hands in `request`, about the file that its path has below the roots.
     pub(super) fn ask<F, H>(
         &mut self,

@@ -30,7 +30,7 @@ impl Made {
     }
 }
 
-impl<P: Drop, C: Drop, Q: Drop> Desk<P, C, Q> {
+impl<P: Drop + Send, C: Drop + Send, Q: Drop + Send> Desk<P, C, Q> {
     /// Makes the edit `change` of the document of `event`.
     pub(super) fn edit<F, H>(
         &mut self,
@@ -126,8 +126,7 @@ impl<P: Drop, C: Drop, Q: Drop> Desk<P, C, Q> {
             goes_on = goes_on && self.send_name(rt, floor, document, index)?;
         }
         if !document.is_kept && was_kept {
-            self.gone.push(gone_of(self.alloc, document)?)?;
-            self.has_moved = true;
+            self.forget(document)?;
         }
         Ok(goes_on)
     }
@@ -159,6 +158,14 @@ impl<P: Drop, C: Drop, Q: Drop> Desk<P, C, Q> {
         Ok(made.goes_on())
     }
 
+    /// `document` shows no diagnostics any more.
+    fn forget(&mut self, document: &Document) -> Result<(), Memory> {
+        let gone = gone_of(self.alloc, document)?;
+        self.gone.push(gone)?;
+        self.has_moved = true;
+        Ok(())
+    }
+
     /// Removes the document at `path`, and its files.
     fn remove<F, H>(&mut self, rt: &H, floor: &F, path: &str) -> Result<Step, ScriptFault>
     where
@@ -167,12 +174,11 @@ impl<P: Drop, C: Drop, Q: Drop> Desk<P, C, Q> {
     {
         let names = match self.documents.take(path) {
             Some(document) => {
-                self.gone.push(gone_of(self.alloc, &document)?)?;
+                self.forget(&document)?;
                 document.names
             }
             None => self.roots.names_of(rt, path)?,
         };
-        self.has_moved = true;
         for name in names {
             let made = self.set_file(rt, floor, name.as_str(), None, Durability::Low)?;
             if !made.goes_on() {
@@ -288,8 +294,7 @@ impl<P: Drop, C: Drop, Q: Drop> Desk<P, C, Q> {
         let Some(document) = self.documents.take(path.as_str()) else {
             return Ok(true);
         };
-        self.gone.push(gone_of(self.alloc, &document)?)?;
-        self.has_moved = true;
+        self.forget(&document)?;
         self.read_names(rt, floor, document.names)
     }
 

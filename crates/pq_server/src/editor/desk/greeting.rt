@@ -8,7 +8,7 @@ use pq_session::{Greeting, Memory, Root, ScriptFault};
 use std::rt::Files;
 use std::sync::Wait;
 
-impl<P: Drop, C: Drop, Q: Drop> Desk<P, C, Q> {
+impl<P: Drop + Send, C: Drop + Send, Q: Drop + Send> Desk<P, C, Q> {
     /// Takes the roots of `greeting`, or those of the command line, and reads the files below them.
     /// Returns whether the session goes on.
     pub(super) fn greet<F, H>(
