@@ -1,28 +1,37 @@
 #!/usr/bin/env python3
-"""Builds pq_server without its proof, with optimisation: a program to measure while a proof is open.
+"""Builds pq_server without its proof, with optimisation: a program to measure or to try while a proof is open.
 
 `rt try` hands the whole program to the kit's `clang` as one module, with a check before each operation that a proof would
-cover. This script runs `rt try` from a copy of the kit's scripts beside a `clang` that keeps the module and stops. It takes
-the checks out of the module, and compiles and links it as `rt run` does: by the kit's `clang` at -O3 and by `rattle-link`.
-This takes about two minutes.
+cover. This script runs `rt try` from a copy of the kit's scripts beside a `clang` that keeps the module and stops. It compiles
+and links the module as `rt run` does: by the kit's `clang` at -O3 and by `rattle-link`. This takes two to three minutes.
 
-Nothing is proved of the program. Where a proof would fail, its behaviour is undefined. The program answers the same bytes as
-the proved one, with more instructions: 11 to 17 % more for parsing alone. So it is compared with another that was built
-like it, and its factors to `protoc` are too low.
+Nothing is proved of the program. It answers the same bytes as the proved one, with more instructions:
 
-usage: bench/unproved.py PROGRAM [--crate FOLDER]
+    bare        The checks are taken out of the module: 11 to 17 % more instructions for parsing alone. Where a proof would fail,
+                the behaviour is undefined. So the program is compared with another that was built like it, and its factors to
+                `protoc` are too low.
+    --checked   The checks stay: about twice the instructions. A check that fails writes a line to standard error and ends the
+                program with status 70. It is built for `bin/pq_server --unproved`.
+
+The program gets the time at which the build began, so a source that changed meanwhile is newer. It takes its place as a whole, by
+a rename, so a program that runs from there goes on. At SIGTERM and SIGHUP the build ends with what it started.
+
+usage: bench/unproved.py PROGRAM [--checked] [--crate FOLDER]
 """
 import argparse
 import os
 import re
 import shutil
+import signal
 import subprocess
 import sys
 import tempfile
+import time
 
 HERE = os.path.dirname(os.path.abspath(__file__))
 CRATE = os.path.join(HERE, "..", "crates", "pq_server")
 TARGET = "x86_64-unknown-linux-gnu"
+SIGNALS = (signal.SIGTERM, signal.SIGHUP)
 # What stands in for `clang`: it keeps the module that would be compiled with checks, and stops.
 STAND_IN = '#!/bin/sh\ncase " $* " in *" -fsanitize=address "*) cp module.bc %s; exit 1;; esac\nexec %s "$@"\n'
 # What the module has of `rt try` alone: the checks, what fills fresh memory, traps and marks for the address sanitizer.
@@ -30,6 +39,19 @@ CHECK = re.compile(r'(define internal void @"rattle-llvm-checks::\w+"\(i8 %a0\))
 FILL = re.compile(r"\n  call void @llvm\.memset\.p0\.i64\(ptr %r\d+, i8 -86, i64 \d+, i1 false\)")
 TRAP = "\n  call void @llvm.trap()"
 MARK = " sanitize_address"
+# What a check that fails calls in the place of a trap: it writes a line, and ends the process with the status EX_SOFTWARE of BSD's
+# sysexits, whatever its threads do.
+FAILED = """
+@"unproved::line" = private constant [%(length)d x i8] c"%(line)s\\0A"
+define internal void @"unproved::failed"() cold noinline noreturn nounwind {
+start:
+  %%written = call i64 @write(i32 2, ptr @"unproved::line", i64 %(length)d)
+  call void @_exit(i32 70)
+  unreachable
+}
+"""
+LINE = "%s: a check failed where a proof was not made"
+NEEDED = {"write": "declare i64 @write(i32, ptr, i64)\n", "_exit": "declare void @_exit(i32)\n"}
 # What `rattle build` gives clang.
 FLAGS = ["--target=" + TARGET, "-march=x86-64-v2", "-ffunction-sections", "-fdata-sections", "-fPIE", "-O3", "-c", "-x", "ir"]
 FLAGS += [word for flag in ("-no-trap-after-noreturn", "-trap-unreachable", "-no-x86-call-frame-opt", "-disable-machine-licm",
@@ -64,10 +86,17 @@ def kit_with(folder, clang):
 
 def module(folder, copy, crate):
     """The path of the program's module with its checks. `rt try` gets no object file and ends with an error."""
-    said = subprocess.run([os.path.join(copy, "bin", "rt"), "try"], cwd=crate, stdin=subprocess.DEVNULL, capture_output=True)
+    how = {"stdin": subprocess.DEVNULL, "stdout": subprocess.PIPE, "stderr": subprocess.STDOUT}
+    trial = subprocess.Popen([os.path.join(copy, "bin", "rt"), "try"], cwd=crate, **how)
+    try:
+        said, _ = trial.communicate()
+    finally:
+        # It ends what it started, unless it is killed.
+        trial.terminate()
+        trial.wait()
     path = os.path.join(folder, "module.bc")
     if not os.path.exists(path):
-        sys.exit(said.stdout.decode() + said.stderr.decode())
+        sys.exit(said.decode())
     return path
 
 
@@ -77,27 +106,54 @@ def unchecked(text):
     return FILL.sub("", text).replace(TRAP, "").replace(MARK, "")
 
 
-def built(folder, crate, program):
+def checked(text, name):
+    """The module with its checks, of which each that fails ends the program `name` by a line and a status."""
+    line = LINE % name
+    text = FILL.sub("", text).replace(TRAP, '\n  call void @"unproved::failed"()').replace(MARK, "")
+    lacking = [line for word, line in NEEDED.items() if not re.search(r"^(?:declare|define) .*@%s\(" % word, text, re.M)]
+    return text + "".join(lacking) + FAILED % {"length": len(line) + 1, "line": line}
+
+
+def built(folder, crate, program, has_checks):
     """Builds the program of a crate's folder."""
+    began = time.time()
     kit, copy = kit_with(folder, STAND_IN)
-    checked, bare, made = module(folder, copy, crate), os.path.join(folder, "bare.ll"), os.path.join(folder, "bare.o")
+    whole, given, made = module(folder, copy, crate), os.path.join(folder, "given.ll"), os.path.join(folder, "made.o")
     clang = os.path.join(kit, "toolchain", "bin", "clang")
-    text = ended([clang, "-S", "-emit-llvm", "-x", "ir", "-Xclang", "-disable-llvm-passes", checked, "-o", "-"])
-    with open(bare, "w") as sink:
-        sink.write(unchecked(text))
-    ended([clang] + FLAGS + [bare, "-o", made])
+    text = ended([clang, "-S", "-emit-llvm", "-x", "ir", "-Xclang", "-disable-llvm-passes", whole, "-o", "-"])
+    with open(given, "w") as sink:
+        sink.write(checked(text, os.path.basename(os.path.abspath(crate))) if has_checks else unchecked(text))
+    ended([clang] + FLAGS + [given, "-o", made])
     libraries = [os.path.join(kit, "c", name) for name in ("libos_c.a", "liblibc_c.a")]
-    ended([os.path.join(kit, "bin", "rattle-link"), "--target", TARGET, "--toolchain", os.path.join(kit, "toolchain"),
-           "-o", os.path.abspath(program), made] + libraries)
+    # Beside the program, since a rename does not leave a file system.
+    linked = "%s.%d" % (os.path.abspath(program), os.getpid())
+    try:
+        ended([os.path.join(kit, "bin", "rattle-link"), "--target", TARGET, "--toolchain", os.path.join(kit, "toolchain"),
+               "-o", linked, made] + libraries)
+        os.utime(linked, (began, began))
+        os.replace(linked, program)
+    finally:
+        if os.path.exists(linked):
+            os.remove(linked)
+
+
+def stop(number, _):
+    """Ends the build at a signal. A second one would end what puts things away."""
+    for each in SIGNALS:
+        signal.signal(each, signal.SIG_IGN)
+    sys.exit(128 + number)
 
 
 def main():
     words = argparse.ArgumentParser()
     words.add_argument("program", help="where to put it")
+    words.add_argument("--checked", action="store_true", help="leave the checks in")
     words.add_argument("--crate", default=CRATE, help="the folder of another crate that is a program")
     words = words.parse_args()
+    for number in SIGNALS:
+        signal.signal(number, stop)
     with tempfile.TemporaryDirectory() as folder:
-        built(folder, words.crate, words.program)
+        built(folder, words.crate, words.program, words.checked)
     return 0
 
 
