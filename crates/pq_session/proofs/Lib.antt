@@ -4,6 +4,7 @@ pub mod EscapeLemmas
 pub mod RootLemmas
 pub mod ReplyLemmas
 pub mod PrintLemmas
+pub mod EditorLemmas
 pub mod Known
 pub mod Total
 pub mod OutputLemmas

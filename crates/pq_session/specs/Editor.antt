@@ -1,8 +1,9 @@
 -- What one editor is shown (LSP 3.17, "Diagnostic", "PublishDiagnosticsParams"): the diagnostics of
 -- a file with their severities, the lists that are sent without being asked for, and the texts that
 -- edits make.
-use Rattle.std.specs.Prelude.{ℕ, ℤ, Bool, true, false, not, ◌&&◌, nat_le, List, ◌++◌, map, list_any, codes, decimal, if◌then◌else◌, Option, Some, None, option_and_then, option_map}
+use Rattle.std.specs.Prelude.{ℕ, ℤ, Bool, true, false, not, ◌&&◌, nat_le, List, ◌++◌, map, codes, decimal, if◌then◌else◌, Option, Some, None, option_and_then, option_map}
 use Rattle.std.specs.Fmt.{signed_decimal}
+use Rattle.std.specs.List.{list_any}
 use Rattle.std.specs.Str.{bytes_eq}
 use Rattle.serde_json.specs.Data.{Data, Members, number, string, object, unsigned, member, no_members}
 use Rattle.serde_json.specs.Find.{of_integer}

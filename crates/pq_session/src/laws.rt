@@ -5,11 +5,25 @@
 //! early has written a prefix of one (`stops_at_a_front`). A result that was printed before gives
 //! the response that would be printed with its data (`symbols_spliced`, `descriptor_spliced`).
 //! Reading the URI that was printed of a file gives its name back (`uris_come_back`).
-ghost use Rattle.std.specs.Prelude.{◌≡◌, ◌↔◌, true, List, ℕ, Option, Some, IsUtf8};
+//!
+//! An editor is shown each diagnostic as it is but for its severity (`shown_but_severity`), and with
+//! that where each import is read (`list_as_it_is`, `reply_as_it_is`). A list that was printed before
+//! gives the notification that would be printed with its data (`published_spliced`).
+ghost use Rattle.std.specs.Prelude.{◌≡◌, ◌↔◌, Bool, true, false, List, ℕ, ℤ, map, Option, Some, IsUtf8};
 ghost use Rattle.serde_json.specs.Data.{Data};
 ghost use Rattle.serde_json.specs.Written.{compact_text};
 ghost use Rattle.pq_frame.specs.Labels.{LabelModel, label_data};
-ghost use Rattle.pq_session.specs.Reply.{reply_data, symbols_text, descriptor_data, descriptor_text};
+ghost use Rattle.pq_links.specs.declared.files.ParsedFile.{ParsedFile};
+ghost use Rattle.pq_checks.specs.Codes.{severity, severity_number};
+ghost use Rattle.pq_checks.specs.declared.diagnostic.Diagnostic.{Diagnostic};
+ghost use Rattle.pq_checks.specs.declared.diagnostic.Diagnosed.{Diagnosed};
+ghost use Rattle.pq_core.specs.Replies.{ReplyView};
+ghost use Rattle.pq_proto.specs.Lists.{list_data};
+ghost use Rattle.pq_proto.specs.declared.key.ProtoKey.{ProtoKey};
+ghost use Rattle.pq_proto.specs.declared.value.ProtoValue.{ProtoValue};
+ghost use Rattle.pq_session.specs.Editor.{has_unread, shown_severity, item_data, shown_data, shown_list, answered_diagnostics, editor_reply_text, published_text, published_data};
+ghost use Rattle.pq_session.specs.Replies.{reply_text};
+ghost use Rattle.pq_session.specs.Reply.{diagnostic_data, reply_data, symbols_text, descriptor_data, descriptor_text};
 ghost use Rattle.pq_frame.specs.Frames.{Frames, State};
 ghost use Rattle.pq_session.specs.Responses.{ScriptState};
 ghost use Rattle.std.specs.Io.{StartsWith};
@@ -54,4 +68,33 @@ pub fn uris_come_back()
     ensures names { (root_uri : Option (List ℕ)) (uri name : List ℕ) →
         file_of (root_of root_uri) uri ≡ Some name →
         IsUtf8 name × (is_file_name (root_of root_uri) name ≡ true) }
+{}
+
+/// A diagnostic that an editor is shown is the diagnostic of a report, but for the number of its
+/// severity.
+pub fn shown_but_severity()
+    ensures plain { (file : ParsedFile) (f : Diagnostic) →
+        diagnostic_data file f ≡ item_data (severity_number (severity f.code)) file f }
+    ensures shown { (unread : Bool) (file : ParsedFile) (f : Diagnostic) →
+        shown_data unread file f ≡ item_data (shown_severity unread f.code) file f }
+{}
+
+/// Where each import of a file is read, the list of its diagnostics has them as they are.
+pub fn list_as_it_is()
+    ensures { (d : Diagnosed) → has_unread d.diagnostics ≡ false →
+        shown_list d ≡ compact_text (list_data (map (diagnostic_data d.file) d.diagnostics)) }
+{}
+
+/// Where each import of a file is read, an editor gets the reply that any other client gets.
+pub fn reply_as_it_is<M>()
+    ensures { (root : List ℕ) (reply : ReplyView ProtoKey ProtoValue M) (d : Diagnosed) →
+        answered_diagnostics reply ≡ Some d → has_unread d.diagnostics ≡ false →
+        editor_reply_text root reply ≡ reply_text root reply }
+{}
+
+/// Where a text is the compact text of data, the notification that has the text as its list is the
+/// compact text of the notification with that data.
+pub fn published_spliced()
+    ensures { (uri : List ℕ) (version : Option ℤ) (d : Data) →
+        published_text uri version (compact_text d) ≡ compact_text (published_data uri version d) }
 {}

@@ -1,11 +1,11 @@
 use Rattle.std.proofs.Common.{◌∙◌}
 use Rattle.pq_session.specs.Labels.{label_model}
-use Rattle.pq_session.specs.Reply.{diagnostics_text, report_data}
+use Rattle.pq_session.specs.Editor.{shown_text, shown_report}
 use Rattle.pq_session.proofs.PrintLemmas.{printed_reply}
 use Rattle.pq_session.proofs.protocol.answers.diagnostics_text.Goals as goal
 
 pub returns : goal.returns
-unfolding diagnostics_text
+unfolding shown_text
 returns c =
-    let d = report_data c.args.diagnosed.now c.args.revision in
+    let d = shown_report c.args.unread c.args.diagnosed.now c.args.revision in
     c.into_string.ensures ∙ printed_reply (label_model c.args.label.now) d c.new-out.result c.print_start.new.out c.print_report.new.out c.end_object.new.self c.new-out.ensures c.in_ok-print_start.ensures c.in_ok-print_report.ensures c.in_ok-end_object.ensures

@@ -3,7 +3,7 @@ use Rattle.std.specs.Prelude.{codes, decimal}
 use Rattle.json.specs.Token.{Token, begin_object, end_object, key, number, string}
 use Rattle.pq_lex.specs.declared.position.Position.{Position}
 use Rattle.pq_links.specs.declared.files.ParsedFile.{ParsedFile}
-use Rattle.pq_checks.specs.Codes.{code_text, severity, severity_number}
+use Rattle.pq_checks.specs.Codes.{code_text}
 use Rattle.pq_checks.specs.declared.diagnostic.Diagnostic.{Diagnostic}
 use Rattle.pq_proto.specs.Compile.{position_in}
 use Rattle.pq_proto.specs.Ranges.{range_data}
@@ -29,7 +29,7 @@ returns c =
     let x3 : List Token = key (codes "message") ∷ string f.text ∷ [] in
     let x4 : List Token = key (codes "range") ∷ [] in
     let x5 : List Token = tokens_of (range_data (position_in file f.start) (position_in file f.end)) in
-    let x6 : List Token = key (codes "severity") ∷ number (decimal (severity_number (severity f.code))) ∷ [] in
+    let x6 : List Token = key (codes "severity") ∷ number (decimal c.args.severity) ∷ [] in
     let x7 : List Token = key (codes "source") ∷ string (codes "proto") ∷ [] in
     let x8 : List Token = end_object ∷ [] in
     let r8 : List Token = x8 in
@@ -45,7 +45,7 @@ returns c =
     let s3 : o3 ≡ o2 ++ x3 = c.in_ok-text_member-2.ensures ∙ ap (λ (t : List ℕ). o2 ++ (key (codes "message") ∷ string t ∷ [])) c.as_str-2.ensures.same in
     let s4 : o4 ≡ o3 ++ x4 = c.in_ok-key.ensures in
     let s5 : o5 ≡ o4 ++ x5 = c.in_ok-print_range.ensures ∙ ap₂ (λ (p q : Position). o4 ++ tokens_of (range_data p q)) c.position_in-start.ensures c.position_in-end.ensures in
-    let s6 : o6 ≡ o5 ++ x6 = c.in_ok-unsigned_member.ensures ∙ ap (λ (n : ℕ). o5 ++ (key (codes "severity") ∷ number (decimal n) ∷ [])) (c.from.ensures ∙ c.number.ensures.number ∙ ap severity_number c.severity-severity.ensures.severity) in
+    let s6 : o6 ≡ o5 ++ x6 = c.in_ok-unsigned_member.ensures in
     let s7 : o7 ≡ o6 ++ x7 = c.in_ok-text_member-3.ensures in
     let s8 : o8 ≡ o7 ++ x8 = c.in_ok-end_object.ensures in
     let e8 : o8 ≡ o7 ++ r8 = s8 in

@@ -1,58 +1,41 @@
-use Rattle.std.proofs.Common.{◌≡◌, ℕ, List, [], ◌∷◌, ◌++◌, ap, ap₂, ◌∙◌}
-use Rattle.std.specs.Prelude.{codes, decimal, map}
-use Rattle.json.specs.Token.{Token, begin_object, end_object, begin_array, end_array, key, string}
-use Rattle.serde_json.specs.Data.{Data}
-use Rattle.pq_links.specs.declared.files.ParsedFile.{ParsedFile}
-use Rattle.pq_checks.specs.declared.diagnostic.Diagnostic.{Diagnostic}
+use Rattle.std.proofs.Common.{◌≡◌, ℕ, List, [], ◌∷◌, ◌++◌, ap, ◌∙◌}
+use Rattle.std.specs.Prelude.{codes, decimal}
+use Rattle.json.specs.Token.{Token, begin_object, end_object, key, string}
 use Rattle.pq_checks.specs.declared.diagnostic.Diagnosed.{Diagnosed}
-use Rattle.pq_proto.specs.aux.Printed.{values_of}
-use Rattle.pq_proto.proofs.ListSteps.{link, list_then}
-use Rattle.pq_session.specs.Reply.{diagnostic_data}
+use Rattle.pq_proto.specs.aux.Printed.{tokens_of}
+use Rattle.pq_proto.proofs.ListSteps.{link}
+use Rattle.pq_session.specs.Editor.{shown_items}
 use Rattle.pq_session.proofs.protocol.reports.print_report.Goals as goal
 
 pub returns : goal.returns
 returns c =
     let o0 : List Token = c.args.out.now in
     let d : Diagnosed = c.args.diagnosed.now in
-    let ds : List Data = map (diagnostic_data d.file) d.diagnostics in
     let o1 : List Token = c.begin_object.new.self in
     let o2 : List Token = c.key.new.self in
-    let o3 : List Token = c.begin_array.new.self in
-    let o4 : List Token = c.print_diagnostics.new.out in
-    let o5 : List Token = c.end_array.new.self in
-    let o6 : List Token = c.text_member.new.self in
-    let o7 : List Token = c.text_member-2.new.self in
-    let o8 : List Token = c.end_object.new.self in
+    let o3 : List Token = c.print_list.new.out in
+    let o4 : List Token = c.text_member.new.self in
+    let o5 : List Token = c.text_member-2.new.self in
+    let o6 : List Token = c.end_object.new.self in
     let x1 : List Token = begin_object ∷ [] in
     let x2 : List Token = key (codes "items") ∷ [] in
-    let x3 : List Token = begin_array ∷ [] in
-    let x4 : List Token = values_of ds in
-    let x5 : List Token = end_array ∷ [] in
-    let x6 : List Token = key (codes "kind") ∷ string (codes "full") ∷ [] in
-    let x7 : List Token = key (codes "resultId") ∷ string (decimal c.args.revision) ∷ [] in
-    let x8 : List Token = end_object ∷ [] in
-    let r8 : List Token = x8 in
-    let r7 : List Token = x7 ++ r8 in
-    let r6 : List Token = x6 ++ r7 in
+    let x3 : List Token = tokens_of (shown_items c.args.unread d) in
+    let x4 : List Token = key (codes "kind") ∷ string (codes "full") ∷ [] in
+    let x5 : List Token = key (codes "resultId") ∷ string (decimal c.args.revision) ∷ [] in
+    let x6 : List Token = end_object ∷ [] in
+    let r6 : List Token = x6 in
     let r5 : List Token = x5 ++ r6 in
     let r4 : List Token = x4 ++ r5 in
     let r3 : List Token = x3 ++ r4 in
     let r2 : List Token = x2 ++ r3 in
-    let r1 : List Token = x1 ++ r2 in
     let s1 : o1 ≡ o0 ++ x1 = c.in_ok-begin_object.ensures in
     let s2 : o2 ≡ o1 ++ x2 = c.in_ok-key.ensures in
-    let s3 : o3 ≡ o2 ++ x3 = c.in_ok-begin_array.ensures in
-    let s4 : o4 ≡ o3 ++ x4 = c.in_ok-print_diagnostics.ensures ∙ ap₂ (λ (file : ParsedFile) (fs : List Diagnostic). o3 ++ values_of (map (diagnostic_data file) fs)) c.get.ensures.value c.as_slice.ensures in
-    let s5 : o5 ≡ o4 ++ x5 = c.in_ok-end_array.ensures in
-    let s6 : o6 ≡ o5 ++ x6 = c.in_ok-text_member.ensures in
-    let s7 : o7 ≡ o6 ++ x7 = c.in_ok-text_member-2.ensures ∙ ap (λ (t : List ℕ). o6 ++ (key (codes "resultId") ∷ string t ∷ [])) (c.as_str.ensures.value ∙ c.in_ok-number.ensures.ok) in
-    let s8 : o8 ≡ o7 ++ x8 = c.in_ok-end_object.ensures in
-    let e8 : o8 ≡ o7 ++ r8 = s8 in
-    let e7 : o8 ≡ o6 ++ r7 = link o6 o7 o8 x7 r8 s7 e8 in
-    let e6 : o8 ≡ o5 ++ r6 = link o5 o6 o8 x6 r7 s6 e7 in
-    let e5 : o8 ≡ o4 ++ r5 = link o4 o5 o8 x5 r6 s5 e6 in
-    let e4 : o8 ≡ o3 ++ r4 = link o3 o4 o8 x4 r5 s4 e5 in
-    let e3 : o8 ≡ o2 ++ r3 = link o2 o3 o8 x3 r4 s3 e4 in
-    let e2 : o8 ≡ o1 ++ r2 = link o1 o2 o8 x2 r3 s2 e3 in
-    let e1 : o8 ≡ o0 ++ r1 = link o0 o1 o8 x1 r2 s1 e2 in
-    e1 ∙ ap (λ (ts : List Token). o0 ++ (begin_object ∷ key (codes "items") ∷ begin_array ∷ ts)) (list_then ds r6)
+    let s3 : o3 ≡ o2 ++ x3 = c.in_ok-print_list.ensures in
+    let s4 : o4 ≡ o3 ++ x4 = c.in_ok-text_member.ensures in
+    let s5 : o5 ≡ o4 ++ x5 = c.in_ok-text_member-2.ensures ∙ ap (λ (t : List ℕ). o4 ++ (key (codes "resultId") ∷ string t ∷ [])) (c.as_str.ensures.value ∙ c.in_ok-number.ensures.ok) in
+    let s6 : o6 ≡ o5 ++ x6 = c.in_ok-end_object.ensures in
+    let e5 : o6 ≡ o4 ++ r5 = link o4 o5 o6 x5 r6 s5 s6 in
+    let e4 : o6 ≡ o3 ++ r4 = link o3 o4 o6 x4 r5 s4 e5 in
+    let e3 : o6 ≡ o2 ++ r3 = link o2 o3 o6 x3 r4 s3 e4 in
+    let e2 : o6 ≡ o1 ++ r2 = link o1 o2 o6 x2 r3 s2 e3 in
+    link o0 o1 o6 x1 r2 s1 e2

@@ -1,0 +1,82 @@
+-- Reports and lists that are shown, and notifications that are printed around a list.
+use Rattle.std.proofs.Common.{◌≡◌, ℕ, ℤ, pos, negsuc, Bool, true, false, List, [], ◌∷◌, ◌++◌, Option, Some, None, refl, sym, ◌∙◌, ap, append_assoc}
+use Rattle.std.specs.Prelude.{map, codes, decimal, option_and_then}
+use Rattle.json.specs.Print.{escape_byte}
+use Rattle.serde_json.specs.Data.{Data, string, object, member, no_members}
+use Rattle.serde_json.specs.Written.{compact_text}
+use Rattle.pq_frame.specs.Labels.{LabelModel, label_data}
+use Rattle.pq_links.specs.declared.files.ParsedFile.{ParsedFile}
+use Rattle.pq_checks.specs.declared.diagnostic.Diagnostic.{Diagnostic}
+use Rattle.pq_checks.specs.declared.diagnostic.Diagnosed.{Diagnosed}
+use Rattle.pq_proto.specs.Lists.{list_data}
+use Rattle.pq_rules.specs.declared.turn.Answer.TheVariants.{Value, Cycle}
+use Rattle.pq_proto.specs.declared.key.ProtoKey.{ProtoKey}
+use Rattle.pq_proto.specs.declared.value.ProtoValue.{ProtoValue}
+use Rattle.pq_proto.specs.declared.value.ProtoValue.TheVariants as values
+use Rattle.pq_core.specs.declared.request.Want.{Want}
+use Rattle.pq_core.specs.declared.outcome.Outcome.{Outcome}
+use Rattle.pq_core.specs.declared.outcome.Outcome.TheVariants.{Answered, Plain, Cancelled, Starved, Withdrawn}
+use Rattle.pq_core.specs.Replies.{ReplyView}
+use Rattle.pq_session.specs.Labels.{label_model}
+use Rattle.pq_session.specs.Replies.{value_text, outcome_text, reply_text}
+use Rattle.pq_session.specs.Reply.{reply_data, diagnostic_data, diagnostics_text}
+use Rattle.pq_session.specs.Editor.{has_unread, shown_data, shown_items, shown_report, shown_list, shown_text, value_diagnostics, outcome_value, answered_diagnostics, shown_or_text, editor_reply_text, published_text, published_data}
+
+-- ---- where each import is read
+
+plain_each : (file : ParsedFile) (ds : List Diagnostic) → map (shown_data false file) ds ≡ map (diagnostic_data file) ds
+plain_each file [] = refl
+plain_each file (f ∷ ds) = ap (λ (rest : List Data). diagnostic_data file f ∷ rest) (plain_each file ds)
+
+-- each diagnostic is as it is
+pub plain_items : (d : Diagnosed) → shown_items false d ≡ list_data (map (diagnostic_data d.file) d.diagnostics)
+plain_items d = ap list_data (plain_each d.file d.diagnostics)
+
+-- so is the report
+pub plain_text : (label : LabelModel) (d : Diagnosed) (revision : ℕ) → shown_text label false d revision ≡ diagnostics_text label d revision
+unfolding shown_text diagnostics_text
+plain_text label d revision =
+    ap (λ (items : Data). compact_text (reply_data (label_data label) (object (member (codes "items") items (member (codes "kind") (string (codes "full")) (member (codes "resultId") (string (decimal revision)) no_members)))))) (plain_items d)
+
+pub plain_list : (d : Diagnosed) → has_unread d.diagnostics ≡ false → shown_list d ≡ compact_text (list_data (map (diagnostic_data d.file) d.diagnostics))
+unfolding shown_list
+plain_list d read = ap (λ (unread : Bool). compact_text (shown_items unread d)) read ∙ ap compact_text (plain_items d)
+
+by_value : (root : List ℕ) (label : LabelModel) (revision : ℕ) (value : ProtoValue) (d : Diagnosed) → value_diagnostics value ≡ Some d → value_text root label revision value ≡ diagnostics_text label d revision
+by_value root label revision (values.Diagnostics x) d e = let same : x ≡ d = cc e in ap (λ (y : Diagnosed). diagnostics_text label y revision) same
+by_value root label revision (values.Source t) d e = absurd (cc e)
+by_value root label revision (values.Parse f) d e = absurd (cc e)
+by_value root label revision (values.Items i) d e = absurd (cc e)
+by_value root label revision (values.Imports i) d e = absurd (cc e)
+by_value root label revision (values.Linked l) d e = absurd (cc e)
+by_value root label revision (values.Defs x) d e = absurd (cc e)
+by_value root label revision (values.Scope s) d e = absurd (cc e)
+by_value root label revision (values.Resolved r) d e = absurd (cc e)
+by_value root label revision (values.Checks f) d e = absurd (cc e)
+by_value root label revision (values.Descriptor t) d e = absurd (cc e)
+by_value root label revision (values.Symbols t) d e = absurd (cc e)
+by_value root label revision (values.Definition l) d e = absurd (cc e)
+
+by_outcome : {M : Type 0} (root : List ℕ) (label : LabelModel) (want : Want ProtoKey) (revision : ℕ) (outcome : Outcome ProtoKey ProtoValue M) (d : Diagnosed) → option_and_then value_diagnostics (outcome_value outcome) ≡ Some d → outcome_text root label want revision outcome ≡ diagnostics_text label d revision
+by_outcome root label want revision (Answered (Value value) stamp) d e = by_value root label revision value d e
+by_outcome root label want revision (Answered (Cycle ring) stamp) d e = absurd (cc e)
+by_outcome root label want revision Plain d e = absurd (cc e)
+by_outcome root label want revision (Cancelled started seen) d e = absurd (cc e)
+by_outcome root label want revision Starved d e = absurd (cc e)
+by_outcome root label want revision Withdrawn d e = absurd (cc e)
+
+pub plain_reply : {M : Type 0} (root : List ℕ) (reply : ReplyView ProtoKey ProtoValue M) (d : Diagnosed) → answered_diagnostics reply ≡ Some d → has_unread d.diagnostics ≡ false → editor_reply_text root reply ≡ reply_text root reply
+plain_reply root reply d answers read =
+    let label = label_model reply.request.label in
+    ap (λ (answered : Option Diagnosed). shown_or_text root reply answered) answers
+    ∙ ap (λ (unread : Bool). shown_text label unread d reply.revision) read
+    ∙ plain_text label d reply.revision
+    ∙ sym (by_outcome root label reply.request.want reply.revision reply.outcome d answers)
+
+-- ---- notifications
+
+pub published_is_spliced : (uri : List ℕ) (version : Option ℤ) (d : Data) → published_text uri version (compact_text d) ≡ compact_text (published_data uri version d)
+unfolding published_text escape_byte
+published_is_spliced uri None d = simp append_assoc
+published_is_spliced uri (Some (pos n)) d = simp append_assoc
+published_is_spliced uri (Some (negsuc n)) d = simp append_assoc
