@@ -1,20 +1,24 @@
 #!/usr/bin/env python3
-"""Builds pq_server without its proof, with optimisation: a program to measure or to try while a proof is open.
+"""Builds pq_server without its proof, with optimisation: to measure, or to try it before a proof.
 
-`rt try` hands the whole program to the kit's `clang` as one module, with a check before each operation that a proof would
-cover. This script runs `rt try` from a copy of the kit's scripts beside a `clang` that keeps the module and stops. It compiles
-and links the module as `rt run` does: by the kit's `clang` at -O3 and by `rattle-link`. This takes two to three minutes.
+`rt try` hands the whole program to the kit's `clang` as one module, with a check before each
+operation that a proof would cover. This script runs `rt try` from a copy of the kit's scripts
+beside a `clang` that keeps the module and stops. It compiles and links the module as `rt run` does:
+by the kit's `clang` at -O3 and by `rattle-link`. This takes two to three minutes.
 
-Nothing is proved of the program. It answers the same bytes as the proved one, with more instructions:
+Nothing is proved of the program. It answers the same bytes as the proved one, with more
+instructions:
 
-    bare        The checks are taken out of the module: 11 to 17 % more instructions for parsing alone. Where a proof would fail,
-                the behaviour is undefined. So the program is compared with another that was built like it, and its factors to
-                `protoc` are too low.
-    --checked   The checks stay: about twice the instructions. A check that fails writes a line to standard error and ends the
-                program with status 70. It is built for `bin/pq_server --unproved`.
+    bare        The checks are taken out of the module: 11 to 17 % more instructions for parsing
+                alone. Where a proof would fail, the behaviour is undefined. Such a program is
+                compared with another that was built like it. Its factors to `protoc` are too low.
+    --checked   The checks stay: 1.9 times the instructions of a bare one. A check that fails writes
+                a line to standard error and ends the program with status 70. This is the program
+                of `bin/pq_server --unproved`.
 
-The program gets the time at which the build began, so a source that changed meanwhile is newer. It takes its place as a whole, by
-a rename, so a program that runs from there goes on. At SIGTERM and SIGHUP the build ends with what it started.
+The program has the time at which the build began, so a source that changed meanwhile is newer. A
+rename puts it in its place, so a program that runs from there goes on. At SIGTERM and SIGHUP the
+build ends with all that it started.
 
 usage: bench/unproved.py PROGRAM [--checked] [--crate FOLDER]
 """
@@ -39,8 +43,8 @@ CHECK = re.compile(r'(define internal void @"rattle-llvm-checks::\w+"\(i8 %a0\))
 FILL = re.compile(r"\n  call void @llvm\.memset\.p0\.i64\(ptr %r\d+, i8 -86, i64 \d+, i1 false\)")
 TRAP = "\n  call void @llvm.trap()"
 MARK = " sanitize_address"
-# What a check that fails calls in the place of a trap: it writes a line, and ends the process with the status EX_SOFTWARE of BSD's
-# sysexits, whatever its threads do.
+# What a check that fails calls in the place of a trap. It writes a line, and ends the process with all
+# its threads. The status is EX_SOFTWARE of BSD's sysexits.
 FAILED = """
 @"unproved::line" = private constant [%(length)d x i8] c"%(line)s\\0A"
 define internal void @"unproved::failed"() cold noinline noreturn nounwind {
@@ -107,7 +111,7 @@ def unchecked(text):
 
 
 def checked(text, name):
-    """The module with its checks, of which each that fails ends the program `name` by a line and a status."""
+    """The module with its checks. One that fails ends the program `name` by a line and a status."""
     line = LINE % name
     text = FILL.sub("", text).replace(TRAP, '\n  call void @"unproved::failed"()').replace(MARK, "")
     lacking = [line for word, line in NEEDED.items() if not re.search(r"^(?:declare|define) .*@%s\(" % word, text, re.M)]

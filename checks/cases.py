@@ -9,9 +9,10 @@ The session begins as examples/first_session.in does. Then each row sets its fil
 changed, one that is new is opened, and one that the row does not have is removed. So all rows are answered by one engine.
 
 With no option the two files are written. With --check the status is 1 if they are not what the rows make. With --run the
-program is run on the session, and with --compare a file of output is looked at: the first row whose reply differs is named.
+program is run on the session, by `listen` with --listen, and with --compare a file of output is looked at: the first row whose
+reply differs is named.
 
-usage: checks/cases.py [--check | --run PROGRAM | --compare OUTPUT] [--top FOLDER]
+usage: checks/cases.py [--check | --run PROGRAM | --listen PROGRAM | --compare OUTPUT] [--top FOLDER]
 """
 import argparse
 import json
@@ -222,6 +223,19 @@ def run(program, session):
     return status or int(done.returncode != 0)
 
 
+def run_listen(program, session):
+    """Runs the session over a connection to a program that listens, and compares; the status."""
+    sys.path.append(os.path.join(HERE, "..", "bench"))
+    from clients import Connection, Server
+    server = Server(program, 2, "--sessions", "1")
+    found = Connection(server.port).answers(joined(session.sent), 60)
+    status = compare(session, b"".join(map(frame, found)))
+    ended = server.ended()
+    if ended != 0:
+        print("%s ended with status %d" % (program, ended))
+    return status or int(ended != 0)
+
+
 def check_all(top, session):
     """Checks all stored sessions; the status."""
     wrong = check(top, session) + session_cases.check(top)
@@ -248,6 +262,7 @@ def main():
     choice = words.add_mutually_exclusive_group()
     choice.add_argument("--check", action="store_true", help="only say whether the stored session is what the rows make")
     choice.add_argument("--run", metavar="PROGRAM", help="run a program on the session, and name the first row that differs")
+    choice.add_argument("--listen", metavar="PROGRAM", help="the same by `listen`, over a connection")
     choice.add_argument("--compare", metavar="OUTPUT", help="the same over a file of output")
     words.add_argument("--top", default=os.path.join(HERE, ".."), help="the top of the repository")
     words = words.parse_args()
@@ -258,6 +273,8 @@ def main():
         return 1
     if words.run:
         return run(words.run, session)
+    if words.listen:
+        return run_listen(words.listen, session)
     if words.compare:
         return compare(session, read(words.compare))
     return check_all(words.top, session) if words.check else write_all(words.top, session)

@@ -7,13 +7,14 @@ the text at the range of each name, by the model, has to be that name. The sessi
 with CR LF, characters outside the BMP, several cursors, and what editors send that replace whole lines or whole texts. Each has
 its last text, written by hand.
 
-`--transcript FILE` plays what a real editor wrote, in the same way; checks/transcripts/ has some. `--record FILE -- COMMAND ..` is for
-the editor to start in the place of the server: it runs the command, and keeps what the editor writes in the file.
+`--transcript FILE` plays what a real editor wrote, in the same way; checks/transcripts/ has some. `--refused FILE` plays one in which
+the editor sends a range that its text does not have: there the server has to end. `--record FILE -- COMMAND ..` is for the editor
+to start in the place of the server: it runs the command, and keeps what the editor writes in the file.
 
 At the end a change with a bad range is sent: `script` has to end with status 3 and its line, and a server that listens has to end
 that session alone, with its line in the log.
 
-usage: checks/editors.py [PROGRAM] [--transcript FILE ..]
+usage: checks/editors.py [PROGRAM] [--transcript FILE ..] [--refused FILE ..]
        checks/editors.py --record FILE -- COMMAND ..
 """
 import argparse
@@ -154,6 +155,10 @@ class Played:
     def refused(self, name):
         """Sends a change with a bad range, after which the server ends."""
         self.send(notice("textDocument/didChange", name, contentChanges=[at(1 << 30, 0, 1 << 30, 0, "x")]))
+        self.check_refused()
+
+    def check_refused(self):
+        """Checks that the server ends, since the last change that was sent has a bad range."""
         out, printed = self.server.communicate()
         if (self.server.returncode, out, printed) != (3, b"", b"pq_server: bad range\n"):
             self.fail("after a bad range the server ended with status %d and wrote %r and %r" % (self.server.returncode, out, printed))
@@ -255,6 +260,7 @@ def play(program, session):
         sys.exit("%s: the last text is %r" % (title, found))
     played.refused("main.proto")
     print("%s: %d steps" % (title, played.steps), flush=True)
+    return played.steps
 
 
 def name_of(params):
@@ -262,12 +268,27 @@ def name_of(params):
     return params["textDocument"]["uri"][len("file:///"):]
 
 
-def transcribed(program, path):
-    """Plays what an editor wrote."""
+def transcribed(program, path, is_refused):
+    """Plays what an editor wrote, up to a bad range if there has to be one."""
     with open(path, "rb") as source:
         bodies = [json.loads(body) for body in bodies_of(source.read())]
     played = Played(program, frame(bodies[0]))
-    for body in bodies[1:]:
+    refused = played_bodies(played, bodies[1:])
+    if is_refused:
+        if not refused:
+            played.fail("%s: the editor sent no bad range" % os.path.basename(path))
+        played.check_refused()
+    elif refused:
+        played.fail("%s: the editor sent a bad range: %s" % (os.path.basename(path), refused))
+    else:
+        played.refused(next(iter(played.buffers)))
+    print("%s: %d steps" % (os.path.basename(path), played.steps), flush=True)
+    return played.steps
+
+
+def played_bodies(played, bodies):
+    """Plays the edits among the bodies that an editor wrote, up to a bad range, which is returned as an exception."""
+    for body in bodies:
         params = body.get("params") or {}
         if body.get("method") == "textDocument/didOpen":
             played.open(name_of(params), params["textDocument"]["text"])
@@ -275,9 +296,8 @@ def transcribed(program, path):
             try:
                 played.step(name_of(params), params["contentChanges"])
             except BadRange as why:
-                played.fail("%s: the editor sent a bad range: %s" % (os.path.basename(path), why))
-    played.refused(next(iter(played.buffers)))
-    print("%s: %d steps" % (os.path.basename(path), played.steps), flush=True)
+                return why
+    return None
 
 
 def listened(program):
@@ -322,16 +342,17 @@ def main():
     words = argparse.ArgumentParser()
     words.add_argument("program", nargs="?", default=PROGRAM)
     words.add_argument("--transcript", nargs="*", default=[])
+    words.add_argument("--refused", nargs="*", default=[], help="transcripts with a bad range")
     words.add_argument("--record", help="where to keep what the editor writes")
     if "--" in sys.argv:
         at_ = sys.argv.index("--")
         return record(words.parse_args(sys.argv[1:at_]).record, sys.argv[at_ + 1:])
     words = words.parse_args()
-    for session in SESSIONS:
-        play(words.program, session)
-    for path in words.transcript:
-        transcribed(words.program, path)
+    steps = [play(words.program, session) for session in SESSIONS]
+    steps += [transcribed(words.program, path, False) for path in words.transcript]
+    steps += [transcribed(words.program, path, True) for path in words.refused]
     listened(words.program)
+    print("%d steps of %d sessions: the server's text is the buffer's" % (sum(steps), len(steps)))
     return 0
 
 

@@ -6,9 +6,10 @@ then the bytes that the client sends. Its `stdout` has a line `NAME OUTCOME LENG
 `cases/sessions/README.md` describes the rows. Each pair of files `NAME.in` and `NAME.out` of `examples/` is a session too.
 
 With no option the two files are written. `--check` says whether they are what the rows make. `--run PROGRAM` runs the built
-program, and prints the first row whose outcome or output differs.
+program, and prints the first row whose outcome or output differs. `--script PROGRAM` runs pq_server itself in its place: each
+session by a `script` of its own, of which the output, the status and the line of standard error have to be as the rows say.
 
-usage: checks/session_cases.py [--check | --run PROGRAM]
+usage: checks/session_cases.py [--check | --run PROGRAM | --script PROGRAM]
 """
 import argparse
 import os
@@ -16,6 +17,7 @@ import re
 import subprocess
 import sys
 from collections import namedtuple
+from concurrent.futures import ThreadPoolExecutor
 
 TOP = os.path.join(os.path.dirname(os.path.abspath(__file__)), "..")
 CASES = os.path.join("cases", "sessions")
@@ -29,9 +31,12 @@ Row = namedtuple("Row", "file line text")
 # of the client, those of the server, and the outcome.
 Session = namedtuple("Session", "name row replies sent wanted outcome")
 
-# The words for an outcome: a status, or the name of an error.
-OUTCOMES = ("0", "1", "3", "HeaderTooLong", "NoLength", "BadLength", "TooLong", "Cut", "TextTooLong", "TooManyFiles",
-            "RevisionsUsedUp", "BadRange")
+# The words for an outcome, a status or the name of an error, with the status of pq_server and its line of standard error after
+# `pq_server: ` (README.md, "What an editor gets today").
+OUTCOMES = {"0": (0, None), "1": (1, None), "3": (3, "edit refused 0"), "HeaderTooLong": (2, "frame fault 1"),
+            "NoLength": (2, "frame fault 2"), "BadLength": (2, "frame fault 3"), "TooLong": (2, "frame fault 4"),
+            "Cut": (2, "input ends inside a frame"), "TextTooLong": (3, "edit refused 1"), "TooManyFiles": (3, "edit refused 2"),
+            "RevisionsUsedUp": (3, "edit refused 3"), "BadRange": (3, "bad range")}
 
 # The message of a text without a `syntax` statement, as JSON writes it.
 NO_SYNTAX = 'only syntax = \\"proto3\\" is read'
@@ -353,6 +358,11 @@ def difference(session, output):
     name, outcome, found = found_entry(output)
     if name != session.name:
         return named(session, session.row) + ["wanted: session %s" % session.name, "found:  %s" % (name or "nothing")]
+    return parted(session, outcome, found)
+
+
+def parted(session, outcome, found):
+    """Where an outcome and the bytes that were written part from those of a session."""
     ending = []
     if outcome != session.outcome:
         ending = ["wanted: outcome %s" % session.outcome, "found:  outcome %s" % outcome]
@@ -382,22 +392,47 @@ def run(top, program):
     return lines + ["the program ended with status %d" % done.returncode] if done.returncode else lines
 
 
+def by_script(program, session):
+    """What differs when pq_server serves a session: lines, none if it is as wanted."""
+    status, line = OUTCOMES[session.outcome]
+    printed = b"pq_server: %s\n" % line.encode() if line else b""
+    done = subprocess.run([program, "script"], input=session.sent, capture_output=True, check=False, timeout=60)
+    is_ended = (done.returncode, done.stderr) == (status, printed)
+    if is_ended and done.stdout == session.wanted:
+        return []
+    outcome = session.outcome if is_ended else "status %d with %r as errors" % (done.returncode, done.stderr[-200:])
+    return parted(session, outcome, done.stdout)
+
+
+def run_scripts(top, program):
+    """Runs each session by a `script` of pq_server: what differs, and last how many do not."""
+    sessions = sessions_of(top)
+    with ThreadPoolExecutor(os.cpu_count()) as pool:
+        found = list(pool.map(lambda session: by_script(program, session), sessions))
+    lines = [line for lines in found for line in lines]
+    return lines, "%d of %d sessions as wanted" % (found.count([]), len(sessions))
+
+
 def main():
     words = argparse.ArgumentParser(description="Makes the stored sessions of crates/stored_sessions from rows.")
     words.add_argument("--check", action="store_true", help="say whether the two files are what the rows make")
     words.add_argument("--run", metavar="PROGRAM", help="run the built program, and print the first row that differs")
+    words.add_argument("--script", metavar="PROGRAM", help="run each session by pq_server, and print each row that differs")
     words = words.parse_args()
+    count = None
     try:
         if words.check:
             lines = check(TOP)
         elif words.run:
             lines = run(TOP, words.run)
+        elif words.script:
+            lines, count = run_scripts(TOP, words.script)
         else:
             write(TOP)
             lines = []
     except Malformed as error:
         lines = [str(error)]
-    for line in lines:
+    for line in lines + ([count] if count else []):
         print(line)
     return 1 if lines else 0
 
