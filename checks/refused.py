@@ -10,6 +10,8 @@ wants each .rt file to be one that it proves, and the proof of these took over t
 between two marks, and writes a line: what the call came to, and the state after it. The program is copied for each growth of each
 call, and in the copy that growth alone is refused. Each copy has to write the line of the program itself. A call that answers
 `Memory` is made again by the program. A growth that only makes a call faster may be refused with no answer `Memory`.
+Before `publish`, `publish_ring`, `post_step` and `carry_one` are made again, the program compares the state with that before the call:
+all memos and what came back, the store, and that the client of the carry is closed. A request whose run was starved is made again.
 
 It shows nothing of calls that the program does not make, nor of two growths refused in one call. A copy has one thread.
 So whole programs are tried too: every stored session, in which several growths can be refused, and `listen`.
@@ -23,8 +25,11 @@ Wrong bodies that were tried, each caught:
 - `Inputs::set` drops the text in its refusal: each copy of a `set` with a text that met the refusal writes `absent`.
 - `text_value` repeats a refused push for ever: not done after 20 seconds. Each such copy takes that long.
 - A claim that calls itself without end where a push is refused: its copies end by signal 11.
+- `publish` forgets the memo of its key where its reads get no memory: 9 copies write what the refusal left.
+- `carry_one` leaves its client open after `Memory`: 28 copies write `the client is open`.
 
 usage: checks/refused.py                        the calls
+       checks/refused.py --each                 the calls, and of each line of the program how many growths were refused
        checks/refused.py --with PROGRAM         the calls of a program that was built so
        checks/refused.py --sessions PROGRAM     all stored sessions by `PROGRAM script`, where PROGRAM is pq_server
        checks/refused.py --listen PROGRAM       two clients of `PROGRAM listen` with one worker, one growth refused in each run
@@ -170,7 +175,7 @@ def named(output, at, line):
     return "%s: %s" % (room.decode(), line.decode(errors="replace").partition(" => ")[0][:100])
 
 
-def calls(library, program, folder):
+def calls(library, program, folder, is_each):
     """Refuses each growth of each call. Returns whether each copy wrote the right line."""
     path = os.path.join(folder, "records")
     with open(os.path.join(SOURCES, "stdin"), "rb") as given:
@@ -180,17 +185,20 @@ def calls(library, program, folder):
     by_call = collections.defaultdict(list)
     for it in records_of(path):
         by_call[it.call].append(it)
-    silent, at = 0, 0
+    silent, at, by_line = 0, 0, collections.Counter()
     for copies in by_call.values():
         want = copies[-1].out
         at = max(own.stdout.find(want, at), at)
         name = named(own.stdout, at, want)
+        by_line[at, name] += sum(it.refused for it in copies)
         for it in copies:
             wrong = wrong_copy(want, it)
             silent += it.refused > 0 and it.memory == 0
             if wrong:
                 bad.append("%s: growth %d: %s" % (name, it.n, wrong))
-    growths = sum(it.refused for copies in by_call.values() for it in copies)
+    growths = sum(by_line.values())
+    for (_, name), count in by_line.items() if is_each else ():
+        print("%6d %s" % (count, name))
     for line in bad:
         print(line)
     print("%d calls, %d growths refused, %d of them with no answer `Memory`, %d wrong" % (len(by_call), growths, silent, len(bad)))
@@ -357,6 +365,7 @@ def listen(library, program, folder, step):
 
 def main():
     words = argparse.ArgumentParser()
+    words.add_argument("--each", action="store_true", help="print how many growths of each line were refused")
     words.add_argument("--with", dest="program", help="a program that was built so")
     words.add_argument("--sessions", metavar="PROGRAM")
     words.add_argument("--listen", metavar="PROGRAM")
@@ -373,7 +382,7 @@ def main():
             program = words.program or os.path.join(folder, "refused")
             if not words.program:
                 build(folder, program)
-            right = calls(made, os.path.abspath(program), folder)
+            right = calls(made, os.path.abspath(program), folder, words.each)
     return 0 if right else 1
 
 
