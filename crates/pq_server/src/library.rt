@@ -8,15 +8,19 @@
 //! What a file system delivers is not proved: no contract can say it. The contracts speak of the
 //! names that were listed and the texts that were read: the inputs have each listed file once, in
 //! byte order of the names, with High durability.
+mod failure;
 mod fault;
 mod filling;
 mod folder;
 mod names;
 mod paths;
+mod reading;
 mod serving;
 mod texts;
 mod walk;
 
+#[cfg(test)]
+pub(crate) use failure::{Failure, say};
 pub(crate) use fault::LibraryFault;
 pub(crate) use folder::{no_library, read_library};
 pub(crate) use serving::run_library_script;

@@ -50,21 +50,32 @@ fn run_on_streams(rt: HostRuntime, library: Option<&str>) -> u8 {
     }
 }
 
+/// A listener on `address`, and the address that it has: for the port 0 the system chooses one.
+fn listener_on<R>(rt: &R, address: SocketAddr) -> io::Result<(TcpListener, SocketAddr)>
+where
+    R: Net<Listener = TcpListener, Stream = TcpStream>,
+{
+    let listener = TcpListener::bind(rt, address)?;
+    let address = listener.local_addr()?;
+    Ok((listener, address))
+}
+
 /// Serves many clients on a port of 127.0.0.1. Returns the exit status and the line of standard error.
 ///
 /// The line of the port is written before the library is read, and the library is read before the
-/// first connection is accepted.
+/// first connection is accepted. A port that fails leaves a line on standard error that says why.
 fn run_on_port<R>(rt: &R, port: u16, dir: Option<&str>, size: Size) -> (u8, &'static str)
 where
-    R: Net<Listener = TcpListener, Stream = TcpStream> + Files + Print + AllocGlobal,
+    R: Net<Listener = TcpListener, Stream = TcpStream> + Files + Print + Eprint + AllocGlobal,
     R: Threads + Wait + Clock + Log + Copy + Drop + Send + Sync + 'static,
 {
     let address = SocketAddr::from((Ipv4Addr::LOCALHOST, port));
-    let Ok(listener) = TcpListener::bind(rt, address) else {
-        return served(START_FAILED);
-    };
-    let Ok(address) = listener.local_addr() else {
-        return served(START_FAILED);
+    let (listener, address) = match listener_on(rt, address) {
+        Ok(bound) => bound,
+        Err(error) => {
+            let _ = eprintln!(rt; "pq_server: {address}: {error}");
+            return served(START_FAILED);
+        }
     };
     if println!(rt; "listening on {address}").is_err() {
         return unannounced();
