@@ -23,6 +23,7 @@ mod walk;
 pub(crate) use failure::{Failure, say};
 pub(crate) use fault::LibraryFault;
 pub(crate) use folder::{no_library, read_library};
+pub(crate) use paths::absolute_of;
 pub(crate) use serving::run_library_script;
 #[cfg(test)]
 pub(crate) use walk::MAX_DEPTH;

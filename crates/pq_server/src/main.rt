@@ -15,7 +15,7 @@ mod tests;
 
 use clap::Error;
 use command::{Task, task_of};
-use library::{no_library, read_library, run_library_script};
+use library::{absolute_of, no_library, read_library, run_library_script};
 use log::Log;
 use pq_session::Counted;
 use serving::{OpenGate, Size, serve};
@@ -66,7 +66,7 @@ where
 /// first connection is accepted. A port that fails leaves a line on standard error that says why.
 fn run_on_port<R>(rt: &R, port: u16, dir: Option<&str>, size: Size) -> (u8, &'static str)
 where
-    R: Net<Listener = TcpListener, Stream = TcpStream> + Files + Print + Eprint + AllocGlobal,
+    R: Net<Listener = TcpListener, Stream = TcpStream> + Files + Env + Print + Eprint + AllocGlobal,
     R: Threads + Wait + Clock + Log + Copy + Drop + Send + Sync + 'static,
 {
     let address = SocketAddr::from((Ipv4Addr::LOCALHOST, port));
@@ -84,7 +84,10 @@ where
         None => no_library(rt.alloc()),
         Some(dir) => read_library(rt, dir),
     };
-    served(serve(rt, rt.alloc(), listener, library, size, &OpenGate))
+    // Without this path, sessions with another root leave no line.
+    let folder = dir.and_then(|dir| absolute_of(rt, dir).ok());
+    let folder = folder.as_ref().map(|folder| folder.as_str());
+    served(serve(rt, rt.alloc(), listener, library, folder, size, &OpenGate))
 }
 
 /// Says on standard error why `clap` refuses the words of the command line. Returns the exit status.
