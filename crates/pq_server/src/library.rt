@@ -8,21 +8,24 @@
 //! What a file system delivers is not proved: no contract can say it. The contracts speak of the
 //! names that were listed and the texts that were read: the inputs have each listed file once, in
 //! byte order of the names, with High durability.
+mod failure;
 mod fault;
 mod filling;
 mod folder;
+mod found;
 mod names;
 mod paths;
+mod reading;
 mod serving;
-mod stub;
 mod texts;
 mod walk;
 
+pub(crate) use failure::{Failure, say};
 pub(crate) use fault::LibraryFault;
 pub(crate) use folder::{no_library, read_library};
+pub(crate) use found::{is_file_at, names_found, text_found};
 pub(crate) use names::in_order;
-pub(crate) use paths::joined;
+pub(crate) use paths::{absolute_of, joined};
 pub(crate) use serving::run_library_script;
-pub(crate) use stub::{absolute_of, is_file_at, names_found, report_file, text_found};
 #[cfg(test)]
 pub(crate) use walk::MAX_DEPTH;

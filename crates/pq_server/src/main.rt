@@ -18,7 +18,7 @@ use clap::Error;
 use command::{Task, task_of};
 use editor::{Setup, serve_editor};
 use library::{
-    LibraryFault, absolute_of, no_library, read_library, report_file, run_library_script,
+    Failure, LibraryFault, absolute_of, no_library, read_library, run_library_script, say,
 };
 use log::Log;
 use pq_session::{Counted, Root};
@@ -57,21 +57,32 @@ fn run_on_streams(rt: HostRuntime, library: Option<&str>) -> u8 {
     }
 }
 
+/// A listener on `address`, and the address that it has: for the port 0 the system chooses one.
+fn listener_on<R>(rt: &R, address: SocketAddr) -> io::Result<(TcpListener, SocketAddr)>
+where
+    R: Net<Listener = TcpListener, Stream = TcpStream>,
+{
+    let listener = TcpListener::bind(rt, address)?;
+    let address = listener.local_addr()?;
+    Ok((listener, address))
+}
+
 /// Serves many clients on a port of 127.0.0.1. Returns the exit status and the line of standard error.
 ///
 /// The line of the port is written before the library is read, and the library is read before the
-/// first connection is accepted.
+/// first connection is accepted. A port that fails leaves a line on standard error that says why.
 fn run_on_port<R>(rt: &R, port: u16, dir: Option<&str>, size: Size) -> (u8, &'static str)
 where
-    R: Net<Listener = TcpListener, Stream = TcpStream> + Files + Print + AllocGlobal,
+    R: Net<Listener = TcpListener, Stream = TcpStream> + Files + Env + Print + Eprint + AllocGlobal,
     R: Threads + Wait + Clock + Log + Copy + Drop + Send + Sync + 'static,
 {
     let address = SocketAddr::from((Ipv4Addr::LOCALHOST, port));
-    let Ok(listener) = TcpListener::bind(rt, address) else {
-        return served(START_FAILED);
-    };
-    let Ok(address) = listener.local_addr() else {
-        return served(START_FAILED);
+    let (listener, address) = match listener_on(rt, address) {
+        Ok(bound) => bound,
+        Err(error) => {
+            let _ = eprintln!(rt; "pq_server: {address}: {error}");
+            return served(START_FAILED);
+        }
     };
     if println!(rt; "listening on {address}").is_err() {
         return unannounced();
@@ -80,7 +91,10 @@ where
         None => no_library(rt.alloc()),
         Some(dir) => read_library(rt, dir),
     };
-    served(serve(rt, rt.alloc(), listener, library, size, &OpenGate))
+    // Without this path, sessions with another root leave no line.
+    let folder = dir.and_then(|dir| absolute_of(rt, dir).ok());
+    let folder = folder.as_ref().map(|folder| folder.as_str());
+    served(serve(rt, rt.alloc(), listener, library, folder, size, &OpenGate))
 }
 
 /// The root of the folder `dir`, as a whole path. If that is not known, a line says why.
@@ -88,8 +102,9 @@ fn root_of<R: Env + Files + AllocGlobal + Eprint>(rt: &R, dir: &str) -> Result<R
     match absolute_of(rt, dir) {
         Ok(path) => Ok(Root::at(rt.alloc(), path.as_str())?),
         Err(error) => {
-            let fault = LibraryFault::from(error);
-            Err(fault)
+            let failure = Failure::System(error);
+            say(rt, dir, &failure);
+            Err(failure.fault())
         }
     }
 }

@@ -6,6 +6,7 @@ use crate::library::fault::LibraryFault;
 use crate::library::filling::filled;
 use crate::library::names::in_order;
 use crate::library::paths::base_of;
+use crate::library::reading::Strict;
 use crate::library::texts::files_of;
 use crate::library::walk::names_below;
 use pq_inputs::Inputs;
@@ -14,7 +15,7 @@ use std::rt::Files;
 
 /// The inputs that have the files of these names, and no other file. The names are relative to the
 /// folder that `base` names with its slash.
-pub fn library_of<R: Files + AllocGlobal>(
+pub fn library_of<R: Files + Eprint + AllocGlobal>(
     rt: &R,
     base: &str,
     names: Vec<String>,
@@ -34,8 +35,9 @@ pub fn library_of<R: Files + AllocGlobal>(
 /// are found.
 ///
 /// `Unreadable` says that a folder or a file could not be read, that a name or a text is not UTF-8,
-/// or that the limits of the inputs refuse a file.
-pub fn read_library<R: Files + AllocGlobal + Clone + Drop>(
+/// or that the limits of the inputs refuse a file. Then a line on standard error says the path and
+/// the reason.
+pub fn read_library<R: Files + Eprint + AllocGlobal + Clone + Drop>(
     rt: &R,
     dir: &str,
 ) -> Result<Inputs, LibraryFault>
@@ -43,7 +45,7 @@ pub fn read_library<R: Files + AllocGlobal + Clone + Drop>(
     ensures { IfOk result (λ inputs. IsLibrary inputs) }
 {
     let base = base_of(rt.alloc(), dir)?;
-    let names = names_below(rt, base.as_str())?;
+    let names = names_below(rt, &Strict, base.as_str())?;
     let inputs = library_of(rt, base.as_str(), names)?;
     Ok(inputs)
 }

@@ -1,6 +1,7 @@
 //! The texts of files.
 ghost use Rattle.std.specs.Prelude.{◌≡◌, map, string_bytes, IfOk};
 
+use crate::library::failure::{Failure, say};
 use crate::library::fault::LibraryFault;
 use crate::library::filling::LibraryFile;
 use crate::library::paths::joined;
@@ -9,19 +10,33 @@ use std::fs;
 use std::io::Read;
 use std::rt::Files;
 
-/// The text of the file at `path`, or its first bytes, one more than a file of the inputs may have.
-fn text_at<R: Files + AllocGlobal>(rt: &R, path: &str) -> Result<String, LibraryFault> {
+/// The text of the file at `path`.
+pub(crate) fn text_of<R: Files + AllocGlobal>(rt: &R, path: &str) -> Result<String, Failure> {
     let mut bytes = Vec::new(rt.alloc());
     let mut file = fs::open(rt, path)?.take(MAX_TEXT as u64 + 1);
     file.read_to_end(&mut bytes)?;
+    if bytes.len() > MAX_TEXT {
+        return Err(Failure::TextTooLong);
+    }
     match String::from_utf8(bytes) {
         Ok(text) => Ok(text),
-        Err(_) => Err(LibraryFault::Unreadable),
+        Err(_) => Err(Failure::TextNotUtf8),
+    }
+}
+
+/// The text of the file at `path`, which a library has. A failure leaves its line.
+fn text_at<R: Files + Eprint + AllocGlobal>(rt: &R, path: &str) -> Result<String, LibraryFault> {
+    match text_of(rt, path) {
+        Ok(text) => Ok(text),
+        Err(failure) => {
+            say(rt, path, &failure);
+            Err(failure.fault())
+        }
     }
 }
 
 /// The files of these names, in their order, read below the folder that `base` names with its slash.
-pub(crate) fn files_of<R: Files + AllocGlobal>(
+pub(crate) fn files_of<R: Files + Eprint + AllocGlobal>(
     rt: &R,
     base: &str,
     names: Vec<String>,

@@ -40,7 +40,8 @@ pub(crate) struct Size {
 }
 
 /// Serves the connections of `listener` over the sources of `library`, with the workers and for the
-/// sessions of `size`. Each work passes `gate` before it is carried out.
+/// sessions of `size`. Each work passes `gate` before it is carried out. `folder` is the absolute path
+/// of the folder of the library, if there is one.
 ///
 /// A connection beyond the clients that may be open is closed unanswered, and is no session. The port
 /// is closed once the last session was accepted.
@@ -53,6 +54,7 @@ pub(crate) fn serve<R, G>(
     alloc: Global,
     listener: TcpListener,
     library: Result<Inputs, LibraryFault>,
+    folder: Option<&str>,
     size: Size,
     gate: &G,
 ) -> u8
@@ -66,7 +68,7 @@ where
     };
     match NewBoard::new(alloc) {
         Ok(board) => serve_in::<ProtoRules, Brand, R, G>(
-            rt, alloc, ProtoRules, board, listener, inputs, size, gate,
+            rt, alloc, ProtoRules, board, listener, inputs, folder, size, gate,
         ),
         Err(_) => OUT_OF_MEMORY,
     }
@@ -80,6 +82,7 @@ fn serve_in<S, J, R, G>(
     board: NewBoard,
     listener: TcpListener,
     inputs: Inputs,
+    folder: Option<&str>,
     size: Size,
     gate: &G,
 ) -> u8
@@ -95,13 +98,21 @@ where
 {
     let made: Result<Hall<S, J, R>, _> = Hall::new(rt, alloc, rules, board, inputs);
     match made {
-        Ok(hall) => run(rt, alloc, &hall, listener, size, gate),
+        Ok(hall) => run(rt, alloc, &hall, listener, folder, size, gate),
         Err(_) => OUT_OF_MEMORY,
     }
 }
 
 /// Starts the workers, serves the sessions, and ends the workers.
-fn run<F, R, G>(rt: &R, alloc: Global, floor: &F, listener: TcpListener, size: Size, gate: &G) -> u8
+fn run<F, R, G>(
+    rt: &R,
+    alloc: Global,
+    floor: &F,
+    listener: TcpListener,
+    folder: Option<&str>,
+    size: Size,
+    gate: &G,
+) -> u8
 where
     F: Floor<R> + Works<G, R>,
     R: Threads + Wait + Clock + Log + Sync,
@@ -115,7 +126,7 @@ where
             }
         }
         if status == 0 {
-            status = accept_all(rt, alloc, floor, listener, size.sessions);
+            status = accept_all(rt, alloc, floor, listener, folder, size.sessions);
         }
         floor.shut(rt);
         status
@@ -128,13 +139,14 @@ fn accept_all<F, R>(
     alloc: Global,
     floor: &F,
     listener: TcpListener,
+    folder: Option<&str>,
     count: Option<u32>,
 ) -> u8
 where
     F: Floor<R>,
     R: Threads + Wait + Clock + Log + Sync,
 {
-    let Ok(sessions) = Sessions::new(alloc) else {
+    let Ok(sessions) = Sessions::new(alloc, folder) else {
         return OUT_OF_MEMORY;
     };
     let sessions = &sessions;

@@ -1,6 +1,8 @@
 //! The reader of a session: it posts what the messages of the client say.
 use crate::serving::floor::Posting;
+use crate::serving::roots::RootCheck;
 use crossbeam_channel::Sender;
+use log::Log;
 use pq_frame::{FrameReader, Message};
 use pq_mail::{Post, PostFault};
 use pq_proto::ProtoKey;
@@ -28,22 +30,28 @@ pub(crate) struct Owed<Q> {
     pub(crate) root: Root,
 }
 
-/// What the reader of a session holds: the end that posts, of the type `P`, and the way of receipts, of
-/// the type `Q`, to the writer.
+/// What the reader of a session holds: the end that posts, of the type `P`, the way of receipts, of
+/// the type `Q`, to the writer, and the check of the root.
 #[derive(Drop)]
-pub(crate) struct Intake<P, Q> {
+pub(crate) struct Intake<'a, P, Q> {
     session: Session,
     post: P,
     receipts: Sender<Owed<Q>>,
+    roots: RootCheck<'a>,
 }
 
-impl<P: Drop, Q: Drop> Intake<P, Q> {
+impl<'a, P: Drop, Q: Drop> Intake<'a, P, Q> {
     /// The intake of a session whose client has sent nothing.
-    pub(crate) fn new(post: P, receipts: Sender<Owed<Q>>) -> Intake<P, Q> {
+    pub(crate) fn new(
+        post: P,
+        receipts: Sender<Owed<Q>>,
+        roots: RootCheck<'a>,
+    ) -> Intake<'a, P, Q> {
         Intake {
             session: Session::new(),
             post,
             receipts,
+            roots,
         }
     }
 
@@ -85,10 +93,12 @@ impl<P: Drop, Q: Drop> Intake<P, Q> {
     ) -> Result<Step, ScriptFault>
     where
         F: Posting<H, Post = P, Receipt = Q>,
-        H: Wait,
+        H: Wait + Log,
     {
         let message = Message::read(alloc, body)?;
-        match self.session.on(alloc, message)? {
+        let item = self.session.on(alloc, message)?;
+        self.roots.look(rt, self.session.root());
+        match item {
             Item::Ask(request) => self.hand_in(rt, alloc, floor, Post::Ask(request)),
             Item::Say(request) => self.hand_in(rt, alloc, floor, Post::Ask(request)),
             Item::Edit(change) => self.hand_in(rt, alloc, floor, Post::Edit(change)),
@@ -109,7 +119,7 @@ impl<P: Drop, Q: Drop> Intake<P, Q> {
     ) -> Result<Step, ScriptFault>
     where
         F: Posting<H, Post = P, Receipt = Q>,
-        H: Wait,
+        H: Wait + Log,
     {
         for body in bodies {
             match self.handle(rt, alloc, floor, body)? {
@@ -131,7 +141,7 @@ impl<P: Drop, Q: Drop> Intake<P, Q> {
     ) -> Result<Step, ScriptFault>
     where
         F: Posting<H, Post = P, Receipt = Q>,
-        H: Wait,
+        H: Wait + Log,
     {
         let bodies = frames.feed(piece)?;
         if bodies.is_empty() {
@@ -167,11 +177,11 @@ fn root_of(alloc: Global, session: &Session) -> Result<Root, AllocError> {
 /// the input ends or a message ends the session.
 ///
 /// Returns the status with which the session ended, or `None` if another thread has ended it.
-pub(crate) fn read_all<F: Posting<H>, H: Wait>(
+pub(crate) fn read_all<F: Posting<H>, H: Wait + Log>(
     rt: &H,
     alloc: Global,
     floor: &F,
-    intake: Intake<F::Post, F::Receipt>,
+    intake: Intake<'_, F::Post, F::Receipt>,
     stream: &TcpStream,
 ) -> Result<Option<u8>, ScriptFault> {
     let mut intake = intake;

@@ -5,6 +5,7 @@
 use crate::serving::floor::{Ends, Floor};
 use crate::serving::porter::carry_all;
 use crate::serving::reader::{Intake, read_all};
+use crate::serving::roots::RootCheck;
 use crate::serving::sessions::{Sessions, SharedStream};
 use crate::serving::writer::write_replies;
 use log::{Log, warn};
@@ -44,7 +45,8 @@ where
 {
     // A reply is not to wait for the next one.
     let _ = stream.set_nodelay(true);
-    let outcome = run_threads(rt, alloc, floor, client, ends, &stream);
+    let roots = RootCheck::new(client, sessions.folder());
+    let outcome = run_threads(rt, alloc, floor, client, ends, roots, &stream);
     floor.close(rt, client);
     report(rt, client, outcome);
     take_leave(rt, sessions, &stream);
@@ -58,15 +60,16 @@ fn run_threads<F, H>(
     floor: &F,
     client: Client,
     ends: Ends<F::Post, F::Porter, F::Take>,
+    roots: RootCheck<'_>,
     stream: &TcpStream,
 ) -> Result<Option<u8>, ScriptFault>
 where
     F: Floor<H>,
-    H: Threads + Wait + Sync,
+    H: Threads + Wait + Log + Sync,
 {
     let Ends { post, porter, take } = ends;
     let (receipts, owed) = crossbeam_channel::bounded(alloc, RECEIPTS)?;
-    let intake = Intake::new(post, receipts);
+    let intake = Intake::new(post, receipts, roots);
     thread::scope(thread::scope_env(), rt, |scope| {
         let carries = scope.spawn(move || carry_all(rt, floor, client, porter, stream));
         let writes = scope.spawn(move || write_replies(

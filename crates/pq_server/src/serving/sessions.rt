@@ -1,4 +1,5 @@
-//! What the sessions of a server share: how many of them run, and which of them linger.
+//! What the sessions of a server share: the folder of its library, how many of them run, and which of
+//! them linger.
 //!
 //! A session that has ended lingers for a while, so that its client can read what was written last. At
 //! most 64 linger at once: when one more begins to, the stream of the oldest is shut down, so that the
@@ -54,23 +55,40 @@ impl Leavers {
     }
 }
 
-/// The sessions of a server, from which its threads take no more than these counts and streams.
+/// The sessions of a server, from which its threads take no more than this folder, these counts and
+/// streams.
 #[derive(Drop)]
 pub(crate) struct Sessions {
+    /// The absolute path of the folder of the library.
+    folder: Option<String>,
     running: AtomicU32,
     leavers: Mutex<Leavers>,
 }
 
 impl Sessions {
-    /// No sessions, with room for those that may linger.
-    pub(crate) fn new(alloc: Global) -> Result<Sessions, AllocError> {
+    /// No sessions, with room for those that may linger. `folder` is the absolute path of the folder
+    /// of the library, if there is one.
+    pub(crate) fn new(alloc: Global, folder: Option<&str>) -> Result<Sessions, AllocError> {
+        let folder = match folder {
+            Some(folder) => Some(String::from_str(alloc, folder)?),
+            None => None,
+        };
         Ok(Sessions {
+            folder,
             running: AtomicU32::new(0),
             leavers: Mutex::new(Leavers {
                 list: VecDeque::with_capacity(alloc, MOST_LINGERING)?,
                 next: 0,
             }),
         })
+    }
+
+    /// The absolute path of the folder of the library, if there is one.
+    pub(crate) fn folder(&self) -> Option<&str> {
+        match &self.folder {
+            Some(folder) => Some(folder.as_str()),
+            None => None,
+        }
     }
 
     /// A session begins.

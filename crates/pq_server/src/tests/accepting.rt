@@ -1,5 +1,5 @@
 //! Connections that could not be accepted, and those that are turned away.
-use super::sockets::{EXIT, begun_often, check_ended, take_turns, talk, two_workers};
+use super::sockets::{EXIT, ROOTED, begun_often, check_ended, take_turns, talk, two_workers};
 use super::support::{check_row_count, check_text, split_row};
 use crate::library::no_library;
 use crate::serving::failures::{Failures, Verdict, after_failure, cause_of};
@@ -153,7 +153,18 @@ fn ten_failures_in_a_row(rt: HostRuntime) {
     assert_eq!(rt; lines.0.load(Ordering::SeqCst), 5);
 }
 
-/// As many clients as may be open, two more, which are turned away, and one after the first has ended.
+/// A session of `rows`, with an `initialize` of its own.
+fn talk_from_start<R>(rt: &R, address: SocketAddr, rows: &str)
+where
+    R: Abort + AllocGlobal + Net<Listener = TcpListener, Stream = TcpStream>,
+{
+    let stream = TcpStream::connect(rt, address).expect(rt, "a connection");
+    take_turns(rt, &stream, rows);
+    check_ended(rt, &stream);
+}
+
+/// As many clients as may be open, two more, which are turned away, and three after the first has
+/// ended: without a root, with `/home/u`, and with another one.
 fn two_too_many<R>(rt: &R, address: SocketAddr)
 where
     R: Abort + AllocGlobal + Net<Listener = TcpListener, Stream = TcpStream>,
@@ -167,10 +178,14 @@ where
     take_turns(rt, first, EXIT);
     check_ended(rt, first);
     talk(rt, address, EXIT);
+    talk_from_start(rt, address, ROOTED);
+    let beside = ROOTED.replace(rt.alloc(), "/home/u", "/home/v");
+    talk_from_start(rt, address, beside.expect(rt, "memory").as_str());
     drop(others);
 }
 
-// Two connections that are turned away at one time leave one line.
+// Two connections that are turned away at one time leave one line. A root that is not the folder of
+// the library leaves the other.
 #[test]
 fn one_line_for_two_turned_away(rt: HostRuntime) -> Result<(), Fail> {
     let lines = new_tally(&rt);
@@ -186,13 +201,14 @@ fn one_line_for_two_turned_away(rt: HostRuntime) -> Result<(), Fail> {
             alloc,
             listener,
             library,
-            two_workers(65),
+            Some("/home/u"),
+            two_workers(67),
             &OpenGate,
         ),
         || two_too_many(&rt, address),
     );
     assert_eq!(rt; status, 0);
-    assert_eq!(rt; lines.0.load(Ordering::SeqCst), 1);
+    assert_eq!(rt; lines.0.load(Ordering::SeqCst), 2);
     Ok(())
 }
 

@@ -1,13 +1,15 @@
 //! Libraries that are read from folders: which files are found, their names, and their order.
 use super::scratch::{make, path_of};
-use super::support::{check_row_count, split_row};
-use crate::library::{LibraryFault, MAX_DEPTH, read_library};
+use super::support::{check_row_count, check_text, split_row};
+use crate::library::{Failure, LibraryFault, MAX_DEPTH, read_library, say};
 use pq_inputs::{Inputs, MAX_FILES, MAX_TEXT};
 use std::alloc::{AllocError, Global};
-use std::fs;
+use std::fmt::Display;
 use std::process::Abort;
 use std::rt::Files;
+use std::sync::atomic::{AtomicU32, Ordering};
 use std::test::Fail;
+use std::{fs, io};
 
 /// What is shown of a library that was not read.
 const UNREAD: &str = "the library could not be read";
@@ -33,7 +35,7 @@ fn shown(
 
 /// Checks what is read of the folder `dir`.
 fn check_read(
-    rt: &(impl Abort + AllocGlobal + Files + Clone + Drop),
+    rt: &(impl Abort + AllocGlobal + Files + Eprint + Clone + Drop),
     dir: &str,
     names: &str,
     want: &str,
@@ -45,7 +47,7 @@ fn check_read(
 
 /// Checks what is read of the folder `dir` with what `rows` name. The folder is removed afterwards.
 fn check(
-    rt: &(impl Abort + AllocGlobal + Files + Clone + Drop),
+    rt: &(impl Abort + AllocGlobal + Files + Eprint + Clone + Drop),
     dir: &str,
     rows: &str,
     names: &str,
@@ -59,7 +61,7 @@ fn check(
 
 /// Checks a row `ENTRIES => NAMES => WANT`. The entries are separated by commas.
 fn check_row(
-    rt: &(impl Abort + AllocGlobal + Files + Clone + Drop),
+    rt: &(impl Abort + AllocGlobal + Files + Eprint + Clone + Drop),
     dir: &str,
     row: &str,
 ) -> Result<(), Fail> {
@@ -114,7 +116,7 @@ fn one_file_too_many(rt: HostRuntime) -> Result<(), Fail> {
 
 /// Checks what is read of the folder `dir` when its file `a.proto` has these bytes.
 fn check_bytes(
-    rt: &(impl Abort + AllocGlobal + Files + Clone + Drop),
+    rt: &(impl Abort + AllocGlobal + Files + Eprint + Clone + Drop),
     dir: &str,
     bytes: &[u8],
     want: &str,
@@ -148,4 +150,56 @@ fn folders_that_are_not_there(rt: HostRuntime) -> Result<(), Fail> {
     check_read(&rt, file.as_str(), "", UNREAD)?;
     fs::remove_dir_all(&rt, dir.as_str())?;
     Ok(())
+}
+
+/// A standard error that must get one line, and counts those that it gets.
+#[derive(Drop)]
+struct OneLine<'a, R> {
+    rt: &'a R,
+    line: &'a str,
+    count: &'a AtomicU32,
+}
+
+impl<R: Abort + AllocGlobal> Eprint for OneLine<'_, R> {
+    fn eprint<D: Display + Drop>(&self, _value: D) -> io::Result<()> {
+        panic!(self.rt; "no line feed")
+    }
+
+    fn eprintln<D: Display + Drop>(&self, value: D) -> io::Result<()> {
+        let found = format!(in self.rt.alloc(); "{value}").expect(self.rt, "memory");
+        check_text(self.rt, found.as_str(), self.line, self.line);
+        self.count.fetch_add(1, Ordering::SeqCst);
+        Ok(())
+    }
+}
+
+/// Checks that a failure at `path` leaves `line`, and no line if that is empty.
+fn check_line(rt: &(impl Abort + AllocGlobal), path: &str, failure: Failure, line: &str) {
+    let count = AtomicU32::new(0);
+    let errors = OneLine {
+        rt,
+        line,
+        count: &count,
+    };
+    say(&errors, path, &failure);
+    let wanted = if line.is_empty() { 0 } else { 1 };
+    assert_eq!(rt; count.load(Ordering::SeqCst), wanted, "{line}");
+}
+
+// The slash of a folder is not shown. 12 is Linux's number of an allocation failure.
+#[test]
+fn lines_of_failures(rt: HostRuntime) {
+    let system = Failure::System(io::Error::from_raw_os_error(2));
+    let line = "pq_server: a/b: No such file or directory (os error 2)";
+    check_line(&rt, "a/b/", system, line);
+    let line = "pq_server: /: a name in this folder is not UTF-8";
+    check_line(&rt, "/", Failure::NameNotUtf8, line);
+    let line = "pq_server: a.proto: the text is not UTF-8";
+    check_line(&rt, "a.proto", Failure::TextNotUtf8, line);
+    let line = "pq_server: a.proto: the text has more than 1048576 bytes";
+    check_line(&rt, "a.proto", Failure::TextTooLong, line);
+    let line = "pq_server: a: there are more than 4096 files whose names end in .proto";
+    check_line(&rt, "a/", Failure::TooManyFiles, line);
+    let memory = Failure::System(io::Error::from_raw_os_error(12));
+    check_line(&rt, "a", memory, "");
 }

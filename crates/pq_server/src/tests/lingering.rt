@@ -82,6 +82,7 @@ fn a_client_that_drips(rt: HostRuntime) -> Result<(), Fail> {
             rt.alloc(),
             listener,
             library,
+            None,
             two_workers(1),
             &OpenGate,
         ),
@@ -116,6 +117,7 @@ fn many_that_linger(rt: HostRuntime) -> Result<(), Fail> {
             rt.alloc(),
             listener,
             library,
+            None,
             two_workers(71),
             &OpenGate,
         ),
@@ -189,7 +191,7 @@ impl Bench {
 #[test]
 fn the_oldest_is_cut(rt: HostRuntime) -> Result<(), Fail> {
     let bench = Bench {
-        sessions: Sessions::new(rt.alloc())?,
+        sessions: Sessions::new(rt.alloc(), None)?,
         pairs: pairs(&rt, 67)?,
     };
     for place in 0..64 {
@@ -247,6 +249,7 @@ fn port_after_the_last_session(rt: HostRuntime) -> Result<(), Fail> {
             rt.alloc(),
             listener,
             library,
+            None,
             two_workers(1),
             &OpenGate,
         ),

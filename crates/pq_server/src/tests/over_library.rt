@@ -61,7 +61,7 @@ pub(super) fn frames_of(
 
 /// The status of a script over the folder `dir`. What it writes is added to `written`.
 fn status_over(
-    rt: &(impl AllocGlobal + Files + Clone + Drop),
+    rt: &(impl AllocGlobal + Files + Eprint + Clone + Drop),
     dir: &str,
     sent: &[u8],
     written: &mut Vec<u8>,
@@ -88,7 +88,7 @@ fn check_bytes(
 
 /// Checks what the program writes in a session of `rows` over the folder `dir`, and the status.
 fn check_session(
-    rt: &(impl Abort + AllocGlobal + Files + Clone + Drop),
+    rt: &(impl Abort + AllocGlobal + Files + Eprint + Clone + Drop),
     dir: &str,
     rows: &str,
     status: u8,

@@ -79,7 +79,7 @@ const ASK_FIRST: &str =
 < {"id":1,"jsonrpc":"2.0","result":{"items":[],"kind":"full","resultId":"1"}}"#;
 
 /// A session with a root folder. What comes after its `exit` is not answered.
-const ROOTED: &str =
+pub(super) const ROOTED: &str =
     r#"> {"id":0,"jsonrpc":"2.0","method":"initialize","params":{"rootUri":"file:///home/u"}}
 < {"id":0,"jsonrpc":"2.0","result":{"capabilities":{"definitionProvider":true,"diagnosticProvider":{"interFileDependencies":true,"workspaceDiagnostics":false},"documentSymbolProvider":true,"positionEncoding":"utf-16","textDocumentSync":{"change":2,"openClose":true}},"serverInfo":{"name":"pq_server"}}}
 > {"jsonrpc":"2.0","method":"textDocument/didOpen","params":{"textDocument":{"uri":"file:///home/u/a.proto","text":"syntax = \"proto3\";\nmessage M { M m = 1; }"}}}
@@ -187,6 +187,7 @@ fn the_stored_session(rt: HostRuntime) -> Result<(), Fail> {
             rt.alloc(),
             listener,
             library,
+            None,
             two_workers(1),
             &OpenGate,
         ),
@@ -214,6 +215,7 @@ fn a_library(rt: HostRuntime) -> Result<(), Fail> {
             rt.alloc(),
             listener,
             library,
+            None,
             two_workers(1),
             &OpenGate,
         ),
@@ -228,6 +230,7 @@ fn a_library(rt: HostRuntime) -> Result<(), Fail> {
         rt.alloc(),
         listener,
         library,
+        None,
         two_workers(1),
         &OpenGate,
     );
@@ -284,6 +287,7 @@ fn a_refused_edit(rt: HostRuntime) -> Result<(), Fail> {
             rt.alloc(),
             listener,
             library,
+            None,
             two_workers(3),
             &OpenGate,
         ),
@@ -330,6 +334,7 @@ fn two_ends(rt: HostRuntime) -> Result<(), Fail> {
             rt.alloc(),
             listener,
             library,
+            None,
             two_workers(2),
             &OpenGate,
         ),
@@ -380,6 +385,7 @@ fn one_client_too_many(rt: HostRuntime) -> Result<(), Fail> {
             rt.alloc(),
             listener,
             library,
+            None,
             two_workers(65),
             &OpenGate,
         ),
@@ -474,7 +480,15 @@ fn two_clients(rt: HostRuntime) -> Result<(), Fail> {
     };
     let (status, ()) = thread::join(
         &rt,
-        || serve(&rt, rt.alloc(), listener, library, two_workers(3), &gate),
+        || serve(
+            &rt,
+            rt.alloc(),
+            listener,
+            library,
+            None,
+            two_workers(3),
+            &gate,
+        ),
         || one_is_held(&rt, address, &gate),
     );
     assert_eq!(rt; status, 0);

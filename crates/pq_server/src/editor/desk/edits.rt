@@ -3,7 +3,7 @@ use crate::editor::desk::{Desk, Step, step_of};
 use crate::editor::disk::text_of;
 use crate::editor::documents::{Document, gone_of};
 use crate::editor::line::Handed;
-use crate::library::{joined, report_file};
+use crate::library::{Failure, joined, say};
 use crate::serving::floor::Floor;
 use pq_core::Change;
 use pq_inputs::{Durability, MAX_FILES, MAX_TEXT};
@@ -115,11 +115,7 @@ impl<P: Drop + Send, C: Drop + Send, Q: Drop + Send> Desk<P, C, Q> {
         let was_kept = document.is_kept;
         document.is_kept = has_room(document);
         if !document.is_kept && was_kept {
-            report_file(
-                rt,
-                document.path.as_str(),
-                "the text has more than 1,048,576 bytes",
-            );
+            say(rt, document.path.as_str(), &Failure::TextTooLong);
         }
         let mut goes_on = true;
         for index in 0..document.names.len() {
@@ -232,7 +228,7 @@ impl<P: Drop + Send, C: Drop + Send, Q: Drop + Send> Desk<P, C, Q> {
         }
         if !self.has_said_too_many {
             self.has_said_too_many = true;
-            report_file(rt, name, "there are more than 4,096 files");
+            say(rt, name, &Failure::TooManyFiles);
         }
         Ok(false)
     }
