@@ -1,6 +1,5 @@
 -- The replies that a call of the store makes are passed on to their lanes.
 use Rattle.std.proofs.Common.{◌≡◌, ◌≢◌, ℕ, ◌+◌, ◌-◌, ◌<◌, ◌≤◌, true, false, List, length, slice_get, slice_set, Option, Some, None, refl, sym, ◌∙◌, ap, subst, inl, inr, arith}
-use Rattle.std.specs.Prelude.{Ok, Err, Result}
 use Rattle.std.specs.declared.cmp.Ordering.{Ordering}
 use Rattle.pq_rules.specs.declared.turn.Answer.{Answer}
 use Rattle.pq_rules.specs.Turns.{Machine}
@@ -17,7 +16,7 @@ use Rattle.pq_core.specs.Ledger.{Place, Ready, Entry, Client, Ledger, IsOpen, wi
 use Rattle.pq_core.specs.Moves.{window, Reaches}
 use Rattle.pq_core.specs.Kept.{PlaceKept, Kept}
 use Rattle.pq_core.specs.RightReply.{answer_by}
-use Rattle.pq_core.specs.Lanes.{ReadyView, Tray, HasPlace, placed_in, Fills}
+use Rattle.pq_core.specs.Lanes.{ReadyView, Tray, HasPlace, placed_in}
 use Rattle.pq_core.specs.Told.{Told, told_puts, told_ledger, IsReadyAt, NoneReadyAt}
 use Rattle.pq_core.specs.Stores.{StoreView, held, fields_of, IsMadeIn, NoneMade, Makes, Goes, Collects}
 use Rattle.pq_core.specs.Stores.{StandsFor as StoreStandsFor}

@@ -11,7 +11,7 @@ use Rattle.pq_core.proofs.Queued.{in_there, in_longer, once_filter, once_passed}
 use Rattle.pq_core.proofs.Turned.{no_items, last_there, filter_after, seats, seats_last, seats_pushed}
 use Rattle.pq_core.specs.aux.Queue.{IsOnce}
 use Rattle.pq_core.specs.aux.Turns.{Pops, Pushes, NoneOf, seats_in, seats_of, clients, AreApart, IsTurnOf, IsSettledAt, HasRoomAt, IsKept}
-use Rattle.pq_core.specs.declared.queue.Turn.{Turn}
+use Rattle.pq_core.specs.declared.queue.ClientTurn.{ClientTurn}
 
 -- ---- lists
 
@@ -90,32 +90,32 @@ seat_of c [] k n h = absurd h
 seat_of c (m ∷ ns) k n h = elim h [ inl e ↦ ap (λ (z : ℕ × ℕ). z.0) e | inr w ↦ seat_of c ns k n w ]
 
 -- the client of a request has a turn
-in_clients : (turns : List Turn) (k n : ℕ) → In (k, n) (seats_of turns) → In k (clients turns)
+in_clients : (turns : List ClientTurn) (k n : ℕ) → In (k, n) (seats_of turns) → In k (clients turns)
 in_clients [] k n h = absurd h
 in_clients (t ∷ turns) k n h = elim (in_either (seats_in t) (seats_of turns) (k, n) h) [
   | inl w ↦ inl (seat_of t.client t.numbers.items k n w)
   | inr w ↦ inr (in_clients turns k n w)
 ]
 
-client_at : (turns : List Turn) (k : ℕ) → In k (clients turns) → (place : ℕ) × IsTurnOf turns place k
+client_at : (turns : List ClientTurn) (k : ℕ) → In k (clients turns) → (place : ℕ) × IsTurnOf turns place k
 client_at [] k h = absurd h
 client_at (t ∷ turns) k h = elim h [
   | inl e ↦ (0, record { turn = t; here = refl; is_of = sym e })
   | inr w ↦ (let x = client_at turns k w in (suc x.0, record { turn = x.1.turn; here = x.1.here; is_of = x.1.is_of }))
 ]
 
-clients_more : (turns : List Turn) (t : Turn) (rest : List Turn) → clients (turns ++ t ∷ rest) ≡ clients turns ++ t.client ∷ clients rest
-clients_more turns t rest = map-append (λ (u : Turn). u.client) turns (t ∷ rest)
+clients_more : (turns : List ClientTurn) (t : ClientTurn) (rest : List ClientTurn) → clients (turns ++ t ∷ rest) ≡ clients turns ++ t.client ∷ clients rest
+clients_more turns t rest = map-append (λ (u : ClientTurn). u.client) turns (t ∷ rest)
 
-pub clients_set : (turns : List Turn) (place : ℕ) (t u : Turn) → slice_get turns place ≡ Some t → u.client ≡ t.client → clients (slice_set turns place u) ≡ clients turns
+pub clients_set : (turns : List ClientTurn) (place : ℕ) (t u : ClientTurn) → slice_get turns place ≡ Some t → u.client ≡ t.client → clients (slice_set turns place u) ≡ clients turns
 clients_set [] place t u h e = absurd (none_some t h)
-clients_set (v ∷ turns) zero t u h e = ap (λ (c : ℕ). c ∷ clients turns) (e ∙ ap (λ (w : Turn). w.client) (sym (some_one v t h)))
+clients_set (v ∷ turns) zero t u h e = ap (λ (c : ℕ). c ∷ clients turns) (e ∙ ap (λ (w : ClientTurn). w.client) (sym (some_one v t h)))
 clients_set (v ∷ turns) (suc place) t u h e = ap (λ l. v.client ∷ l) (clients_set turns place t u h e)
 
-pub apart_set : (turns : List Turn) (place : ℕ) (t u : Turn) → slice_get turns place ≡ Some t → u.client ≡ t.client → AreApart turns → AreApart (slice_set turns place u)
+pub apart_set : (turns : List ClientTurn) (place : ℕ) (t u : ClientTurn) → slice_get turns place ≡ Some t → u.client ≡ t.client → AreApart turns → AreApart (slice_set turns place u)
 apart_set turns place t u h e apart = subst (λ (l : List ℕ). IsOnce l) (sym (clients_set turns place t u h e)) apart
 
-pub apart_same : (turns after : List Turn) → clients after ≡ clients turns → AreApart turns → AreApart after
+pub apart_same : (turns after : List ClientTurn) → clients after ≡ clients turns → AreApart turns → AreApart after
 apart_same turns after e apart = subst (λ (l : List ℕ). IsOnce l) (sym e) apart
 
 pub apart_none : AreApart []
@@ -123,25 +123,25 @@ unfolding IsOnce
 apart_none = tt
 
 -- the first turn is dropped
-pub apart_drop : (turns : List Turn) → AreApart turns → AreApart (drop 1 turns)
+pub apart_drop : (turns : List ClientTurn) → AreApart turns → AreApart (drop 1 turns)
 apart_drop [] apart = apart
 apart_drop (t ∷ turns) apart = (once_first t.client (clients turns) apart).1
 
 -- a turn is added
-pub apart_added : (turns : List Turn) (t : Turn) (client : ℕ) → t.client ≡ client → ((place : ℕ) → IsTurnOf turns place client → ⊥) → AreApart turns → AreApart (turns ++ t ∷ [])
+pub apart_added : (turns : List ClientTurn) (t : ClientTurn) (client : ℕ) → t.client ≡ client → ((place : ℕ) → IsTurnOf turns place client → ⊥) → AreApart turns → AreApart (turns ++ t ∷ [])
 apart_added turns t client is none apart =
     subst (λ (l : List ℕ). IsOnce l) (sym (clients_more turns t []))
     (once_last (clients turns) t.client apart (λ w. let x = client_at turns t.client w in none x.0 (record { turn = x.1.turn; here = x.1.here; is_of = x.1.is_of ∙ is })))
 
 -- the turns of a client are dropped
-pub apart_filtered : (c : ℕ) (turns : List Turn) → AreApart turns → AreApart (filter (λ (t : Turn). not (t.client == c)) turns)
+pub apart_filtered : (c : ℕ) (turns : List ClientTurn) → AreApart turns → AreApart (filter (λ (t : ClientTurn). not (t.client == c)) turns)
 apart_filtered c turns apart =
-    subst (λ (l : List ℕ). IsOnce l) (sym (filter_after (λ (t : Turn). t.client) (λ (k : ℕ). not (k == c)) (λ (t : Turn). not (t.client == c)) turns (λ t. refl)))
+    subst (λ (l : List ℕ). IsOnce l) (sym (filter_after (λ (t : ClientTurn). t.client) (λ (k : ℕ). not (k == c)) (λ (t : ClientTurn). not (t.client == c)) turns (λ t. refl)))
     (once_filter (λ (k : ℕ). not (k == c)) (clients turns) apart)
 
 -- ---- a turn without requests goes behind the others
 
-module _ (turns : List Turn) (place : ℕ) (t : Turn) (here : slice_get turns place ≡ Some t) where
+module _ (turns : List ClientTurn) (place : ℕ) (t : ClientTurn) (here : slice_get turns place ≡ Some t) where
   s : IsSplit turns place t
   s = split_at turns place t here
 
@@ -155,7 +155,7 @@ module _ (turns : List Turn) (place : ℕ) (t : Turn) (here : slice_get turns pl
   apart_moved apart =
       let w = out apart in
       subst (λ (l : List ℕ). IsOnce l)
-      (sym (clients_more (remove turns place) t [] ∙ ap (λ (l : List ℕ). l ++ t.client ∷ []) (ap clients s.removed ∙ map-append (λ (u : Turn). u.client) s.before s.behind)))
+      (sym (clients_more (remove turns place) t [] ∙ ap (λ (l : List ℕ). l ++ t.client ∷ []) (ap clients s.removed ∙ map-append (λ (u : ClientTurn). u.client) s.before s.behind)))
       (once_last (clients s.before ++ clients s.behind) t.client w.0 w.1)
 
   all_seats : seats_of turns ≡ seats_of s.before ++ (seats_in t ++ seats_of s.behind)
@@ -170,13 +170,13 @@ module _ (turns : List Turn) (place : ℕ) (t : Turn) (here : slice_get turns pl
 
 -- `Settles turns after n client` is that `turns` became `after`, of `n` turns, of which the last is of
 -- `client`
-pub record Settles (turns after : List Turn) (n client : ℕ) : Type 0 where
+pub record Settles (turns after : List ClientTurn) (n client : ℕ) : Type 0 where
   pub some : 1 ≤ n
   pub seats : seats_of after ≡ seats_of turns
   pub apart : AreApart turns → AreApart after
   pub here : IsSettledAt after (n - 1) client
 
-pub moved_last : (turns after : List Turn) (place client n : ℕ) (w : IsTurnOf turns place client) → w.turn.numbers.items ≡ [] → after ≡ remove turns place ++ w.turn ∷ [] → n ≡ length after
+pub moved_last : (turns after : List ClientTurn) (place client n : ℕ) (w : IsTurnOf turns place client) → w.turn.numbers.items ≡ [] → after ≡ remove turns place ++ w.turn ∷ [] → n ≡ length after
     → Settles turns after n client
 moved_last turns after place client n w none is long = record {
   some = omega (arith, long, all);
@@ -186,10 +186,10 @@ moved_last turns after place client n w none is long = record {
       ∙ ap (λ l. seats_of (remove turns place) ++ (l ++ [])) empty
       ∙ append-nil (seats_of (remove turns place))
       ∙ seats_without turns place w.turn w.here empty;
-  apart = λ apart. subst (λ (ts : List Turn). AreApart ts) (sym is) (apart_moved turns place w.turn w.here apart);
+  apart = λ apart. subst (λ (ts : List ClientTurn). AreApart ts) (sym is) (apart_moved turns place w.turn w.here apart);
   here = record {
     turn = w.turn;
-    here = subst (λ (ts : List Turn). slice_get ts (n - 1) ≡ Some w.turn) (sym is)
+    here = subst (λ (ts : List ClientTurn). slice_get ts (n - 1) ≡ Some w.turn) (sym is)
         (subst (λ (m : ℕ). slice_get (remove turns place ++ w.turn ∷ []) m ≡ Some w.turn) last (last_there (remove turns place) w.turn));
     is_of = w.is_of;
     settled = inr (omega (arith, long, all));
@@ -224,7 +224,7 @@ last_seat front c (n ∷ ns) k m h =
       ap (λ (l : List ℕ). front ++ seats c l) w.2 ∙ ap (λ l. front ++ l) (seats_last c w.1 w.0) ∙ sym (append_assoc front (seats c w.0) ((c, w.1) ∷ [])),
     )
 
-pushes_at : (turns : List Turn) (place n : ℕ) (t u : Turn) (here : slice_get turns place ≡ Some t) → AreApart turns → (0 < length t.numbers.items) ⊎ (length turns ≡ place + 1)
+pushes_at : (turns : List ClientTurn) (place n : ℕ) (t u : ClientTurn) (here : slice_get turns place ≡ Some t) → AreApart turns → (0 < length t.numbers.items) ⊎ (length turns ≡ place + 1)
     → seats_in u ≡ seats_in t ++ (t.client, n) ∷ [] → Pushes t.client n (seats_of turns) (seats_of (slice_set turns place u))
 pushes_at turns place n t u here apart settled one = record {
   front = seats_of split.before ++ seats_in t;
@@ -266,23 +266,23 @@ pushes_at turns place n t u here apart settled one = record {
     behind m w = new (in_right (clients split.before) (clients split.behind) t.client (in_clients split.behind t.client m w))
 
 -- the turn of a client for which the queue is ready gets one more request
-pub record Ready (turns : List Turn) (count place client : ℕ) (x : Turn) : Type 0 where
+pub record Ready (turns : List ClientTurn) (count place client : ℕ) (x : ClientTurn) : Type 0 where
   pub room : HasRoomAt turns place client
   pub read : x ≡ room.turn
 
-pub ready_at : (turns : List Turn) (count place client : ℕ) (ready : Option ℕ) (x : Turn) → IsKept turns count ready place → ready ≡ Some client → x ≡ get_or turns place x → Ready turns count place client x
+pub ready_at : (turns : List ClientTurn) (count place client : ℕ) (ready : Option ℕ) (x : ClientTurn) → IsKept turns count ready place → ready ≡ Some client → x ≡ get_or turns place x → Ready turns count place client x
 ready_at turns count place client ready x kept is read =
     let w : HasRoomAt turns place client = (subst (λ (r : Option ℕ). IfSome r (λ k. (count + 1 < 2 ^ 64) × HasRoomAt turns place k)) is kept.room).1 in
     record { room = w; read = read_at turns place x w.turn w.here read }
 
-pub turn_pushed : (turns : List Turn) (count place client number : ℕ) (x u : Turn) → AreApart turns → Ready turns count place client x
+pub turn_pushed : (turns : List ClientTurn) (count place client number : ℕ) (x u : ClientTurn) → AreApart turns → Ready turns count place client x
     → u.client ≡ x.client → u.numbers.items ≡ x.numbers.items ++ number ∷ [] → Pushes client number (seats_of turns) (seats_of (slice_set turns place u)) × AreApart (slice_set turns place u)
 turn_pushed turns count place client number x u apart w same longer =
     let t = w.room.turn in
-    let own = same ∙ ap (λ (v : Turn). v.client) w.read in (
+    let own = same ∙ ap (λ (v : ClientTurn). v.client) w.read in (
       subst (λ (k : ℕ). Pushes k number (seats_of turns) (seats_of (slice_set turns place u))) w.room.is_of
           (pushes_at turns place number t u w.room.here apart w.room.settled
-          (seats_pushed t.client u.client number t.numbers.items u.numbers.items own (longer ∙ ap (λ (v : Turn). v.numbers.items ++ number ∷ []) w.read))),
+          (seats_pushed t.client u.client number t.numbers.items u.numbers.items own (longer ∙ ap (λ (v : ClientTurn). v.numbers.items ++ number ∷ []) w.read))),
       apart_set turns place t u w.room.here own apart,
     )
 
@@ -295,20 +295,20 @@ grown c n before after p =
 
 -- ---- the first request is taken
 
-pub first_popped : (turns : List Turn) (x u : Turn) (seat : ℕ × ℕ) → 0 < length turns → AreApart turns → x ≡ get_or turns 0 x → u.client ≡ x.client → seats_in x ≡ seat ∷ seats_in u
+pub first_popped : (turns : List ClientTurn) (x u : ClientTurn) (seat : ℕ × ℕ) → 0 < length turns → AreApart turns → x ≡ get_or turns 0 x → u.client ≡ x.client → seats_in x ≡ seat ∷ seats_in u
     → Pops seat (seats_of turns) (seats_of (drop 1 (slice_set turns 0 u) ++ take 1 (slice_set turns 0 u))) × AreApart (drop 1 (slice_set turns 0 u) ++ take 1 (slice_set turns 0 u))
 first_popped [] x u seat some apart read same taken = absurd (omega arith)
 first_popped (t ∷ turns) x u seat some apart read same taken = (
   record {
     own = seats_in u;
     others = seats_of turns;
-    was = ap (λ (v : Turn). seats_in v ++ seats_of turns) (sym read) ∙ ap (λ l. l ++ seats_of turns) taken;
+    was = ap (λ (v : ClientTurn). seats_in v ++ seats_of turns) (sym read) ∙ ap (λ l. l ++ seats_of turns) taken;
     is = flat_map-append seats_in turns (u ∷ []) ∙ ap (λ l. seats_of turns ++ l) (append-nil (seats_in u));
     are_own = λ k n w. seat_of u.client u.numbers.items k n w ∙ same ∙ sym client;
-    none_own = λ n w. apart_first.0 (subst (λ (k : ℕ). In k (clients turns)) (client ∙ ap (λ (v : Turn). v.client) read) (in_clients turns seat.0 n w));
+    none_own = λ n w. apart_first.0 (subst (λ (k : ℕ). In k (clients turns)) (client ∙ ap (λ (v : ClientTurn). v.client) read) (in_clients turns seat.0 n w));
   },
   subst (λ (l : List ℕ). IsOnce l) (sym (clients_more turns u []))
-      (once_last (clients turns) u.client apart_first.1 (λ w. apart_first.0 (subst (λ (k : ℕ). In k (clients turns)) (same ∙ ap (λ (v : Turn). v.client) read) w))),
+      (once_last (clients turns) u.client apart_first.1 (λ w. apart_first.0 (subst (λ (k : ℕ). In k (clients turns)) (same ∙ ap (λ (v : ClientTurn). v.client) read) w))),
 )
   where
     apart_first : (In t.client (clients turns) → ⊥) × IsOnce (clients turns)

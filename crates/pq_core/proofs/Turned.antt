@@ -10,7 +10,7 @@ use Rattle.pq_core.proofs.AccountMoves.{drop_more}
 use Rattle.pq_core.proofs.Lists.{some_one, none_some}
 use Rattle.pq_core.specs.aux.Queue.{is_of_other, is_other_seat}
 use Rattle.pq_core.specs.aux.Turns.{seats_in, seats_of, FirstWaits}
-use Rattle.pq_core.specs.declared.queue.Turn.{Turn}
+use Rattle.pq_core.specs.declared.queue.ClientTurn.{ClientTurn}
 
 -- ---- lists
 
@@ -83,7 +83,7 @@ left_own c d n ns ms is e =
 -- ---- all turns
 
 -- a client is dropped
-kept_turn : (c : ℕ) (t : Turn) (rest : List Turn) (others : List (ℕ × ℕ)) (b : Bool) → not (t.client == c) ≡ b → seats_of rest ≡ filter (λ seat. is_of_other c seat) others
+kept_turn : (c : ℕ) (t : ClientTurn) (rest : List ClientTurn) (others : List (ℕ × ℕ)) (b : Bool) → not (t.client == c) ≡ b → seats_of rest ≡ filter (λ seat. is_of_other c seat) others
     → seats_of (cond b (t ∷ rest) rest) ≡ filter (λ seat. is_of_other c seat) (seats_in t ++ others)
 kept_turn c t rest others true e h =
     ap (λ l. seats_in t ++ l) h
@@ -94,12 +94,12 @@ kept_turn c t rest others false e h =
     ∙ ap (λ l. l ++ filter (λ seat. is_of_other c seat) others) (sym (none_pass (λ (n : ℕ). (t.client, n)) (λ seat. is_of_other c seat) t.numbers.items (λ n. e)))
     ∙ sym (filter-append (λ seat. is_of_other c seat) (seats_in t) others)
 
-pub dropped_turns : (c : ℕ) (turns : List Turn) → seats_of (filter (λ (t : Turn). not (t.client == c)) turns) ≡ filter (λ seat. is_of_other c seat) (seats_of turns)
+pub dropped_turns : (c : ℕ) (turns : List ClientTurn) → seats_of (filter (λ (t : ClientTurn). not (t.client == c)) turns) ≡ filter (λ seat. is_of_other c seat) (seats_of turns)
 dropped_turns c [] = refl
-dropped_turns c (t ∷ turns) = kept_turn c t (filter (λ (u : Turn). not (u.client == c)) turns) (seats_of turns) (not (t.client == c)) refl (dropped_turns c turns)
+dropped_turns c (t ∷ turns) = kept_turn c t (filter (λ (u : ClientTurn). not (u.client == c)) turns) (seats_of turns) (not (t.client == c)) refl (dropped_turns c turns)
 
 -- a turn is replaced by one of the same requests
-pub same_turn : (turns : List Turn) (place : ℕ) (t u : Turn) → slice_get turns place ≡ Some t → seats_in u ≡ seats_in t → seats_of (slice_set turns place u) ≡ seats_of turns
+pub same_turn : (turns : List ClientTurn) (place : ℕ) (t u : ClientTurn) → slice_get turns place ≡ Some t → seats_in u ≡ seats_in t → seats_of (slice_set turns place u) ≡ seats_of turns
 same_turn [] place t u h e = absurd (none_some t h)
 same_turn (v ∷ turns) zero t u h e = ap (λ l. l ++ seats_of turns) (e ∙ ap seats_in (sym (some_one v t h)))
 same_turn (v ∷ turns) (suc place) t u h e = ap (λ l. seats_in v ++ l) (same_turn turns place t u h e)
@@ -115,26 +115,26 @@ seats_pushed c d n ns ms e f = seats_one c d (ns ++ n ∷ []) ms e f ∙ seats_l
 -- ---- the first turn
 
 -- it has no request, and is dropped
-pub empty_first : (turns rest : List Turn) (t : Turn) → turns ≡ t ∷ rest → t.numbers.items ≡ [] → seats_of (drop 1 turns) ≡ seats_of turns
+pub empty_first : (turns rest : List ClientTurn) (t : ClientTurn) → turns ≡ t ∷ rest → t.numbers.items ≡ [] → seats_of (drop 1 turns) ≡ seats_of turns
 empty_first turns rest t e none =
-    ap (λ (ts : List Turn). seats_of (drop 1 ts)) e
+    ap (λ (ts : List ClientTurn). seats_of (drop 1 ts)) e
     ∙ sym (ap seats_of e ∙ ap (λ (ns : List ℕ). seats t.client ns ++ seats_of rest) none)
 
-pub none_waits : (turns : List Turn) → length turns ≡ 0 → FirstWaits turns
+pub none_waits : (turns : List ClientTurn) → length turns ≡ 0 → FirstWaits turns
 unfolding FirstWaits
 none_waits [] h = tt
 none_waits (t ∷ turns) h = absurd (omega arith)
 
-pub first_waits : (turns rest : List Turn) (t : Turn) → turns ≡ t ∷ rest → 0 < length t.numbers.items → FirstWaits turns
+pub first_waits : (turns rest : List ClientTurn) (t : ClientTurn) → turns ≡ t ∷ rest → 0 < length t.numbers.items → FirstWaits turns
 unfolding FirstWaits
 first_waits turns rest t e h = subst FirstWaits (sym e) h
 
-pub waits_at : (turns : List Turn) (x : Turn) → 0 < length turns → FirstWaits turns → x ≡ get_or turns 0 x → 0 < length x.numbers.items
+pub waits_at : (turns : List ClientTurn) (x : ClientTurn) → 0 < length turns → FirstWaits turns → x ≡ get_or turns 0 x → 0 < length x.numbers.items
 unfolding FirstWaits
 waits_at [] x h w e = absurd (omega arith)
-waits_at (t ∷ turns) x h w e = subst (λ (y : Turn). 0 < length y.numbers.items) (sym e) w
+waits_at (t ∷ turns) x h w e = subst (λ (y : ClientTurn). 0 < length y.numbers.items) (sym e) w
 
-pub some_waits : (turns : List Turn) → 0 < length turns → FirstWaits turns → 0 < length (seats_of turns)
+pub some_waits : (turns : List ClientTurn) → 0 < length turns → FirstWaits turns → 0 < length (seats_of turns)
 unfolding FirstWaits
 some_waits [] h w = absurd (omega arith)
 some_waits (t ∷ turns) h w =
@@ -144,7 +144,7 @@ some_waits (t ∷ turns) h w =
     omega (arith, all, own)
 
 -- a request is dropped from the turns one by one
-pub dropped_at : (test : ℕ × ℕ → Bool) (now old : List Turn) (i : ℕ) (x u : Turn) → i < length now → length now ≡ length old → x ≡ get_or now i x → drop i now ≡ drop i old
+pub dropped_at : (test : ℕ × ℕ → Bool) (now old : List ClientTurn) (i : ℕ) (x u : ClientTurn) → i < length now → length now ≡ length old → x ≡ get_or now i x → drop i now ≡ drop i old
     → seats_of (take i now) ≡ filter test (seats_of (take i old)) → seats_in u ≡ filter test (seats_in x)
     → (drop (i + 1) (slice_set now i u) ≡ drop (i + 1) old) × (seats_of (take (i + 1) (slice_set now i u)) ≡ filter test (seats_of (take (i + 1) old)))
 dropped_at test now old i x u less long read rest below one = (
@@ -158,18 +158,18 @@ dropped_at test now old i x u less long read rest below one = (
       ∙ ap (λ l. seats_of (take i old) ++ l) (append-nil (seats_in (get_or old i x)) ∙ ap seats_in same))),
 )
   where
-    next : (xs : List Turn) → drop 1 (drop i xs) ≡ drop (i + 1) xs
+    next : (xs : List ClientTurn) → drop 1 (drop i xs) ≡ drop (i + 1) xs
     next xs = drop_more xs (drop i xs) i (i + 1) refl refl
 
     same : get_or old i x ≡ x
     same =
         let here : i + 0 ≡ i = omega arith in
-        ap (λ (n : ℕ). get_or old n x) (sym here) ∙ sym (get_or-drop i old 0 x) ∙ ap (λ (l : List Turn). get_or l 0 x) (sym rest)
+        ap (λ (n : ℕ). get_or old n x) (sym here) ∙ sym (get_or-drop i old 0 x) ∙ ap (λ (l : List ClientTurn). get_or l 0 x) (sym rest)
         ∙ get_or-drop i now 0 x ∙ ap (λ (n : ℕ). get_or now n x) here ∙ sym read
 
 -- a turn is within all
-pub turn_within : (turns : List Turn) (i : ℕ) (x : Turn) → i < length turns → x ≡ get_or turns i x → length (seats_of (take i turns)) + length x.numbers.items ≤ length (seats_of turns)
+pub turn_within : (turns : List ClientTurn) (i : ℕ) (x : ClientTurn) → i < length turns → x ≡ get_or turns i x → length (seats_of (take i turns)) + length x.numbers.items ≤ length (seats_of turns)
 turn_within turns i x less read =
     let a = length-flat_map-take seats_in turns i x less in
-    let b : length (seats_in (get_or turns i x)) ≡ length x.numbers.items = ap (λ (t : Turn). length (seats_in t)) (sym read) ∙ length-map x.numbers.items (λ (n : ℕ). (x.client, n)) in
+    let b : length (seats_in (get_or turns i x)) ≡ length x.numbers.items = ap (λ (t : ClientTurn). length (seats_in t)) (sym read) ∙ length-map x.numbers.items (λ (n : ℕ). (x.client, n)) in
     omega (arith, a, b)

@@ -21,7 +21,7 @@ use std::marker::Model;
 
 /// A client and the numbers of its requests that wait, in their order.
 #[derive(Drop)]
-pub(crate) struct Turn {
+pub(crate) struct ClientTurn {
     client: u64,
     numbers: VecDeque<u64>,
 }
@@ -31,7 +31,7 @@ pub(crate) struct Turn {
 #[derive(Drop)]
 pub(crate) struct Queue {
     alloc: Global,
-    turns: VecDeque<Turn>,
+    turns: VecDeque<ClientTurn>,
     count: usize,
     ready: Option<u64>,
     place: usize,
@@ -47,7 +47,7 @@ impl Model for Queue {
     ghost invariant = { λ q. IsKept q.turns.items q.count q.ready q.place };
 }
 
-impl Turn {
+impl ClientTurn {
     /// Makes room for one more number.
     fn reserve(&mut self) -> Result<(), Memory>
         ensures client { self.new.client ≡ self.old.client }
@@ -96,7 +96,7 @@ impl Turn {
 }
 
 /// The place of the turn of `client`.
-fn place_of(turns: &VecDeque<Turn>, client: u64) -> Option<usize>
+fn place_of(turns: &VecDeque<ClientTurn>, client: u64) -> Option<usize>
     ensures here { IfSome result (λ place. IsTurnOf turns.now.items place client) }
     ensures none { IfNone result ((place : ℕ) → IsTurnOf turns.now.items place client → ⊥) }
 {
@@ -109,9 +109,9 @@ fn place_of(turns: &VecDeque<Turn>, client: u64) -> Option<usize>
 }
 
 /// Moves the turn at `place` behind the others.
-fn move_last(turns: &mut VecDeque<Turn>, place: usize)
+fn move_last(turns: &mut VecDeque<ClientTurn>, place: usize)
     requires { place < deque_len turns.old }
-    ensures { (turn : Turn) → slice_get turns.old.items place ≡ Some turn → turns.new.items ≡ remove turns.old.items place ++ turn ∷ [] }
+    ensures { (turn : ClientTurn) → slice_get turns.old.items place ≡ Some turn → turns.new.items ≡ remove turns.old.items place ++ turn ∷ [] }
 {
     if let Some(turn) = turns.remove(place) {
         turns.push_back_reserved(turn);
@@ -119,7 +119,7 @@ fn move_last(turns: &mut VecDeque<Turn>, place: usize)
 }
 
 /// The place of the turn of `client`, which is at `place`. Without a number it goes behind the others.
-fn settle(turns: &mut VecDeque<Turn>, place: usize, client: u64) -> usize
+fn settle(turns: &mut VecDeque<ClientTurn>, place: usize, client: u64) -> usize
     requires { IsTurnOf turns.old.items place client }
     ensures seats { seats_of turns.new.items ≡ seats_of turns.old.items }
     ensures apart { AreApart turns.old.items → AreApart turns.new.items }
@@ -133,7 +133,7 @@ fn settle(turns: &mut VecDeque<Turn>, place: usize, client: u64) -> usize
 }
 
 /// The place of the turn of `client`. A client without a request gets its turn behind the others.
-fn turn_of(turns: &mut VecDeque<Turn>, alloc: Global, client: u64) -> Result<usize, Memory>
+fn turn_of(turns: &mut VecDeque<ClientTurn>, alloc: Global, client: u64) -> Result<usize, Memory>
     ensures seats { seats_of turns.new.items ≡ seats_of turns.old.items }
     ensures apart { AreApart turns.old.items → AreApart turns.new.items }
     ensures here { IfOk result (λ place. IsSettledAt turns.new.items place client) }
@@ -143,7 +143,7 @@ fn turn_of(turns: &mut VecDeque<Turn>, alloc: Global, client: u64) -> Result<usi
         None => {
             turns.reserve(1)?;
             let place = turns.len();
-            turns.push_back_reserved(Turn {
+            turns.push_back_reserved(ClientTurn {
                 client,
                 numbers: VecDeque::new(alloc),
             });
@@ -153,7 +153,7 @@ fn turn_of(turns: &mut VecDeque<Turn>, alloc: Global, client: u64) -> Result<usi
 }
 
 /// Makes room for one more number in the turn of `client`, which is at `place`.
-fn make_room(turns: &mut VecDeque<Turn>, place: usize, client: u64) -> Result<(), Memory>
+fn make_room(turns: &mut VecDeque<ClientTurn>, place: usize, client: u64) -> Result<(), Memory>
     requires { IsSettledAt turns.old.items place client }
     ensures seats { seats_of turns.new.items ≡ seats_of turns.old.items }
     ensures apart { AreApart turns.old.items → AreApart turns.new.items }
@@ -163,8 +163,8 @@ fn make_room(turns: &mut VecDeque<Turn>, place: usize, client: u64) -> Result<()
 }
 
 /// Whether there is a first turn, and it has no number.
-fn is_first_empty(turns: &VecDeque<Turn>) -> bool
-    ensures empty { IsTrue result → (first : Turn) × (rest : List Turn) × (turns.now.items ≡ first ∷ rest) × (first.numbers.items ≡ []) }
+fn is_first_empty(turns: &VecDeque<ClientTurn>) -> bool
+    ensures empty { IsTrue result → (first : ClientTurn) × (rest : List ClientTurn) × (turns.now.items ≡ first ∷ rest) × (first.numbers.items ≡ []) }
     ensures waits { (IsTrue result → ⊥) → FirstWaits turns.now.items }
 {
     match turns.front() {
@@ -174,7 +174,7 @@ fn is_first_empty(turns: &VecDeque<Turn>) -> bool
 }
 
 /// Drops the turns without numbers that come first.
-fn drop_empty(turns: &mut VecDeque<Turn>)
+fn drop_empty(turns: &mut VecDeque<ClientTurn>)
     ensures seats { seats_of turns.new.items ≡ seats_of turns.old.items }
     ensures apart { AreApart turns.old.items → AreApart turns.new.items }
     ensures first { FirstWaits turns.new.items }
@@ -185,14 +185,14 @@ fn drop_empty(turns: &mut VecDeque<Turn>)
 }
 
 /// Drops the first turn, if there is one.
-fn drop_front(turns: &mut VecDeque<Turn>)
+fn drop_front(turns: &mut VecDeque<ClientTurn>)
     ensures items { turns.new.items ≡ drop 1 turns.old.items }
 {
     let _first = turns.pop_front();
 }
 
 /// Takes out the first request of the first turn. What is left of that turn goes behind the others.
-fn take_first(turns: &mut VecDeque<Turn>) -> (u64, u64)
+fn take_first(turns: &mut VecDeque<ClientTurn>) -> (u64, u64)
     requires some { 0 < deque_len turns.old }
     requires first { FirstWaits turns.old.items }
     requires apart { AreApart turns.old.items }
@@ -205,19 +205,19 @@ fn take_first(turns: &mut VecDeque<Turn>) -> (u64, u64)
 }
 
 /// Drops the turns of `client`.
-fn drop_turns(turns: &mut VecDeque<Turn>, client: u64)
+fn drop_turns(turns: &mut VecDeque<ClientTurn>, client: u64)
     ensures apart { AreApart turns.old.items → AreApart turns.new.items }
     ensures seats { seats_of turns.new.items ≡ filter (λ seat. is_of_other client seat) (seats_of turns.old.items) }
 {
     turns.retain(
-        |turn: &Turn| -> bool
+        |turn: &ClientTurn| -> bool
             ensures { result ≡ is_of_other client (turn.now.client, 0) }
         { turn.client != client },
     );
 }
 
 /// Drops the request `number` of `client`.
-fn drop_number(turns: &mut VecDeque<Turn>, client: u64, number: u64)
+fn drop_number(turns: &mut VecDeque<ClientTurn>, client: u64, number: u64)
     ensures apart { AreApart turns.old.items → AreApart turns.new.items }
     ensures seats { seats_of turns.new.items ≡ filter (λ seat. is_other_seat client number seat) (seats_of turns.old.items) }
 {
@@ -227,7 +227,7 @@ fn drop_number(turns: &mut VecDeque<Turn>, client: u64, number: u64)
 }
 
 /// The number of requests in `turns`.
-fn count_of(turns: &VecDeque<Turn>) -> usize
+fn count_of(turns: &VecDeque<ClientTurn>) -> usize
     requires { length (seats_of turns.now.items) < 2 ^ 64 }
     ensures { result ≡ length (seats_of turns.now.items) }
 {

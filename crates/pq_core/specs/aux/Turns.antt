@@ -3,7 +3,7 @@ use Rattle.std.specs.Prelude.{ℕ, ◌≡◌, ◌+◌, ◌<◌, ◌^◌, ◌⊎�
 use Rattle.std.specs.List.{flat_map}
 use Rattle.std.specs.VecDeque.{deque_capacity}
 use Rattle.pq_rules.specs.Relations.{In}
-use Rattle.pq_core.specs.declared.queue.Turn.{Turn}
+use Rattle.pq_core.specs.declared.queue.ClientTurn.{ClientTurn}
 use Rattle.pq_core.specs.aux.Queue.{IsOnce}
 
 -- `QueueView` is what contracts see of a queue: the requests that wait, each by its client and number,
@@ -46,51 +46,51 @@ pub record Pushes (c n : ℕ) (before after : List (ℕ × ℕ)) : Type 0 where
 -- ---- turns
 
 -- `seats_in turn` is the requests of `turn`, in their order
-abbrev pub seats_in : Turn → List (ℕ × ℕ)
+abbrev pub seats_in : ClientTurn → List (ℕ × ℕ)
 seats_in turn = map (λ (n : ℕ). (turn.client, n)) turn.numbers.items
 
 -- `seats_of turns` is the requests of all `turns`, the turns one after the other
-abbrev pub seats_of : List Turn → List (ℕ × ℕ)
+abbrev pub seats_of : List ClientTurn → List (ℕ × ℕ)
 seats_of turns = flat_map seats_in turns
 
 -- `clients turns` is the clients of `turns`
-abbrev pub clients : List Turn → List ℕ
-clients turns = map (λ (turn : Turn). turn.client) turns
+abbrev pub clients : List ClientTurn → List ℕ
+clients turns = map (λ (turn : ClientTurn). turn.client) turns
 
 -- `AreApart turns` is that no client has two of `turns`
-abbrev pub AreApart : List Turn → Type 0
+abbrev pub AreApart : List ClientTurn → Type 0
 AreApart turns = IsOnce (clients turns)
 
 -- `IsTurnOf turns place client` is that a turn of `client` is at `place`
-pub record IsTurnOf (turns : List Turn) (place client : ℕ) : Type 0 where
-  pub turn : Turn
+pub record IsTurnOf (turns : List ClientTurn) (place client : ℕ) : Type 0 where
+  pub turn : ClientTurn
   pub here : slice_get turns place ≡ Some turn
   pub is_of : turn.client ≡ client
 
 -- `IsSettledAt turns place client` is that a turn of `client` is at `place`, and that it has a request or
 -- is the last of `turns`
-pub record IsSettledAt (turns : List Turn) (place client : ℕ) : Type 0 where
-  pub turn : Turn
+pub record IsSettledAt (turns : List ClientTurn) (place client : ℕ) : Type 0 where
+  pub turn : ClientTurn
   pub here : slice_get turns place ≡ Some turn
   pub is_of : turn.client ≡ client
   pub settled : (0 < length turn.numbers.items) ⊎ (length turns ≡ place + 1)
 
 -- `HasRoomAt turns place client` is that such a turn has room for one more number
-pub record HasRoomAt (turns : List Turn) (place client : ℕ) : Type 0 where
-  pub turn : Turn
+pub record HasRoomAt (turns : List ClientTurn) (place client : ℕ) : Type 0 where
+  pub turn : ClientTurn
   pub here : slice_get turns place ≡ Some turn
   pub is_of : turn.client ≡ client
   pub settled : (0 < length turn.numbers.items) ⊎ (length turns ≡ place + 1)
   pub room : length turn.numbers.items < deque_capacity turn.numbers
 
 -- `FirstWaits turns` is that the first of `turns`, if there is one, has a request
-unfoldable pub FirstWaits : List Turn → Type 0
+unfoldable pub FirstWaits : List ClientTurn → Type 0
 FirstWaits [] = Unit {0}
 FirstWaits (turn ∷ turns) = 0 < length turn.numbers.items
 
 -- `IsKept turns count ready place` is the invariant of a queue of `count` requests. If it is ready for
 -- a client, the turn at `place` is of that client and has room.
-pub record IsKept (turns : List Turn) (count : ℕ) (ready : Option ℕ) (place : ℕ) : Type 0 where
+pub record IsKept (turns : List ClientTurn) (count : ℕ) (ready : Option ℕ) (place : ℕ) : Type 0 where
   pub counted : count ≡ length (seats_of turns)
   pub apart : AreApart turns
   pub room : IfSome ready (λ client. (count + 1 < 2 ^ 64) × HasRoomAt turns place client)

@@ -1,7 +1,7 @@
 use Rattle.std.proofs.Common.{◌≡◌, ◌∙◌, ap, inl, inr, arith}
 use Rattle.pq_core.proofs.AccountMoves.{there_read, read_at, before_or_not}
 use Rattle.pq_core.proofs.Lists.{get_within}
-use Rattle.pq_core.specs.declared.queue.Turn.{Turn}
+use Rattle.pq_core.specs.declared.queue.ClientTurn.{ClientTurn}
 use Rattle.pq_core.proofs.queue.place_of.Goals as goal
 
 pub returns-then-index-client-clause-here : goal.returns-then-index-client-clause-here
@@ -17,7 +17,7 @@ loop-place-preserved c = λ at less w.
       | inl h ↦ c.loop-place.invariant at h w
       | inr h ↦
           let e : at ≡ c.loop-place.place = omega arith in
-          c.if-index-client.false (ap (λ (t : Turn). t.client) (read_at _ c.loop-place.place _ _ (rw e at w.here) c.index.ensures) ∙ w.is_of)
+          c.if-index-client.false (ap (λ (t : ClientTurn). t.client) (read_at _ c.loop-place.place _ _ (rw e at w.here) c.index.ensures) ∙ w.is_of)
     ]
 
 pub returns-clause-none : goal.returns-clause-none

@@ -2,14 +2,14 @@ use Rattle.std.proofs.Common.{◌<◌, length, sym, ◌∙◌, ap, inl, subst, e
 use Rattle.pq_core.proofs.AccountMoves.{read_at}
 use Rattle.pq_core.proofs.InTurn.{Settles, moved_last}
 use Rattle.pq_core.proofs.Turned.{no_items, some_left, not_both}
-use Rattle.pq_core.specs.declared.queue.Turn.{Turn}
+use Rattle.pq_core.specs.declared.queue.ClientTurn.{ClientTurn}
 use Rattle.pq_core.proofs.queue.settle.Goals as goal
 
 settles : (c : goal.After-len) → Settles c.args.turns.now.items c.move_last.new.turns.items c.len.result c.args.client
 settles c =
     let read = read_at c.args.turns.now.items c.args.place _ _ c.requires.here c.index.ensures in
     let none =
-    ap (λ (t : Turn). t.numbers.items) (sym read)
+    ap (λ (t : ClientTurn). t.numbers.items) (sym read)
     ∙ no_items c.index.result.now.numbers.items (sym c.index.result.now.numbers.ok.0 ∙ eqb-true _ 0 (sym c.is_empty.ensures ∙ c.if-not-is_empty.false)) in
     moved_last c.args.turns.now.items c.move_last.new.turns.items c.args.place c.args.client c.len.result c.requires none
     (c.move_last.ensures c.requires.turn c.requires.here) (c.len.ensures ∙ c.move_last.new.turns.ok.0)
@@ -21,7 +21,7 @@ returns-then-not-is_empty-clause-here c =
       turn = c.requires.turn;
       here = c.requires.here;
       is_of = c.requires.is_of;
-      settled = inl (subst (λ (t : Turn). 0 < length t.numbers.items) read
+      settled = inl (subst (λ (t : ClientTurn). 0 < length t.numbers.items) read
           (some_left _ _ c.is_empty.result c.is_empty.ensures c.index.result.now.numbers.ok.0 (not_both _ c.if-not-is_empty.true)));
     }
 

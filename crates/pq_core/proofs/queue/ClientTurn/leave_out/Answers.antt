@@ -1,7 +1,7 @@
 use Rattle.std.proofs.Common.{ℕ, ◌==◌, not, rules}
 use Rattle.pq_core.proofs.Queued.{filter_retained}
 use Rattle.pq_core.proofs.Turned.{left_other, left_own}
-use Rattle.pq_core.proofs.queue.Turn.leave_out.Goals as goal
+use Rattle.pq_core.proofs.queue.ClientTurn.leave_out.Goals as goal
 
 pub returns-then-self-client-clause-seats : goal.returns-then-self-client-clause-seats
 returns-then-self-client-clause-seats c = left_other c.args.self.now.client c.args.client c.args.number c.args.self.now.numbers.items c.if-self-client.true
