@@ -12,6 +12,7 @@ mod failure;
 mod fault;
 mod filling;
 mod folder;
+mod found;
 mod names;
 mod paths;
 mod reading;
@@ -23,6 +24,7 @@ mod walk;
 pub(crate) use failure::{Failure, say};
 pub(crate) use fault::LibraryFault;
 pub(crate) use folder::{no_library, read_library};
+pub(crate) use found::{is_file_at, names_found, text_found};
 pub(crate) use paths::absolute_of;
 pub(crate) use serving::run_library_script;
 #[cfg(test)]
