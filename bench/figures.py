@@ -1,8 +1,8 @@
 #!/usr/bin/env python3
 """Writes docs/FIGURES.md from the files of bench/results/.
 
-The page begins with the aims that these files decide: the figure of each, and by what factor it is missed. Then each
-subject has tables, each cut out of one file or joined of two. A figure is a cell of a table in a file, or a number in a line of
+The page begins with aims that these files decide: the figure of each, and by what factor it is missed. Then each subject
+has tables, each cut out of one file or joined of two. A figure is a cell of a table in a file, or a number in a line of
 it. This script has titles, limits and no figure. If a file has lost a table or a line, it is named, and the status is 2.
 
 With --write the page is written. With --check the status is 1 if the page is not what would be written; checks/pages.py
@@ -165,11 +165,15 @@ def aims_of_engines(results):
     demands = results.row("memos.txt", ("Case", "size"), "nothing changed: n keys demanded one by one")
     looks = results.said("memos.txt", r"keys is looked at, an edit and its demand take ([\d.]+) ms")[0][0]
     leaf = results.row("memos.txt", ("Case", "sizes"), "a leaf, its key demanded (2 edits)", "before by now")
+    proto = results.row("engine.txt", ("Case", "at 100 files"), "a message of a leaf, leaf demanded (2 edits)")
+    durable = results.said("engine.txt", r"durable root covers all is met: ([\d.]+) microseconds")[0][0]
     rounds = results.table("core.txt", ("Case", "n, 2n"))
     grown = max(number(row[-1]) for row in rounds if row[0].startswith(("requests", "clients, a round")))
     return [Aim("3,000 keys, nothing changed, each demanded", 0.4, True, number(demands[3]), " ms", "memos.txt"),
             Aim("3,000 keys looked at after an edit", 0.4, True, number(looks), " ms", "memos.txt"),
             Aim("a leaf's key among 1,000 files by one among 100, instructions", 1.3, True, number(leaf[5]), "", "memos.txt"),
+            Aim("the same with the rules of proto3 files", 1.3, True, number(proto[3]), "", "engine.txt"),
+            Aim("an edit that a durable root does not read", 30, True, number(durable), " microseconds", "engine.txt"),
             Aim("a core with twice the requests or clients, instructions", 2.2, True, grown, "", "core.txt")]
 
 
@@ -342,7 +346,7 @@ def page(results):
              "This page has what the benches measured, out of the files of `bench/results/`.",
              "`docs/PERFORMANCE.md` says what it means, and how figures are made.", "", "## Aims", "",
              "A factor is the figure by the limit, or the limit by the figure where that is a least one.",
-             "Aims that no file decides are in `docs/PERFORMANCE.md`.", ""]
+             "`docs/PERFORMANCE.md` has every aim that is missed, and the cause.", ""]
     lines += aims(results)
     for one in SUBJECTS:
         lines += subject(results, *one)
