@@ -13,6 +13,7 @@ It checks these; each finding is a line, and any finding gives the status 1.
   most 60 lines.
 - The pages of PLAIN count no files, lines or functions, but for limits, and for what a script writes: such a count is stale soon.
 - Pages name no path of a machine, and each path of the repository that they name exists.
+- docs/FIGURES.md is what bench/figures.py makes of bench/results/.
 
 usage: checks/pages.py --check [--top FOLDER]
 """
@@ -21,6 +22,7 @@ import collections
 import glob
 import os
 import re
+import subprocess
 import sys
 
 import reach
@@ -269,6 +271,13 @@ class Repository:
                     if not any(map(os.path.exists, [here, here + ".antt"] + ([near] if path in links else []))):
                         self.say("%s:%d" % (page, number), "%s does not exist" % path)
 
+    def check_figures(self):
+        """The script says what is wrong, or nothing."""
+        script = os.path.join(self.top, "bench", "figures.py")
+        done = subprocess.run([sys.executable, script, "--check", "--top", self.top], capture_output=True, text=True)
+        if done.returncode:
+            self.say("docs/FIGURES.md", (done.stdout or done.stderr).strip().rpartition("\n")[2])
+
 
 def main():
     parser = argparse.ArgumentParser(description=__doc__, formatter_class=argparse.RawDescriptionHelpFormatter)
@@ -284,6 +293,7 @@ def main():
     it.check_readme()
     it.check_counts()
     it.check_links()
+    it.check_figures()
     for finding in it.findings:
         print(finding)
     sys.exit(1 if it.findings else 0)
