@@ -75,6 +75,10 @@ printed_reply label d empty start done out none starts adds ends =
     all ∙ ap (λ (ts : List Token). Token.begin_object ∷ Token.key (codes "id") ∷ ts) (append_assoc (tokens_of (label_data label)) more rest) in
     ap print whole ∙ print-outline (reply_data (label_data label) d)
 
+-- data that is printed alone
+pub printed_alone : (d : Data) (empty out : List Token) → empty ≡ [] → out ≡ empty ++ tokens_of d → print out ≡ compact_text d
+printed_alone d empty out none adds = ap print (adds ∙ ap (λ (ts : List Token). ts ++ tokens_of d) none) ∙ print-outline d
+
 -- the text of a revision is printed without escapes
 revision_spliced : (label : LabelModel) (d : Data) (text : List ℕ)
     → result_start label ++ (codes "{\"file\":" ++ (compact_text d ++ (codes ",\"revision\":\"" ++ (escape text ++ codes "\"}}"))))

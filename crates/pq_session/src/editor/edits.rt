@@ -106,8 +106,8 @@ pub fn asked_file(request: &Request<ProtoKey>) -> Option<&str>
 }
 
 /// The query of `key`, about the file `name`.
-fn with_file(key: ProtoKey, name: Text) -> ProtoKey
-    ensures { result ≡ about key name }
+fn with_file(key: &ProtoKey, name: Text) -> ProtoKey
+    ensures { result ≡ about key.now name }
 {
     match key {
         ProtoKey::Input(_) => ProtoKey::Input(name),
@@ -122,7 +122,17 @@ fn with_file(key: ProtoKey, name: Text) -> ProtoKey
         ProtoKey::Diagnostics(_) => ProtoKey::Diagnostics(name),
         ProtoKey::Descriptor(_) => ProtoKey::Descriptor(name),
         ProtoKey::Symbols(_) => ProtoKey::Symbols(name),
-        ProtoKey::Definition(_, place) => ProtoKey::Definition(name, place),
+        ProtoKey::Definition(_, place) => ProtoKey::Definition(name, *place),
+    }
+}
+
+/// What answers the same request about the file `name`.
+fn want_about(want: Want<ProtoKey>, name: Text) -> Want<ProtoKey>
+    ensures { result ≡ want_renamed want name }
+{
+    match want {
+        Want::Demand(key) => Want::Demand(with_file(&key, name)),
+        fixed => fixed,
     }
 }
 
@@ -137,18 +147,8 @@ pub fn renamed(
     ensures { IfOk result (λ made. made
         ≡ record { label = request.label; want = want_renamed request.want name.now }) }
 {
+    let name = Text::new(alloc, name)?;
     let Request { label, want } = request;
-    match want {
-        Want::Demand(key) => {
-            let key = with_file(key, Text::new(alloc, name)?);
-            Ok(Request {
-                label,
-                want: Want::Demand(key),
-            })
-        }
-        Want::Fixed(text) => Ok(Request {
-            label,
-            want: Want::Fixed(text),
-        }),
-    }
+    let want = want_about(want, name);
+    Ok(Request { label, want })
 }

@@ -12,7 +12,7 @@ use serde_json::Value;
 use std::alloc::{AllocError, Global};
 
 /// What a message tells.
-#[derive(Debug, Drop)]
+#[derive(Drop)]
 pub enum Event {
     /// The request `initialize` (LSP 3.17, "Initialize Request").
     Greets(Greeting),
@@ -36,7 +36,7 @@ pub enum Event {
 }
 
 /// What a client says of itself in `initialize` (LSP 3.17, "InitializeParams").
-#[derive(Debug, Drop)]
+#[derive(Drop)]
 pub struct Greeting {
     /// The root folders: that of `rootUri` if it names a path, else those of `workspaceFolders` that
     /// do, in their order.
@@ -123,14 +123,33 @@ fn told_of(
     }
 }
 
+/// The value at `path` in `params`.
+fn at<'a>(params: Option<&'a Value>, path: &str) -> Option<&'a Value> {
+    match params {
+        Some(params) => params.pointer(path),
+        None => None,
+    }
+}
+
 /// The member `version` of `params.textDocument` (LSP 3.17, "VersionedTextDocumentIdentifier").
 fn version_of(params: Option<&Value>) -> Option<i64> {
-    params?.get("textDocument")?.get("version")?.as_i64()
+    match at(params, "/textDocument/version") {
+        Some(version) => version.as_i64(),
+        None => None,
+    }
+}
+
+/// The list at `path` in `params`.
+fn list_at<'a>(params: Option<&'a Value>, path: &str) -> Option<&'a [Value]> {
+    match at(params, path) {
+        Some(Value::Array(list)) => Some(list.as_slice()),
+        _ => None,
+    }
 }
 
 /// The files of `workspace/didChangeWatchedFiles` (LSP 3.17, "DidChangeWatchedFilesParams").
 fn touches(alloc: Global, params: Option<&Value>) -> Result<Event, AllocError> {
-    let Some(changes) = list_in(params, "changes") else {
+    let Some(changes) = list_at(params, "/changes") else {
         return Ok(Event::Other);
     };
     let mut uris = Vec::new(alloc);
@@ -143,17 +162,12 @@ fn touches(alloc: Global, params: Option<&Value>) -> Result<Event, AllocError> {
     Ok(Event::Touches(uris))
 }
 
-/// The list in the member `name` of `value`.
-fn list_in<'a>(value: Option<&'a Value>, name: &str) -> Option<&'a [Value]> {
-    Some(value?.get(name)?.as_array()?.as_slice())
-}
-
 /// What `initialize` with these parameters says.
 fn greeting_in(alloc: Global, params: Option<&Value>) -> Result<Greeting, AllocError> {
     Ok(Greeting {
         roots: roots(alloc, params)?,
         pulls: has_diagnostics(params),
-        watches: has_watchers(params).unwrap_or(false),
+        watches: has_watchers(params),
     })
 }
 
@@ -166,7 +180,7 @@ fn roots(alloc: Global, params: Option<&Value>) -> Result<Vec<Root>, AllocError>
     if !roots.is_empty() {
         return Ok(roots);
     }
-    let Some(folders) = list_in(params, "workspaceFolders") else {
+    let Some(folders) = list_at(params, "/workspaceFolders") else {
         return Ok(roots);
     };
     'folders: for folder in folders {
@@ -185,22 +199,21 @@ fn push_root(alloc: Global, roots: &mut Vec<Root>, uri: &str) -> Result<(), Allo
     Ok(())
 }
 
-/// The member `name` of the capabilities for `part` in `params`.
-fn capability<'a>(params: Option<&'a Value>, part: &str, name: &str) -> Option<&'a Value> {
-    params?.get("capabilities")?.get(part)?.get(name)
-}
-
 /// Whether the client asks for diagnostics.
 fn has_diagnostics(params: Option<&Value>) -> bool {
-    match capability(params, "textDocument", "diagnostic") {
-        Some(diagnostic) => diagnostic.is_object(),
-        None => false,
-    }
+    matches!(
+        at(params, "/capabilities/textDocument/diagnostic"),
+        Some(Value::Object(_))
+    )
 }
 
-/// Whether watchers of files can be registered at the client, if it says so or not.
-fn has_watchers(params: Option<&Value>) -> Option<bool> {
-    capability(params, "workspace", "didChangeWatchedFiles")?
-        .get("dynamicRegistration")?
-        .as_bool()
+/// Whether watchers of files can be registered at the client.
+fn has_watchers(params: Option<&Value>) -> bool {
+    matches!(
+        at(
+            params,
+            "/capabilities/workspace/didChangeWatchedFiles/dynamicRegistration"
+        ),
+        Some(Value::Bool(true))
+    )
 }

@@ -13,10 +13,6 @@ use std::alloc::{AllocError, Global};
 pub const WATCH_FILES: &str =
     "{\"id\":\"pq_server:watch\",\"jsonrpc\":\"2.0\",\"method\":\"client/registerCapability\",\"params\":{\"registrations\":[{\"id\":\"pq_server:watch\",\"method\":\"workspace/didChangeWatchedFiles\",\"registerOptions\":{\"watchers\":[{\"globPattern\":\"**/*.proto\"}]}}]}}";
 
-/// What comes before the list in a notification of diagnostics.
-const PUBLISHED_START: &str =
-    "{\"jsonrpc\":\"2.0\",\"method\":\"textDocument/publishDiagnostics\",\"params\":{\"diagnostics\":";
-
 /// The list of a file without diagnostics.
 pub fn empty_list() -> &'static str
     ensures { result.now ≡ codes "[]" }
@@ -62,11 +58,7 @@ pub fn published_text(
 {
     let uri = json_string(alloc, uri)?;
     let version = version_text(alloc, version)?;
-    let mut body = String::from_str(alloc, PUBLISHED_START)?;
-    body.push_str(list)?;
-    body.push_str(",\"uri\":")?;
-    body.push_str(uri.as_str())?;
-    body.push_str(version.as_str())?;
-    body.push_str("}}")?;
-    Ok(body)
+    format!(in alloc;
+        "{{\"jsonrpc\":\"2.0\",\"method\":\"textDocument/publishDiagnostics\",\"params\":{{\"diagnostics\":{list},\"uri\":{uri}{version}}}}}"
+    )
 }

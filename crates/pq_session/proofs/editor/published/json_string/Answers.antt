@@ -1,9 +1,7 @@
-use Rattle.std.proofs.Common.{List, [], ◌∷◌, ◌++◌, ap, ◌∙◌}
-use Rattle.json.specs.Print.{print}
-use Rattle.json.specs.Token.{Token}
+use Rattle.std.proofs.Common.{◌∙◌}
+use Rattle.serde_json.specs.Data.{string}
+use Rattle.pq_session.proofs.PrintLemmas.{printed_alone}
 use Rattle.pq_session.proofs.editor.published.json_string.Goals as goal
 
 pub returns : goal.returns
-returns c =
-    let printed = c.in_ok-text.ensures ∙ ap (λ (ts : List Token). ts ++ Token.string c.args.text.now ∷ []) c.new-out.ensures in
-    c.into_string.ensures ∙ ap print printed
+returns c = c.into_string.ensures ∙ printed_alone (string c.args.text.now) c.new-out.result c.text.new.self c.new-out.ensures c.in_ok-text.ensures

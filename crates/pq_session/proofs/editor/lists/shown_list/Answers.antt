@@ -1,0 +1,14 @@
+use Rattle.std.proofs.Common.{Bool, List, ap, ◌∙◌}
+use Rattle.serde_json.specs.Written.{compact_text}
+use Rattle.pq_checks.specs.declared.diagnostic.Diagnostic.{Diagnostic}
+use Rattle.pq_session.specs.Editor.{has_unread, shown_items, shown_list}
+use Rattle.pq_session.proofs.PrintLemmas.{printed_alone}
+use Rattle.pq_session.proofs.editor.lists.shown_list.Goals as goal
+
+pub returns : goal.returns
+unfolding shown_list
+returns c =
+    let d = c.args.diagnosed.now in
+    c.into_string.ensures
+    ∙ printed_alone (shown_items c.has_unread-unread.result d) c.new-out.result c.print_list.new.out c.new-out.ensures c.in_ok-print_list.ensures
+    ∙ ap (λ (unread : Bool). compact_text (shown_items unread d)) (c.has_unread-unread.ensures ∙ ap (λ (ds : List Diagnostic). has_unread ds) c.as_slice.ensures)
