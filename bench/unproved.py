@@ -20,7 +20,7 @@ The program has the time at which the build began, so a source that changed mean
 rename puts it in its place, so a program that runs from there goes on. At SIGTERM and SIGHUP the
 build ends with all that it started.
 
-usage: bench/unproved.py PROGRAM [--checked] [--crate FOLDER]
+usage: bench/unproved.py PROGRAM [--checked] [--quick] [--crate FOLDER]
 """
 import argparse
 import os
@@ -118,7 +118,7 @@ def checked(text, name):
     return text + "".join(lacking) + FAILED % {"length": len(line) + 1, "line": line}
 
 
-def built(folder, crate, program, has_checks):
+def built(folder, crate, program, has_checks, flags):
     """Builds the program of a crate's folder."""
     began = time.time()
     kit, copy = kit_with(folder, STAND_IN)
@@ -127,7 +127,7 @@ def built(folder, crate, program, has_checks):
     text = ended([clang, "-S", "-emit-llvm", "-x", "ir", "-Xclang", "-disable-llvm-passes", whole, "-o", "-"])
     with open(given, "w") as sink:
         sink.write(checked(text, os.path.basename(os.path.abspath(crate))) if has_checks else unchecked(text))
-    ended([clang] + FLAGS + [given, "-o", made])
+    ended([clang] + flags + [given, "-o", made])
     libraries = [os.path.join(kit, "c", name) for name in ("libos_c.a", "liblibc_c.a")]
     # Beside the program, since a rename does not leave a file system.
     linked = "%s.%d" % (os.path.abspath(program), os.getpid())
@@ -152,12 +152,14 @@ def main():
     words = argparse.ArgumentParser()
     words.add_argument("program", help="where to put it")
     words.add_argument("--checked", action="store_true", help="leave the checks in")
+    words.add_argument("--quick", action="store_true", help="optimise nothing: a program that is built for one run")
     words.add_argument("--crate", default=CRATE, help="the folder of another crate that is a program")
     words = words.parse_args()
     for number in SIGNALS:
         signal.signal(number, stop)
     with tempfile.TemporaryDirectory() as folder:
-        built(folder, words.crate, words.program, words.checked)
+        flags = ["-O0" if flag == "-O3" else flag for flag in FLAGS] if words.quick else FLAGS
+        built(folder, words.crate, words.program, words.checked, flags)
     return 0
 
 
