@@ -1,19 +1,8 @@
 //! Limits of a core: clients, windows, texts, and the steps of a run.
-use super::check_script;
+use super::{add_numbered, check_script};
 use crate::checks::{check_number, text_of};
 use pq_core::{MAX_CLIENTS, WINDOW};
 use test_support::Page;
-
-/// Writes the lines `call => N` for each N up to `count`, each with `end` after it.
-fn add_numbered(script: &mut Page, call: &str, count: usize, end: &str) {
-    for n in 0..count {
-        script.add(call);
-        script.add(" => ");
-        script.number(n);
-        script.add(end);
-        script.add("\n");
-    }
-}
 
 // A request of a client is refused while 32 are accepted and not put.
 #[test]
