@@ -1,8 +1,8 @@
 #!/usr/bin/env python3
 """Builds pq_server without its proof, with optimisation: to measure, or to try it before a proof.
 
-`rt try` hands the whole program to the kit's `clang` as one module, with a check before each
-operation that a proof would cover. This script runs `rt try` from a copy of the kit's scripts
+`rt try` hands the whole program to the kit's `clang` as one module, with checks before operations
+that a proof would cover. This script runs `rt try` from a copy of the kit's scripts
 beside a `clang` that keeps the module and stops. It compiles and links the module as `rt run` does:
 by the kit's `clang` at -O3 and by `rattle-link`. This takes two to three minutes.
 
@@ -13,8 +13,9 @@ instructions:
                 alone. Where a proof would fail, the behaviour is undefined. Such a program is
                 compared with another that was built like it. Its factors to `protoc` are too low.
     --checked   The checks stay: 1.9 times the instructions of a bare one. A check that fails writes
-                a line to standard error and ends the program with status 70. This is the program
-                of `bin/pq_server --unproved`.
+                a line to standard error and ends the program with status 70. What no check covers,
+                such as memory that is used once it was freed, is undefined here too. This is the
+                program of `bin/pq_server --unproved`.
 
 The program has the time at which the build began, so a source that changed meanwhile is newer. A
 rename puts it in its place, so a program that runs from there goes on. At SIGTERM and SIGHUP the
