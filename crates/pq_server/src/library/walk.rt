@@ -67,7 +67,7 @@ fn there(asked: io::Result<Metadata>) -> io::Result<Option<Metadata>> {
     match asked {
         Ok(metadata) => Ok(Some(metadata)),
         Err(error) => match error.kind() {
-            ErrorKind::NotFound | ErrorKind::FilesystemLoop => Ok(None),
+            ErrorKind::NotFound | ErrorKind::NotADirectory | ErrorKind::FilesystemLoop => Ok(None),
             _ => Err(error),
         },
     }
