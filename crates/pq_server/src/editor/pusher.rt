@@ -7,16 +7,15 @@ use crate::editor::line::{Handed, Line};
 use crate::editor::output::Output;
 use crate::editor::replies::Replies;
 use crate::editor::rounds::{Asked, Gone, Round, Rounds};
-use crate::serving::floor::NoText;
 use crossbeam_channel::Receiver;
+use pq_hall::Client;
 use pq_mail::Post;
-use pq_session::{DiagnosticList, LastSent, Memory, ScriptFault, diagnostics_of, published_text};
+use pq_session::{
+    DiagnosticList, LastSent, Memory, ScriptFault, diagnostics_of, empty_list, published_text,
+};
 use std::alloc::Global;
 use std::io::Write;
 use std::sync::Wait;
-
-/// The list that no document without diagnostics needs to print.
-const EMPTY_LIST: &str = "[]";
 
 /// What was sent last for a document.
 #[derive(Drop)]
@@ -83,16 +82,18 @@ impl<P: Drop + Send, C: Drop + Send, T: Drop + Send> Pusher<P, C, T> {
         output: &Output<W>,
         gone: &Gone,
     ) -> Result<(), ScriptFault> {
-        let Some(place) = self.sent.iter().position(|it| it.number == gone.number) else {
+        if !self.forget(gone.number) {
             return Ok(());
-        };
-        let _sent = self.sent.remove(place);
-        let text = published_text(self.alloc, gone.uri.as_str(), None, EMPTY_LIST)?;
+        }
+        let text = published_text(self.alloc, gone.uri.as_str(), None, empty_list())?;
         output.send(rt, text.as_str())
     }
 
     /// Asks for the diagnostics of a document, and sends them if they are news. Returns whether the
     /// pusher goes on.
+    ///
+    /// An allocation failure of its own sends nothing: the document is asked for again at the next
+    /// edit.
     fn push_one<F, H, W>(
         &mut self,
         rt: &H,
@@ -106,25 +107,26 @@ impl<P: Drop + Send, C: Drop + Send, T: Drop + Send> Pusher<P, C, T> {
         H: Wait,
         W: Write + Copy,
     {
-        let request = diagnostics_of(self.alloc, asked.name.as_str())?;
+        let Ok(request) = diagnostics_of(self.alloc, asked.name.as_str()) else {
+            return Ok(true);
+        };
         let Handed::Asked(receipt) = self.line.hand_in(rt, floor, Post::Ask(request))? else {
             return Ok(false);
         };
-        let taken = match floor.take_reply(rt, self.line.client(), &mut self.take, &receipt) {
-            Ok(taken) => taken,
-            Err(NoText::Closed) => return Ok(false),
-            Err(NoText::Memory) => return Err(ScriptFault::Memory),
+        let Ok(taken) = floor.take_reply(rt, self.line.client(), &mut self.take, &receipt) else {
+            return Ok(false);
         };
-        let Some(list) = F::list(self.alloc, &taken)? else {
-            return Ok(true);
-        };
-        if list.revision() == revision {
-            self.send_list(rt, output, asked, list)?;
+        match F::list(self.alloc, &taken) {
+            Ok(Some(list)) if list.revision() == revision => {
+                self.send_list(rt, output, asked, list)?;
+            }
+            _ => {}
         }
         Ok(true)
     }
 
-    /// Sends `list` for a document, if it is news.
+    /// Sends `list` for a document, if it is news. After an allocation failure the next list is news,
+    /// whatever it is.
     fn send_list<H: Wait, W: Write + Copy>(
         &mut self,
         rt: &H,
@@ -132,17 +134,30 @@ impl<P: Drop + Send, C: Drop + Send, T: Drop + Send> Pusher<P, C, T> {
         asked: &Asked,
         list: DiagnosticList,
     ) -> Result<(), ScriptFault> {
-        let last = self.last_of(asked.number)?;
+        let Ok(last) = self.last_of(asked.number) else {
+            return Ok(());
+        };
         if !last.replace(list) {
             return Ok(());
         }
-        let text = published_text(
-            output.alloc(),
-            asked.uri.as_str(),
-            asked.version,
-            last.text(),
-        )?;
-        output.send(rt, text.as_str())
+        match publish(rt, output, asked, last.text()) {
+            Err(ScriptFault::Memory) => {
+                self.forget(asked.number);
+                Ok(())
+            }
+            sent => sent,
+        }
+    }
+
+    /// Forgets what was sent for the document with this number. Returns whether anything was.
+    fn forget(&mut self, number: u64) -> bool {
+        match self.sent.iter().position(|it| it.number == number) {
+            Some(place) => {
+                let _sent = self.sent.remove(place);
+                true
+            }
+            None => false,
+        }
     }
 
     /// What was sent last for the document with this number.
@@ -168,11 +183,27 @@ impl<P: Drop + Send, C: Drop + Send, T: Drop + Send> Pusher<P, C, T> {
     }
 }
 
-/// Pushes the rounds of `rounds`, one for each bell, until the bell is gone or the client is closed.
+/// Sends the list `text` for a document.
+fn publish<H: Wait, W: Write + Copy>(
+    rt: &H,
+    output: &Output<W>,
+    asked: &Asked,
+    text: &str,
+) -> Result<(), ScriptFault> {
+    let body = published_text(output.alloc(), asked.uri.as_str(), asked.version, text)?;
+    output.send(rt, body.as_str())
+}
+
+/// Pushes the rounds of `rounds`, one for each bell, until the bell is gone or the client of `pusher`
+/// is closed.
+///
+/// A failed write ends it, and so does an allocation failure of a request or of an empty list. The
+/// client `editor` is closed then.
 pub(crate) fn push_all<F, H, W>(
     rt: &H,
     floor: &F,
     pusher: Pusher<F::Post, F::Porter, F::Take>,
+    editor: Client,
     rounds: &Rounds,
     bell: Receiver<()>,
     output: &Output<W>,
@@ -190,8 +221,13 @@ where
         let Some(round) = rounds.take(rt) else {
             continue;
         };
-        if !pusher.push_round(rt, floor, rounds, output, &round)? {
-            return Ok(());
+        match pusher.push_round(rt, floor, rounds, output, &round) {
+            Ok(true) => {}
+            Ok(false) => return Ok(()),
+            Err(fault) => {
+                floor.close(rt, editor);
+                return Err(fault);
+            }
         }
     }
     unreachable!()

@@ -191,7 +191,9 @@ where
         let writes = scope.spawn(move || write_all_replies(
             rt, alloc, floor, client, take, owed, output,
         ));
-        let pushed = scope.spawn(move || push_all(rt, floor, pusher, rounds, heard, output));
+        let pushed = scope.spawn(move || push_all(
+            rt, floor, pusher, client, rounds, heard, output,
+        ));
         match (writes, pushed) {
             (Ok(writes), Ok(pushed)) => {
                 let read = read_all_messages(rt, alloc, floor, desk, pushes, input, output);
