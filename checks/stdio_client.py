@@ -102,9 +102,13 @@ class Editor:
                 raise Failed("%s: nothing came%s; standard error has %r"
                              % (what, " before the end" if self.has_ended else "", self.printed.decode(errors="replace")))
 
-    def be_quiet(self):
-        """Waits until a request was answered, and nothing came for a while after it."""
+    def be_read(self):
+        """Waits until the server has done what was sent: it answers a request after that."""
         self.ask("proto/none", {})
+
+    def be_quiet(self):
+        """Waits until the server has done what was sent, and nothing came for a while after it."""
+        self.be_read()
         with self.news:
             while time.monotonic() - self.last_news < QUIET:
                 self.news.wait(QUIET / 4)
@@ -139,9 +143,10 @@ class Editor:
                 return reply.get("result", reply.get("error"))
 
     def open(self, path, text, uri=None):
+        """Opens a document. Its versions go on from those that it had when it was open before."""
         uri = uri or uri_of(path)
-        self.versions[uri] = 1
-        document = {"uri": uri, "languageId": "proto", "version": 1, "text": text}
+        self.versions[uri] = self.versions.get(uri, 0) + 1
+        document = {"uri": uri, "languageId": "proto", "version": self.versions[uri], "text": text}
         self.say("textDocument/didOpen", {"textDocument": document})
 
     def change(self, path, *changes, uri=None):
@@ -250,24 +255,58 @@ def softened(items):
     return [dict(it, severity=INFORMATION) if it["code"] in MAY_FOLLOW else it for it in items]
 
 
-def scripted(program, files, words=("script",)):
+def message(method, name, label=None, **more):
+    """The frame of a message about the file `name`: a request with the id `label`, or a notification."""
+    body = {"jsonrpc": "2.0", "method": method, "params": {"textDocument": dict(more, uri=uri_of("/" + name))}}
+    return frame(body if label is None else dict(body, id=label))
+
+
+def turned(before, after):
+    """What makes the files `after` of the files `before`."""
+    sent = [message("textDocument/didOpen", name, text=after[name]) for name in sorted(after) if before.get(name) != after[name]]
+    return sent + [message("proto/removeFile", name) for name in sorted(before) if name not in after]
+
+
+def history(program, states):
+    """The diagnostics of each file in each of the states, by one session of `script`. A state has the text of each name."""
+    sent, before = [frame({"jsonrpc": "2.0", "id": "first", "method": "initialize", "params": {}})], {}
+    for number, after in enumerate(states):
+        sent += turned(before, after) + [message(PULL, name, "%d %s" % (number, name)) for name in sorted(after)]
+        before = after
+    done = subprocess.run([program, "script"], input=b"".join(sent), capture_output=True, timeout=LONGEST)
+    found = [{} for _ in states]
+    for body in bodies_of(done.stdout)[1:]:
+        reply = json.loads(body)
+        number, _, name = reply["id"].partition(" ")
+        found[int(number)][name] = reply["result"]["items"]
+    return found
+
+
+def scripted(program, files):
     """The diagnostics of each file by a new session of `script`. `files` has the text of each name."""
-    names = sorted(files)
-    sent = [frame({"jsonrpc": "2.0", "id": "first", "method": "initialize", "params": {}})]
-    for name in names:
-        document = {"uri": uri_of("/" + name), "text": files[name]}
-        sent.append(frame({"jsonrpc": "2.0", "method": "textDocument/didOpen", "params": {"textDocument": document}}))
-    for name in names:
-        document = {"uri": uri_of("/" + name)}
-        sent.append(frame({"jsonrpc": "2.0", "id": name, "method": PULL, "params": {"textDocument": document}}))
-    done = subprocess.run([program, *words], input=b"".join(sent), capture_output=True, timeout=LONGEST)
-    replies = [json.loads(body) for body in bodies_of(done.stdout)]
-    return {it["id"]: it["result"]["items"] for it in replies if it["id"] != "first"}
+    return history(program, [files])[0]
 
 
 def shown_by_rights(program, files):
     """The list of each file, as `stdio` has to show it."""
     return {name: softened(items) for name, items in scripted(program, files).items()}
+
+
+def check_versions(program, editor, folder, states):
+    """Each list that came with a version is right of some state in which its document had that version.
+
+    A state is a pair: the text of each file, and the version of each document, by their names below the folder."""
+    right = history(program, [texts for texts, _ in states])
+    for name in sorted({name for _, versions in states for name in versions}):
+        for pushed in editor.lists(os.path.join(folder, name)):
+            if "version" not in pushed:
+                check(pushed["diagnostics"], [], "a list of %s that has no version" % name)
+                continue
+            moments = [lists for lists, (_, versions) in zip(right, states) if versions.get(name) == pushed["version"]]
+            wanted = [softened(lists[name]) for lists in moments]
+            if pushed["diagnostics"] not in wanted:
+                raise Failed("the list of %s with the version %d is %s, which is right at no moment of that version; right are %s"
+                             % (name, pushed["version"], codes(pushed["diagnostics"]), [codes(it) for it in wanted]))
 
 
 def write(folder, files):

@@ -106,11 +106,11 @@ def told_of_files(place):
 
 
 def saves(place):
-    """A save of an open document changes nothing."""
+    """A save of an open document changes nothing, though the disk has another text."""
     editor, path = begun(place), at(place, "a.proto")
     editor.open(path, BAD)
     editor.expect_codes(path, "P120", "before")
-    write(place.folder, {"a.proto": BAD})
+    write(place.folder, {"a.proto": GOOD})
     editor.save(path)
     editor.be_quiet()
     check(len(editor.lists(path)), 1, "how many lists came")

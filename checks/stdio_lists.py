@@ -5,8 +5,8 @@ import socket
 import subprocess
 
 from messages import frame, read_body
-from stdio_client import (CONTENT_MODIFIED, LONGEST, PULL, REQUEST_CANCELLED, Editor, Failed, check, codes, scripted,
-                          shown_by_rights, uri_of, write)
+from stdio_client import (CONTENT_MODIFIED, LONGEST, PULL, REQUEST_CANCELLED, Editor, Failed, check, check_versions, codes,
+                          scripted, shown_by_rights, uri_of, write)
 
 HEAD = 'syntax = "proto3";\n'
 GOOD = HEAD + "message M { int32 x = 1; }\n"
@@ -78,6 +78,21 @@ def importer_follows(place):
     editor.end()
 
 
+def closed_together(place):
+    """Documents that are closed in one go each get the empty list, though edits of others come between."""
+    editor, paths = begun(place), [at(place, "%d.proto" % n) for n in range(12)]
+    for path in paths:
+        editor.open(path, BAD)
+    for path in paths:
+        editor.expect_codes(path, "P120", "while it is open")
+    for path in paths[1:]:
+        editor.close(path)
+        editor.change(paths[0], BAD + path)
+    for path in paths[1:]:
+        editor.expect(path, [], "after the closes")
+    editor.end()
+
+
 def uri_as_written(place):
     """A list has the URI as the editor wrote it, also where it has other escapes than the server prints."""
     editor, path = begun(place), at(place, "a-b.proto")
@@ -119,13 +134,17 @@ def pulled_reports(place):
 
 
 def overtaken(place):
-    """After many quick edits the last list that came is the one that is asked for at the end."""
+    """After many quick edits the last list is the one that is asked for, and each list is right of the version that it names."""
     editor, a, b = begun(place), at(place, "a.proto"), at(place, "b.proto")
-    editor.open(a, HEAD + 'import "b.proto";\nmessage A { B7 b = 1; }\n')
-    editor.open(b, HEAD)
+    files = {"a.proto": HEAD + 'import "b.proto";\nmessage A { B7 b = 1; }\n', "b.proto": HEAD}
+    states = [({"a.proto": files["a.proto"]}, {"a.proto": 1}), (files, {"a.proto": 1, "b.proto": 1})]
+    editor.open(a, files["a.proto"])
+    editor.open(b, files["b.proto"])
     for n in range(300):
         lines = "".join("message B%d { int32 x = %d; }\n" % (k, k % 2) for k in range(n % 10))
-        editor.change(b, HEAD + "\n" * (n % 3) + lines)
+        files = dict(files, **{"b.proto": HEAD + "\n" * (n % 3) + lines})
+        editor.change(b, files["b.proto"])
+        states.append((files, {"a.proto": 1, "b.proto": n + 2}))
     for path in (a, b):
         editor.expect(path, editor.pull(path), "the last list of %s" % os.path.basename(path))
     editor.be_quiet()
@@ -133,6 +152,7 @@ def overtaken(place):
         check(editor.shown(path), editor.pull(path), "the last list of %s after a while" % os.path.basename(path))
         versions = [it["version"] for it in editor.lists(path)]
         check(versions, sorted(versions), "the versions in their order")
+    check_versions(place.program, editor, place.folder, states)
     editor.end()
 
 

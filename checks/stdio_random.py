@@ -3,7 +3,7 @@ import json
 import os
 import random
 
-from stdio_client import Failed, check, shown_by_rights, write
+from stdio_client import Failed, check, check_versions, shown_by_rights, write
 from stdio_files import CHANGED, CREATED, DELETED
 from stdio_lists import HEAD, PULLS, at, begun
 
@@ -35,7 +35,7 @@ class Model:
         self.disk, self.buffers = {}, {}
         self.pushed, self.pulled = begun(place), begun(place, capabilities=PULLS)
         self.editors = (self.pushed, self.pulled)
-        self.opened = set()
+        self.opened, self.versions, self.states = set(), {}, []
 
     def path(self, name):
         return at(self.place, name)
@@ -46,21 +46,30 @@ class Model:
             self.chance.choice((self.open, self.open, self.write, self.remove))(name)
         else:
             self.chance.choice((self.change,) * 8 + (self.replace, self.close, self.write, self.save, self.remove))(name)
+        versions = {it: self.versions[it] for it in self.buffers}
+        self.states.append((dict(self.disk, **self.buffers), versions))
+
+    def has_new_text(self, name):
+        """The document gets its next version."""
+        self.versions[name] = self.versions.get(name, 0) + 1
 
     def open(self, name):
         self.buffers[name] = self.disk.get(name) if self.chance.random() < 0.7 and name in self.disk else text_of(self.chance)
         self.opened.add(name)
+        self.has_new_text(name)
         for editor in self.editors:
             editor.open(self.path(name), self.buffers[name])
 
     def replace(self, name):
         self.buffers[name] = text_of(self.chance)
+        self.has_new_text(name)
         for editor in self.editors:
             editor.change(self.path(name), self.buffers[name])
 
     def change(self, name):
         """Replaces a range by some characters, by up to three changes of one message."""
         changes = [self.ranged(name) for _ in range(self.chance.choice((1, 1, 1, 2, 3)))]
+        self.has_new_text(name)
         for editor in self.editors:
             editor.change(self.path(name), *changes)
 
@@ -90,12 +99,19 @@ class Model:
         for editor in self.editors:
             editor.tell((self.path(name), kind))
 
+    def be_read(self):
+        """The servers have read from the disk what they were told of."""
+        for editor in self.editors:
+            editor.be_read()
+
     def put(self, name, text):
+        self.be_read()
         self.disk[name] = text
         write(self.place.folder, {name: text})
 
     def remove(self, name):
         if name in self.disk:
+            self.be_read()
             del self.disk[name]
             os.remove(self.path(name))
             for editor in self.editors:
@@ -124,7 +140,9 @@ def place_of(text, at_):
 
 
 def random_edits(place):
-    """Random edits: after each pause the lists that came, those that are asked for and those of `script` are the same."""
+    """After each pause of random edits the lists that came and those that are asked for are those of `script`.
+
+    Each list that came with a version is right of that version, whatever has overtaken it."""
     model = Model(place)
     for step in range(1, place.steps + 1):
         model.step()
@@ -134,5 +152,6 @@ def random_edits(place):
     model.pushed.be_quiet()
     model.compare(place.steps)
     check(model.pulled.pushed, [], "the lists of the session that asks")
+    check_versions(place.program, model.pushed, place.folder, model.states)
     for editor in model.editors:
         editor.end()
