@@ -1,0 +1,318 @@
+"""An editor at `pq_server stdio`: what it sends, what it was sent, and what is right by `pq_server script`."""
+import json
+import os
+import subprocess
+import threading
+import time
+import urllib.parse
+
+from messages import bodies_of, frame
+
+PULL = "textDocument/diagnostic"
+PUSH = "textDocument/publishDiagnostics"
+CONTENT_MODIFIED = -32801
+REQUEST_CANCELLED = -32800
+# The codes that are shown with less weight in a file of which an import is not read, and their severity there.
+MAY_FOLLOW = ("P104", "P150")
+INFORMATION = 3
+# How long a message may take to come, and how long it is quiet before no further one is expected, in seconds.
+LONGEST = 60.0
+QUIET = 0.4
+
+
+# The servers that were started.
+SERVERS = []
+
+
+class Failed(Exception):
+    """A row does not hold."""
+
+
+def uri_of(path):
+    return "file://" + urllib.parse.quote(path)
+
+
+def check(found, wanted, what):
+    if found != wanted:
+        raise Failed("%s: found %s, wanted %s" % (what, json.dumps(found), json.dumps(wanted)))
+
+
+class Editor:
+    """A session with a server on its standard streams. It has begun, unless `params` is None."""
+
+    def __init__(self, program, *words, params=(), capabilities=None, begins=True):
+        self.server = subprocess.Popen([program, "stdio", *words], stdin=subprocess.PIPE, stdout=subprocess.PIPE,
+                                       stderr=subprocess.PIPE)
+        SERVERS.append(self.server)
+        self.news = threading.Condition()
+        # Replies by their ids, lists by their URIs in the order in which they came, and requests of the server.
+        self.replies, self.pushed, self.requests, self.last_news = {}, [], [], time.monotonic()
+        self.printed, self.has_ended, self.next, self.versions = b"", False, 0, {}
+        self.threads = [threading.Thread(target=work, daemon=True) for work in (self.read_output, self.read_errors)]
+        for thread in self.threads:
+            thread.start()
+        if begins:
+            self.first = self.ask("initialize", dict(params, capabilities=capabilities or {}))
+            self.say("initialized", {})
+
+    # ---- what comes
+
+    def read_output(self):
+        while True:
+            body = self.read_body()
+            with self.news:
+                self.last_news = time.monotonic()
+                if body is None:
+                    self.has_ended = True
+                else:
+                    self.take(body)
+                self.news.notify_all()
+            if body is None:
+                return
+
+    def read_body(self):
+        length = None
+        for line in iter(self.server.stdout.readline, b"\r\n"):
+            if not line:
+                return None
+            name, _, value = line.partition(b":")
+            length = int(value) if name.lower() == b"content-length" else length
+        return json.loads(self.server.stdout.read(length))
+
+    def take(self, body):
+        """Keeps a message by its kind. A second reply with one id is kept as an error of the server."""
+        if "method" not in body:
+            again = body["id"] in self.replies
+            self.replies[body["id"]] = {"error": {"code": 0, "message": "answered twice"}} if again else body
+        elif "id" in body:
+            self.requests.append(body)
+        else:
+            self.pushed.append(body["params"] if body["method"] == PUSH else body)
+
+    def read_errors(self):
+        for line in iter(self.server.stderr.readline, b""):
+            with self.news:
+                self.printed += line
+                self.news.notify_all()
+
+    def wait_for(self, holds, what):
+        """Waits until `holds()` is true."""
+        with self.news:
+            if not self.news.wait_for(lambda: holds() or self.has_ended, LONGEST) or not holds():
+                raise Failed("%s: nothing came%s; standard error has %r"
+                             % (what, " before the end" if self.has_ended else "", self.printed.decode(errors="replace")))
+
+    def be_read(self):
+        """Waits until the server has done what was sent: it answers a request after that."""
+        self.ask("proto/none", {})
+
+    def be_quiet(self):
+        """Waits until the server has done what was sent, and nothing came for a while after it."""
+        self.be_read()
+        with self.news:
+            while time.monotonic() - self.last_news < QUIET:
+                self.news.wait(QUIET / 4)
+
+    # ---- what is sent
+
+    def send(self, data):
+        try:
+            self.server.stdin.write(data)
+            self.server.stdin.flush()
+        except (BrokenPipeError, ValueError):
+            raise Failed("the server has ended; standard error has %r" % self.printed.decode(errors="replace"))
+
+    def say(self, method, params):
+        self.send(frame({"jsonrpc": "2.0", "method": method, "params": params}))
+
+    def begin_to_ask(self, method, params):
+        """Sends a request. Returns its id."""
+        self.next += 1
+        self.send(frame({"jsonrpc": "2.0", "id": self.next, "method": method, "params": params}))
+        return self.next
+
+    def reply(self, label):
+        self.wait_for(lambda: label in self.replies, "the reply of request %s" % label)
+        return self.replies[label]
+
+    def ask(self, method, params):
+        """The result of a request or its error, asked for again where an edit overtook it."""
+        while True:
+            reply = self.reply(self.begin_to_ask(method, params))
+            if reply.get("error", {}).get("code") != CONTENT_MODIFIED:
+                return reply.get("result", reply.get("error"))
+
+    def open(self, path, text, uri=None):
+        """Opens a document. Its versions go on from those that it had when it was open before."""
+        uri = uri or uri_of(path)
+        self.versions[uri] = self.versions.get(uri, 0) + 1
+        document = {"uri": uri, "languageId": "proto", "version": self.versions[uri], "text": text}
+        self.say("textDocument/didOpen", {"textDocument": document})
+
+    def change(self, path, *changes, uri=None):
+        """Makes changes, each a whole text or a member of `contentChanges`, in one message."""
+        uri = uri or uri_of(path)
+        self.versions[uri] += 1
+        changes = [{"text": it} if isinstance(it, str) else it for it in changes]
+        document = {"uri": uri, "version": self.versions[uri]}
+        self.say("textDocument/didChange", {"textDocument": document, "contentChanges": changes})
+
+    def close(self, path):
+        self.say("textDocument/didClose", {"textDocument": {"uri": uri_of(path)}})
+
+    def save(self, path):
+        self.say("textDocument/didSave", {"textDocument": {"uri": uri_of(path)}})
+
+    def tell(self, *changes):
+        """Says that files were created (1), changed (2) or deleted (3) on the disk: pairs of a path and such a number."""
+        self.say("workspace/didChangeWatchedFiles", {"changes": [{"uri": uri_of(path), "type": kind} for path, kind in changes]})
+
+    # ---- what is right
+
+    def pull(self, path):
+        """The diagnostics of a file, asked for."""
+        found = self.ask(PULL, {"textDocument": {"uri": uri_of(path)}})
+        if "items" not in found:
+            raise Failed("the diagnostics of %s are %r" % (path, found))
+        return found["items"]
+
+    def lists(self, path, uri=None):
+        """The lists that were pushed for a file, in their order."""
+        uri = uri or uri_of(path)
+        with self.news:
+            return [it for it in self.pushed if it.get("uri") == uri]
+
+    def shown(self, path, uri=None):
+        """The list that an editor shows of a file that gets lists: the last one, or nothing."""
+        found = self.lists(path, uri)
+        return found[-1]["diagnostics"] if found else []
+
+    def expect(self, path, wanted, what, uri=None):
+        """Waits until the file is shown with the list `wanted`."""
+        try:
+            self.wait_for(lambda: self.shown(path, uri) == wanted, what)
+        except Failed as why:
+            raise Failed("%s\n    shown %s\n    wanted %s" % (why, json.dumps(self.shown(path, uri)), json.dumps(wanted)))
+
+    def expect_codes(self, path, wanted, what):
+        """Waits until the codes that are shown of the file are those that `wanted` lists, separated by blanks."""
+        try:
+            self.wait_for(lambda: codes(self.shown(path)) == wanted.split(), what)
+        except Failed as why:
+            raise Failed("%s\n    shown %s\n    wanted %s" % (why, codes(self.shown(path)), wanted.split()))
+
+    def lines(self):
+        with self.news:
+            return self.printed.decode(errors="replace").splitlines()
+
+    def wait_for_lines(self, count):
+        self.wait_for(lambda: len(self.lines()) >= count, "%d lines of standard error" % count)
+
+    # ---- the end
+
+    def ended(self):
+        """Closes the input. Returns the status and the lines of standard error, when the server has ended."""
+        if not self.server.stdin.closed:
+            try:
+                self.server.stdin.close()
+            except BrokenPipeError:
+                pass
+        try:
+            status = self.server.wait(LONGEST)
+        except subprocess.TimeoutExpired:
+            raise Failed("the server does not end")
+        for thread in self.threads:
+            thread.join(LONGEST)
+        return status, self.lines()
+
+    def end(self, *wanted):
+        """Ends the session in order. Standard error has to have the lines `wanted`, each given by texts that it has."""
+        check(self.ask("shutdown", None), None, "the reply to shutdown")
+        self.say("exit", None)
+        status, lines = self.ended()
+        check(status, 0, "the status, with standard error %r" % lines)
+        is_right = len(lines) == len(wanted) and all(all(text in line for text in texts) for line, texts in zip(lines, wanted))
+        if not is_right:
+            raise Failed("the lines of standard error are %r, wanted %r" % (lines, wanted))
+
+
+def end_servers():
+    """Ends each server that still runs, as after a row that does not hold."""
+    for server in SERVERS:
+        server.kill()
+        server.wait()
+    SERVERS.clear()
+
+
+def codes(items):
+    return [it["code"] for it in items]
+
+
+def softened(items):
+    """A list of diagnostics as `stdio` shows it."""
+    if "P104" not in codes(items):
+        return items
+    return [dict(it, severity=INFORMATION) if it["code"] in MAY_FOLLOW else it for it in items]
+
+
+def message(method, name, label=None, **more):
+    """The frame of a message about the file `name`: a request with the id `label`, or a notification."""
+    body = {"jsonrpc": "2.0", "method": method, "params": {"textDocument": dict(more, uri=uri_of("/" + name))}}
+    return frame(body if label is None else dict(body, id=label))
+
+
+def turned(before, after):
+    """What makes the files `after` of the files `before`."""
+    sent = [message("textDocument/didOpen", name, text=after[name]) for name in sorted(after) if before.get(name) != after[name]]
+    return sent + [message("proto/removeFile", name) for name in sorted(before) if name not in after]
+
+
+def history(program, states):
+    """The diagnostics of each file in each of the states, by one session of `script`. A state has the text of each name."""
+    sent, before = [frame({"jsonrpc": "2.0", "id": "first", "method": "initialize", "params": {}})], {}
+    for number, after in enumerate(states):
+        sent += turned(before, after) + [message(PULL, name, "%d %s" % (number, name)) for name in sorted(after)]
+        before = after
+    done = subprocess.run([program, "script"], input=b"".join(sent), capture_output=True, timeout=LONGEST)
+    found = [{} for _ in states]
+    for body in bodies_of(done.stdout)[1:]:
+        reply = json.loads(body)
+        number, _, name = reply["id"].partition(" ")
+        found[int(number)][name] = reply["result"]["items"]
+    return found
+
+
+def scripted(program, files):
+    """The diagnostics of each file by a new session of `script`. `files` has the text of each name."""
+    return history(program, [files])[0]
+
+
+def shown_by_rights(program, files):
+    """The list of each file, as `stdio` has to show it."""
+    return {name: softened(items) for name, items in scripted(program, files).items()}
+
+
+def check_versions(program, editor, folder, states):
+    """Each list that came with a version is right of some state in which its document had that version.
+
+    A state is a pair: the text of each file, and the version of each document, by their names below the folder."""
+    right = history(program, [texts for texts, _ in states])
+    for name in sorted({name for _, versions in states for name in versions}):
+        for pushed in editor.lists(os.path.join(folder, name)):
+            if "version" not in pushed:
+                check(pushed["diagnostics"], [], "a list of %s that has no version" % name)
+                continue
+            moments = [lists for lists, (_, versions) in zip(right, states) if versions.get(name) == pushed["version"]]
+            wanted = [softened(lists[name]) for lists in moments]
+            if pushed["diagnostics"] not in wanted:
+                raise Failed("the list of %s with the version %d is %s, which is right at no moment of that version; right are %s"
+                             % (name, pushed["version"], codes(pushed["diagnostics"]), [codes(it) for it in wanted]))
+
+
+def write(folder, files):
+    """Writes files, by their names below a folder."""
+    for name, text in files.items():
+        path = os.path.join(folder, name)
+        os.makedirs(os.path.dirname(path), exist_ok=True)
+        with open(path, "w", encoding="utf-8", newline="") as sink:
+            sink.write(text)

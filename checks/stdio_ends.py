@@ -1,0 +1,111 @@
+"""Rows of `checks/stdio.py`: how a session begins and ends, with its status and its lines of standard error."""
+import os
+import subprocess
+
+from messages import frame
+from stdio_client import LONGEST, Editor, Failed, check, uri_of
+from stdio_files import rooted
+from stdio_lists import BAD, GOOD, at, begun
+
+
+def left(editor, wanted, *lines):
+    """Checks the status and the lines of a session whose input ends."""
+    status, printed = editor.ended()
+    check(status, wanted, "the status, with standard error %r" % printed)
+    is_right = len(printed) == len(lines) and all(text in line for text, line in zip(lines, printed))
+    if not is_right:
+        raise Failed("standard error has %r, wanted %r" % (printed, lines))
+
+
+def in_order(place):
+    """After `shutdown` and `exit` the status is 0, and standard error is empty."""
+    editor = begun(place)
+    editor.open(at(place, "a.proto"), BAD)
+    editor.end()
+    editor = begun(place)
+    check("capabilities" in editor.first, True, "the reply to initialize")
+    check(editor.first["capabilities"]["textDocumentSync"]["change"], 2, "how changes are taken")
+    editor.end()
+
+
+def with_its_word(place):
+    """The word `--stdio`, which some editors add, changes nothing."""
+    editor = Editor(place.program, *place.workers, "--stdio", params={"rootUri": uri_of(place.folder)})
+    editor.open(at(place, "a.proto"), BAD)
+    editor.expect_codes(at(place, "a.proto"), "P120", "after the open")
+    editor.end()
+
+
+def without_order(place):
+    """At the end of the input, and after `exit` alone, the status is 1."""
+    editor = begun(place)
+    editor.open(at(place, "a.proto"), GOOD)
+    editor.be_quiet()
+    left(editor, 1)
+    left(Editor(place.program, *place.workers, begins=False), 1)
+    editor = begun(place)
+    editor.say("exit", None)
+    left(editor, 1)
+
+
+def frame_errors(place):
+    """A frame error, and an input that ends inside a frame, have the status 2 and their lines."""
+    for data, line in ((b"x" * 4096, "pq_server: frame fault 1"),
+                       (b"\r\n", "pq_server: frame fault 2"),
+                       (b"Content-Length: x\r\n\r\n", "pq_server: frame fault 3"),
+                       (b"Content-Length: 16777217\r\n\r\n", "pq_server: frame fault 4"),
+                       (b"Content-Length: 10\r\n\r\n{}", "pq_server: input ends inside a frame")):
+        editor = begun(place)
+        editor.be_quiet()
+        editor.send(data)
+        left(editor, 2, line)
+
+
+def bad_ranges(place):
+    """A change with a range that the text does not have ends the session with status 3."""
+    editor, path = begun(place), at(place, "a.proto")
+    editor.open(path, GOOD)
+    line = {"line": 99, "character": 0}
+    editor.change(path, {"range": {"start": line, "end": line}, "text": "x"})
+    left(editor, 3, "pq_server: bad range")
+
+
+def unreadable_edits(place):
+    """An edit of unreadable parameters ends the session with status 3."""
+    editor = begun(place)
+    editor.say("textDocument/didOpen", {"textDocument": {"uri": uri_of(at(place, "a.proto")), "text": 1}})
+    left(editor, 3, "pq_server: edit refused 0")
+
+
+def words_that_are_refused(place):
+    """Help, unknown words, and workers out of their range have the status 64, and nothing is written to standard output."""
+    for words in ("--help", "--no-such-word", "more", "--workers 0", "--workers 33", "--workers x", "--root"):
+        given = [place.program, "stdio", *words.split()]
+        done = subprocess.run(given, stdin=subprocess.DEVNULL, capture_output=True, timeout=LONGEST)
+        check([done.returncode, done.stdout.decode()], [64, ""], "stdio " + words)
+        check(done.stderr != b"", True, "something is said of stdio " + words)
+
+
+def roots_that_are_not_there(place):
+    """A root folder that is not there leaves one line, and the server goes on."""
+    os.mkdir(at(place, "here"))
+    editor = rooted(place, "nowhere", "here")
+    path = at(place, "here/a.proto")
+    editor.open(path, BAD)
+    editor.expect_codes(path, "P120", "a document below the other root")
+    editor.end((at(place, "nowhere"),))
+
+
+def requests_before_the_end(place):
+    """Requests and edits that are sent in one go with the end are all answered, and in the order of the requests."""
+    editor = begun(place)
+    path = at(place, "a.proto")
+    editor.open(path, BAD)
+    document = {"textDocument": {"uri": uri_of(path)}}
+    sent = [frame({"jsonrpc": "2.0", "id": n, "method": "textDocument/documentSymbol", "params": document})
+            for n in range(100, 120)]
+    sent.append(frame({"jsonrpc": "2.0", "id": 120, "method": "shutdown"}))
+    editor.send(b"".join(sent) + frame({"jsonrpc": "2.0", "method": "exit"}))
+    left(editor, 0)
+    check(sorted(it for it in editor.replies if it >= 100), list(range(100, 121)), "the requests that were answered")
+    check([it for it in editor.replies if it >= 100], list(range(100, 121)), "the order of the replies")

@@ -1,0 +1,237 @@
+"""Rows of `checks/stdio.py`: which lists of diagnostics an editor gets, when, and with which severities."""
+import json
+import os
+import socket
+import subprocess
+
+from messages import frame, read_body
+from stdio_client import (CONTENT_MODIFIED, LONGEST, PULL, REQUEST_CANCELLED, Editor, Failed, check, check_versions, codes,
+                          scripted, shown_by_rights, uri_of, write)
+
+HEAD = 'syntax = "proto3";\n'
+GOOD = HEAD + "message M { int32 x = 1; }\n"
+BAD = HEAD + "message M { int32 x = 0; }\n"
+PULLS = {"textDocument": {"diagnostic": {"dynamicRegistration": False}}}
+
+
+def at(place, name):
+    return os.path.join(place.folder, name)
+
+
+def begun(place, **more):
+    """An editor whose root is the folder of the row."""
+    return Editor(place.program, *place.workers, params={"rootUri": uri_of(place.folder)}, **more)
+
+
+def after_open(place):
+    """After an open the diagnostics come by themselves, with the URI and the version of the document."""
+    wanted = shown_by_rights(place.program, {"a.proto": BAD})["a.proto"]
+    check(codes(wanted), ["P120"], "what script says")
+    editor = begun(place)
+    editor.open(at(place, "a.proto"), BAD)
+    editor.expect(at(place, "a.proto"), wanted, "after the open")
+    pushed = editor.lists(at(place, "a.proto"))
+    check(sorted(pushed[-1]), ["diagnostics", "uri", "version"], "the members")
+    check(pushed[-1]["version"], 1, "the version")
+    editor.open(at(place, "b.proto"), GOOD)
+    editor.expect(at(place, "b.proto"), [], "a file without an error")
+    editor.be_quiet()
+    check(len(editor.lists(at(place, "a.proto"))), 1, "how many lists of the first file came")
+    editor.end()
+
+
+def after_change(place):
+    """After a change a list comes only where it differs from the one before."""
+    editor, path = begun(place), at(place, "a.proto")
+    editor.open(path, BAD)
+    editor.expect_codes(path, "P120", "after the open")
+    editor.change(path, BAD + "// the same list\n")
+    editor.be_quiet()
+    check(len(editor.lists(path)), 1, "how many lists came after a change that leaves the list")
+    editor.change(path, HEAD + "\nmessage M { int32 x = 0; }\n")
+    editor.wait_for(lambda: len(editor.lists(path)) == 2, "the list one line lower")
+    check(editor.lists(path)[1]["version"], 3, "its version")
+    check(editor.shown(path)[0]["range"]["start"]["line"], 2, "its line")
+    editor.change(path, GOOD)
+    editor.wait_for(lambda: len(editor.lists(path)) == 3, "the empty list")
+    check(editor.shown(path), [], "after the error was mended")
+    editor.be_quiet()
+    check(len(editor.lists(path)), 3, "how many lists came")
+    editor.end()
+
+
+def importer_follows(place):
+    """An importer that is open gets its list when the file that it imports is edited, with its own version."""
+    editor, a, b = begun(place), at(place, "a.proto"), at(place, "b.proto")
+    editor.open(a, HEAD + 'import "b.proto";\nmessage A { B b = 1; }\n')
+    editor.expect_codes(a, "P102 P150", "before the import is there")
+    editor.change(a, HEAD + '\nimport "b.proto";\nmessage A { B b = 1; }\n')
+    editor.open(b, HEAD + "message B {}\n")
+    editor.expect(a, [], "once the import is open")
+    check(editor.lists(a)[-1]["version"], 2, "the version of the importer")
+    editor.change(b, HEAD + "message C {}\n")
+    editor.expect_codes(a, "P150", "after the type was renamed")
+    editor.change(b, HEAD + "message B {}\n")
+    editor.expect(a, [], "after it was renamed back")
+    editor.be_quiet()
+    check({json.dumps(it["diagnostics"]) for it in editor.lists(b)} <= {"[]"}, True, "the lists of the import are empty")
+    editor.end()
+
+
+def closed_together(place):
+    """Documents that are closed in one go each get the empty list, though edits of others come between."""
+    editor, paths = begun(place), [at(place, "%d.proto" % n) for n in range(12)]
+    for path in paths:
+        editor.open(path, BAD)
+    for path in paths:
+        editor.expect_codes(path, "P120", "while it is open")
+    for path in paths[1:]:
+        editor.close(path)
+        editor.change(paths[0], BAD + path)
+    for path in paths[1:]:
+        editor.expect(path, [], "after the closes")
+    editor.end()
+
+
+def uri_as_written(place):
+    """A list has the URI as the editor wrote it, also where it has other escapes than the server prints."""
+    editor, path = begun(place), at(place, "a-b.proto")
+    uri = uri_of(path).replace("a-b", "%61%2db")
+    editor.open(path, BAD, uri=uri)
+    editor.wait_for(lambda: codes(editor.shown(path, uri)) == ["P120"], "the list of %s" % uri)
+    editor.change(path, GOOD, uri=uri)
+    editor.expect(path, [], "after a change", uri=uri)
+    check(editor.lists(path), [], "the lists of another URI of the file")
+    editor.end()
+
+
+def pulls_only(place):
+    """A client that says that it pulls gets no list by itself."""
+    editor, path = begun(place, capabilities=PULLS), at(place, "a.proto")
+    editor.open(path, BAD)
+    editor.change(path, BAD + "\n")
+    editor.close(path)
+    editor.open(path, BAD)
+    check(codes(editor.pull(path)), ["P120"], "the diagnostics that it asks for")
+    editor.be_quiet()
+    check(editor.pushed, [], "what came by itself")
+    editor.end()
+
+
+def pulled_reports(place):
+    """A report that was asked for has the items of `script`, also in a session that gets lists."""
+    files = {"a.proto": BAD, "b.proto": HEAD + 'import "a.proto";\nimport "c.proto";\n', "c.proto": HEAD + "message {"}
+    wanted = shown_by_rights(place.program, files)
+    for capabilities in ({}, PULLS):
+        editor = begun(place, capabilities=capabilities)
+        for name, text in files.items():
+            editor.open(at(place, name), text)
+        for name in files:
+            found = editor.ask(PULL, {"textDocument": {"uri": uri_of(at(place, name))}})
+            check((found["items"], found["kind"]), (wanted[name], "full"), name)
+            check(found["resultId"].isdigit(), True, "the revision of the report")
+        editor.end()
+
+
+def overtaken(place):
+    """After many quick edits the last list is the one that is asked for, and each list is right of the version that it names."""
+    editor, a, b = begun(place), at(place, "a.proto"), at(place, "b.proto")
+    files = {"a.proto": HEAD + 'import "b.proto";\nmessage A { B7 b = 1; }\n', "b.proto": HEAD}
+    states = [({"a.proto": files["a.proto"]}, {"a.proto": 1}), (files, {"a.proto": 1, "b.proto": 1})]
+    editor.open(a, files["a.proto"])
+    editor.open(b, files["b.proto"])
+    for n in range(300):
+        lines = "".join("message B%d { int32 x = %d; }\n" % (k, k % 2) for k in range(n % 10))
+        files = dict(files, **{"b.proto": HEAD + "\n" * (n % 3) + lines})
+        editor.change(b, files["b.proto"])
+        states.append((files, {"a.proto": 1, "b.proto": n + 2}))
+    for path in (a, b):
+        editor.expect(path, editor.pull(path), "the last list of %s" % os.path.basename(path))
+    editor.be_quiet()
+    for path in (a, b):
+        check(editor.shown(path), editor.pull(path), "the last list of %s after a while" % os.path.basename(path))
+        versions = [it["version"] for it in editor.lists(path)]
+        check(versions, sorted(versions), "the versions in their order")
+    check_versions(place.program, editor, place.folder, states)
+    editor.end()
+
+
+def weaker_severities(place):
+    """In a file that imports a file with a syntax error P104 and P150 have the severity 3, and other errors keep theirs."""
+    user = HEAD + 'import "bad.proto";\nmessage M { Other o = 1; int32 x = 0; }\n'
+    files = {"bad.proto": 'syntax = "proto2";\n', "user.proto": user, "other.proto": HEAD + "message M { Nowhere n = 1; }\n"}
+    editor = begun(place)
+    for name, text in files.items():
+        editor.open(at(place, name), text)
+    editor.expect_codes(at(place, "user.proto"), "P104 P150 P120", "the user")
+    for name, wanted in (("user.proto", [3, 3, 1]), ("other.proto", [1])):
+        editor.wait_for(lambda: [it["severity"] for it in editor.shown(at(place, name))] == wanted, "the severities of " + name)
+        check([it["severity"] for it in editor.pull(at(place, name))], wanted, "the severities of %s, asked for" % name)
+    editor.change(at(place, "bad.proto"), HEAD + "message Other {}\n")
+    editor.expect_codes(at(place, "user.proto"), "P120", "once the import is read")
+    editor.change(at(place, "bad.proto"), HEAD)
+    editor.wait_for(lambda: [it["severity"] for it in editor.shown(at(place, "user.proto"))] == [1, 1], "P150 without P104")
+    editor.end()
+
+
+def severities_elsewhere(place):
+    """For the same texts `script` and `listen` say the severity 1."""
+    files = {"bad.proto": 'syntax = "proto2";\n', "user.proto": HEAD + 'import "bad.proto";\nmessage M { Other o = 1; }\n'}
+    items = scripted(place.program, files)["user.proto"]
+    check([(it["code"], it["severity"]) for it in items], [("P104", 1), ("P150", 1)], "by script")
+    write(place.folder, files)
+    words = [place.program, "listen", "--port", "0", "--workers", "1", "--sessions", "1", "--lib", place.folder]
+    server = subprocess.Popen(words, stdout=subprocess.PIPE, stderr=subprocess.DEVNULL)
+    try:
+        port = int(server.stdout.readline().split(b":")[1])
+        with socket.create_connection(("127.0.0.1", port), LONGEST) as end, end.makefile("rb") as source:
+            end.sendall(frame({"jsonrpc": "2.0", "id": 0, "method": "initialize", "params": {}}))
+            document = {"uri": "file:///user.proto"}
+            end.sendall(frame({"jsonrpc": "2.0", "id": 1, "method": PULL, "params": {"textDocument": document}}))
+            read_body(source)
+            found = json.loads(read_body(source))["result"]["items"]
+        check(found, items, "by listen")
+        check(server.wait(LONGEST), 0, "the status of listen")
+    finally:
+        server.kill()
+        server.wait()
+
+
+def withdrawn(place):
+    """A request that is withdrawn is answered once: by its result, or as cancelled."""
+    editor, path = begun(place), at(place, "a.proto")
+    editor.open(path, HEAD + "".join("message M%d { M%d m = 1; }\n" % (n, n + 1) for n in range(2000)))
+    for _ in range(20):
+        label = editor.begin_to_ask(PULL, {"textDocument": {"uri": uri_of(path)}})
+        editor.say("$/cancelRequest", {"id": label})
+        reply = editor.reply(label)
+        is_answered = "result" in reply or reply["error"]["code"] in (REQUEST_CANCELLED, CONTENT_MODIFIED)
+        check(is_answered, True, "the reply %s" % json.dumps(reply)[:200])
+    editor.say("$/cancelRequest", {"id": "never asked"})
+    editor.be_quiet()
+    if any(it.get("error", {}).get("message") == "answered twice" for it in editor.replies.values()):
+        raise Failed("a request was answered twice")
+    editor.end()
+
+
+def watchers(place):
+    """A client that can register watchers is asked to, once it has begun; another is not."""
+    can = {"workspace": {"didChangeWatchedFiles": {"dynamicRegistration": True}}}
+    editor = begun(place, capabilities=can)
+    editor.wait_for(lambda: editor.requests, "the registration")
+    found = editor.requests[0]
+    check((found["method"], found["id"]), ("client/registerCapability", "pq_server:watch"), "the request")
+    registered = found["params"]["registrations"]
+    check([it["method"] for it in registered], ["workspace/didChangeWatchedFiles"], "what is registered")
+    check([it["globPattern"] for it in registered[0]["registerOptions"]["watchers"]], ["**/*.proto"], "what is watched")
+    editor.send(frame({"jsonrpc": "2.0", "id": "pq_server:watch", "result": None}))
+    editor.open(at(place, "a.proto"), BAD)
+    editor.expect_codes(at(place, "a.proto"), "P120", "after the reply of the client")
+    editor.be_quiet()
+    check(len(editor.requests), 1, "how often it is asked")
+    editor.end()
+    for other in ({}, {"workspace": {"didChangeWatchedFiles": {"dynamicRegistration": False}}}):
+        editor = begun(place, capabilities=other)
+        editor.be_quiet()
+        check(editor.requests, [], "the requests to a client that cannot")
+        editor.end()
