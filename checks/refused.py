@@ -26,7 +26,9 @@ Wrong bodies that were tried, each caught:
 - `text_value` repeats a refused push for ever: not done after 20 seconds. Each such copy takes that long.
 - A claim that calls itself without end where a push is refused: its copies end by signal 11.
 - `publish` forgets the memo of its key where its reads get no memory: 9 copies write what the refusal left.
-- `carry_one` leaves its client open after `Memory`: 28 copies write `the client is open`.
+- `publish_ring` hands back a member too few where it gets no room for the ring: 22 copies write what the refusal left.
+- `carry_one` leaves its client open after `Memory`: 106 copies write `the client is open`.
+- `run_step` says of a run that it starves that it was over: 124 copies write `over`, and that the reply is a starved one.
 
 usage: checks/refused.py                        the calls
        checks/refused.py --each                 the calls, and of each line of the program how many growths were refused
