@@ -7,11 +7,12 @@ That nothing more comes is taken for shown after 0.4 seconds without a message.
 
 Printed are, for each row, whether it holds, its sentence and its seconds. The status is 1 if a row does not hold.
 
-usage: checks/stdio.py --program P [--only NAME ..] [--list] [--seed N] [--steps N] [--workers N]
+usage: checks/stdio.py [--program P | --build] [--only NAME ..] [--list] [--seed N] [--steps N] [--workers N]
 """
 import argparse
 import inspect
 import os
+import subprocess
 import sys
 import tempfile
 import time
@@ -65,9 +66,20 @@ def holds(name, row, words):
     return why is None
 
 
+def built(folder):
+    """The path of the program of these sources, built in the folder as the gate tries it: a check that fails ends it."""
+    program = os.path.join(folder, "pq_server")
+    script = os.path.join(HERE, "..", "bench", "unproved.py")
+    done = subprocess.run([sys.executable, script, program, "--checked", "--quick"], stdin=subprocess.DEVNULL)
+    if done.returncode != 0:
+        sys.exit("the program could not be built")
+    return program
+
+
 def main():
     words = argparse.ArgumentParser()
     words.add_argument("--program", default=PROGRAM, help="the program that is started with the word `stdio`")
+    words.add_argument("--build", action="store_true", help="builds that program, with its checks at run time and without a proof")
     words.add_argument("--only", nargs="*", help="the names of rows")
     words.add_argument("--list", action="store_true", help="prints the names and sentences of the rows, and runs none")
     words.add_argument("--seed", type=int, default=1)
@@ -81,7 +93,10 @@ def main():
         for name, row in chosen:
             print("%-24s %s" % (name, sentence(row)))
         return 0
-    failed = [name for name, row in chosen if not holds(name, row, words)]
+    with tempfile.TemporaryDirectory() as folder:
+        if words.build:
+            words.program = built(folder)
+        failed = [name for name, row in chosen if not holds(name, row, words)]
     print("%d rows, %d failed%s" % (len(chosen), len(failed), "".join(" " + name for name in failed)))
     return 1 if failed else 0
 
