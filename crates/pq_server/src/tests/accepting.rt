@@ -1,24 +1,18 @@
-//! Connections that could not be accepted, and those that are turned away.
-use super::sockets::{EXIT, ROOTED, begun_often, check_ended, take_turns, talk, two_workers};
+//! Connections that could not be accepted, and a reply whose text had no room.
 use super::support::{check_row_count, check_text, split_row};
-use crate::library::no_library;
 use crate::serving::failures::{Failures, Verdict, after_failure, cause_of};
 use crate::serving::floor::text_or_refusal;
-use crate::serving::{OpenGate, serve};
 use log::kv::Source;
 use log::span::Spans;
 use log::{Level, Log, Logged, Metadata, Record};
 use pq_core::Label;
 use pq_session::Memory;
 use std::fmt::Display;
-use std::net::{Net, SocketAddr, TcpListener, TcpStream};
+use std::io;
 use std::process::Abort;
-use std::sync::Wait;
 use std::sync::atomic::{AtomicU32, Ordering};
 use std::test::Fail;
-use std::thread::Threads;
 use std::time::{Clock, Duration};
-use std::{io, thread};
 
 /// A number of the system, as text.
 fn number_of(rt: &impl Abort, text: &str) -> u32 {
@@ -100,10 +94,6 @@ fn new_tally(rt: &(impl Abort + AllocGlobal)) -> Tally {
 #[derive(Clone, Copy, Drop)]
 struct Stopped<R>(R);
 
-impl<R: Threads> Threads for Stopped<R> {}
-
-impl<R: Wait> Wait for Stopped<R> {}
-
 impl<R> Clock for Stopped<R> {
     fn monotonic(&self) -> io::Result<Duration> {
         Ok(Duration::from_secs(1))
@@ -151,65 +141,6 @@ fn ten_failures_in_a_row(rt: HostRuntime) {
     assert_eq!(rt; lines.0.load(Ordering::SeqCst), 4);
     assert_eq!(rt; passed(&logged, &mut failures, 22, 1, 1), 0);
     assert_eq!(rt; lines.0.load(Ordering::SeqCst), 5);
-}
-
-/// A session of `rows`, with an `initialize` of its own.
-fn talk_from_start<R>(rt: &R, address: SocketAddr, rows: &str)
-where
-    R: Abort + AllocGlobal + Net<Listener = TcpListener, Stream = TcpStream>,
-{
-    let stream = TcpStream::connect(rt, address).expect(rt, "a connection");
-    take_turns(rt, &stream, rows);
-    check_ended(rt, &stream);
-}
-
-/// As many clients as may be open, two more, which are turned away, and three after the first has
-/// ended: without a root, with `/home/u`, and with another one.
-fn two_too_many<R>(rt: &R, address: SocketAddr)
-where
-    R: Abort + AllocGlobal + Net<Listener = TcpListener, Stream = TcpStream>,
-{
-    let others = begun_often(rt, address, 64);
-    for _ in 0..2 {
-        let beyond = TcpStream::connect(rt, address).expect(rt, "a connection");
-        check_ended(rt, &beyond);
-    }
-    let first = others.first().expect(rt, "a stream");
-    take_turns(rt, first, EXIT);
-    check_ended(rt, first);
-    talk(rt, address, EXIT);
-    talk_from_start(rt, address, ROOTED);
-    let beside = ROOTED.replace(rt.alloc(), "/home/u", "/home/v");
-    talk_from_start(rt, address, beside.expect(rt, "memory").as_str());
-    drop(others);
-}
-
-// Two connections that are turned away at one time leave one line. A root that is not the folder of
-// the library leaves the other.
-#[test]
-fn one_line_for_two_turned_away(rt: HostRuntime) -> Result<(), Fail> {
-    let lines = new_tally(&rt);
-    let logged = Logged::new(Stopped(rt), Level::Warn, lines);
-    let listener = TcpListener::bind(&rt, "127.0.0.1:0")?;
-    let address = listener.local_addr()?;
-    let alloc = rt.alloc();
-    let library = no_library(alloc);
-    let (status, _said) = thread::join(
-        &rt,
-        move || serve(
-            &logged,
-            alloc,
-            listener,
-            library,
-            Some("/home/u"),
-            two_workers(67),
-            &OpenGate,
-        ),
-        || two_too_many(&rt, address),
-    );
-    assert_eq!(rt; status, 0);
-    assert_eq!(rt; lines.0.load(Ordering::SeqCst), 2);
-    Ok(())
 }
 
 // A reply whose text had no room is an error of its request.

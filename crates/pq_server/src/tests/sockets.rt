@@ -79,7 +79,7 @@ const ASK_FIRST: &str =
 < {"id":1,"jsonrpc":"2.0","result":{"items":[],"kind":"full","resultId":"1"}}"#;
 
 /// A session with a root folder. What comes after its `exit` is not answered.
-pub(super) const ROOTED: &str =
+const ROOTED: &str =
     r#"> {"id":0,"jsonrpc":"2.0","method":"initialize","params":{"rootUri":"file:///home/u"}}
 < {"id":0,"jsonrpc":"2.0","result":{"capabilities":{"definitionProvider":true,"diagnosticProvider":{"interFileDependencies":true,"workspaceDiagnostics":false},"documentSymbolProvider":true,"positionEncoding":"utf-16","textDocumentSync":{"change":2,"openClose":true}},"serverInfo":{"name":"pq_server"}}}
 > {"jsonrpc":"2.0","method":"textDocument/didOpen","params":{"textDocument":{"uri":"file:///home/u/a.proto","text":"syntax = \"proto3\";\nmessage M { M m = 1; }"}}}
@@ -97,10 +97,10 @@ const REPLY_NONE: &str =
     r#"< {"error":{"code":-32601,"message":"method not found"},"id":1,"jsonrpc":"2.0"}"#;
 
 /// The end of a session.
-pub(super) const EXIT: &str = r#"> {"jsonrpc":"2.0","method":"exit"}"#;
+const EXIT: &str = r#"> {"jsonrpc":"2.0","method":"exit"}"#;
 
 /// How large the servers of these tests are.
-pub(super) fn two_workers(sessions: u32) -> Size {
+fn two_workers(sessions: u32) -> Size {
     Size {
         workers: 2,
         sessions: Some(sessions),
@@ -108,7 +108,7 @@ pub(super) fn two_workers(sessions: u32) -> Size {
 }
 
 /// Sends the frames of the rows of a client, and checks that the rows of the server come.
-pub(super) fn take_turns(rt: &(impl Abort + AllocGlobal), stream: &TcpStream, rows: &str) {
+fn take_turns(rt: &(impl Abort + AllocGlobal), stream: &TcpStream, rows: &str) {
     let sent = frames_of(rt, rows, ">").expect(rt, "memory");
     let wanted = frames_of(rt, rows, "<").expect(rt, "memory");
     let mut output = stream;
@@ -129,7 +129,7 @@ fn check_same(rt: &(impl Abort + AllocGlobal), found: &[u8], wanted: &[u8], rows
 }
 
 /// Checks that the server has ended `stream`.
-pub(super) fn check_ended(rt: &impl Abort, stream: &TcpStream) {
+fn check_ended(rt: &impl Abort, stream: &TcpStream) {
     let mut input = stream;
     let mut byte = [0u8; 1];
     match input.read(&mut byte) {
@@ -139,7 +139,7 @@ pub(super) fn check_ended(rt: &impl Abort, stream: &TcpStream) {
 }
 
 /// A connection whose session has begun.
-pub(super) fn begun<R>(rt: &R, address: SocketAddr) -> TcpStream
+fn begun<R>(rt: &R, address: SocketAddr) -> TcpStream
 where
     R: Abort + AllocGlobal + Net<Listener = TcpListener, Stream = TcpStream>,
 {
@@ -149,7 +149,7 @@ where
 }
 
 /// A session of `rows`.
-pub(super) fn talk<R>(rt: &R, address: SocketAddr, rows: &str)
+fn talk<R>(rt: &R, address: SocketAddr, rows: &str)
 where
     R: Abort + AllocGlobal + Net<Listener = TcpListener, Stream = TcpStream>,
 {
@@ -345,7 +345,7 @@ fn two_ends(rt: HostRuntime) -> Result<(), Fail> {
 }
 
 /// Connections of `count` clients, whose sessions have begun.
-pub(super) fn begun_often<R>(rt: &R, address: SocketAddr, count: usize) -> Vec<TcpStream>
+fn begun_often<R>(rt: &R, address: SocketAddr, count: usize) -> Vec<TcpStream>
 where
     R: Abort + AllocGlobal + Net<Listener = TcpListener, Stream = TcpStream>,
 {
