@@ -17,7 +17,7 @@ BETWEEN = 10
 
 
 def text_of(chance, names):
-    """A random text that imports some of `names`: some have syntax errors, bad numbers, missing types or imports that lead into a ring."""
+    """A random text that imports some of `names`. Some have syntax errors, bad numbers, missing types or a ring of imports."""
     lines = ['syntax = "proto3";' if chance.random() < 0.95 else 'syntax = "proto2";']
     lines += ['import "%s";' % name for name in chance.sample(names, chance.choice((0, 1, 1, 2)))]
     for _ in range(chance.randrange(4)):
