@@ -48,6 +48,9 @@ class Editor:
         # Replies by their ids, lists by their URIs in the order in which they came, and requests of the server.
         self.replies, self.pushed, self.requests, self.last_news = {}, [], [], time.monotonic()
         self.printed, self.has_ended, self.next, self.versions = b"", False, 0, {}
+        # While it is cleared, what the server writes is left in the pipe.
+        self.reads = threading.Event()
+        self.reads.set()
         self.threads = [threading.Thread(target=work, daemon=True) for work in (self.read_output, self.read_errors)]
         for thread in self.threads:
             thread.start()
@@ -72,6 +75,7 @@ class Editor:
 
     def read_body(self):
         length = None
+        self.reads.wait()
         for line in iter(self.server.stdout.readline, b"\r\n"):
             if not line:
                 return None

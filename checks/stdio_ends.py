@@ -1,9 +1,10 @@
 """Rows of `checks/stdio.py`: how a session begins and ends, with its status and its lines of standard error."""
 import os
 import subprocess
+import time
 
 from messages import frame
-from stdio_client import LONGEST, Editor, Failed, check, uri_of
+from stdio_client import LONGEST, SERVERS, Editor, Failed, check, uri_of
 from stdio_files import rooted
 from stdio_lists import BAD, GOOD, at, begun
 
@@ -75,6 +76,23 @@ def unreadable_edits(place):
     editor = begun(place)
     editor.say("textDocument/didOpen", {"textDocument": {"uri": uri_of(at(place, "a.proto")), "text": 1}})
     left(editor, 3, "pq_server: edit refused 0")
+
+
+def failed_writes(place):
+    """An editor that has closed its end of the output ends the session at its next requests, with status 4."""
+    source, sink = os.pipe()
+    server = subprocess.Popen([place.program, "stdio", *place.workers], stdin=subprocess.PIPE, stdout=sink, stderr=subprocess.PIPE)
+    SERVERS.append(server)
+    os.close(sink)
+    os.close(source)
+    try:
+        for n in range(500):
+            server.stdin.write(frame({"jsonrpc": "2.0", "id": n, "method": "initialize" if n == 0 else "proto/none", "params": {}}))
+            server.stdin.flush()
+            time.sleep(0.02)
+        raise Failed("the server took 500 requests")
+    except BrokenPipeError:
+        check([server.wait(LONGEST), server.stderr.read().decode()], [4, "pq_server: write failed\n"], "the end")
 
 
 def words_that_are_refused(place):

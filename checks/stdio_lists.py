@@ -3,6 +3,7 @@ import json
 import os
 import socket
 import subprocess
+import threading
 
 from messages import frame, read_body
 from stdio_client import (CONTENT_MODIFIED, LONGEST, PULL, REQUEST_CANCELLED, Editor, Failed, check, check_versions, codes,
@@ -75,6 +76,24 @@ def importer_follows(place):
     editor.expect(a, [], "after it was renamed back")
     editor.be_quiet()
     check({json.dumps(it["diagnostics"]) for it in editor.lists(b)} <= {"[]"}, True, "the lists of the import are empty")
+    editor.end()
+
+
+def slow_reader(place):
+    """An editor that sends many edits and reads nothing meanwhile gets the right lists once it reads again."""
+    editor, path = begun(place), at(place, "a.proto")
+    editor.open(path, GOOD)
+    editor.be_read()
+    editor.reads.clear()
+    texts = [HEAD + "".join("message M%d { int32 x = 0; }\n" % k for k in range(50 + n % 2)) for n in range(400)]
+    work = threading.Thread(target=lambda: [editor.change(path, text) for text in texts], daemon=True)
+    work.start()
+    work.join(1.0)
+    editor.reads.set()
+    work.join(LONGEST)
+    editor.expect(path, shown_by_rights(place.program, {"a.proto": texts[-1]})["a.proto"], "after the last edit")
+    editor.be_quiet()
+    check(len(editor.shown(path)), 51, "how many errors the last list has")
     editor.end()
 
 

@@ -1,23 +1,25 @@
-"""A row of `checks/stdio.py`: random edits, in a session that gets lists and in one that asks for them."""
+"""Rows of `checks/stdio.py`: random edits, in a session that gets lists and in one that asks for them."""
 import json
 import os
 import random
 
 from stdio_client import Failed, check, check_versions, shown_by_rights, write
-from stdio_files import CHANGED, CREATED, DELETED
+from stdio_files import CHANGED, CREATED, DELETED, rooted
 from stdio_lists import HEAD, PULLS, at, begun
 
 NAMES = ["a.proto", "b.proto", "c.proto", "x/d.proto", "x/e.proto", "x/y/f.proto"]
+# The folder of some of them, which is a root too in the second row.
+NESTED = "x/"
 # What is typed and pasted.
 PIECES = ("", "", "A", "x", "1", "\n", " ", "int32 y = 7;", "message A {}\n", 'import "b.proto";', "\U0001f600")
 # After so many steps the lists are compared.
 BETWEEN = 10
 
 
-def text_of(chance):
-    """A random text: some have syntax errors, bad numbers, missing types or imports that lead into a ring."""
+def text_of(chance, names):
+    """A random text that imports some of `names`. Some have syntax errors, bad numbers, missing types or a ring of imports."""
     lines = ['syntax = "proto3";' if chance.random() < 0.95 else 'syntax = "proto2";']
-    lines += ['import "%s";' % name for name in chance.sample(NAMES, chance.choice((0, 1, 1, 2)))]
+    lines += ['import "%s";' % name for name in chance.sample(names, chance.choice((0, 1, 1, 2)))]
     for _ in range(chance.randrange(4)):
         fields = " ".join("%s f%d = %d;" % (chance.choice(("int32", "A", "B", "C")), n, chance.choice((n, n, n, 0, 19000)))
                           for n in range(1, chance.randrange(1, 5)))
@@ -30,15 +32,29 @@ def text_of(chance):
 class Model:
     """The folder and the documents, beside two editors that are told of each step."""
 
-    def __init__(self, place):
-        self.place, self.chance = place, random.Random(place.seed)
+    def __init__(self, place, pushed, pulled, is_nested):
+        self.place, self.chance, self.is_nested = place, random.Random(place.seed), is_nested
         self.disk, self.buffers = {}, {}
-        self.pushed, self.pulled = begun(place), begun(place, capabilities=PULLS)
+        self.pushed, self.pulled = pushed, pulled
         self.editors = (self.pushed, self.pulled)
         self.opened, self.versions, self.states = set(), {}, []
 
     def path(self, name):
         return at(self.place, name)
+
+    def own_texts(self):
+        """The text of each file by its name below the first root."""
+        return dict(self.disk, **self.buffers)
+
+    def texts(self):
+        """The text of each file by each of its names."""
+        own = self.own_texts()
+        inner = {name[len(NESTED):]: text for name, text in own.items() if name.startswith(NESTED)}
+        return dict(inner, **own) if self.is_nested else own
+
+    def new_text(self):
+        inner = [name[len(NESTED):] for name in NAMES if name.startswith(NESTED)]
+        return text_of(self.chance, NAMES + inner if self.is_nested else NAMES)
 
     def step(self):
         name = self.chance.choice(NAMES)
@@ -47,21 +63,22 @@ class Model:
         else:
             self.chance.choice((self.change,) * 8 + (self.replace, self.close, self.write, self.save, self.remove))(name)
         versions = {it: self.versions[it] for it in self.buffers}
-        self.states.append((dict(self.disk, **self.buffers), versions))
+        self.states.append((self.texts(), versions))
 
     def has_new_text(self, name):
         """The document gets its next version."""
         self.versions[name] = self.versions.get(name, 0) + 1
 
     def open(self, name):
-        self.buffers[name] = self.disk.get(name) if self.chance.random() < 0.7 and name in self.disk else text_of(self.chance)
+        is_as_on_disk = self.chance.random() < 0.7 and name in self.disk
+        self.buffers[name] = self.disk[name] if is_as_on_disk else self.new_text()
         self.opened.add(name)
         self.has_new_text(name)
         for editor in self.editors:
             editor.open(self.path(name), self.buffers[name])
 
     def replace(self, name):
-        self.buffers[name] = text_of(self.chance)
+        self.buffers[name] = self.new_text()
         self.has_new_text(name)
         for editor in self.editors:
             editor.change(self.path(name), self.buffers[name])
@@ -95,7 +112,7 @@ class Model:
 
     def write(self, name):
         kind = CHANGED if name in self.disk else CREATED
-        self.put(name, text_of(self.chance))
+        self.put(name, self.new_text())
         for editor in self.editors:
             editor.tell((self.path(name), kind))
 
@@ -119,15 +136,15 @@ class Model:
 
     def compare(self, step):
         """Both editors have the lists that a new session of `script` says of the same texts."""
-        wanted = shown_by_rights(self.place.program, dict(self.disk, **self.buffers))
+        wanted = shown_by_rights(self.place.program, self.texts())
         for name in sorted(self.opened):
             what = "after step %d of seed %d, %s" % (step, self.place.seed, name)
             right = wanted[name] if name in self.buffers else []
             try:
                 self.pushed.expect(self.path(name), right, "pushed " + what)
             except Failed as why:
-                raise Failed("%s\n    texts %s" % (why, json.dumps(dict(self.disk, **self.buffers))))
-        for name in sorted(wanted):
+                raise Failed("%s\n    texts %s" % (why, json.dumps(self.texts())))
+        for name in sorted(self.own_texts()):
             what = "asked for after step %d of seed %d, %s" % (step, self.place.seed, name)
             for editor in self.editors:
                 check(editor.pull(self.path(name)), wanted[name], what)
@@ -139,11 +156,8 @@ def place_of(text, at_):
     return {"line": len(before) - 1, "character": len(before[-1].encode("utf-16-le")) // 2}
 
 
-def random_edits(place):
-    """After each pause of random edits the lists that came and those that are asked for are those of `script`.
-
-    Each list that came with a version is right of that version, whatever has overtaken it."""
-    model = Model(place)
+def play(model, place):
+    """Plays random steps. Each list that came with a version has to be right of that version, whatever has overtaken it."""
     for step in range(1, place.steps + 1):
         model.step()
         if step % BETWEEN == 0:
@@ -155,3 +169,15 @@ def random_edits(place):
     check_versions(place.program, model.pushed, place.folder, model.states)
     for editor in model.editors:
         editor.end()
+
+
+def random_edits(place):
+    """After each pause of random edits the lists that came and those that are asked for are those of `script`."""
+    play(Model(place, begun(place), begun(place, capabilities=PULLS), is_nested=False), place)
+
+
+def random_edits_of_two_names(place):
+    """The same below two nested roots, where some files have two names that are both imported."""
+    os.mkdir(at(place, NESTED))
+    roots = (".", NESTED)
+    play(Model(place, rooted(place, *roots), rooted(place, *roots, capabilities=PULLS), is_nested=True), place)
