@@ -33,14 +33,14 @@ pub(crate) enum Step {
     Overtaken,
 }
 
-/// What the reader of an editor's session holds, over a client of the hall whose ends have the types
-/// `P` and `C`. Replies are taken by receipts of the type `Q`.
+/// What the reader of an editor's session holds, over a client of the hall `floor`.
 #[derive(Drop)]
-pub(crate) struct Desk<P, C, Q> {
+pub(crate) struct Desk<'a, F: Floor<H>, H> {
+    rt: &'a H,
     alloc: Global,
     session: Session,
-    line: Line<P, C>,
-    receipts: Sender<OwedReply<Q>>,
+    line: Line<'a, F, H>,
+    receipts: Sender<OwedReply<F::Receipt>>,
     /// The roots that the command line names. If there are some, those of the client do not count.
     given: Vec<Root>,
     roots: Arc<Roots, Global>,
@@ -62,16 +62,22 @@ pub(crate) struct Desk<P, C, Q> {
     is_ready: bool,
 }
 
-impl<P: Drop + Send, C: Drop + Send, Q: Drop + Send> Desk<P, C, Q> {
+impl<'a, F, H> Desk<'a, F, H>
+where
+    F: Floor<H>,
+    H: Wait + Files + AllocGlobal + Eprint + Clone + Drop,
+{
     /// The desk of a session whose client has sent nothing.
     pub(crate) fn new(
-        alloc: Global,
-        line: Line<P, C>,
-        receipts: Sender<OwedReply<Q>>,
+        rt: &'a H,
+        line: Line<'a, F, H>,
+        receipts: Sender<OwedReply<F::Receipt>>,
         given: Vec<Root>,
-    ) -> Result<Desk<P, C, Q>, Memory> {
+    ) -> Result<Desk<'a, F, H>, Memory> {
+        let alloc = rt.alloc();
         let roots = Roots::new(alloc, Vec::new(alloc))?;
         Ok(Desk {
+            rt,
             alloc,
             session: Session::new(),
             line,
@@ -120,16 +126,7 @@ impl<P: Drop + Send, C: Drop + Send, Q: Drop + Send> Desk<P, C, Q> {
     }
 
     /// Does what the message of this body asks for.
-    pub(crate) fn handle<F, H>(
-        &mut self,
-        rt: &H,
-        floor: &F,
-        body: &[u8],
-    ) -> Result<Step, ScriptFault>
-    where
-        F: Floor<H, Post = P, Porter = C, Receipt = Q>,
-        H: Wait + Files + AllocGlobal + Eprint + Clone + Drop,
-    {
+    pub(crate) fn handle(&mut self, body: &[u8]) -> Result<Step, ScriptFault> {
         let message = Message::read(self.alloc, body)?;
         let event = event_of(self.alloc, &message)?;
         let was_served = self.session.root().is_some();
@@ -137,34 +134,24 @@ impl<P: Drop + Send, C: Drop + Send, Q: Drop + Send> Desk<P, C, Q> {
         let is_served = self.session.root().is_some();
         match (event, is_served) {
             (Event::Greets(greeting), true) => {
-                if !was_served && !self.greet(rt, floor, greeting)? {
+                if !was_served && !self.greet(greeting)? {
                     return Ok(Step::Overtaken);
                 }
-                self.carry_out(rt, floor, Event::Other, item)
+                self.carry_out(Event::Other, item)
             }
-            (event, true) => self.carry_out(rt, floor, event, item),
-            (_, false) => self.carry_out(rt, floor, Event::Other, item),
+            (event, true) => self.carry_out(event, item),
+            (_, false) => self.carry_out(Event::Other, item),
         }
     }
 
     /// Does what `item` and `event` of one message ask for.
-    fn carry_out<F, H>(
-        &mut self,
-        rt: &H,
-        floor: &F,
-        event: Event,
-        item: Item<ProtoKey>,
-    ) -> Result<Step, ScriptFault>
-    where
-        F: Floor<H, Post = P, Porter = C, Receipt = Q>,
-        H: Wait + Files + AllocGlobal + Eprint + Clone + Drop,
-    {
+    fn carry_out(&mut self, event: Event, item: Item<ProtoKey>) -> Result<Step, ScriptFault> {
         match item {
-            Item::Ask(request) => self.ask(rt, floor, request),
-            Item::Say(request) => self.hand_in(rt, floor, Post::Ask(request)),
-            Item::Withdraw(label) => self.hand_in(rt, floor, Post::Withdraw(label)),
-            Item::Edit(change) => self.edit(rt, floor, event, change),
-            Item::Ignore => self.notice(rt, floor, event),
+            Item::Ask(request) => self.ask(request),
+            Item::Say(request) => self.hand_in(Post::Ask(request)),
+            Item::Withdraw(label) => self.hand_in(Post::Withdraw(label)),
+            Item::Edit(change) => self.edit(event, change),
+            Item::Ignore => self.notice(event),
             Item::End(status) => Ok(Step::Finish(status)),
         }
     }

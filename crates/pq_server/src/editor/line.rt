@@ -1,5 +1,5 @@
 //! A client of the hall whose posts are carried by the thread that makes them.
-use crate::serving::floor::{Carried, Floor};
+use crate::serving::floor::{Carried, Ends, Floor};
 use crate::serving::porter::fault_of;
 use pq_hall::Client;
 use pq_mail::{Post, PostFault};
@@ -20,23 +20,33 @@ pub(crate) enum Handed<Q> {
     Closed,
 }
 
-/// A client of a hall, with its end that posts, of the type `P`, and the end whose posts are carried,
-/// of the type `C`.
+/// A client of the hall `floor`, with its end that posts and the end whose posts are carried.
 #[derive(Drop)]
-pub(crate) struct Line<P, C> {
+pub(crate) struct Line<'a, F: Floor<H>, H> {
+    rt: &'a H,
+    floor: &'a F,
     client: Client,
-    post: P,
-    porter: C,
+    post: F::Post,
+    porter: F::Porter,
 }
 
-impl<P: Drop + Send, C: Drop + Send> Line<P, C> {
-    /// The line of `client`.
-    pub(crate) fn new(client: Client, post: P, porter: C) -> Line<P, C> {
-        Line {
+impl<'a, F: Floor<H>, H: Wait> Line<'a, F, H> {
+    /// The line of `client`, with the end from which its replies are taken.
+    pub(crate) fn new(
+        rt: &'a H,
+        floor: &'a F,
+        client: Client,
+        ends: Ends<F::Post, F::Porter, F::Take>,
+    ) -> (Line<'a, F, H>, F::Take) {
+        let Ends { post, porter, take } = ends;
+        let line = Line {
+            rt,
+            floor,
             client,
             post,
             porter,
-        }
+        };
+        (line, take)
     }
 
     /// The client.
@@ -48,35 +58,20 @@ impl<P: Drop + Send, C: Drop + Send> Line<P, C> {
     /// client.
     ///
     /// An error says why the client was closed, or that an allocation failed before the post.
-    pub(crate) fn hand_in<F, H>(
+    pub(crate) fn hand_in(
         &mut self,
-        rt: &H,
-        floor: &F,
         post: Post<ProtoKey>,
-    ) -> Result<Handed<F::Receipt>, ScriptFault>
-    where
-        F: Floor<H, Post = P, Porter = C>,
-        H: Wait,
-    {
-        match floor.post(rt, &mut self.post, post) {
-            Ok(receipt) => self.carry(rt, floor, receipt),
+    ) -> Result<Handed<F::Receipt>, ScriptFault> {
+        match self.floor.post(self.rt, &mut self.post, post) {
+            Ok(receipt) => self.carry(receipt),
             Err(PostFault::Gone) => Ok(Handed::Closed),
             Err(PostFault::Memory) => Err(ScriptFault::Memory),
         }
     }
 
     /// Carries the post of `receipt`.
-    fn carry<F, H>(
-        &mut self,
-        rt: &H,
-        floor: &F,
-        receipt: Option<F::Receipt>,
-    ) -> Result<Handed<F::Receipt>, ScriptFault>
-    where
-        F: Floor<H, Post = P, Porter = C>,
-        H: Wait,
-    {
-        match floor.carry(rt, self.client, &mut self.porter) {
+    fn carry(&mut self, receipt: Option<F::Receipt>) -> Result<Handed<F::Receipt>, ScriptFault> {
+        match self.floor.carry(self.rt, self.client, &mut self.porter) {
             Ok(Carried::Edited(revision)) => Ok(Handed::Edited(revision)),
             Ok(Carried::Ended) => Ok(Handed::Closed),
             Ok(Carried::Other) => match receipt {

@@ -7,6 +7,7 @@ use crate::editor::line::{Handed, Line};
 use crate::editor::output::Output;
 use crate::editor::replies::Replies;
 use crate::editor::rounds::{Asked, Gone, Round, Rounds};
+use crate::serving::floor::Floor;
 use crossbeam_channel::Receiver;
 use pq_hall::Client;
 use pq_mail::Post;
@@ -25,50 +26,54 @@ struct Sent {
     last: LastSent,
 }
 
-/// What the pusher holds: its line, its end that takes, of the type `T`, and what was sent.
+/// What the pusher holds: its line, its end that takes, the way to the editor, and what was sent.
 #[derive(Drop)]
-pub(crate) struct Pusher<P, C, T> {
+pub(crate) struct Pusher<'a, F: Floor<H>, H, W> {
+    rt: &'a H,
     alloc: Global,
-    line: Line<P, C>,
-    take: T,
+    floor: &'a F,
+    line: Line<'a, F, H>,
+    take: F::Take,
+    rounds: &'a Rounds,
+    output: &'a Output<W>,
     /// What was sent, in order of the documents' numbers.
     sent: Vec<Sent>,
 }
 
-impl<P: Drop + Send, C: Drop + Send, T: Drop + Send> Pusher<P, C, T> {
-    /// A pusher that has sent nothing.
-    pub(crate) fn new(alloc: Global, line: Line<P, C>, take: T) -> Pusher<P, C, T> {
+impl<'a, F: Replies<H>, H: Wait, W: Write + Copy> Pusher<'a, F, H, W> {
+    /// A pusher that has sent nothing, for the client of `line`, of which `take` is the end that takes.
+    pub(crate) fn new(
+        rt: &'a H,
+        alloc: Global,
+        floor: &'a F,
+        line: Line<'a, F, H>,
+        take: F::Take,
+        rounds: &'a Rounds,
+        output: &'a Output<W>,
+    ) -> Pusher<'a, F, H, W> {
         Pusher {
+            rt,
             alloc,
+            floor,
             line,
             take,
+            rounds,
+            output,
             sent: Vec::new(alloc),
         }
     }
 
     /// Pushes what `round` asks for, up to the round that overtakes it. Returns whether the pusher
     /// goes on.
-    fn push_round<F, H, W>(
-        &mut self,
-        rt: &H,
-        floor: &F,
-        rounds: &Rounds,
-        output: &Output<W>,
-        round: &Round,
-    ) -> Result<bool, ScriptFault>
-    where
-        F: Replies<H, Post = P, Porter = C, Take = T>,
-        H: Wait,
-        W: Write + Copy,
-    {
+    fn push_round(&mut self, round: &Round) -> Result<bool, ScriptFault> {
         for gone in &round.gone {
-            self.withdraw(rt, output, gone)?;
+            self.withdraw(gone)?;
         }
         for asked in &round.asked {
-            if rounds.is_overtaken(rt) {
+            if self.rounds.is_overtaken(self.rt) {
                 return Ok(true);
             }
-            if !self.push_one(rt, floor, output, asked, round.revision)? {
+            if !self.push_one(asked, round.revision)? {
                 return Ok(false);
             }
         }
@@ -76,17 +81,12 @@ impl<P: Drop + Send, C: Drop + Send, T: Drop + Send> Pusher<P, C, T> {
     }
 
     /// Sends the empty list for a document that is gone, if anything was sent for it.
-    fn withdraw<H: Wait, W: Write + Copy>(
-        &mut self,
-        rt: &H,
-        output: &Output<W>,
-        gone: &Gone,
-    ) -> Result<(), ScriptFault> {
+    fn withdraw(&mut self, gone: &Gone) -> Result<(), ScriptFault> {
         if !self.forget(gone.number) {
             return Ok(());
         }
         let text = published_text(self.alloc, gone.uri.as_str(), None, empty_list())?;
-        output.send(rt, text.as_str())
+        self.output.send(self.rt, text.as_str())
     }
 
     /// Asks for the diagnostics of a document, and sends them if they are news. Returns whether the
@@ -94,31 +94,22 @@ impl<P: Drop + Send, C: Drop + Send, T: Drop + Send> Pusher<P, C, T> {
     ///
     /// An allocation failure of its own sends nothing: the document is asked for again at the next
     /// edit.
-    fn push_one<F, H, W>(
-        &mut self,
-        rt: &H,
-        floor: &F,
-        output: &Output<W>,
-        asked: &Asked,
-        revision: u64,
-    ) -> Result<bool, ScriptFault>
-    where
-        F: Replies<H, Post = P, Porter = C, Take = T>,
-        H: Wait,
-        W: Write + Copy,
-    {
+    fn push_one(&mut self, asked: &Asked, revision: u64) -> Result<bool, ScriptFault> {
         let Ok(request) = diagnostics_of(self.alloc, asked.name.as_str()) else {
             return Ok(true);
         };
-        let Handed::Asked(receipt) = self.line.hand_in(rt, floor, Post::Ask(request))? else {
+        let Handed::Asked(receipt) = self.line.hand_in(Post::Ask(request))? else {
             return Ok(false);
         };
-        let Ok(taken) = floor.take_reply(rt, self.line.client(), &mut self.take, &receipt) else {
+        let Ok(taken) = self
+            .floor
+            .take_reply(self.rt, self.line.client(), &mut self.take, &receipt)
+        else {
             return Ok(false);
         };
         match F::list(self.alloc, &taken) {
             Ok(Some(list)) if list.revision() == revision => {
-                self.send_list(rt, output, asked, list)?;
+                self.send_list(asked, list)?;
             }
             _ => {}
         }
@@ -127,13 +118,8 @@ impl<P: Drop + Send, C: Drop + Send, T: Drop + Send> Pusher<P, C, T> {
 
     /// Sends `list` for a document, if it is news. After an allocation failure the next list is news,
     /// whatever it is.
-    fn send_list<H: Wait, W: Write + Copy>(
-        &mut self,
-        rt: &H,
-        output: &Output<W>,
-        asked: &Asked,
-        list: DiagnosticList,
-    ) -> Result<(), ScriptFault> {
+    fn send_list(&mut self, asked: &Asked, list: DiagnosticList) -> Result<(), ScriptFault> {
+        let (rt, output) = (self.rt, self.output);
         let Ok(last) = self.last_of(asked.number) else {
             return Ok(());
         };
@@ -201,12 +187,9 @@ fn publish<H: Wait, W: Write + Copy>(
 /// client `editor` is closed then.
 pub(crate) fn push_all<F, H, W>(
     rt: &H,
-    floor: &F,
-    pusher: Pusher<F::Post, F::Porter, F::Take>,
+    pusher: Pusher<'_, F, H, W>,
     editor: Client,
-    rounds: &Rounds,
     bell: Receiver<()>,
-    output: &Output<W>,
 ) -> Result<(), ScriptFault>
 where
     F: Replies<H>,
@@ -218,14 +201,14 @@ where
         if bell.recv(rt).is_err() {
             return Ok(());
         }
-        let Some(round) = rounds.take(rt) else {
+        let Some(round) = pusher.rounds.take(rt) else {
             continue;
         };
-        match pusher.push_round(rt, floor, rounds, output, &round) {
+        match pusher.push_round(&round) {
             Ok(true) => {}
             Ok(false) => return Ok(()),
             Err(fault) => {
-                floor.close(rt, editor);
+                pusher.floor.close(rt, editor);
                 return Err(fault);
             }
         }

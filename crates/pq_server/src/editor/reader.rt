@@ -6,7 +6,6 @@ use crate::serving::floor::Floor;
 use crossbeam_channel::Sender;
 use pq_frame::FrameReader;
 use pq_session::{ScriptFault, WATCH_FILES, at_end};
-use std::alloc::Global;
 use std::io::{Read, Write};
 use std::rt::Files;
 use std::sync::Wait;
@@ -18,50 +17,41 @@ pub(crate) struct Pushes<'a> {
     pub(crate) bell: Sender<()>,
 }
 
-/// Hands on what the messages of one piece have left to do: a round of pushes, and the request to
-/// watch files.
-fn hand_on<P, C, Q, H, W>(
-    rt: &H,
-    desk: &mut Desk<P, C, Q>,
-    pushes: &Pushes<'_>,
-    output: &Output<W>,
-) -> Result<(), ScriptFault>
-where
-    P: Drop + Send,
-    C: Drop + Send,
-    Q: Drop + Send,
-    H: Wait,
-    W: Write + Copy,
-{
-    if desk.asks_to_watch() {
-        output.send(rt, WATCH_FILES)?;
-    }
-    if let Some(round) = desk.next_round()? {
-        pushes.rounds.put(rt, round)?;
-        // A bell that was not heard yet is for this round, too.
-        let _ = pushes.bell.try_send(rt, ());
-    }
-    Ok(())
-}
-
-/// Does what the messages of `bodies` ask for, up to the first after which the session does not go on.
-fn handle_all<F, H>(
-    rt: &H,
-    floor: &F,
-    desk: &mut Desk<F::Post, F::Porter, F::Receipt>,
-    bodies: &[Vec<u8>],
-) -> Result<Step, ScriptFault>
+impl<'a, F, H> Desk<'a, F, H>
 where
     F: Floor<H>,
     H: Wait + Files + AllocGlobal + Eprint + Clone + Drop,
 {
-    for body in bodies {
-        match desk.handle(rt, floor, body)? {
-            Step::GoesOn => {}
-            step => return Ok(step),
+    /// Hands on what the messages of one piece have left to do: a round of pushes, and the request to
+    /// watch files.
+    fn hand_on<W: Write + Copy>(
+        &mut self,
+        rt: &H,
+        pushes: &Pushes<'_>,
+        output: &Output<W>,
+    ) -> Result<(), ScriptFault> {
+        if self.asks_to_watch() {
+            output.send(rt, WATCH_FILES)?;
         }
+        if let Some(round) = self.next_round()? {
+            pushes.rounds.put(rt, round)?;
+            // A bell that was not heard yet is for this round, too.
+            let _ = pushes.bell.try_send(rt, ());
+        }
+        Ok(())
     }
-    Ok(Step::GoesOn)
+
+    /// Does what the messages of `bodies` ask for, up to the first after which the session does not go
+    /// on.
+    fn handle_all(&mut self, bodies: &[Vec<u8>]) -> Result<Step, ScriptFault> {
+        for body in bodies {
+            match self.handle(body)? {
+                Step::GoesOn => {}
+                step => return Ok(step),
+            }
+        }
+        Ok(Step::GoesOn)
+    }
 }
 
 /// Reads the messages of `input`, at most 16,384 bytes at a time, and does what they ask for, until
@@ -70,9 +60,7 @@ where
 /// Returns the status with which the session ended, or `None` if another thread has ended it.
 pub(crate) fn read_all_messages<F, H, I, W>(
     rt: &H,
-    alloc: Global,
-    floor: &F,
-    desk: Desk<F::Post, F::Porter, F::Receipt>,
+    desk: Desk<'_, F, H>,
     pushes: Pushes<'_>,
     input: I,
     output: &Output<W>,
@@ -86,7 +74,7 @@ where
     let mut desk = desk;
     let mut input = input;
     let mut buffer = [0u8; 16384];
-    let mut frames = FrameReader::new(alloc);
+    let mut frames = FrameReader::new(rt.alloc());
     for _ in rt.forever() {
         let count = match input.read(&mut buffer) {
             Ok(count) => count,
@@ -96,12 +84,12 @@ where
             return Ok(Some(at_end(&frames)?));
         }
         let bodies = frames.feed(&buffer[..count])?;
-        match handle_all(rt, floor, &mut desk, bodies.as_slice())? {
+        match desk.handle_all(bodies.as_slice())? {
             Step::GoesOn => {}
             Step::Finish(status) => return Ok(Some(status)),
             Step::Overtaken => return Ok(None),
         }
-        hand_on(rt, &mut desk, &pushes, output)?;
+        desk.hand_on(rt, &pushes, output)?;
         // An error after the bodies comes with the next call.
         frames.feed(&[])?;
     }

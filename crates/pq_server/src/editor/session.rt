@@ -179,24 +179,23 @@ where
     I: Read + Drop,
     W: Write + Copy + Send + Sync,
 {
-    let (client, Ends { post, porter, take }) = editor;
+    let (client, ends) = editor;
+    let (line, take) = Line::new(rt, floor, client, ends);
     let (pushing, ends) = pusher;
+    let (pushing_line, pushing_take) = Line::new(rt, floor, pushing, ends);
     let (receipts, owed) = crossbeam_channel::bounded(alloc, RECEIPTS)?;
     let (bell, heard) = crossbeam_channel::bounded(alloc, 1)?;
-    let desk = Desk::new(alloc, Line::new(client, post, porter), receipts, roots)?;
-    let line = Line::new(pushing, ends.post, ends.porter);
-    let pusher = Pusher::new(alloc, line, ends.take);
+    let desk = Desk::new(rt, line, receipts, roots)?;
+    let pusher = Pusher::new(rt, alloc, floor, pushing_line, pushing_take, rounds, output);
     let pushes = Pushes { rounds, bell };
     thread::scope(thread::scope_env(), rt, move |scope| {
         let writes = scope.spawn(move || write_all_replies(
             rt, alloc, floor, client, take, owed, output,
         ));
-        let pushed = scope.spawn(move || push_all(
-            rt, floor, pusher, client, rounds, heard, output,
-        ));
+        let pushed = scope.spawn(move || push_all(rt, pusher, client, heard));
         match (writes, pushed) {
             (Ok(writes), Ok(pushed)) => {
-                let read = read_all_messages(rt, alloc, floor, desk, pushes, input, output);
+                let read = read_all_messages(rt, desk, pushes, input, output);
                 floor.close(rt, pushing);
                 let written = writes.join(rt);
                 let pushed = pushed.join(rt);

@@ -245,7 +245,7 @@ where
         porter: &mut PorterEnd<S::Key>,
     ) -> Result<Carried, HallFault> {
         let moved = self.carry_one(rt, client, porter)?;
-        Ok(carried(moved))
+        Ok(outcome_of(moved))
     }
 
     fn text(
@@ -273,7 +273,7 @@ where
 }
 
 /// What `moved` says of a post.
-fn carried<K: Drop>(moved: Moved<K>) -> Carried {
+fn outcome_of<K: Drop>(moved: Moved<K>) -> Carried {
     match moved {
         Moved::Edited(revision) => Carried::Edited(revision.number()),
         Moved::Ended => Carried::Ended,

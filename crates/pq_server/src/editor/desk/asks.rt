@@ -11,33 +11,28 @@ use pq_session::{Memory, ScriptFault, asked_file, renamed};
 use std::rt::Files;
 use std::sync::{Arc, Wait};
 
-impl<P: Drop + Send, C: Drop + Send, Q: Drop + Send> Desk<P, C, Q> {
+impl<F, H> Desk<'_, F, H>
+where
+    F: Floor<H>,
+    H: Wait + Files + AllocGlobal + Eprint + Clone + Drop,
+{
     /// Hands in `request`, about the file that its path has below the roots.
-    pub(super) fn ask<F, H>(
-        &mut self,
-        rt: &H,
-        floor: &F,
-        request: Request<ProtoKey>,
-    ) -> Result<Step, ScriptFault>
-    where
-        F: Floor<H, Post = P, Porter = C, Receipt = Q>,
-        H: Wait + Files + AllocGlobal,
-    {
+    pub(super) fn ask(&mut self, request: Request<ProtoKey>) -> Result<Step, ScriptFault> {
         let name = match asked_file(&request) {
-            Some(file) => self.name_of(rt, file)?,
-            None => return self.hand_in(rt, floor, Post::Ask(request)),
+            Some(file) => self.name_of(file)?,
+            None => return self.hand_in(Post::Ask(request)),
         };
         let request = renamed(self.alloc, request, name.as_str())?;
-        self.hand_in(rt, floor, Post::Ask(request))
+        self.hand_in(Post::Ask(request))
     }
 
     /// The name of the file at the path `/` and `file`.
-    fn name_of<H: Files + AllocGlobal>(&self, rt: &H, file: &str) -> Result<String, Memory> {
+    fn name_of(&self, file: &str) -> Result<String, Memory> {
         let path = joined(self.alloc, "/", file)?;
         if let Some(name) = self.documents.name_at(path.as_str()) {
             return Ok(String::from_str(self.alloc, name)?);
         }
-        let mut names = self.roots.names_of(rt, path.as_str())?;
+        let mut names = self.roots.names_of(self.rt, path.as_str())?;
         if names.is_empty() {
             return Ok(path);
         }
@@ -45,29 +40,20 @@ impl<P: Drop + Send, C: Drop + Send, Q: Drop + Send> Desk<P, C, Q> {
     }
 
     /// Hands in `post`. The receipt of a request goes to the writer.
-    pub(super) fn hand_in<F, H>(
-        &mut self,
-        rt: &H,
-        floor: &F,
-        post: Post<ProtoKey>,
-    ) -> Result<Step, ScriptFault>
-    where
-        F: Floor<H, Post = P, Porter = C, Receipt = Q>,
-        H: Wait,
-    {
-        match self.line.hand_in(rt, floor, post)? {
-            Handed::Asked(receipt) => self.owe(rt, receipt),
+    pub(super) fn hand_in(&mut self, post: Post<ProtoKey>) -> Result<Step, ScriptFault> {
+        match self.line.hand_in(post)? {
+            Handed::Asked(receipt) => self.owe(receipt),
             Handed::Closed => Ok(Step::Overtaken),
             _ => Ok(Step::GoesOn),
         }
     }
 
     /// Hands `receipt` to the writer.
-    fn owe<H: Wait>(&self, rt: &H, receipt: Q) -> Result<Step, ScriptFault> {
+    fn owe(&self, receipt: F::Receipt) -> Result<Step, ScriptFault> {
         let Ok(roots) = Arc::try_clone(&self.roots) else {
             return Err(ScriptFault::Memory);
         };
-        match self.receipts.send(rt, OwedReply { receipt, roots }) {
+        match self.receipts.send(self.rt, OwedReply { receipt, roots }) {
             Ok(()) => Ok(Step::GoesOn),
             Err(_) => Ok(Step::Overtaken),
         }

@@ -30,37 +30,30 @@ impl Made {
     }
 }
 
-impl<P: Drop + Send, C: Drop + Send, Q: Drop + Send> Desk<P, C, Q> {
+impl<F, H> Desk<'_, F, H>
+where
+    F: Floor<H>,
+    H: Wait + Files + AllocGlobal + Eprint + Clone + Drop,
+{
     /// Makes the edit `change` of the document of `event`.
-    pub(super) fn edit<F, H>(
-        &mut self,
-        rt: &H,
-        floor: &F,
-        event: Event,
-        change: Change,
-    ) -> Result<Step, ScriptFault>
-    where
-        F: Floor<H, Post = P, Porter = C, Receipt = Q>,
-        H: Wait + Files + AllocGlobal + Eprint,
-    {
+    pub(super) fn edit(&mut self, event: Event, change: Change) -> Result<Step, ScriptFault> {
         let path = joined(self.alloc, "/", change.file.as_str())?;
         match event {
             Event::Opens { uri, version } => {
-                let document = self.document_at(rt, path, uri, version)?;
-                self.edit_document(rt, floor, document, change)
+                let document = self.document_at(path, uri, version)?;
+                self.edit_document(document, change)
             }
             Event::Changes { uri, version } => {
-                let document = self.document_at(rt, path, uri, version)?;
-                self.edit_document(rt, floor, document, change)
+                let document = self.document_at(path, uri, version)?;
+                self.edit_document(document, change)
             }
-            _ => self.remove(rt, floor, path.as_str()),
+            _ => self.remove(path.as_str()),
         }
     }
 
     /// The document at `path`, taken out of the open ones, or a new one.
-    fn document_at<H: Files + AllocGlobal>(
+    fn document_at(
         &mut self,
-        rt: &H,
         path: String,
         uri: String,
         version: Option<i64>,
@@ -68,7 +61,7 @@ impl<P: Drop + Send, C: Drop + Send, Q: Drop + Send> Desk<P, C, Q> {
         let mut document = match self.documents.take(path.as_str()) {
             Some(document) => document,
             None => {
-                let names = self.roots.names_of(rt, path.as_str())?;
+                let names = self.roots.names_of(self.rt, path.as_str())?;
                 self.documents.fresh(path, uri, names)
             }
         };
@@ -77,17 +70,7 @@ impl<P: Drop + Send, C: Drop + Send, Q: Drop + Send> Desk<P, C, Q> {
     }
 
     /// Makes the edit `change` of `document`, and puts it among the open ones.
-    fn edit_document<F, H>(
-        &mut self,
-        rt: &H,
-        floor: &F,
-        document: Document,
-        change: Change,
-    ) -> Result<Step, ScriptFault>
-    where
-        F: Floor<H, Post = P, Porter = C, Receipt = Q>,
-        H: Wait + Files + AllocGlobal + Eprint,
-    {
+    fn edit_document(&mut self, document: Document, change: Change) -> Result<Step, ScriptFault> {
         let mut document = document;
         let before = match &document.text {
             Some(text) => Some(text.as_str()),
@@ -95,31 +78,22 @@ impl<P: Drop + Send, C: Drop + Send, Q: Drop + Send> Desk<P, C, Q> {
         };
         let text = text_after(self.alloc, before, change.body)?;
         document.text = text;
-        let goes_on = self.send_text(rt, floor, &mut document)?;
+        let goes_on = self.send_text(&mut document)?;
         self.documents.put(document)?;
         Ok(step_of(goes_on))
     }
 
     /// Sets the files of `document` to its text. A text that is too long leaves a line, and its files
     /// are absent. Returns whether the session goes on.
-    fn send_text<F, H>(
-        &mut self,
-        rt: &H,
-        floor: &F,
-        document: &mut Document,
-    ) -> Result<bool, ScriptFault>
-    where
-        F: Floor<H, Post = P, Porter = C, Receipt = Q>,
-        H: Wait + Files + AllocGlobal + Eprint,
-    {
+    fn send_text(&mut self, document: &mut Document) -> Result<bool, ScriptFault> {
         let was_kept = document.is_kept;
         document.is_kept = has_room(document);
         if !document.is_kept && was_kept {
-            say(rt, document.path.as_str(), &Failure::TextTooLong);
+            say(self.rt, document.path.as_str(), &Failure::TextTooLong);
         }
         let mut goes_on = true;
         for index in 0..document.names.len() {
-            goes_on = goes_on && self.send_name(rt, floor, document, index)?;
+            goes_on = goes_on && self.send_name(document, index)?;
         }
         if !document.is_kept && was_kept {
             self.forget(document)?;
@@ -129,17 +103,7 @@ impl<P: Drop + Send, C: Drop + Send, Q: Drop + Send> Desk<P, C, Q> {
 
     /// Sets the file of the name `index` of `document` to its text. Returns whether the session goes
     /// on.
-    fn send_name<F, H>(
-        &mut self,
-        rt: &H,
-        floor: &F,
-        document: &mut Document,
-        index: usize,
-    ) -> Result<bool, ScriptFault>
-    where
-        F: Floor<H, Post = P, Porter = C, Receipt = Q>,
-        H: Wait + Files + AllocGlobal + Eprint,
-    {
+    fn send_name(&mut self, document: &mut Document, index: usize) -> Result<bool, ScriptFault> {
         let Some(name) = document.names.get(index) else {
             return Ok(true);
         };
@@ -147,7 +111,7 @@ impl<P: Drop + Send, C: Drop + Send, Q: Drop + Send> Desk<P, C, Q> {
             Some(text) if document.is_kept => Some(String::from_str(self.alloc, text.as_str())?),
             _ => None,
         };
-        let made = self.set_file(rt, floor, name.as_str(), text, Durability::Low)?;
+        let made = self.set_file(name.as_str(), text, Durability::Low)?;
         if made == Made::Refused {
             document.is_kept = false;
         }
@@ -163,20 +127,16 @@ impl<P: Drop + Send, C: Drop + Send, Q: Drop + Send> Desk<P, C, Q> {
     }
 
     /// Removes the document at `path`, and its files.
-    fn remove<F, H>(&mut self, rt: &H, floor: &F, path: &str) -> Result<Step, ScriptFault>
-    where
-        F: Floor<H, Post = P, Porter = C, Receipt = Q>,
-        H: Wait + Files + AllocGlobal + Eprint,
-    {
+    fn remove(&mut self, path: &str) -> Result<Step, ScriptFault> {
         let names = match self.documents.take(path) {
             Some(document) => {
                 self.forget(&document)?;
                 document.names
             }
-            None => self.roots.names_of(rt, path)?,
+            None => self.roots.names_of(self.rt, path)?,
         };
         for name in names {
-            let made = self.set_file(rt, floor, name.as_str(), None, Durability::Low)?;
+            let made = self.set_file(name.as_str(), None, Durability::Low)?;
             if !made.goes_on() {
                 return Ok(Step::Overtaken);
             }
@@ -185,28 +145,22 @@ impl<P: Drop + Send, C: Drop + Send, Q: Drop + Send> Desk<P, C, Q> {
     }
 
     /// Sets the file `name` to `text`, or removes it. A file too many leaves a line.
-    pub(super) fn set_file<F, H>(
+    pub(super) fn set_file(
         &mut self,
-        rt: &H,
-        floor: &F,
         name: &str,
         text: Option<String>,
         durability: Durability,
-    ) -> Result<Made, ScriptFault>
-    where
-        F: Floor<H, Post = P, Porter = C, Receipt = Q>,
-        H: Wait + AllocGlobal + Eprint,
-    {
+    ) -> Result<Made, ScriptFault> {
         if !self.known.contains(name) {
             if text.is_none() {
                 return Ok(Made::Set);
             }
-            if !self.learn(rt, name)? {
+            if !self.learn(name)? {
                 return Ok(Made::Refused);
             }
         }
         let change = change_to(self.alloc, name, text, durability)?;
-        match self.line.hand_in(rt, floor, Post::Edit(change))? {
+        match self.line.hand_in(Post::Edit(change))? {
             Handed::Edited(revision) => {
                 self.revision = revision;
                 self.has_moved = true;
@@ -218,7 +172,7 @@ impl<P: Drop + Send, C: Drop + Send, Q: Drop + Send> Desk<P, C, Q> {
 
     /// Adds `name` to the names that are known. Returns whether there is room for it. The first name
     /// without room leaves a line.
-    fn learn<H: Eprint>(&mut self, rt: &H, name: &str) -> Result<bool, Memory> {
+    fn learn(&mut self, name: &str) -> Result<bool, Memory> {
         if self.known.len() < MAX_FILES {
             let name = String::from_str(self.alloc, name)?;
             return match self.known.insert(name) {
@@ -228,35 +182,26 @@ impl<P: Drop + Send, C: Drop + Send, Q: Drop + Send> Desk<P, C, Q> {
         }
         if !self.has_said_too_many {
             self.has_said_too_many = true;
-            say(rt, name, &Failure::TooManyFiles);
+            say(self.rt, name, &Failure::TooManyFiles);
         }
         Ok(false)
     }
 
     /// Does what a notification asks for that makes no edit of its own.
-    pub(super) fn notice<F, H>(
-        &mut self,
-        rt: &H,
-        floor: &F,
-        event: Event,
-    ) -> Result<Step, ScriptFault>
-    where
-        F: Floor<H, Post = P, Porter = C, Receipt = Q>,
-        H: Wait + Files + AllocGlobal + Eprint,
-    {
+    pub(super) fn notice(&mut self, event: Event) -> Result<Step, ScriptFault> {
         match event {
             Event::Ready => self.is_ready = true,
             Event::Closes { uri } => {
-                let goes_on = self.close(rt, floor, uri.as_str())?;
+                let goes_on = self.close(uri.as_str())?;
                 return Ok(step_of(goes_on));
             }
             Event::Saves { uri } => {
-                let goes_on = self.read_again(rt, floor, uri.as_str())?;
+                let goes_on = self.read_again(uri.as_str())?;
                 return Ok(step_of(goes_on));
             }
             Event::Touches(uris) => {
                 for uri in uris {
-                    if !self.read_again(rt, floor, uri.as_str())? {
+                    if !self.read_again(uri.as_str())? {
                         return Ok(Step::Overtaken);
                     }
                 }
@@ -279,11 +224,7 @@ impl<P: Drop + Send, C: Drop + Send, Q: Drop + Send> Desk<P, C, Q> {
 
     /// Closes the document of `uri`: its files have the texts on disk again, or are absent. Returns
     /// whether the session goes on.
-    fn close<F, H>(&mut self, rt: &H, floor: &F, uri: &str) -> Result<bool, ScriptFault>
-    where
-        F: Floor<H, Post = P, Porter = C, Receipt = Q>,
-        H: Wait + Files + AllocGlobal + Eprint,
-    {
+    fn close(&mut self, uri: &str) -> Result<bool, ScriptFault> {
         let Some(path) = self.path_of(uri)? else {
             return Ok(true);
         };
@@ -291,15 +232,11 @@ impl<P: Drop + Send, C: Drop + Send, Q: Drop + Send> Desk<P, C, Q> {
             return Ok(true);
         };
         self.forget(&document)?;
-        self.read_names(rt, floor, document.names)
+        self.read_names(document.names)
     }
 
     /// Reads the file of `uri` again, unless it is open. Returns whether the session goes on.
-    fn read_again<F, H>(&mut self, rt: &H, floor: &F, uri: &str) -> Result<bool, ScriptFault>
-    where
-        F: Floor<H, Post = P, Porter = C, Receipt = Q>,
-        H: Wait + Files + AllocGlobal + Eprint,
-    {
+    fn read_again(&mut self, uri: &str) -> Result<bool, ScriptFault> {
         let Some(path) = self.path_of(uri)? else {
             return Ok(true);
         };
@@ -307,27 +244,18 @@ impl<P: Drop + Send, C: Drop + Send, Q: Drop + Send> Desk<P, C, Q> {
             return Ok(true);
         }
         let names = self.roots.names_below(self.alloc, path.as_str())?;
-        self.read_names(rt, floor, names)
+        self.read_names(names)
     }
 
     /// Sets the files of `names` that no open document has to their texts on disk. Returns whether the
     /// session goes on.
-    fn read_names<F, H>(
-        &mut self,
-        rt: &H,
-        floor: &F,
-        names: Vec<String>,
-    ) -> Result<bool, ScriptFault>
-    where
-        F: Floor<H, Post = P, Porter = C, Receipt = Q>,
-        H: Wait + Files + AllocGlobal + Eprint,
-    {
+    fn read_names(&mut self, names: Vec<String>) -> Result<bool, ScriptFault> {
         for name in names {
             if self.documents.has_name(name.as_str()) {
                 continue;
             }
-            let text = text_of(rt, &self.roots, name.as_str())?;
-            let made = self.set_file(rt, floor, name.as_str(), text, Durability::High)?;
+            let text = text_of(self.rt, &self.roots, name.as_str())?;
+            let made = self.set_file(name.as_str(), text, Durability::High)?;
             if !made.goes_on() {
                 return Ok(false);
             }

@@ -8,19 +8,14 @@ use pq_session::{Greeting, Memory, Root, ScriptFault};
 use std::rt::Files;
 use std::sync::Wait;
 
-impl<P: Drop + Send, C: Drop + Send, Q: Drop + Send> Desk<P, C, Q> {
+impl<F, H> Desk<'_, F, H>
+where
+    F: Floor<H>,
+    H: Wait + Files + AllocGlobal + Eprint + Clone + Drop,
+{
     /// Takes the roots of `greeting`, or those of the command line, and reads the files below them.
     /// Returns whether the session goes on.
-    pub(super) fn greet<F, H>(
-        &mut self,
-        rt: &H,
-        floor: &F,
-        greeting: Greeting,
-    ) -> Result<bool, ScriptFault>
-    where
-        F: Floor<H, Post = P, Porter = C, Receipt = Q>,
-        H: Wait + Files + AllocGlobal + Eprint + Clone + Drop,
-    {
+    pub(super) fn greet(&mut self, greeting: Greeting) -> Result<bool, ScriptFault> {
         self.takes_pushes = !greeting.pulls;
         self.can_watch = greeting.watches;
         let list = self.roots_of(greeting.roots)?;
@@ -28,7 +23,7 @@ impl<P: Drop + Send, C: Drop + Send, Q: Drop + Send> Desk<P, C, Q> {
         self.roots = shared(self.alloc, roots)?;
         for index in 0..self.roots.len() {
             if let Some(folder) = self.roots.folder(self.alloc, index)? {
-                if !self.read_folder(rt, floor, folder.as_str())? {
+                if !self.read_folder(folder.as_str())? {
                     return Ok(false);
                 }
             }
@@ -48,13 +43,9 @@ impl<P: Drop + Send, C: Drop + Send, Q: Drop + Send> Desk<P, C, Q> {
 
     /// Sets the files below `folder` whose names no earlier root has. Returns whether the session goes
     /// on.
-    fn read_folder<F, H>(&mut self, rt: &H, floor: &F, folder: &str) -> Result<bool, ScriptFault>
-    where
-        F: Floor<H, Post = P, Porter = C, Receipt = Q>,
-        H: Wait + Files + AllocGlobal + Eprint + Clone + Drop,
-    {
-        for name in names_in(rt, folder)? {
-            if !self.read_file(rt, floor, folder, name.as_str())? {
+    fn read_folder(&mut self, folder: &str) -> Result<bool, ScriptFault> {
+        for name in names_in(self.rt, folder)? {
+            if !self.read_file(folder, name.as_str())? {
                 return Ok(false);
             }
         }
@@ -63,23 +54,13 @@ impl<P: Drop + Send, C: Drop + Send, Q: Drop + Send> Desk<P, C, Q> {
 
     /// Sets the file `name` below `folder`, if no earlier root has it and it can be read. Returns
     /// whether the session goes on.
-    fn read_file<F, H>(
-        &mut self,
-        rt: &H,
-        floor: &F,
-        folder: &str,
-        name: &str,
-    ) -> Result<bool, ScriptFault>
-    where
-        F: Floor<H, Post = P, Porter = C, Receipt = Q>,
-        H: Wait + Files + AllocGlobal + Eprint + Clone + Drop,
-    {
+    fn read_file(&mut self, folder: &str, name: &str) -> Result<bool, ScriptFault> {
         if self.known.contains(name) {
             return Ok(true);
         }
-        match file_in(rt, folder, name)? {
+        match file_in(self.rt, folder, name)? {
             Some(text) => {
-                let made = self.set_file(rt, floor, name, Some(text), Durability::High)?;
+                let made = self.set_file(name, Some(text), Durability::High)?;
                 Ok(made.goes_on())
             }
             None => Ok(true),
