@@ -3,7 +3,8 @@ import os
 import subprocess
 
 from messages import frame
-from stdio_client import LONGEST, Editor, Failed, check, uri_of
+from server_process import LONGEST, Failed, check, uri_of
+from stdio_client import Editor
 from stdio_files import rooted
 from stdio_lists import BAD, GOOD, at, begun
 

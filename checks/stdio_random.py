@@ -3,7 +3,8 @@ import json
 import os
 import random
 
-from stdio_client import Failed, check, check_versions, shown_by_rights, write
+from server_process import Failed, check, write
+from stdio_client import check_versions, shown_by_rights
 from stdio_files import CHANGED, CREATED, DELETED
 from stdio_lists import HEAD, PULLS, at, begun
 
