@@ -28,9 +28,9 @@ stated by the contracts of what a function calls, so no edit hides another. An e
 names a goal or an answer of the very function that it changes. An edit can bring answers of that function. Each other edit is
 tried alone, and is let through if the whole crate is proved with it. A refusal by a name that the edit took away does not count.
 
-An edit that fails a test has a line `tests:` with the crate of the test, or with `stdio` for rows of checks/stdio.py. With `--tests`
-these edits are tried, and no others: each in a run of that crate's tests without a proof, or of those rows over a program without a
-proof. A test or a row that `clause` names has to fail.
+An edit that fails a test has a line `tests:` with the crate of the test, or with `stdio` or `listen` for rows of the script of that
+name in checks/. With `--tests` these edits are tried, and no others: each in a run of that crate's tests without a proof, or of those
+rows over a program without a proof. A test or a row that `clause` names has to fail.
 
 Printed are, for each edit, whether it was refused, the processor seconds, and what was refused first.
 The status is 1 if an edit was let through or could not be tried.
@@ -60,7 +60,7 @@ PARTS = ["src", "specs", "proofs"]
 BY_NAME = r"has no field|is not in scope|has no `|was not admitted"
 NAME_ALONE = "by a name alone: "
 TESTED = "fails a test"
-ROWS = "stdio"
+ROWS = ("stdio", "listen")
 VERDICTS = ["refused", "refused in the gate", "refused in a review", "not tried", TESTED]
 
 
@@ -349,14 +349,14 @@ def run_tests(room, edit):
     return {it[1]: it[2] == "ok" for it in found if it}, lines[-1]
 
 
-def run_rows(room, names):
-    """What a run of these rows of checks/stdio.py says, over a program that is built in the room without a proof."""
+def run_rows(room, script, names):
+    """What a run of these rows of a script of checks/ says, over a program that is built in the room without a proof."""
     program = os.path.join(room, "pq_server")
     build = [sys.executable, os.path.join(TOP, "bench", "unproved.py"), program, "--quick", "--crate", os.path.join(room, "crates", "pq_server")]
     ran = subprocess.run(build, stdin=subprocess.DEVNULL, stdout=subprocess.PIPE, stderr=subprocess.STDOUT, text=True, errors="replace")
     if ran.returncode != 0:
         return {}, ran.stdout.strip()[-200:]
-    rows = [sys.executable, os.path.join(HERE, "stdio.py"), "--program", program, "--only", *names]
+    rows = [sys.executable, os.path.join(HERE, script + ".py"), "--program", program, "--only", *names]
     ran = subprocess.run(rows, stdin=subprocess.DEVNULL, stdout=subprocess.PIPE, stderr=subprocess.STDOUT, text=True, errors="replace")
     lines = [it for it in ran.stdout.split("\n") if it.strip()] or ["it printed nothing"]
     found = (re.match(r"(ok|FAILED) +(\w+) ", line) for line in lines)
@@ -364,7 +364,7 @@ def run_rows(room, names):
 
 
 def fails_a_test(crate, edit):
-    """Whether a test of the edit's crate of tests, or a row of checks/stdio.py, fails with it, and what the run said last."""
+    """Whether a test of the edit's crate of tests, or a row of a script, fails with it, and what the run said last."""
     with tempfile.TemporaryDirectory(prefix="edits-") as room:
         for name in ["crates.txt", "HANDLES"]:
             shutil.copy(os.path.join(TOP, name), room)
@@ -375,7 +375,7 @@ def fails_a_test(crate, edit):
             return False, "it cannot be applied: " + why
         written(os.path.join(room, "crates", crate), texts)
         named = re.findall(r"`([\w:]+)`", edit.clause)
-        passed, last = run_rows(room, named) if edit.tests == ROWS else run_tests(room, edit)
+        passed, last = run_rows(room, edit.tests, named) if edit.tests in ROWS else run_tests(room, edit)
         if not any(name in passed for name in named):
             return False, "the test did not run: " + last[:200]
         failed = [name for name in named if not passed.get(name, True)]

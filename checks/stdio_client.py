@@ -4,9 +4,9 @@ import os
 import subprocess
 import threading
 import time
-import urllib.parse
 
 from messages import bodies_of, frame
+from server_process import LONGEST, Failed, Server, check, uri_of
 
 PULL = "textDocument/diagnostic"
 PUSH = "textDocument/publishDiagnostics"
@@ -15,45 +15,22 @@ REQUEST_CANCELLED = -32800
 # The codes that are shown with less weight in a file of which an import is not read, and their severity there.
 MAY_FOLLOW = ("P104", "P150")
 INFORMATION = 3
-# How long a message may take to come, and how long it is quiet before no further one is expected, in seconds.
-LONGEST = 60.0
+# How long it is quiet before no further message is expected, in seconds.
 QUIET = 0.4
 
 
-# The servers that were started.
-SERVERS = []
-
-
-class Failed(Exception):
-    """A row does not hold."""
-
-
-def uri_of(path):
-    return "file://" + urllib.parse.quote(path)
-
-
-def check(found, wanted, what):
-    if found != wanted:
-        raise Failed("%s: found %s, wanted %s" % (what, json.dumps(found), json.dumps(wanted)))
-
-
-class Editor:
+class Editor(Server):
     """A session with a server on its standard streams. It has begun, unless `params` is None."""
 
     def __init__(self, program, *words, params=(), capabilities=None, begins=True):
-        self.server = subprocess.Popen([program, "stdio", *words], stdin=subprocess.PIPE, stdout=subprocess.PIPE,
-                                       stderr=subprocess.PIPE)
-        SERVERS.append(self.server)
-        self.news = threading.Condition()
+        super().__init__([program, "stdio", *words], subprocess.PIPE)
         # Replies by their ids, lists by their URIs in the order in which they came, and requests of the server.
         self.replies, self.pushed, self.requests, self.last_news = {}, [], [], time.monotonic()
-        self.printed, self.has_ended, self.next, self.versions = b"", False, 0, {}
+        self.next, self.versions = 0, {}
         # While it is cleared, what the server writes is left in the pipe.
         self.reads = threading.Event()
         self.reads.set()
-        self.threads = [threading.Thread(target=work, daemon=True) for work in (self.read_output, self.read_errors)]
-        for thread in self.threads:
-            thread.start()
+        self.start(self.read_output, self.read_errors)
         if begins:
             self.first = self.ask("initialize", dict(params, capabilities=capabilities or {}))
             self.say("initialized", {})
@@ -92,19 +69,6 @@ class Editor:
             self.requests.append(body)
         else:
             self.pushed.append(body["params"] if body["method"] == PUSH else body)
-
-    def read_errors(self):
-        for line in iter(self.server.stderr.readline, b""):
-            with self.news:
-                self.printed += line
-                self.news.notify_all()
-
-    def wait_for(self, holds, what):
-        """Waits until `holds()` is true."""
-        with self.news:
-            if not self.news.wait_for(lambda: holds() or self.has_ended, LONGEST) or not holds():
-                raise Failed("%s: nothing came%s; standard error has %r"
-                             % (what, " before the end" if self.has_ended else "", self.printed.decode(errors="replace")))
 
     def be_read(self):
         """Waits until the server has done what was sent: it answers a request after that."""
@@ -205,13 +169,6 @@ class Editor:
         except Failed as why:
             raise Failed("%s\n    shown %s\n    wanted %s" % (why, codes(self.shown(path)), wanted.split()))
 
-    def lines(self):
-        with self.news:
-            return self.printed.decode(errors="replace").splitlines()
-
-    def wait_for_lines(self, count):
-        self.wait_for(lambda: len(self.lines()) >= count, "%d lines of standard error" % count)
-
     # ---- the end
 
     def ended(self):
@@ -221,13 +178,7 @@ class Editor:
                 self.server.stdin.close()
             except BrokenPipeError:
                 pass
-        try:
-            status = self.server.wait(LONGEST)
-        except subprocess.TimeoutExpired:
-            raise Failed("the server does not end")
-        for thread in self.threads:
-            thread.join(LONGEST)
-        return status, self.lines()
+        return self.left()
 
     def end(self, *wanted):
         """Ends the session in order. Standard error has to have the lines `wanted`, each given by texts that it has."""
@@ -238,14 +189,6 @@ class Editor:
         is_right = len(lines) == len(wanted) and all(all(text in line for text in texts) for line, texts in zip(lines, wanted))
         if not is_right:
             raise Failed("the lines of standard error are %r, wanted %r" % (lines, wanted))
-
-
-def end_servers():
-    """Ends each server that still runs, as after a row that does not hold."""
-    for server in SERVERS:
-        server.kill()
-        server.wait()
-    SERVERS.clear()
 
 
 def codes(items):
@@ -311,12 +254,3 @@ def check_versions(program, editor, folder, states):
             if pushed["diagnostics"] not in wanted:
                 raise Failed("the list of %s with the version %d is %s, which is right at no moment of that version; right are %s"
                              % (name, pushed["version"], codes(pushed["diagnostics"]), [codes(it) for it in wanted]))
-
-
-def write(folder, files):
-    """Writes files, by their names below a folder."""
-    for name, text in files.items():
-        path = os.path.join(folder, name)
-        os.makedirs(os.path.dirname(path), exist_ok=True)
-        with open(path, "w", encoding="utf-8", newline="") as sink:
-            sink.write(text)

@@ -4,7 +4,8 @@ import subprocess
 import time
 
 from messages import frame
-from stdio_client import LONGEST, SERVERS, Editor, Failed, check, uri_of
+from server_process import LONGEST, SERVERS, Failed, check, uri_of
+from stdio_client import Editor
 from stdio_files import rooted
 from stdio_lists import BAD, GOOD, at, begun
 

@@ -1,7 +1,8 @@
 """Rows of `checks/stdio.py`: root folders, the files on the disk, and what is done where a file cannot be read or taken."""
 import os
 
-from stdio_client import Editor, check, codes, shown_by_rights, uri_of, write
+from server_process import check, uri_of, write
+from stdio_client import Editor, codes, shown_by_rights
 from stdio_lists import BAD, GOOD, HEAD, at, begun
 
 MOST_BYTES = 1_048_576

@@ -1,13 +1,12 @@
 """Rows of `checks/stdio.py`: which lists of diagnostics an editor gets, when, and with which severities."""
 import json
 import os
-import socket
-import subprocess
 import threading
 
-from messages import frame, read_body
-from stdio_client import (CONTENT_MODIFIED, LONGEST, PULL, REQUEST_CANCELLED, Editor, Failed, check, check_versions, codes,
-                          scripted, shown_by_rights, uri_of, write)
+from listen_client import Listener
+from messages import frame
+from server_process import LONGEST, Failed, check, uri_of, write
+from stdio_client import CONTENT_MODIFIED, PULL, REQUEST_CANCELLED, Editor, check_versions, codes, scripted, shown_by_rights
 
 HEAD = 'syntax = "proto3";\n'
 GOOD = HEAD + "message M { int32 x = 1; }\n"
@@ -199,21 +198,11 @@ def severities_elsewhere(place):
     items = scripted(place.program, files)["user.proto"]
     check([(it["code"], it["severity"]) for it in items], [("P104", 1), ("P150", 1)], "by script")
     write(place.folder, files)
-    words = [place.program, "listen", "--port", "0", "--workers", "1", "--sessions", "1", "--lib", place.folder]
-    server = subprocess.Popen(words, stdout=subprocess.PIPE, stderr=subprocess.DEVNULL)
-    try:
-        port = int(server.stdout.readline().split(b":")[1])
-        with socket.create_connection(("127.0.0.1", port), LONGEST) as end, end.makefile("rb") as source:
-            end.sendall(frame({"jsonrpc": "2.0", "id": 0, "method": "initialize", "params": {}}))
-            document = {"uri": "file:///user.proto"}
-            end.sendall(frame({"jsonrpc": "2.0", "id": 1, "method": PULL, "params": {"textDocument": document}}))
-            read_body(source)
-            found = json.loads(read_body(source))["result"]["items"]
-        check(found, items, "by listen")
-        check(server.wait(LONGEST), 0, "the status of listen")
-    finally:
-        server.kill()
-        server.wait()
+    server = Listener(place, "--sessions", "1", "--lib", place.folder)
+    client = server.begun()
+    check(client.pull("user.proto"), items, "by listen")
+    client.leave()
+    server.end()
 
 
 def withdrawn(place):

@@ -3,9 +3,10 @@ import json
 import os
 import random
 
-from stdio_client import Failed, check, check_versions, shown_by_rights, write
+from server_process import Failed, check, write
+from stdio_client import check_versions, shown_by_rights
 from stdio_files import CHANGED, CREATED, DELETED, rooted
-from stdio_lists import HEAD, PULLS, at, begun
+from stdio_lists import PULLS, at, begun
 
 NAMES = ["a.proto", "b.proto", "c.proto", "x/d.proto", "x/e.proto", "x/y/f.proto"]
 # The folder of some of them, which is a root too in the second row.
