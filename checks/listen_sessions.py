@@ -143,13 +143,14 @@ def lingering(place):
 def oldest_is_cut(place):
     """Of 65 sessions that linger the oldest is cut, and no other; they keep no client out."""
     server = Listener(place, "--sessions", str(MOST_LINGERING + 2))
+    first, *others = [server.begun() for _ in range(MOST_OPEN)]
     start = time.monotonic()
-    lingering_ones = []
-    while len(lingering_ones) <= MOST_LINGERING:
-        lingering_ones.append(ended_by_an_error(server, is_first=not lingering_ones))
-        be_within(LINGERING * 0.5, start, "65 sessions did not end within")
+    end_by_errors(first)
+    be_lingering(first)
+    end_by_errors(*others)
+    others.append(server.connected())
+    end_by_errors(others[-1])
     client = server.begun()
-    first, *others = lingering_ones
     while not first.is_cut():
         be_within(LINGERING * 0.75, start, "the first of 65 that linger was not cut within")
         time.sleep(0.02)
@@ -159,20 +160,24 @@ def oldest_is_cut(place):
     cut = [number for number, other in enumerate(others, 1) if other.is_cut()]
     be_within(LINGERING * 0.95, start, "whether another one was cut was not seen within")
     check(cut, [], "which others are cut")
-    for it in [client, *lingering_ones]:
+    for it in [client, first, *others]:
         it.close()
-    server.end(*(NO_LENGTH % number for number in range(MOST_LINGERING + 1)))
+    status, lines = server.left()
+    check(sorted(lines), sorted(NO_LENGTH % number for number in range(MOST_LINGERING + 1)), "the lines of standard error")
+    check(status, 0, "the status")
 
 
-def ended_by_an_error(server, is_first):
-    """A client whose session has ended, since it sent a header part without a length. If `is_first`, it lingers already."""
-    client = server.connected()
-    client.send(b"\r\n")
-    client.be_ended("after a header part without a length")
-    if is_first:
-        # Nothing but a session that lingers takes this in.
-        try:
-            client.send(bytes(MORE_THAN_HELD))
-        except OSError as failed:
-            raise TooSlow("the first session did not take in what its client sent on: %s" % failed)
-    return client
+def end_by_errors(*clients):
+    """The sessions of these clients end, since each sends a header part without a length."""
+    for client in clients:
+        client.send(b"\r\n")
+    for client in clients:
+        client.be_ended("after a header part without a length")
+
+
+def be_lingering(client):
+    """Waits until the session lingers: nothing else takes in what its client sends after the end."""
+    try:
+        client.send(bytes(MORE_THAN_HELD))
+    except OSError as failed:
+        raise TooSlow("the first session did not take in what its client sent on: %s" % failed)
