@@ -2,6 +2,7 @@
 import json
 import os
 import threading
+import time
 
 from listen_client import Listener
 from messages import frame
@@ -108,6 +109,25 @@ def closed_together(place):
         editor.change(paths[0], BAD + path)
     for path in paths[1:]:
         editor.expect(path, [], "after the closes")
+    editor.end()
+
+
+def closed_while_busy(place):
+    """A document that is closed while the server writes a long list gets its empty list, though an edit comes before that is written."""
+    editor, paths = begun(place), [at(place, "%d.proto" % n) for n in range(3)]
+    for path in paths:
+        editor.open(path, BAD)
+    for path in paths:
+        editor.expect_codes(path, "P120", "while it is open")
+    editor.reads.clear()
+    editor.change(paths[0], BAD + 3000 * "message M { int32 x = 0; }\n")
+    time.sleep(1)
+    for step in (lambda: editor.close(paths[1]), lambda: editor.change(paths[2], GOOD)):
+        step()
+        time.sleep(0.3)
+    editor.reads.set()
+    editor.expect(paths[1], [], "after the close")
+    editor.expect(paths[2], [], "after the change")
     editor.end()
 
 
