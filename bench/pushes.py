@@ -48,11 +48,12 @@ class Editor:
             self.came.put((time.perf_counter(), json.loads(self.server.stdout.read(length))))
 
     def send(self, method, params, **more):
-        """Sends a message. Returns the time."""
+        """Sends a message. Returns the time before that."""
         body = json.dumps({"jsonrpc": "2.0", "method": method, "params": params, **more}).encode()
+        before = time.perf_counter()
         self.server.stdin.write(b"Content-Length: %d\r\n\r\n" % len(body) + body)
         self.server.stdin.flush()
-        return time.perf_counter()
+        return before
 
     def wait(self, seconds=LIMIT):
         """The time of the next message, or None if none comes."""
