@@ -17,7 +17,6 @@ mod line;
 mod output;
 mod pusher;
 mod reader;
-mod replies;
 mod roots;
 mod rounds;
 mod session;

@@ -6,12 +6,11 @@ use crate::editor::line::Line;
 use crate::editor::output::Output;
 use crate::editor::pusher::{Pusher, push_all};
 use crate::editor::reader::{Pushes, read_all_messages};
-use crate::editor::replies::{EditorTexts, Replies};
 use crate::editor::rounds::Rounds;
 use crate::editor::writer::write_all_replies;
 use crate::library::no_library;
-use crate::serving::floor::{Ends, Works};
-use pq_hall::{BoardName, Client, Gate, Hall, NewBoard, OneValue};
+use crate::serving::floor::{Floor, Texts, Works};
+use pq_hall::{BoardName, Gate, Hall, NewBoard, OneValue};
 use pq_inputs::Inputs;
 use pq_proto::ProtoRules;
 use pq_session::{Root, ScriptFault};
@@ -21,7 +20,7 @@ use std::marker::Brand;
 use std::rt::Files;
 use std::sync::Wait;
 use std::thread;
-use std::thread::Threads;
+use std::thread::{Scope, Threads};
 
 /// The receipts that may wait for the writer.
 const RECEIPTS: usize = 32;
@@ -34,9 +33,6 @@ pub(crate) struct Setup {
     /// The roots that the command line names.
     pub(crate) roots: Vec<Root>,
 }
-
-/// A client of a hall and the ends of its mailboxes.
-type Joined<P, C, T> = (Client, Ends<P, C, T>);
 
 /// Serves one editor from `input` to `output`. Each work passes `gate` before it is carried out.
 ///
@@ -80,7 +76,7 @@ fn serve_in<S, J, R, I, W, G>(
     gate: &G,
 ) -> Result<u8, ScriptFault>
 where
-    S: EditorTexts + OneValue + Send + Sync + 'static,
+    S: Texts + OneValue + Send + Sync + 'static,
     S::Key: Send + Sync,
     S::Value: Send + Sync,
     S::Part: Send,
@@ -109,7 +105,7 @@ fn run<F, R, I, W, G>(
     gate: &G,
 ) -> Result<u8, ScriptFault>
 where
-    F: Replies<R> + Works<G, R>,
+    F: Floor<R> + Works<G, R>,
     R: Threads + Wait + Files + AllocGlobal + Eprint + Clone + Drop + Sync,
     I: Read + Drop,
     W: Write + Copy + Send + Sync,
@@ -143,74 +139,74 @@ fn run_clients<F, R, I, W>(
     roots: Vec<Root>,
 ) -> Result<u8, ScriptFault>
 where
-    F: Replies<R>,
+    F: Floor<R>,
     R: Threads + Wait + Files + AllocGlobal + Eprint + Clone + Drop + Sync,
     I: Read + Drop,
     W: Write + Copy + Send + Sync,
 {
-    let Ok(editor) = floor.join(rt) else {
-        return Err(ScriptFault::Memory);
-    };
-    let Ok(pusher) = floor.join(rt) else {
-        return Err(ScriptFault::Memory);
-    };
     let output = Output::new(alloc, output);
+    let output = &output;
     let rounds = Rounds::new();
-    run_threads(
-        rt, alloc, floor, editor, pusher, &rounds, input, &output, roots,
-    )
+    let rounds = &rounds;
+    thread::scope(thread::scope_env(), rt, move |scope| {
+        run_in(scope, rt, alloc, floor, rounds, input, output, roots)
+    })
 }
 
-/// Reads on this thread, and writes and pushes on two others. Returns when all three have ended.
-fn run_threads<F, R, I, W>(
-    rt: &R,
+/// Opens both clients, and runs the threads of the session.
+fn run_in<'s, E, F, R, I, W>(
+    scope: &Scope<'s, E>,
+    rt: &'s R,
     alloc: Global,
-    floor: &F,
-    editor: Joined<F::Post, F::Porter, F::Take>,
-    pusher: Joined<F::Post, F::Porter, F::Take>,
-    rounds: &Rounds,
+    floor: &'s F,
+    rounds: &'s Rounds,
     input: I,
-    output: &Output<W>,
+    output: &'s Output<W>,
     roots: Vec<Root>,
 ) -> Result<u8, ScriptFault>
 where
-    F: Replies<R>,
+    F: Floor<R>,
+    F::Post: 's,
+    F::Porter: 's,
+    F::Take: 's,
+    F::Receipt: 's,
     R: Threads + Wait + Files + AllocGlobal + Eprint + Clone + Drop + Sync,
     I: Read + Drop,
-    W: Write + Copy + Send + Sync,
+    W: Write + Copy + Send + Sync + 's,
 {
-    let (client, ends) = editor;
+    let Ok((client, ends)) = floor.join(rt) else {
+        return Err(ScriptFault::Memory);
+    };
     let (line, take) = Line::new(rt, floor, client, ends);
-    let (pushing, ends) = pusher;
+    let Ok((pushing, ends)) = floor.join(rt) else {
+        return Err(ScriptFault::Memory);
+    };
     let (pushing_line, pushing_take) = Line::new(rt, floor, pushing, ends);
     let (receipts, owed) = crossbeam_channel::bounded(alloc, RECEIPTS)?;
     let (bell, heard) = crossbeam_channel::bounded(alloc, 1)?;
     let desk = Desk::new(rt, line, receipts, roots)?;
     let pusher = Pusher::new(rt, alloc, floor, pushing_line, pushing_take, rounds, output);
-    let pushes = Pushes { rounds, bell };
-    thread::scope(thread::scope_env(), rt, move |scope| {
-        let writes = scope.spawn(move || write_all_replies(
-            rt, alloc, floor, client, take, owed, output,
-        ));
-        let pushed = scope.spawn(move || push_all(rt, pusher, client, heard));
-        match (writes, pushed) {
-            (Ok(writes), Ok(pushed)) => {
-                let read = read_all_messages(rt, desk, pushes, input, output);
-                floor.close(rt, pushing);
-                let written = writes.join(rt);
-                let pushed = pushed.join(rt);
-                floor.close(rt, client);
-                outcome_of(written, pushed, read)
-            }
-            _ => {
-                drop(desk);
-                drop(pushes);
-                floor.close(rt, pushing);
-                floor.close(rt, client);
-                Err(ScriptFault::Memory)
-            }
+    let writes = scope.spawn(move || write_all_replies(
+        rt, alloc, floor, client, take, owed, output,
+    ));
+    let pushed = scope.spawn(move || push_all(rt, pusher, client, heard));
+    match (writes, pushed) {
+        (Ok(writes), Ok(pushed)) => {
+            let read = read_all_messages(rt, desk, Pushes { rounds, bell }, input, output);
+            floor.close(rt, pushing);
+            let written = writes.join(rt);
+            let pushed = pushed.join(rt);
+            floor.close(rt, client);
+            outcome_of(written, pushed, read)
         }
-    })
+        _ => {
+            drop(desk);
+            drop(bell);
+            floor.close(rt, pushing);
+            floor.close(rt, client);
+            Err(ScriptFault::Memory)
+        }
+    }
 }
 
 /// How a session ended: by the error of the writer or of the pusher, which end the reader too, or as
