@@ -1,7 +1,10 @@
 """An editor at `pq_server stdio`: what it sends, what it was sent, and what is right by `pq_server script`."""
+import fcntl
 import json
 import os
 import subprocess
+import sys
+import termios
 import threading
 import time
 
@@ -17,6 +20,8 @@ MAY_FOLLOW = ("P104", "P150")
 INFORMATION = 3
 # How long it is quiet before no further message is expected, in seconds.
 QUIET = 0.4
+# The bytes of a pipe that is as good as full.
+PIPE = 60000
 
 
 class Editor(Server):
@@ -80,6 +85,15 @@ class Editor(Server):
         with self.news:
             while time.monotonic() - self.last_news < QUIET:
                 self.news.wait(QUIET / 4)
+
+    def wait_until_full(self):
+        """Waits until the server waits for room in the pipe of its output. `reads` has to be cleared."""
+        end, there = time.monotonic() + LONGEST, bytes(4)
+        while int.from_bytes(there, sys.byteorder) < PIPE:
+            if time.monotonic() > end:
+                raise Failed("the server writes too little to fill a pipe")
+            time.sleep(0.02)
+            there = fcntl.ioctl(self.server.stdout.fileno(), termios.FIONREAD, bytes(4))
 
     # ---- what is sent
 

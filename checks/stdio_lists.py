@@ -120,8 +120,10 @@ def closed_while_busy(place):
     for path in paths:
         editor.expect_codes(path, "P120", "while it is open")
     editor.reads.clear()
+    # The message that comes next is still read.
+    editor.be_read()
     editor.change(paths[0], BAD + 3000 * "message M { int32 x = 0; }\n")
-    time.sleep(1)
+    editor.wait_until_full()
     for step in (lambda: editor.close(paths[1]), lambda: editor.change(paths[2], GOOD)):
         step()
         time.sleep(0.3)
