@@ -5,6 +5,7 @@
 //! that comes while it asks overtakes its request, and the round of that edit comes next.
 use crate::editor::line::{Handed, Line};
 use crate::editor::output::Output;
+use crate::editor::replies::Replies;
 use crate::editor::rounds::{Asked, Gone, Round, Rounds};
 use crate::serving::floor::Floor;
 use crossbeam_channel::Receiver;
@@ -39,7 +40,7 @@ pub(crate) struct Pusher<'a, F: Floor<H>, H, W> {
     sent: Vec<Sent>,
 }
 
-impl<'a, F: Floor<H>, H: Wait, W: Write + Copy> Pusher<'a, F, H, W> {
+impl<'a, F: Replies<H>, H: Wait, W: Write + Copy> Pusher<'a, F, H, W> {
     /// A pusher that has sent nothing, for the client of `line`, of which `take` is the end that takes.
     pub(crate) fn new(
         rt: &'a H,
@@ -191,7 +192,7 @@ pub(crate) fn push_all<F, H, W>(
     bell: Receiver<()>,
 ) -> Result<(), ScriptFault>
 where
-    F: Floor<H>,
+    F: Replies<H>,
     H: Wait,
     W: Write + Copy,
 {

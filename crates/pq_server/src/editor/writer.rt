@@ -1,7 +1,8 @@
 //! The writer of an editor's session: it writes a reply for each receipt.
 use crate::editor::output::Output;
+use crate::editor::replies::Replies;
 use crate::editor::roots::Roots;
-use crate::serving::floor::{Floor, NoText};
+use crate::serving::floor::NoText;
 use crossbeam_channel::Receiver;
 use pq_hall::Client;
 use pq_session::{Memory, ScriptFault};
@@ -32,7 +33,7 @@ pub(crate) fn write_all_replies<F, H, W>(
     output: &Output<W>,
 ) -> Result<(), ScriptFault>
 where
-    F: Floor<H>,
+    F: Replies<H>,
     H: Wait + Files + AllocGlobal,
     W: Write + Copy,
 {
@@ -63,7 +64,7 @@ fn write_reply<F, H, W>(
     output: &Output<W>,
 ) -> Result<(), ScriptFault>
 where
-    F: Floor<H>,
+    F: Replies<H>,
     H: Wait + Files + AllocGlobal,
     W: Write + Copy,
 {
@@ -74,7 +75,7 @@ where
 /// The text of the reply `taken`. The URI of a definition is below the root that has its file.
 fn text_of<F, H>(rt: &H, alloc: Global, roots: &Roots, taken: &F::Taken) -> Result<String, Memory>
 where
-    F: Floor<H>,
+    F: Replies<H>,
     H: Wait + Files + AllocGlobal,
 {
     let root = match F::definition_file(taken) {

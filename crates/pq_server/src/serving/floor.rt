@@ -8,13 +8,10 @@ ghost use Rattle.pq_session.specs.Reply.{out_of_memory_text};
 
 use pq_core::{Label, OpenFault, Reply, Stamp};
 use pq_hall::{BoardName, Client, ClientEnds, Gate, Hall, HallFault, Mark, Moved, OneValue};
-use pq_mail::{MailEnd, PorterEnd, Post, PostEnd, PostFault, Receipt, RightReply, TakeEnd};
+use pq_mail::{MailEnd, PorterEnd, Post, PostEnd, PostFault, Receipt, TakeEnd};
 use pq_proto::{ProtoKey, ProtoRules, ProtoValue};
 use pq_rules::Rules;
-use pq_session::{
-    DiagnosticList, Root, definition_file, diagnostic_list, editor_text, out_of_memory_text,
-    reply_text,
-};
+use pq_session::{Root, out_of_memory_text, reply_text};
 use std::alloc::{AllocError, Global};
 use std::sync::Wait;
 
@@ -67,22 +64,6 @@ pub(crate) trait Texts: Rules {
         root: &Root,
         reply: &Reply<Self::Key, Self::Value, M>,
     ) -> Result<String, AllocError>;
-
-    /// The file of the definition that `reply` answers, if it answers one.
-    fn file_of<M: Stamp>(reply: &Reply<Self::Key, Self::Value, M>) -> Option<&str>;
-
-    /// The text of `reply` for an editor, for a session with the root `root`.
-    fn editor_text_of<M: Stamp>(
-        alloc: Global,
-        root: &Root,
-        reply: &Reply<Self::Key, Self::Value, M>,
-    ) -> Result<String, AllocError>;
-
-    /// The diagnostics that `reply` answers, if it answers some.
-    fn list_of<M: Stamp>(
-        alloc: Global,
-        reply: &Reply<Self::Key, Self::Value, M>,
-    ) -> Result<Option<DiagnosticList>, AllocError>;
 }
 
 impl Texts for ProtoRules {
@@ -96,25 +77,6 @@ impl Texts for ProtoRules {
         reply: &Reply<ProtoKey, ProtoValue, M>,
     ) -> Result<String, AllocError> {
         reply_text(alloc, root, reply)
-    }
-
-    fn file_of<M: Stamp>(reply: &Reply<ProtoKey, ProtoValue, M>) -> Option<&str> {
-        definition_file(reply)
-    }
-
-    fn editor_text_of<M: Stamp>(
-        alloc: Global,
-        root: &Root,
-        reply: &Reply<ProtoKey, ProtoValue, M>,
-    ) -> Result<String, AllocError> {
-        editor_text(alloc, root, reply)
-    }
-
-    fn list_of<M: Stamp>(
-        alloc: Global,
-        reply: &Reply<ProtoKey, ProtoValue, M>,
-    ) -> Result<Option<DiagnosticList>, AllocError> {
-        diagnostic_list(alloc, reply)
     }
 }
 
@@ -189,27 +151,6 @@ pub(crate) trait Floor<H>: Posting<H, Post: Send, Receipt: Send> + Sync {
         receipt: &Self::Receipt,
         root: &Root,
     ) -> Result<String, NoText>;
-
-    /// A reply.
-    type Taken: Send + Drop;
-
-    /// Takes the reply of `receipt`. It waits for it. `Closed` says that the client was closed.
-    fn take_reply(
-        &self,
-        rt: &H,
-        client: Client,
-        take: &mut Self::Take,
-        receipt: &Self::Receipt,
-    ) -> Result<Self::Taken, NoText>;
-
-    /// The file of the definition that `taken` answers, if it answers one.
-    fn definition_file(taken: &Self::Taken) -> Option<&str>;
-
-    /// The text of `taken` for an editor. If an allocation fails for it, it is the text that says so.
-    fn editor_text(alloc: Global, taken: &Self::Taken, root: &Root) -> Result<String, AllocError>;
-
-    /// The diagnostics that `taken` answers, if it answers some.
-    fn list(alloc: Global, taken: &Self::Taken) -> Result<Option<DiagnosticList>, AllocError>;
 
     /// Closes `client`, if it is open.
     fn close(&self, rt: &H, client: Client);
@@ -320,39 +261,6 @@ where
         let reply = taken.reply();
         let text = S::text_of(alloc, root, reply);
         Ok(text_or_refusal(alloc, text, &reply.request().label)?)
-    }
-
-    type Taken = RightReply<S, Mark<J>>;
-
-    fn take_reply(
-        &self,
-        rt: &H,
-        client: Client,
-        take: &mut TakeEnd<S, Mark<J>>,
-        receipt: &Receipt<S::Key>,
-    ) -> Result<RightReply<S, Mark<J>>, NoText> {
-        Ok(self.take_one(rt, client, take, receipt)?)
-    }
-
-    fn definition_file(taken: &RightReply<S, Mark<J>>) -> Option<&str> {
-        S::file_of(taken.reply())
-    }
-
-    fn editor_text(
-        alloc: Global,
-        taken: &RightReply<S, Mark<J>>,
-        root: &Root,
-    ) -> Result<String, AllocError> {
-        let reply = taken.reply();
-        let text = S::editor_text_of(alloc, root, reply);
-        text_or_refusal(alloc, text, &reply.request().label)
-    }
-
-    fn list(
-        alloc: Global,
-        taken: &RightReply<S, Mark<J>>,
-    ) -> Result<Option<DiagnosticList>, AllocError> {
-        S::list_of(alloc, taken.reply())
     }
 
     fn close(&self, rt: &H, client: Client) {
