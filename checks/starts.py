@@ -26,7 +26,7 @@ PROVED = os.path.join(CRATE, "out", "pq_server")
 UNPROVED = os.path.join("out-unproved", "pq_server")
 SOURCE = os.path.join(CRATE, "src", "main.rt")
 PROOF = os.path.join(CRATE, "proofs", "Lib.antt")
-SERVICES = ("script", "listen")
+SERVICES = ("script", "listen", "stdio")
 WARNING = b"pq_server: nothing is proved of this program; it has checks at run time\n"
 PROGRAM = '#!/bin/sh\necho "$@"\ncat\nexit 9\n'
 # A build gives the program the time at which it began, notes that it ran, and takes as long as it is to.

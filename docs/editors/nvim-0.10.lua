@@ -5,7 +5,7 @@ vim.api.nvim_create_autocmd('FileType', {
   callback = function(event)
     vim.lsp.start({
       name = 'pq_server',
-      cmd = { '/path/bin/pq_server', 'script' },
+      cmd = { '/path/bin/pq_server', 'stdio' },
       root_dir = vim.fs.root(event.buf, '.git') or vim.fn.getcwd(),
     }, { bufnr = event.buf })
   end,

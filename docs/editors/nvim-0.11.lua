@@ -2,7 +2,7 @@
 -- changed; so after each change of one buffer the lines below pull them for the others too.
 vim.filetype.add({ extension = { proto = 'proto' } })
 vim.lsp.config('pq_server', {
-  cmd = { '/path/bin/pq_server', 'script' },
+  cmd = { '/path/bin/pq_server', 'stdio' },
   filetypes = { 'proto' },
   root_markers = { '.git' },
 })

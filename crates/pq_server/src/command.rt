@@ -1,9 +1,12 @@
-//! The command line. Its subcommands are `script` and `listen`.
+//! The command line. Its subcommands are `script`, `listen` and `stdio`.
 use clap::{Arg, ArgAction, ArgMatches, Command, Error, value_parser};
 use std::alloc::Global;
 
+/// The workers of `stdio`, if the command line does not say how many.
+const STDIO_WORKERS: u8 = 4;
+
 /// What the command line asks for.
-#[derive(Clone, Copy, Debug)]
+#[derive(Drop)]
 pub(crate) enum Task<'a> {
     /// One client on the standard streams.
     Script {
@@ -20,6 +23,13 @@ pub(crate) enum Task<'a> {
         library: Option<&'a str>,
         /// The number of sessions after which the server ends, at least 1. `None` if it does not end.
         sessions: Option<u32>,
+    },
+    /// One editor on the standard streams.
+    Stdio {
+        /// The number of workers, from 1 to 32.
+        workers: u8,
+        /// The root folders. If there are none, the editor names them.
+        roots: Vec<&'a str>,
     },
 }
 
@@ -68,13 +78,40 @@ fn listen<'a>(alloc: Global) -> Result<Command<'a>, Error> {
     Ok(listen)
 }
 
+/// The subcommand `stdio`, as `clap` describes it.
+fn stdio<'a>(alloc: Global) -> Result<Command<'a>, Error> {
+    let workers = Arg::new(alloc, "workers")
+        .long("workers")
+        .value_name("N")
+        .help("the number of threads that compile, from 1 to 32; 4 if it is not given")
+        .value_parser(value_parser!(u8).range(1..=32));
+    let root = Arg::new(alloc, "root")
+        .long("root")
+        .value_name("DIR")
+        .help(
+            "a folder from which imports are written, as -I of protoc; it may be given several times",
+        )
+        .action(ArgAction::Append);
+    let stdio = Arg::new(alloc, "stdio")
+        .long("stdio")
+        .help("changes nothing: some editors give it to each server")
+        .action(ArgAction::SetTrue);
+    let command = Command::new(alloc, "stdio")
+        .about("serves one editor on the standard streams, and pushes diagnostics")
+        .arg(workers)?
+        .arg(root)?
+        .arg(stdio)?;
+    Ok(command)
+}
+
 /// The command line of the program, as `clap` describes it.
 fn command<'a>(alloc: Global) -> Result<Command<'a>, Error> {
     let whole = Command::new(alloc, "pq_server")
         .about("a compile server for proto3")
         .subcommand_required(true)
         .subcommand(script(alloc)?)?
-        .subcommand(listen(alloc)?)?;
+        .subcommand(listen(alloc)?)?
+        .subcommand(stdio(alloc)?)?;
     Ok(whole)
 }
 
@@ -89,6 +126,18 @@ fn listen_task<'a>(given: &ArgMatches<'a>) -> Task<'a> {
     }
 }
 
+/// The task that the options of `stdio` name.
+fn stdio_task<'a>(alloc: Global, given: &ArgMatches<'a>) -> Result<Task<'a>, Error> {
+    let mut roots = Vec::new(alloc);
+    if let Some(names) = given.get_strs("root") {
+        roots.extend_from_slice(names)?;
+    }
+    Ok(Task::Stdio {
+        workers: given.get_one("workers").unwrap_or(STDIO_WORKERS),
+        roots,
+    })
+}
+
 /// The task that the command line `words` names. The first word is the program's name.
 ///
 /// The error of `clap` says that `words` is not a command line of the program, or asks for help.
@@ -96,6 +145,7 @@ pub(crate) fn task_of<'a>(words: &'a [String], alloc: Global) -> Result<Task<'a>
     let matches = command(alloc)?.try_get_matches_from(words)?;
     match matches.subcommand() {
         Some(("listen", given)) => Ok(listen_task(given)),
+        Some(("stdio", given)) => stdio_task(alloc, given),
         Some((_, given)) => Ok(Task::Script {
             library: given.get_str("lib"),
         }),

@@ -2,9 +2,8 @@
 //! Here are the words of the command line, the library that they may name, the standard streams, and
 //! the port.
 //! `command` reads the words, `library` reads the library before the first message, `serving` serves
-//! many clients over TCP, `editor` has the parts of a session that pushes diagnostics, which no subcommand
-//! runs yet, and `status` maps the outcome of a script to the exit status and the line of
-//! standard error.
+//! many clients over TCP, `editor` serves one editor with what editors need beside the protocol, and
+//! `status` maps the outcome of a script to the exit status and the line of standard error.
 #![tactic(auto)]
 
 mod command;
@@ -17,11 +16,17 @@ mod tests;
 
 use clap::Error;
 use command::{Task, task_of};
-use library::{absolute_of, no_library, read_library, run_library_script};
+use editor::{Disk, Setup, serve_editor};
+use library::{
+    Failure, LibraryFault, absolute_of, no_library, read_library, run_library_script, say,
+};
 use log::Log;
-use pq_session::Counted;
+use pq_session::{Counted, Root};
 use serving::{OpenGate, Size, serve};
-use status::{START_FAILED, refused, run_script, served, unannounced, unread};
+use status::{
+    START_FAILED, line_of, not_started, refused, run_script, served, status_of, unannounced, unread,
+};
+use std::io::{Read, Write};
 use std::net::{Ipv4Addr, Net, SocketAddr, TcpListener, TcpStream};
 use std::process::ExitCode;
 use std::rt::{Clock, Env, Files};
@@ -92,6 +97,60 @@ where
     served(serve(rt, rt.alloc(), listener, library, folder, size, &OpenGate))
 }
 
+/// The root of the folder `dir`, as a whole path. If that is not known, a line says why.
+fn root_of<R: Env + Files + AllocGlobal + Eprint>(rt: &R, dir: &str) -> Result<Root, LibraryFault> {
+    match absolute_of(rt, dir) {
+        Ok(path) => Ok(Root::at(rt.alloc(), path.as_str())?),
+        Err(error) => {
+            let failure = Failure::System(error);
+            say(rt, dir, &failure);
+            Err(failure.fault())
+        }
+    }
+}
+
+/// The roots of these folders.
+fn roots_of<R: Env + Files + AllocGlobal + Eprint>(
+    rt: &R,
+    folders: &[&str],
+) -> Result<Vec<Root>, LibraryFault> {
+    let mut roots = Vec::new(rt.alloc());
+    for folder in folders {
+        roots.push(root_of(rt, folder)?)?;
+    }
+    Ok(roots)
+}
+
+/// Serves one editor from `input` to `output`. Returns the exit status.
+fn run_for_editor<R, I, W>(rt: &R, input: I, output: W, workers: u8, folders: &[&str]) -> u8
+where
+    R: Threads
+        + Wait
+        + Env
+        + Files
+        + Disk
+        + Eprint
+        + AllocGlobal
+        + Copy
+        + Drop
+        + Send
+        + Sync
+        + 'static,
+    I: Read + Drop,
+    W: Write + Copy + Send + Sync,
+{
+    let (status, line) = match roots_of(rt, folders) {
+        Ok(roots) => {
+            let setup = Setup { workers, roots };
+            let outcome = serve_editor(rt, rt.alloc(), input, output, setup, &OpenGate);
+            (status_of(outcome), line_of(outcome))
+        }
+        Err(fault) => not_started(fault),
+    };
+    let _ = eprint!(rt; "{line}");
+    status
+}
+
 /// Says on standard error why `clap` refuses the words of the command line. Returns the exit status.
 fn say_refused(rt: &impl Eprint, error: &Error) -> u8 {
     let (status, line) = refused(error.kind());
@@ -130,6 +189,9 @@ fn main(rt: HostRuntime) -> ExitCode {
             let (status, line) = run_on_port(&rt, port, library, Size { workers, sessions });
             let _ = eprint!(rt; "{line}");
             status
+        }
+        Task::Stdio { workers, roots } => {
+            run_for_editor(&rt, rt.stdin(), rt.stdout(), workers, roots.as_slice())
         }
     };
     ExitCode::from(status)

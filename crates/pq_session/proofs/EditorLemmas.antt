@@ -1,5 +1,5 @@
 -- Reports and lists that are shown, and notifications that are printed around a list.
-use Rattle.std.proofs.Common.{◌≡◌, ℕ, ℤ, pos, negsuc, Bool, true, false, List, [], ◌∷◌, ◌++◌, Option, Some, None, refl, sym, ◌∙◌, ap, append_assoc}
+use Rattle.std.proofs.Common.{◌≡◌, ℕ, ℤ, pos, negsuc, Bool, false, List, [], ◌∷◌, Option, Some, None, refl, sym, ◌∙◌, ap}
 use Rattle.std.specs.Prelude.{map, codes, decimal, option_and_then}
 use Rattle.json.specs.Print.{escape_byte}
 use Rattle.serde_json.specs.Data.{Data, string, object, member, no_members}
@@ -20,7 +20,7 @@ use Rattle.pq_core.specs.Replies.{ReplyView}
 use Rattle.pq_session.specs.Labels.{label_model}
 use Rattle.pq_session.specs.Replies.{value_text, outcome_text, reply_text}
 use Rattle.pq_session.specs.Reply.{reply_data, diagnostic_data, diagnostics_text}
-use Rattle.pq_session.specs.Editor.{has_unread, shown_data, shown_items, shown_report, shown_list, shown_text, value_diagnostics, outcome_value, answered_diagnostics, shown_or_text, editor_reply_text, published_text, published_data}
+use Rattle.pq_session.specs.Editor.{has_unread, shown_data, shown_items, shown_list, shown_text, value_diagnostics, outcome_value, answered_diagnostics, shown_or_text, editor_reply_text, published_text, published_data}
 
 -- ---- where each import is read
 

@@ -7,6 +7,7 @@ mod asks;
 mod edits;
 mod greeting;
 
+use crate::editor::disk::Disk;
 use crate::editor::documents::Documents;
 use crate::editor::line::Line;
 use crate::editor::roots::Roots;
@@ -20,7 +21,6 @@ use pq_proto::ProtoKey;
 use pq_session::{Event, Item, Memory, Root, ScriptFault, Session, event_of, without_root};
 use std::alloc::Global;
 use std::collections::BTreeSet;
-use std::rt::Files;
 use std::sync::{Arc, Wait};
 
 /// Whether a session goes on after a message.
@@ -65,7 +65,7 @@ pub(crate) struct Desk<'a, F: Floor<H>, H> {
 impl<'a, F, H> Desk<'a, F, H>
 where
     F: Floor<H>,
-    H: Wait + Files + AllocGlobal + Eprint + Clone + Drop,
+    H: Wait + Disk + AllocGlobal + Eprint,
 {
     /// The desk of a session whose client has sent nothing.
     pub(crate) fn new(

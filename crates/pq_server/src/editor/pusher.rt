@@ -5,9 +5,8 @@
 //! that comes while it asks overtakes its request, and the round of that edit comes next.
 use crate::editor::line::{Handed, Line};
 use crate::editor::output::Output;
-use crate::editor::replies::Replies;
 use crate::editor::rounds::{Asked, Gone, Round, Rounds};
-use crate::serving::floor::Floor;
+use crate::serving::floor::{Ends, Floor, NoText};
 use crossbeam_channel::Receiver;
 use pq_hall::Client;
 use pq_mail::Post;
@@ -28,7 +27,7 @@ struct Sent {
 
 /// What the pusher holds: its line, its end that takes, the way to the editor, and what was sent.
 #[derive(Drop)]
-pub(crate) struct Pusher<'a, F: Floor<H>, H, W> {
+struct Pusher<'a, F: Floor<H>, H, W> {
     rt: &'a H,
     alloc: Global,
     floor: &'a F,
@@ -40,9 +39,9 @@ pub(crate) struct Pusher<'a, F: Floor<H>, H, W> {
     sent: Vec<Sent>,
 }
 
-impl<'a, F: Replies<H>, H: Wait, W: Write + Copy> Pusher<'a, F, H, W> {
+impl<'a, F: Floor<H>, H: Wait, W: Write + Copy> Pusher<'a, F, H, W> {
     /// A pusher that has sent nothing, for the client of `line`, of which `take` is the end that takes.
-    pub(crate) fn new(
+    fn new(
         rt: &'a H,
         alloc: Global,
         floor: &'a F,
@@ -101,16 +100,13 @@ impl<'a, F: Replies<H>, H: Wait, W: Write + Copy> Pusher<'a, F, H, W> {
         let Handed::Asked(receipt) = self.line.hand_in(Post::Ask(request))? else {
             return Ok(false);
         };
-        let Ok(taken) = self
+        let client = self.line.client();
+        match self
             .floor
-            .take_reply(self.rt, self.line.client(), &mut self.take, &receipt)
-        else {
-            return Ok(false);
-        };
-        match F::list(self.alloc, &taken) {
-            Ok(Some(list)) if list.revision() == revision => {
-                self.send_list(asked, list)?;
-            }
+            .list(self.rt, self.alloc, client, &mut self.take, &receipt)
+        {
+            Ok(Some(list)) if list.revision() == revision => self.send_list(asked, list)?,
+            Err(NoText::Closed) => return Ok(false),
             _ => {}
         }
         Ok(true)
@@ -180,35 +176,41 @@ fn publish<H: Wait, W: Write + Copy>(
     output.send(rt, body.as_str())
 }
 
-/// Pushes the rounds of `rounds`, one for each bell, until the bell is gone or the client of `pusher`
-/// is closed.
+/// Pushes the rounds of `rounds` by the client `pushing`, one for each bell, until the bell is gone or
+/// that client is closed.
 ///
 /// A failed write ends it, and so does an allocation failure of a request or of an empty list. The
 /// client `editor` is closed then.
-pub(crate) fn push_all<F, H, W>(
-    rt: &H,
-    pusher: Pusher<'_, F, H, W>,
+pub(crate) fn push_all<'a, F, H, W>(
+    rt: &'a H,
+    alloc: Global,
+    floor: &'a F,
     editor: Client,
+    pushing: Client,
+    ends: Ends<F::Post, F::Porter, F::Take>,
+    rounds: &'a Rounds,
+    output: &'a Output<W>,
     bell: Receiver<()>,
 ) -> Result<(), ScriptFault>
 where
-    F: Replies<H>,
+    F: Floor<H>,
     H: Wait,
     W: Write + Copy,
 {
-    let mut pusher = pusher;
+    let (line, take) = Line::new(rt, floor, pushing, ends);
+    let mut pusher = Pusher::new(rt, alloc, floor, line, take, rounds, output);
     for _ in rt.forever() {
         if bell.recv(rt).is_err() {
             return Ok(());
         }
-        let Some(round) = pusher.rounds.take(rt) else {
+        let Some(round) = rounds.take(rt) else {
             continue;
         };
         match pusher.push_round(&round) {
             Ok(true) => {}
             Ok(false) => return Ok(()),
             Err(fault) => {
-                pusher.floor.close(rt, editor);
+                floor.close(rt, editor);
                 return Err(fault);
             }
         }

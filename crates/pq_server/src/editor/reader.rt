@@ -1,5 +1,6 @@
 //! The reader of an editor's session: it reads messages, and hands edits to the pusher.
 use crate::editor::desk::{Desk, Step};
+use crate::editor::disk::Disk;
 use crate::editor::output::Output;
 use crate::editor::rounds::Rounds;
 use crate::serving::floor::Floor;
@@ -7,7 +8,6 @@ use crossbeam_channel::Sender;
 use pq_frame::FrameReader;
 use pq_session::{ScriptFault, WATCH_FILES, at_end};
 use std::io::{Read, Write};
-use std::rt::Files;
 use std::sync::Wait;
 
 /// The way to the pusher: the rounds, and the bell after each.
@@ -20,7 +20,7 @@ pub(crate) struct Pushes<'a> {
 impl<'a, F, H> Desk<'a, F, H>
 where
     F: Floor<H>,
-    H: Wait + Files + AllocGlobal + Eprint + Clone + Drop,
+    H: Wait + Disk + AllocGlobal + Eprint,
 {
     /// Hands on what the messages of one piece have left to do: a round of pushes, and the request to
     /// watch files.
@@ -67,7 +67,7 @@ pub(crate) fn read_all_messages<F, H, I, W>(
 ) -> Result<Option<u8>, ScriptFault>
 where
     F: Floor<H>,
-    H: Wait + Files + AllocGlobal + Eprint + Clone + Drop,
+    H: Wait + Disk + AllocGlobal + Eprint,
     I: Read + Drop,
     W: Write + Copy,
 {

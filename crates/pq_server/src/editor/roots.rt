@@ -4,10 +4,10 @@
 //! that it is below, but not where a file of an earlier root has that name. A file without such a name
 //! is named by its path. A client that named no root has the root of the file system, so the name of a
 //! file is its path without the first slash.
-use crate::library::{is_file_at, joined};
+use crate::editor::disk::Disk;
+use crate::library::joined;
 use pq_session::{Memory, Root};
 use std::alloc::Global;
-use std::rt::Files;
 
 /// The root folders of a session, at least one.
 #[derive(Drop)]
@@ -54,16 +54,16 @@ impl Roots {
 
     /// The names of the file at `path`, at least one. The first is the one by which its own
     /// diagnostics are asked.
-    pub(crate) fn names_of<R: Files + AllocGlobal>(
+    pub(crate) fn names_of<D: Disk>(
         &self,
-        rt: &R,
+        disk: &D,
+        alloc: Global,
         path: &str,
     ) -> Result<Vec<String>, Memory> {
-        let alloc = rt.alloc();
         let mut names = Vec::new(alloc);
         for (index, root) in self.list.iter().enumerate() {
             if let Some(name) = root.name_below(path) {
-                if !self.is_hidden(rt, index, name)? {
+                if !self.is_hidden(disk, alloc, index, name)? {
                     names.push(String::from_str(alloc, name)?)?;
                 }
             }
@@ -86,15 +86,16 @@ impl Roots {
     }
 
     /// Whether an earlier root than the root `index` has a file `name`.
-    fn is_hidden<R: Files + AllocGlobal>(
+    fn is_hidden<D: Disk>(
         &self,
-        rt: &R,
+        disk: &D,
+        alloc: Global,
         index: usize,
         name: &str,
     ) -> Result<bool, Memory> {
         for earlier in self.list.iter().take(index) {
-            let path = path_below(rt.alloc(), earlier, name)?;
-            if is_file_at(rt, path.as_str()) {
+            let path = path_below(alloc, earlier, name)?;
+            if disk.has_file(path.as_str()) {
                 return Ok(true);
             }
         }
@@ -103,21 +104,22 @@ impl Roots {
 
     /// The root below which the file `name` is on disk: the first that has it. Where no root has it,
     /// it is the first root.
-    pub(crate) fn root_of<R: Files + AllocGlobal>(
+    pub(crate) fn root_of<D: Disk>(
         &self,
-        rt: &R,
+        disk: &D,
+        alloc: Global,
         name: &str,
     ) -> Result<Root, Memory> {
         for root in &self.list {
             if self.list.len() == 1 {
                 return root.copy();
             }
-            let path = path_below(rt.alloc(), root, name)?;
-            if is_file_at(rt, path.as_str()) {
+            let path = path_below(alloc, root, name)?;
+            if disk.has_file(path.as_str()) {
                 return root.copy();
             }
         }
-        self.first(rt.alloc())
+        self.first(alloc)
     }
 
     /// The first root.

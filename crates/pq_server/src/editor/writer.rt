@@ -1,14 +1,13 @@
 //! The writer of an editor's session: it writes a reply for each receipt.
+use crate::editor::disk::Disk;
 use crate::editor::output::Output;
-use crate::editor::replies::Replies;
 use crate::editor::roots::Roots;
-use crate::serving::floor::NoText;
+use crate::serving::floor::{Floor, NoText, Places};
 use crossbeam_channel::Receiver;
 use pq_hall::Client;
-use pq_session::{Memory, ScriptFault};
+use pq_session::{Memory, Root, ScriptFault};
 use std::alloc::Global;
 use std::io::Write;
-use std::rt::Files;
 use std::sync::{Arc, Wait};
 
 /// What the writer owes the editor: the reply of a receipt.
@@ -17,6 +16,23 @@ pub(crate) struct OwedReply<Q> {
     pub(crate) receipt: Q,
     /// The roots of the session when the request came.
     pub(crate) roots: Arc<Roots, Global>,
+}
+
+/// The roots of a session, with the disk that says which of them has a file.
+#[derive(Drop)]
+struct Folders<'a, D> {
+    disk: &'a D,
+    alloc: Global,
+    roots: &'a Roots,
+}
+
+impl<'a, D: Disk> Places for Folders<'a, D> {
+    fn root_of(&self, name: Option<&str>) -> Result<Root, Memory> {
+        match name {
+            Some(file) => self.roots.root_of(self.disk, self.alloc, file),
+            None => self.roots.first(self.alloc),
+        }
+    }
 }
 
 /// Writes the replies of `client` to `output`, one for each receipt, until there are no more receipts.
@@ -33,8 +49,8 @@ pub(crate) fn write_all_replies<F, H, W>(
     output: &Output<W>,
 ) -> Result<(), ScriptFault>
 where
-    F: Replies<H>,
-    H: Wait + Files + AllocGlobal,
+    F: Floor<H>,
+    H: Wait + Disk,
     W: Write + Copy,
 {
     let mut take = take;
@@ -42,45 +58,27 @@ where
         let Ok(next) = owed.recv(rt) else {
             return Ok(());
         };
-        let taken = match floor.take_reply(rt, client, &mut take, &next.receipt) {
-            Ok(taken) => taken,
-            Err(NoText::Closed) => return Ok(()),
-            Err(NoText::Memory) => return Err(ScriptFault::Memory),
+        let folders = Folders {
+            disk: rt,
+            alloc,
+            roots: &next.roots,
         };
-        if let Err(fault) = write_reply::<F, H, W>(rt, alloc, &next.roots, &taken, output) {
+        let written = match floor.editor_text(
+            rt,
+            alloc,
+            client,
+            &mut take,
+            &next.receipt,
+            &folders,
+        ) {
+            Ok(text) => output.send(rt, text.as_str()),
+            Err(NoText::Closed) => return Ok(()),
+            Err(NoText::Memory) => Err(ScriptFault::Memory),
+        };
+        if let Err(fault) = written {
             floor.close(rt, client);
             return Err(fault);
         }
     }
     unreachable!()
-}
-
-/// Writes the reply `taken`.
-fn write_reply<F, H, W>(
-    rt: &H,
-    alloc: Global,
-    roots: &Roots,
-    taken: &F::Taken,
-    output: &Output<W>,
-) -> Result<(), ScriptFault>
-where
-    F: Replies<H>,
-    H: Wait + Files + AllocGlobal,
-    W: Write + Copy,
-{
-    let text = text_of::<F, H>(rt, alloc, roots, taken)?;
-    output.send(rt, text.as_str())
-}
-
-/// The text of the reply `taken`. The URI of a definition is below the root that has its file.
-fn text_of<F, H>(rt: &H, alloc: Global, roots: &Roots, taken: &F::Taken) -> Result<String, Memory>
-where
-    F: Replies<H>,
-    H: Wait + Files + AllocGlobal,
-{
-    let root = match F::definition_file(taken) {
-        Some(file) => roots.root_of(rt, file)?,
-        None => roots.first(alloc)?,
-    };
-    F::editor_text(alloc, taken, &root)
 }

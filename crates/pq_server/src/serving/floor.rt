@@ -11,7 +11,10 @@ use pq_hall::{BoardName, Client, ClientEnds, Gate, Hall, HallFault, Mark, Moved,
 use pq_mail::{MailEnd, PorterEnd, Post, PostEnd, PostFault, Receipt, TakeEnd};
 use pq_proto::{ProtoKey, ProtoRules, ProtoValue};
 use pq_rules::Rules;
-use pq_session::{Root, out_of_memory_text, reply_text};
+use pq_session::{
+    DiagnosticList, Memory, Root, definition_file, diagnostic_list, editor_text,
+    out_of_memory_text, reply_text,
+};
 use std::alloc::{AllocError, Global};
 use std::sync::Wait;
 
@@ -53,6 +56,12 @@ impl From<AllocError> for NoText {
     }
 }
 
+/// Where the files of an editor's session are.
+pub(crate) trait Places {
+    /// The root below which the file `name` is. Without a name it is the first root.
+    fn root_of(&self, name: Option<&str>) -> Result<Root, Memory>;
+}
+
 /// A rule set whose requests are those of sessions, and whose replies have texts.
 pub(crate) trait Texts: Rules {
     /// `post`, as a post of these rules.
@@ -64,6 +73,22 @@ pub(crate) trait Texts: Rules {
         root: &Root,
         reply: &Reply<Self::Key, Self::Value, M>,
     ) -> Result<String, AllocError>;
+
+    /// The file of the definition that `reply` answers, if it answers one.
+    fn file_of<M: Stamp>(reply: &Reply<Self::Key, Self::Value, M>) -> Option<&str>;
+
+    /// The text of `reply` for an editor, for a session with the root `root`.
+    fn editor_text_of<M: Stamp>(
+        alloc: Global,
+        root: &Root,
+        reply: &Reply<Self::Key, Self::Value, M>,
+    ) -> Result<String, AllocError>;
+
+    /// The diagnostics that `reply` answers, if it answers some.
+    fn list_of<M: Stamp>(
+        alloc: Global,
+        reply: &Reply<Self::Key, Self::Value, M>,
+    ) -> Result<Option<DiagnosticList>, AllocError>;
 }
 
 impl Texts for ProtoRules {
@@ -77,6 +102,25 @@ impl Texts for ProtoRules {
         reply: &Reply<ProtoKey, ProtoValue, M>,
     ) -> Result<String, AllocError> {
         reply_text(alloc, root, reply)
+    }
+
+    fn file_of<M: Stamp>(reply: &Reply<ProtoKey, ProtoValue, M>) -> Option<&str> {
+        definition_file(reply)
+    }
+
+    fn editor_text_of<M: Stamp>(
+        alloc: Global,
+        root: &Root,
+        reply: &Reply<ProtoKey, ProtoValue, M>,
+    ) -> Result<String, AllocError> {
+        editor_text(alloc, root, reply)
+    }
+
+    fn list_of<M: Stamp>(
+        alloc: Global,
+        reply: &Reply<ProtoKey, ProtoValue, M>,
+    ) -> Result<Option<DiagnosticList>, AllocError> {
+        diagnostic_list(alloc, reply)
     }
 }
 
@@ -151,6 +195,29 @@ pub(crate) trait Floor<H>: Posting<H, Post: Send, Receipt: Send> + Sync {
         receipt: &Self::Receipt,
         root: &Root,
     ) -> Result<String, NoText>;
+
+    /// The text of the reply of `receipt` for an editor. The URI of a definition is below the root
+    /// that `places` has for its file. If an allocation fails for the text, it is the text that says
+    /// so.
+    fn editor_text<P: Places>(
+        &self,
+        rt: &H,
+        alloc: Global,
+        client: Client,
+        take: &mut Self::Take,
+        receipt: &Self::Receipt,
+        places: &P,
+    ) -> Result<String, NoText>;
+
+    /// The diagnostics that the reply of `receipt` answers, if it answers some.
+    fn list(
+        &self,
+        rt: &H,
+        alloc: Global,
+        client: Client,
+        take: &mut Self::Take,
+        receipt: &Self::Receipt,
+    ) -> Result<Option<DiagnosticList>, NoText>;
 
     /// Closes `client`, if it is open.
     fn close(&self, rt: &H, client: Client);
@@ -261,6 +328,34 @@ where
         let reply = taken.reply();
         let text = S::text_of(alloc, root, reply);
         Ok(text_or_refusal(alloc, text, &reply.request().label)?)
+    }
+
+    fn editor_text<P: Places>(
+        &self,
+        rt: &H,
+        alloc: Global,
+        client: Client,
+        take: &mut TakeEnd<S, Mark<J>>,
+        receipt: &Receipt<S::Key>,
+        places: &P,
+    ) -> Result<String, NoText> {
+        let taken = self.take_one(rt, client, take, receipt)?;
+        let reply = taken.reply();
+        let root = places.root_of(S::file_of(reply))?;
+        let text = S::editor_text_of(alloc, &root, reply);
+        Ok(text_or_refusal(alloc, text, &reply.request().label)?)
+    }
+
+    fn list(
+        &self,
+        rt: &H,
+        alloc: Global,
+        client: Client,
+        take: &mut TakeEnd<S, Mark<J>>,
+        receipt: &Receipt<S::Key>,
+    ) -> Result<Option<DiagnosticList>, NoText> {
+        let taken = self.take_one(rt, client, take, receipt)?;
+        Ok(S::list_of(alloc, taken.reply())?)
     }
 
     fn close(&self, rt: &H, client: Client) {

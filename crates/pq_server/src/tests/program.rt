@@ -242,6 +242,11 @@ fn shown_words(alloc: Global, words: &str) -> Result<String, Memory> {
             let sessions = sessions.unwrap_or(0);
             format!(in alloc; "listen {port} {workers} {library} {sessions}")
         }
+        Ok(Task::Stdio { workers, roots }) => {
+            let count = roots.len();
+            let first = roots.first().copied().unwrap_or("-");
+            format!(in alloc; "stdio {workers} {count} {first}")
+        }
         Err(_) => String::from_str(alloc, "refused"),
     }
 }

@@ -1,5 +1,6 @@
 //! Requests: they are handed in under the names that files have below the roots.
 use crate::editor::desk::{Desk, Step};
+use crate::editor::disk::Disk;
 use crate::editor::line::Handed;
 use crate::editor::writer::OwedReply;
 use crate::library::joined;
@@ -8,13 +9,12 @@ use pq_core::Request;
 use pq_mail::Post;
 use pq_proto::ProtoKey;
 use pq_session::{Memory, ScriptFault, asked_file, renamed};
-use std::rt::Files;
 use std::sync::{Arc, Wait};
 
 impl<F, H> Desk<'_, F, H>
 where
     F: Floor<H>,
-    H: Wait + Files + AllocGlobal + Eprint + Clone + Drop,
+    H: Wait + Disk + AllocGlobal + Eprint,
 {
     /// Hands in `request`, about the file that its path has below the roots.
     pub(super) fn ask(&mut self, request: Request<ProtoKey>) -> Result<Step, ScriptFault> {
@@ -32,7 +32,7 @@ where
         if let Some(name) = self.documents.name_at(path.as_str()) {
             return Ok(String::from_str(self.alloc, name)?);
         }
-        let mut names = self.roots.names_of(self.rt, path.as_str())?;
+        let mut names = self.roots.names_of(self.rt, self.alloc, path.as_str())?;
         if names.is_empty() {
             return Ok(path);
         }

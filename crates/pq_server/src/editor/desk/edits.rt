@@ -1,6 +1,6 @@
 //! Edits: of the open documents, and of files that the disk has again.
 use crate::editor::desk::{Desk, Step, step_of};
-use crate::editor::disk::text_of;
+use crate::editor::disk::{Disk, text_of};
 use crate::editor::documents::{Document, gone_of};
 use crate::editor::line::Handed;
 use crate::library::{Failure, joined, say};
@@ -9,7 +9,6 @@ use pq_core::Change;
 use pq_inputs::{Durability, MAX_FILES, MAX_TEXT};
 use pq_mail::Post;
 use pq_session::{Event, Memory, ScriptFault, change_to, text_after};
-use std::rt::Files;
 use std::sync::Wait;
 
 /// What an edit of a file came to.
@@ -33,7 +32,7 @@ impl Made {
 impl<F, H> Desk<'_, F, H>
 where
     F: Floor<H>,
-    H: Wait + Files + AllocGlobal + Eprint + Clone + Drop,
+    H: Wait + Disk + AllocGlobal + Eprint,
 {
     /// Makes the edit `change` of the document of `event`.
     pub(super) fn edit(&mut self, event: Event, change: Change) -> Result<Step, ScriptFault> {
@@ -61,7 +60,7 @@ where
         let mut document = match self.documents.take(path.as_str()) {
             Some(document) => document,
             None => {
-                let names = self.roots.names_of(self.rt, path.as_str())?;
+                let names = self.roots.names_of(self.rt, self.alloc, path.as_str())?;
                 self.documents.fresh(path, uri, names)
             }
         };
@@ -133,7 +132,7 @@ where
                 self.forget(&document)?;
                 document.names
             }
-            None => self.roots.names_of(self.rt, path)?,
+            None => self.roots.names_of(self.rt, self.alloc, path)?,
         };
         for name in names {
             let made = self.set_file(name.as_str(), None, Durability::Low)?;
@@ -254,7 +253,7 @@ where
             if self.documents.has_name(name.as_str()) {
                 continue;
             }
-            let text = text_of(self.rt, &self.roots, name.as_str())?;
+            let text = text_of(self.rt, self.alloc, &self.roots, name.as_str())?;
             let made = self.set_file(name.as_str(), text, Durability::High)?;
             if !made.goes_on() {
                 return Ok(false);

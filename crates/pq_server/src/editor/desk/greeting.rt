@@ -1,17 +1,16 @@
 //! The beginning of a session: its roots, and the files below them.
 use crate::editor::desk::{Desk, shared};
-use crate::editor::disk::{file_in, names_in};
+use crate::editor::disk::{Disk, text_in};
 use crate::editor::roots::Roots;
 use crate::serving::floor::Floor;
 use pq_inputs::Durability;
 use pq_session::{Greeting, Memory, Root, ScriptFault};
-use std::rt::Files;
 use std::sync::Wait;
 
 impl<F, H> Desk<'_, F, H>
 where
     F: Floor<H>,
-    H: Wait + Files + AllocGlobal + Eprint + Clone + Drop,
+    H: Wait + Disk + AllocGlobal + Eprint,
 {
     /// Takes the roots of `greeting`, or those of the command line, and reads the files below them.
     /// Returns whether the session goes on.
@@ -44,7 +43,7 @@ where
     /// Sets the files below `folder` whose names no earlier root has. Returns whether the session goes
     /// on.
     fn read_folder(&mut self, folder: &str) -> Result<bool, ScriptFault> {
-        for name in names_in(self.rt, folder)? {
+        for name in self.rt.names_in(folder)? {
             if !self.read_file(folder, name.as_str())? {
                 return Ok(false);
             }
@@ -58,7 +57,7 @@ where
         if self.known.contains(name) {
             return Ok(true);
         }
-        match file_in(self.rt, folder, name)? {
+        match text_in(self.rt, self.alloc, folder, name)? {
             Some(text) => {
                 let made = self.set_file(name, Some(text), Durability::High)?;
                 Ok(made.goes_on())
