@@ -32,7 +32,7 @@ Row = namedtuple("Row", "file line text")
 Session = namedtuple("Session", "name row replies sent wanted outcome")
 
 # The words for an outcome, a status or the name of an error, with the status of pq_server and its line of standard error after
-# `pq_server: ` (README.md, "What an editor gets today").
+# `pq_server: ` (docs/LIMITS.md, "Statuses").
 OUTCOMES = {"0": (0, None), "1": (1, None), "3": (3, "edit refused 0"), "HeaderTooLong": (2, "frame fault 1"),
             "NoLength": (2, "frame fault 2"), "BadLength": (2, "frame fault 3"), "TooLong": (2, "frame fault 4"),
             "Cut": (2, "input ends inside a frame"), "TextTooLong": (3, "edit refused 1"), "TooManyFiles": (3, "edit refused 2"),
