@@ -348,7 +348,7 @@ SUBJECTS = [
      [rates, reached, limited]),
     ("Beside long notifications", "A figure is the greatest of all runs.", ["ranges.txt"], [ranges]),
     ("Beside attacks", "", ["attacks.txt"], [attacks]),
-    ("Shapes of sessions", "Million instructions at the largest n, and their ratio to those at the size before. The last two columns are"
+    ("Shapes of sessions", "The cells are million instructions at the largest n, and their ratio to those at the size before. The last two are"
      " by `script`: the instructions and the peak of memory for one of n, or for one of what a cell names.",
      ["growth.txt", "growth_listen.txt"], [shapes])]
 
