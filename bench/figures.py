@@ -2,8 +2,8 @@
 """Writes docs/FIGURES.md from the files of bench/results/.
 
 The page begins with aims that these files decide: the figure of each, and by what factor it is missed. Then each subject
-has tables, each cut out of one file or joined of two. A figure is a cell of a table in a file, or a number in a line of
-it. This script has titles, limits and no figure. If a file has lost a table or a line, it is named, and the status is 2.
+has tables with some rows of one file or of two. A figure is a cell of a table in a file, or a number in a line of it. This
+script has titles, limits and no figure. If a file has lost a table, a row or a line, it is named, and the status is 2.
 
 With --write the page is written. With --check the status is 1 if the page is not what would be written; checks/pages.py
 checks that too.
@@ -18,14 +18,12 @@ from collections import namedtuple
 
 PAGE = os.path.join("docs", "FIGURES.md")
 RESULTS = "bench/results/"
-# What the titles of hostile shapes begin with.
-HOSTILE = ("n bytes: half a package", "n bytes: half a message's name", "a package of")
-ROWS = ("Aim", "Figure", "Met", "Command", "Commit")
 WRITTEN = re.compile(r"Written (by|from the output of(?: \w+ runs of)?): (.*)")
 
-# A table that is cut out of one file: its heads begin with `starts`, and the last ends with `ends`. A column is a head on the page
-# and the place of the cell in the file; `%s` of a head is the head there. Before the table is what `run` finds in the file.
-Cut = namedtuple("Cut", "file starts columns ends run", defaults=("", None))
+# A table that is cut out of one file: its heads begin with `starts`, and the last ends with `ends`. A column is a head on the
+# page (`%s` of it is the head there), the place of the cell in the file, and which part of the cell it is, if the cell has several.
+# `titles` are the first cells of the rows that are shown, all of them if it is empty.
+Cut = namedtuple("Cut", "file starts columns titles ends", defaults=((), ""))
 # An aim: its words, its limit, whether that is the most that is allowed, the figure with its unit, and the file.
 Aim = namedtuple("Aim", "words limit is_most figure unit file")
 
@@ -46,12 +44,6 @@ def lines_of_table(heads, rows):
     """A Markdown table, and the empty line after it."""
     line = "| %s |"
     return [line % " | ".join(heads), "|" + "---|" * len(heads)] + [line % " | ".join(row) for row in rows] + [""]
-
-
-def spread(cells):
-    """The least and the greatest of some cells that are numbers; the one, if they are equal."""
-    in_order = sorted(cells, key=number)
-    return in_order[0] if number(in_order[0]) == number(in_order[-1]) else in_order[0] + " to " + in_order[-1]
 
 
 class Results:
@@ -114,14 +106,14 @@ class Results:
         if not written:
             raise Missing("%s does not say what wrote it" % name)
         rest = re.sub(r"\. (?=[A-Z])", ".\n", " ".join(lines[1:])).splitlines()
-        return ["`%s%s`, written %s `%s`." % (RESULTS, name, *written.groups())] + rest + [""]
+        return ["`%s`, %s `%s`." % (name, *written.groups())] + rest
 
 
 # The aims
 
 def aims_of_peers(results):
     """One for each kind of work beside `protoc` of which the bench wants a factor."""
-    return [Aim("%s, times as fast as `protoc` by instructions, the least" % kind, number(wanted), False, number(factor), "", "peers.txt")
+    return [Aim("`protoc`'s instructions by ours, the least: %s" % kind, number(wanted), False, number(factor), "", "peers.txt")
             for kind, factor, wanted in results.said("peers.txt", r"^- (\w+): least factor ([\d.]+), wanted ([\d.]+)")]
 
 
@@ -150,7 +142,7 @@ def aims_of_sessions(results):
     names = results.row("growth.txt", ("Shape",), "asks of n absent names")
     return [Aim("lexing and parsing twice the text, time", 2.2, True, number(parsing), "", "parsing.txt"),
             Aim("sessions of twice the size, time", 2.2, True, ratio, "", "sessions.txt"),
-            Aim("diagnostics of a file that reaches 1,000 others, after an edit, by `script`", 5, True, max(by_script), " ms", "hall.txt"),
+            Aim("diagnostics of a file that reaches 1,000 others, after an edit", 5, True, max(by_script), " ms", "hall.txt"),
             Aim("memory for each absent name that was asked", 1.5, True, number(names[7]) / 1000, " kB", "growth.txt")]
 
 
@@ -168,13 +160,16 @@ def aims_of_engines(results):
     proto = results.row("engine.txt", ("Case", "at 100 files"), "a message of a leaf, leaf demanded (2 edits)")
     durable = results.said("engine.txt", r"durable root covers all is met: ([\d.]+) microseconds")[0][0]
     rounds = results.table("core.txt", ("Case", "n, 2n"))
+    lanes = results.said("core.txt", r"a call (\d+) where it was (\d+), at 10 files and one client")[0]
     grown = max(number(row[-1]) for row in rounds if row[0].startswith(("requests", "clients, a round")))
     return [Aim("3,000 keys, nothing changed, each demanded", 0.4, True, number(demands[3]), " ms", "memos.txt"),
             Aim("3,000 keys looked at after an edit", 0.4, True, number(looks), " ms", "memos.txt"),
             Aim("a leaf's key among 1,000 files by one among 100, instructions", 1.3, True, number(leaf[5]), "", "memos.txt"),
             Aim("the same with the rules of proto3 files", 1.3, True, number(proto[3]), "", "engine.txt"),
             Aim("an edit that a durable root does not read", 30, True, number(durable), " microseconds", "engine.txt"),
-            Aim("a core with twice the requests or clients, instructions", 2.2, True, grown, "", "core.txt")]
+            Aim("a core with twice the requests or clients, instructions", 2.2, True, grown, "", "core.txt"),
+            Aim("a call of a core where nothing changed, since it has lanes, instructions", number(lanes[1]), True, number(lanes[0]), "",
+                "core.txt")]
 
 
 def aims_of_editors(results):
@@ -205,136 +200,166 @@ def aims_of_growth(results):
 
 
 def verdict(aim):
-    """Whether an aim is met, or by what factor it is missed."""
+    """By what factor an aim is missed. Empty if it is met."""
     factor = aim.figure / aim.limit if aim.is_most else aim.limit / aim.figure
-    return "met" if factor <= 1 else "missed by %s" % ("%.2f" if factor < 1.1 else "%.1f") % factor
+    return "" if factor <= 1 else ("%.2f" if factor < 1.1 else "%.1f") % factor
 
 
 def aims(results):
     """The first section."""
     parts = (aims_of_growth, aims_of_sessions, aims_of_compilations, aims_of_peers, aims_of_engines, aims_of_editors)
-    rows = [[aim.words, "at %s %g%s" % ("most" if aim.is_most else "least", aim.limit, aim.unit), "%g%s" % (aim.figure, aim.unit),
+    rows = [[aim.words, "%s %g%s" % ("≤" if aim.is_most else "≥", aim.limit, aim.unit), "%g%s" % (aim.figure, aim.unit),
              verdict(aim), "`%s`" % aim.file] for part in parts for aim in part(results)]
-    return lines_of_table(["Aim", "Limit", "Figure", "Met", "File"], rows)
+    return lines_of_table(["Aim", "Limit", "Figure", "Missed by", "File"], rows)
 
 
 # The subjects
 
+def part_of(cell, mark=None, at=0):
+    """A cell, or that part of it which is at a place between marks, without its unit."""
+    return cell if mark is None else cell.split(mark)[at].split(" ")[0]
+
+
 def cut(results, it):
-    """A table of one file with some of its columns."""
+    """Some rows and columns of a table of one file."""
     heads, rows = results.table_of(it.file, it.starts, it.ends)
-    run = [results.said(it.file, "(%s)" % it.run)[0][0] + ".", ""] if it.run else []
-    return run + lines_of_table([head.replace("%s", heads[at]) for head, at in it.columns],
-                                [[row[at] for _, at in it.columns] for row in rows])
+    rows = [results.row(it.file, it.starts, title, it.ends) for title in it.titles] or rows
+    return lines_of_table([column[0].replace("%s", heads[column[1]]) for column in it.columns],
+                          [[part_of(row[column[1]], *column[2:]) for column in it.columns] for row in rows])
 
 
-def group_of(title):
-    """The group that a shape is shown in: those of hostile texts together, any other by its own title."""
-    return next((words + " ..: all of them" for words in HOSTILE if title.startswith(words)), title)
+def peers(results):
+    """The rows beside `protoc`, but for those that only vary another."""
+    table = results.table("peers.txt", ("What", "Files"))
+    rows = [[row[0], row[1], row[3], row[5]] for row in table if row[1] not in VARIATIONS]
+    return lines_of_table(["What", "Files", "million instructions", "factor"], rows)
+
+
+def made_files(results):
+    """Made files without the engine, at the later of two commits."""
+    commit = results.said("compile.txt", r"Commits \w+ and (\w+) in one run")[0][0]
+    rows = [[row[0], part_of(row[2], "; ", 1), part_of(row[3], "; ", 1)] for row in results.table("compile.txt", ("Files", "kB", "MB/s"))]
+    return ["Diagnostics at commit %s:" % commit, ""] + lines_of_table(["Files", "MB/s", "instructions a byte"], rows)
+
+
+def rounds(results):
+    """Rounds of a core among many files."""
+    table = results.table("core.txt", ("Rounds", "files", "calls a second at 1 client"))
+    return lines_of_table(["Rounds", "calls a second at 1 client", "at 64", "instructions of a call at 1", "at 64"],
+                          [[row[0], row[2], row[4], row[6], row[7]] for row in table if row[1] == "10,000"])
 
 
 def shapes(results):
-    """The shapes of sessions, by `script` and by `listen`."""
-    groups, beside = {}, {row[0]: row for row in results.table("growth_listen.txt", ("Shape",))}
-    for row in results.table("growth.txt", ("Shape",)):
-        other = beside.get(row[0], [""] * len(row))
-        last = [cell.rpartition(" ")[2] for cell in (row[1], row[2], row[3], other[2], other[3], row[4])]
-        groups.setdefault(group_of(row[0]), []).append(last + row[5].split(" / ") + [row[7]])
+    """Some shapes of sessions, by `script` and by `listen`."""
     rows = []
-    for title, members in groups.items():
-        cells = [spread(column) if column[0][-1:].isdigit() else column[0] for column in zip(*members)]
-        rows.append([title] + cells[:6] + ["%s / %s" % (cells[6], cells[7]), cells[8]])
-    return lines_of_table(["Shape", "n", "`script`", "ratio", "`listen`", "ratio", "limit", "for one", "bytes"], rows)
-
-
-def reached(results):
-    """A file that reaches 1,000 others, and edits of 1 kB."""
-    lines = results.said("hall.txt", r"^(.*), (first|then): (\d+) us by listen, (\d+) us by script: ([\d.]+)")
-    return lines_of_table(["Request", "which", "microseconds by `listen`", "by `script`", "factor"], lines)
+    for title in SHAPES:
+        one, other = (results.row(name, ("Shape",), title) for name in ("growth.txt", "growth_listen.txt"))
+        last = [cell.rpartition(" ")[2] for cell in (one[2], one[3], other[2], other[3])]
+        rows.append([title] + last + [one[5].replace(" / ", " a ").replace(" a n", ""), one[7]])
+    return lines_of_table(["Shape", "`script`", "ratio", "`listen`", "ratio", "for one", "bytes"], rows)
 
 
 def rates(results):
     """Small requests and independent files."""
-    requests = results.said("hall.txt", r"^ *(\d+) connections, (\d+) workers: +(\d+) requests/s, ([\d.]+) us")
-    files = results.said("hall.txt", r"^(\d+) connections with (.*), (\d+) workers: +([\d.]+) files/s")
-    return (lines_of_table(["connections", "workers", "requests a second", "microseconds of the server's processors each"], requests)
-            + lines_of_table(["connections", "each with", "workers", "files a second"], files))
+    requests = results.said("hall.txt", r"^ *(1|64) connections, ([14]) workers: +(\d+) requests/s, ([\d.]+) us")
+    files = results.said("hall.txt", r"^8 connections with .*, (\d+) workers: +([\d.]+) files/s")
+    return (lines_of_table(["connections", "workers", "small requests a second", "microseconds each"], requests)
+            + lines_of_table(["workers, 8 connections with files of 200 kB", "files a second"], files))
+
+
+def reached(results):
+    """A file that reaches 1,000 others, and edits of 1 kB."""
+    lines = results.said("hall.txt", r"^(.*?)(?:, 1000 files)?, then: (\d+) us by listen, (\d+) us by script: ([\d.]+)")
+    return lines_of_table(["Request", "microseconds by `listen`", "by `script`", "factor"], lines)
+
+
+def limited(results):
+    """What the settings of bin/limited cost."""
+    found = results.said("hall.txt", r"4 workers \| (\S+) and (\S+) microseconds of .* takes (\S+) and (\S+) without, .* \| (\w+) \|$")[0]
+    rows = [["with", *found[:2]], ["without", *found[2:4]]]
+    return (["A small request of 64 connections, 4 workers, with the settings of `bin/limited` and without (%s †), in two runs:"
+             % found[4], ""] + lines_of_table(["Settings", "microseconds", "again"], rows))
 
 
 def ranges(results):
-    """The least and the greatest of some runs."""
+    """The greatest of some runs."""
     lines = results.said("ranges.txt", r"^(.*), \d+ bytes: (\d+) ms by listen, (\d+) ms by script; another client waits ([\d.]+) ms at most "
                          r"for a small reply, [\d.]+ in the middle \(([\d.]+) at most", "The commit before")
     titles = list(dict.fromkeys(line[0] for line in lines))
-    rows = [[title] + [spread(line[at] for line in lines if line[0] == title) for at in range(1, 5)] for title in titles]
-    return lines_of_table(["Notification", "ms by `listen`", "ms by `script`", "longest wait of another client, ms", "beside nothing, ms"], rows)
+    rows = [[title] + [max((line[at] for line in lines if line[0] == title), key=number) for at in range(1, 5)] for title in titles]
+    return lines_of_table(["Notification", "ms by `listen`", "ms by `script`", "wait of another client, ms", "beside nothing, ms"], rows)
 
 
 def attacks(results):
     """What honest clients saw."""
-    lines = results.said("attacks.txt", r"^(\w+): honest clients made (\d+) requests and waited ([\d.]+) ms in the middle, (\d+) at most "
+    lines = results.said("attacks.txt", r"^(\w+): honest clients made \d+ requests and waited [\d.]+ ms in the middle, (\d+) at most "
                          r"\((\d+) allowed\), (\d+) refused, (\d+) closed")
-    return lines_of_table(["Attack", "requests", "middle, ms", "longest, ms", "allowed, ms", "refused", "closed"], lines)
+    return lines_of_table(["Attack", "longest wait, ms", "allowed, ms", "refused", "closed"], lines)
 
 
 def memory_of_cores(results):
     """What a core keeps, from two tables."""
-    rows = [row for starts, at in ((("What", "n, 2n", "bytes at n"), 4), (("What", "n, 2n", "peak at n, kB"), 4))
-            for row in [[line[0], line[at]] for line in results.table("core.txt", starts)]]
-    return lines_of_table(["What", "bytes each"], rows)
+    rows = [results.row("core.txt", starts, title) for starts, title in KEPT]
+    return lines_of_table(["What", "bytes each"], [[row[0], row[4]] for row in rows])
 
 
-def rows_of(name):
-    """What makes a table of the rows of a file that were written by hand."""
-    return lambda results: ["Single runs, of programs built without a proof where a dagger (†) says so:", ""] + lines_of_table(
-        [ROWS[0], ROWS[1], ROWS[3], ROWS[4]], [row[:2] + row[3:] for row in results.table(name, ROWS)])
-
-
-# What files say where they compare the programs of two commits.
-IN_ONE_RUN = r"Commits \w+ and \w+ in one run"
-PEERS = Cut("peers.txt", ("What", "Files"), [
-    ("What", 0), ("Files", 1), ("kB", 2), ("million instructions", 3), ("`protoc`", 4), ("factor", 5), ("ms", 6), ("`protoc`, ms", 7),
-    ("MB/s", 9)])
+# Rows of peers.txt that vary another row.
+VARIATIONS = ("the same with comments", "a leaf after the root's edit", "the root after its edit", "the root after a leaf's edit",
+              "the root after a message's edit in the hub")
+# Shapes that a page cites, and the dearest of a kind.
+SHAPES = ("fields: diagnostics", "references: diagnostics", "references to nothing: diagnostics", "messages",
+          "towers of 60 messages: diagnostics", "imports of absent files: diagnostics",
+          "n bytes: half a package of 17 parts, references to nothing", "n equal messages in a package of 10 n bytes",
+          "n references in a package of 10 n bytes: descriptors", "a chain, one asked", "each file imports all before it, all asked",
+          "each file publicly imports all before it, all asked", "a ring cut and closed, one asked", "a ring cut and closed, all asked",
+          "the root after its edit, 10 rounds", "the root after a comment's edit in the hub, 10 rounds",
+          "asks of n absent names", "a body of n MiB", "JSON: towers of 100 objects", "JSON: towers of 100 lists")
+KEPT = ((("What", "n, 2n", "bytes at n"), "open clients"),
+        (("What", "n, 2n", "bytes at n"), "requests that wait, their clients too"),
+        (("What", "n, 2n", "peak at n, kB"), "replies put and taken, of one client"))
 COMPILED = Cut("compile.txt", ("Files", "kB", "diagnostics, ms"), [
-    ("Files", 0), ("kB", 1), ("diagnostics, MB/s", 3), ("descriptors, MB/s", 5),
-    ("instructions a byte: diagnostics, descriptors, `protoc`", 10)])
-LATER = Cut("compile.txt", ("Files", "kB", "MB/s"), [("Files", 0), ("kB", 1), ("MB/s", 2), ("instructions a byte", 3)], run=IN_ONE_RUN)
-SESSIONS = Cut("sessions.txt", ("Session", "per second"), [("Session", 0), ("per second", 1), ("ratio", 2)])
-EDITS = Cut("sessions.txt", ("Request", "ms at 100 files"), [
-    ("Request", 0), ("ms at 100 files", 1), ("ms at 1,000", 2), ("wait at 1,000, ms", 3),
-    ("1,000 instructions at 100", 4), ("at 1,000", 5)])
-ENGINE = Cut("engine.txt", ("Case",), [("Case", 0), ("1,000 instructions at 100 files, at 1,000: %s", 2), ("ratio", 3)],
-             "before by now", IN_ONE_RUN)
-MEMOS = Cut("memos.txt", ("Case", "sizes"), [("Case", 0), ("sizes", 1), ("1,000 instructions: %s", 4), ("ratio", 5)],
-            "before by now", IN_ONE_RUN)
-CORE = Cut("core.txt", ("Rounds", "files", "calls a second at 1 client"), [
-    ("Rounds", 0), ("files", 1), ("calls a second at 1 client", 2), ("at 8", 3), ("at 64", 4), ("calls of a request", 5),
-    ("instructions of a call at 1", 6), ("at 64", 7)])
+    ("Files", 0), ("diagnostics, MB/s", 3), ("instructions a byte", 10, ", ", 0), ("descriptors, MB/s", 5),
+    ("instructions a byte", 10, ", ", 1)], ("10 installed files", "80 copies of each"))
+SESSIONS = Cut("sessions.txt", ("Session", "per second"), [("Session", 0), ("a second", 1, ", ", 0), ("ratio", 2)], (
+    "texts of 1 MB, opened and diagnosed", "small requests", "diagnostic, nothing changed", "definition, nothing changed",
+    "diagnostic, each after an edit", "documentSymbol, each after an edit", "definition, each after an edit",
+    "descriptor, each after an edit"))
+ENGINE = Cut("engine.txt", ("Case",), [
+    ("Case", 0), ("1,000 instructions (%s) at 100 files", 2, ", ", 0), ("at 1,000", 2, ", ", 1), ("ratio", 3)], (
+    "first demand of the root, files set", "unrelated edit, durable root (2 edits)", "unrelated edit, root, each key looked at (2 edits)",
+    "a message of a leaf, root demanded (2 edits)", "a message of the hub, each demanded (2 edits)",
+    "a ring cut and closed, each demanded (2 edits)"), "before by now")
+MEMOS = Cut("memos.txt", ("Case", "sizes"), [("Case", 0), ("n", 1, ", ", 1), ("1,000 instructions (%s)", 4, ", ", 1), ("ratio", 5)], (
+    "first demand, files set", "nothing changed, each key demanded", "unrelated edit, each key looked at (2 edits)",
+    "a leaf, its key demanded (2 edits)", "a hub, its answer changes (2 edits)", "a ring, cut and closed again (2 edits)"),
+    "before by now")
 
 # A subject: its title, what its columns mean, the files that it is of, and what makes its tables.
 SUBJECTS = [
-    ("Beside `protoc`", "A factor is the cost of `protoc` as a multiple of ours.", ["peers.txt"], [PEERS]),
-    ("Compilations without the engine", "A cell of the second table has the figure of the earlier commit first.", ["compile.txt"],
-     [COMPILED, LATER]),
-    ("Sessions by `script`", "The ratio is the time of a session of twice the size. A round of the second table is an edit and a request for"
-     " the diagnostics of one file, among files of 2 kB.", ["sessions.txt"], [SESSIONS, EDITS, rows_of("sessions.txt")]),
-    ("The engine", "A round has as many edits, each with its demands, as its title says.", ["engine.txt"], [ENGINE]),
-    ("The engine with small rules", "", ["memos.txt"], [MEMOS]),
-    ("The core", "The second table is the memory that one more thing takes.", ["core.txt"], [CORE, memory_of_cores, rows_of("core.txt")]),
-    ("Many editors", "The last column of the third table is the time by `listen` as a multiple of that by `script`.", ["hall.txt"],
-     [rates, reached, rows_of("hall.txt")]),
-    ("Beside long notifications", "A range is that of all runs.", ["ranges.txt"], [ranges]),
+    ("Beside `protoc`", "A factor is the cost of `protoc` as a multiple of ours.", ["peers.txt"], [peers]),
+    ("Compilations without the engine", "", ["compile.txt"],
+     [COMPILED, made_files]),
+    ("Sessions by `script`", "The ratio is the time of a session of twice the size.", ["sessions.txt"], [SESSIONS]),
+    ("The engine", "A round has as many edits, each with its demands, as its title says. The second table is of the rules of `Sums`: its"
+     " ratios are to half of n, and of the leaf to 100.", ["engine.txt", "memos.txt"], [ENGINE, MEMOS]),
+    ("The core", "The rounds are among 10,000 files. The second table is the memory that one more thing takes.", ["core.txt"],
+     [rounds, memory_of_cores]),
+    ("Many editors", "The microseconds of the first table are those of the server's processors.", ["hall.txt"],
+     [rates, reached, limited]),
+    ("Beside long notifications", "A figure is the greatest of all runs.", ["ranges.txt"], [ranges]),
     ("Beside attacks", "", ["attacks.txt"], [attacks]),
-    ("Shapes of sessions", "The columns are million instructions at the largest n, their ratio to those at the size before, and the most"
-     " that it may be. The last two are by `script`: the instructions and the peak of memory for one of what the cost follows. Shapes of"
-     " hostile texts are in one row, with the least and the greatest of each column.", ["growth.txt", "growth_listen.txt"], [shapes])]
+    ("Shapes of sessions", "The cells are million instructions at the largest n, and their ratio to those at the size before. The last two are"
+     " by `script`: the instructions and the peak of memory for one of n, or for one of what a cell names.",
+     ["growth.txt", "growth_listen.txt"], [shapes])]
 
 
 def subject(results, title, note, names, parts):
     """A section of the page."""
-    lines = ["## " + title, ""] + (re.sub(r"\. (?=[A-Z])", ".\n", note).splitlines() + [""] if note else [])
+    lines = ["## " + title, ""]
     for name in names:
         lines += results.preface(name)
+    lines += [""]
+    lines += re.sub(r"\. (?=[A-Z])", ".\n", note).splitlines() + [""] if note else []
     for part in parts:
         lines += cut(results, part) if isinstance(part, Cut) else part(results)
     return lines
@@ -343,10 +368,9 @@ def subject(results, title, note, names, parts):
 def page(results):
     """The text of docs/FIGURES.md."""
     lines = ["# Figures", "", "<!-- by bench/figures.py --write -->",
-             "This page has what the benches measured, out of the files of `bench/results/`.",
-             "`docs/PERFORMANCE.md` says what it means, and how figures are made.", "", "## Aims", "",
-             "A factor is the figure by the limit, or the limit by the figure where that is a least one.",
-             "`docs/PERFORMANCE.md` has every aim that is missed, and the cause.", ""]
+             "This page has the main figures that the benches measured; the files of `bench/results/` have all.",
+             "`docs/PERFORMANCE.md` says what they mean, how they are made, and why an aim is missed.", "", "## Aims", "",
+             "A missed aim has its factor: the figure by the limit, or the limit by the figure where that is a least one.", ""]
     lines += aims(results)
     for one in SUBJECTS:
         lines += subject(results, *one)
