@@ -168,8 +168,8 @@ def shown_untold(untold):
         "`%s`" % name for name in clauses)) for (_, clauses), functions in alike.items()) + "."
 
 
-def written(crate, text, functions, say, anew=False):
-    """The page of a crate as the source has it, where the page now is `text`. With `anew` all clauses may be without a text."""
+def written(crate, text, functions, say):
+    """The page of a crate as the source has it, where the page now is `text`. Each finding goes to `say`."""
     page = Page(text)
     public, every = functions
     stored, last = page.stored(), max(len(page.tables) - 1, 0)
@@ -189,10 +189,10 @@ def written(crate, text, functions, say, anew=False):
             elif said:
                 number, at = there[:2] if there else (last, (len(stored), 0))
                 tables[number].append(((at, order), name, clause, said))
-            else:
+            elif (name, clause) in page.untold:
                 untold.setdefault(name, []).append(clause)
-                if (name, clause) not in page.untold and not anew:
-                    say("%s: the clause `%s` has no text" % (name, clause))
+            else:
+                say("%s: the clause `%s` has no text" % (name, clause))
     lines, number = [], 0
     for part in page.parts or ["# " + crate, "", []]:
         if isinstance(part, list):
