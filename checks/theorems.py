@@ -134,6 +134,8 @@ class Page:
                     table.append(Row(names_in(function), TOKEN.findall(clause) or ["ensures"], said))
             else:
                 self.parts.append(line)
+        if not any(isinstance(part, list) for part in self.parts):
+            self.parts += ["", []]
         self.tables = [part for part in self.parts if isinstance(part, list)]
 
     def stored(self):
@@ -168,11 +170,11 @@ def shown_untold(untold):
         "`%s`" % name for name in clauses)) for (_, clauses), functions in alike.items()) + "."
 
 
-def written(crate, text, functions, say):
+def written(text, functions, say):
     """The page of a crate as the source has it, where the page now is `text`. Each finding goes to `say`."""
     page = Page(text)
     public, every = functions
-    stored, last = page.stored(), max(len(page.tables) - 1, 0)
+    stored, last = page.stored(), len(page.tables) - 1
     tables, untold, order = [[] for _ in range(last + 1)], collections.OrderedDict(), 0
     for name in every:
         function = public.get(name) or every[name]
@@ -193,12 +195,11 @@ def written(crate, text, functions, say):
                 untold.setdefault(name, []).append(clause)
             else:
                 say("%s: the clause `%s` has no text" % (name, clause))
-    lines, number = [], 0
-    for part in page.parts or ["# " + crate, "", []]:
+    lines, tables = [], iter(tables)
+    for part in page.parts:
         if isinstance(part, list):
-            rows = rows_of(tables[number])
+            rows = rows_of(next(tables))
             lines += HEAD + [shown_row(row) for row in rows] if rows else []
-            number += 1
         else:
             lines.append(part)
     while lines and not lines[-1]:
@@ -222,7 +223,7 @@ def main():
             continue
         with open(path, encoding="utf-8") as file:
             old = file.read()
-        new = written(crate, old, functions_of(given.top, crate), lambda finding: findings.append("%s: %s" % (page, finding)))
+        new = written(old, functions_of(given.top, crate), lambda finding: findings.append("%s: %s" % (page, finding)))
         if new != old and given.check:
             findings.append("%s: it is not what checks/theorems.py writes" % page)
         elif new != old:
