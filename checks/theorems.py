@@ -61,17 +61,16 @@ class Function:
         self.clauses, self.texts, self.findings = [], {}, []
 
     def add(self, source, found):
-        places = [(start, clause_name(source.text[start:end])) for start, end in found.places
-                  if CLAUSE.match(source.text[start:end])]
+        places = [(start, clause_name(source.text[start:end])) for start, end in found.places if CLAUSE.match(source.text[start:end])]
         self.clauses += [name for _, name in places if name not in self.clauses]
         for start, name in places:
             text = comment_before(source, start)
             several = OF_NAMES.match(text)
-            for of in TOKEN.findall(several.group(1)) if several else [name] if text else []:
-                if of not in self.clauses and of not in [name for _, name in places]:
+            names, said = (TOKEN.findall(several.group(1)), text[several.end():]) if several else ([name], text)
+            for of in names if text else []:
+                if of not in self.clauses:
                     self.findings.append("a comment names `%s`, which is no clause" % of)
-                elif self.texts.setdefault(of, text[several.end():] if several else text) != (
-                        text[several.end():] if several else text):
+                elif self.texts.setdefault(of, said) != said:
                     self.findings.append("two comments on `%s`" % of)
 
 
