@@ -37,6 +37,8 @@ LONG = re.compile(SEEN + r"(?:use|ghost|const|static|type)\b")
 CLAUSE = re.compile(r"(?:\b(?:requires|ensures)\b\*?(?:\s+[^\s{]+)?|\bghost\s+\w+\s*[:=]|=)\s*$")
 CLOSING = {"(": ")", "[": "]", "{": "}"}
 Contract = collections.namedtuple("Contract", "lines names")
+# A function: the block that it is in, the match of its head, and where its signature and each clause are in the text of its file.
+Found = collections.namedtuple("Found", "block head places")
 
 
 def folded(text):
@@ -65,7 +67,7 @@ class Source:
     """The functions of a file of src/."""
 
     def __init__(self, text):
-        self.text, self.shape = blanked(text, "comments"), blanked(text, "all")
+        self.whole, self.text, self.shape = text, blanked(text, "comments"), blanked(text, "all")
         self.table, self.traits, self.functions = {}, set(), []
         for line in text.splitlines():
             reach.note_import(line, self.table)
@@ -122,20 +124,24 @@ class Source:
         return after
 
     def function(self, start, end, block, function, tested):
-        lines, at, last = [], start, start
+        places, at, last = [], start, start
         while True:
             at = self.next_mark(at, end)
             clause = CLAUSE.search(self.shape[last:at]) if at < end and self.shape[at] == "{" else None
             if not clause:
                 break
             if not clause.group().startswith("="):
-                lines.append(self.text[last:last + clause.start()])
+                places.append((last, last + clause.start()))
                 last += clause.start()
             at = self.closed(at)
-        lines.append(self.text[last:at])
+        places.append((last, at))
         if not tested:
-            self.functions.append((block, function, [line for line in map(folded, lines) if line]))
+            self.functions.append(Found(block, function, places))
         return self.closed(at) if at < end and self.shape[at] == "{" else at + 1
+
+    def lines(self, found):
+        """The signature of a function and its clauses."""
+        return [line for line in (folded(self.text[start:end]) for start, end in found.places) if line]
 
 
 def about(header):
@@ -149,7 +155,7 @@ class Crate:
     """The public contracts of a crate, by name."""
 
     def __init__(self, files):
-        sources = {path: Source(text) for path, text in files.items()}
+        self.sources = {path: Source(text) for path, text in sorted(files.items())}
         lib = next((blanked(text, "all") for path, text in files.items() if path == "lib.rt"), "")
         self.passed_on, self.open = set(), {"lib"} | set(re.findall(r"^pub mod (\w+)", lib, re.M))
         for use in re.finditer(r"^pub use ([\w:]+?)(?:::\{([^}]*)\}|::(\*))?;", lib, re.M):
@@ -157,13 +163,13 @@ class Crate:
             if all_of:
                 self.open.add(path.split("::")[-1])
             self.passed_on |= {name.split(" as ")[0].strip() for name in (names or path.split("::")[-1]).split(",")} - {""}
-        self.traits = set().union(*(it.traits for it in sources.values()))
+        self.traits = set().union(*(it.traits for it in self.sources.values()))
         found = collections.defaultdict(list)
-        for path, source in sorted(sources.items()):
-            for block, function, lines in source.functions:
-                name = self.name_of(path, block, function)
+        for path, source in self.sources.items():
+            for function in source.functions:
+                name = self.name_of(path, function)
                 if name:
-                    lines = ([block[2]] if block else []) + lines
+                    lines = ([function.block[2]] if function.block else []) + source.lines(function)
                     words = {word for line in lines for word in reach.TOKEN.findall(line)}
                     found[name].append((lines, {word: ".".join(source.table[word]) for word in words if word in source.table}))
         self.contracts = {name: Contract([line for lines, _ in sorted(all_of, key=str) for line in lines],
@@ -172,21 +178,21 @@ class Crate:
     def is_open(self, path, name):
         return name in self.passed_on or re.split(r"[/.]", path)[0] in self.open
 
-    def name_of(self, path, block, function):
-        """The name of a function that can be reached from outside."""
-        name, is_pub = function.group("name"), (function.group("seen") or "").strip() == "pub"
-        if block is None:
-            return name if is_pub and self.is_open(path, name) else None
-        kind, seen, header = block
+    def name_of(self, path, function, inside=False):
+        """The name of a function, if it can be reached from outside, or if it is wanted from inside too."""
+        name, is_pub = function.head.group("name"), (function.head.group("seen") or "").strip() == "pub"
+        if function.block is None:
+            return name if inside or is_pub and self.is_open(path, name) else None
+        kind, seen, header = function.block
         if kind == "trait":
             of = re.search(r"\btrait\s+(\w+)", header).group(1)
-            return "%s::%s" % (of, name) if (seen or "").strip() == "pub" and self.is_open(path, of) else None
+            return "%s::%s" % (of, name) if inside or (seen or "").strip() == "pub" and self.is_open(path, of) else None
         trait, of = about(header)
-        if not self.is_open(path, of):
+        if not (inside or self.is_open(path, of)):
             return None
         if trait:
-            return "<%s as %s>::%s" % (of, trait, name) if trait not in self.traits or self.is_open(path, trait) else None
-        return "%s::%s" % (of, name) if is_pub else None
+            return "<%s as %s>::%s" % (of, trait, name) if inside or trait not in self.traits or self.is_open(path, trait) else None
+        return "%s::%s" % (of, name) if inside or is_pub else None
 
 
 def git(top, *words):

@@ -1,7 +1,7 @@
 #!/usr/bin/env python3
 """Tries the wrong bodies that checks/edits/CRATE.txt lists: the checker has to refuse each of them.
 
-The gate tries the edits in crates/CRATE/must-fail, the wrong bodies of the promises in docs/THEOREMS.md. All others stand in these lists,
+The gate tries the edits in crates/CRATE/must-fail, the wrong bodies of the promises in docs/theorems/. All others stand in these lists,
 and whoever changes a crate runs its list before the change lands. A list is plain text. An edit in it looks like this:
 
     edit: asks_the_same_again

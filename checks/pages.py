@@ -2,16 +2,17 @@
 """Checks what the pages of the repository claim, as far as names and counts show it.
 
 It checks these; each finding is a line, and any finding gives the status 1.
-- The lists of definitions in docs/THEOREMS.md name files of specs/ that exist, and each file of specs/ that a public contract
-  reaches (`reach.py`).
+- The lists of definitions in docs/theorems/ name files of specs/ that exist, and each file of
+  specs/ that a public contract reaches (`reach.py`).
 - The counts of "Read the headline in this order" are those of `reach.py`, and the files are those that it reaches.
-- Each function and each clause in a table of docs/THEOREMS.md exists in its crate.
+- docs/theorems/ has a page for each crate, docs/THEOREMS.md a link to it, and both say alike what it is about.
+- Each function, type and clause in a table of docs/theorems/ exists in its crate (`theorems.py` writes most of these tables).
 - A public name has one path: only the names in RE_EXPORTED may be passed on by another crate.
 - The map: docs/ARCHITECTURE.md has a row for each crate of the product, and names no crate below it that crates.txt does not give
   it; a crate names only crates that crates.txt gives it; code and definitions of specs/ rest on no lower crate's proofs; threads,
   locks and sockets are in the crates of HANDLES alone.
-- README.md has a row or a line for each crate of crates.txt, docs/ARCHITECTURE.md mentions each script that is run, and
-  docs/GATE.md has at most 60 lines.
+- README.md has a row or a line for each crate of crates.txt, docs/ARCHITECTURE.md mentions each script that is run,
+  docs/GATE.md has at most 60 lines, and docs/THEOREMS.md at most 10,000 bytes.
 - The pages of PLAIN count no files, lines or functions, but for limits, and for what a script writes: such a count is stale soon.
 - Pages name no path of a machine, and each path of the repository that they name exists.
 - docs/FIGURES.md is what bench/figures.py makes of bench/results/.
@@ -27,6 +28,7 @@ import subprocess
 import sys
 
 import reach
+import theorems
 
 RE_EXPORTED = {"Memory", "RunId", "Text", "Shared", "Items"}
 HANDLES = {"pq_mail", "pq_hall", "pq_server"}
@@ -36,7 +38,10 @@ TESTS = re.compile(r"^(?:test_support|stored_sessions|tests_\w+)$")
 OPTIONAL = re.compile(r"^(?:cases/|checks/edits/|crates/(?:test_support|stored_sessions|tests_\w+)|crates/pq_server/(?:stdin|stdout))")
 TO_COME = set()
 GATE_LINES = 60
+THEOREMS_BYTES = 10_000
 PLAIN = ["README.md", "CONTRIBUTING.md", "docs/ARCHITECTURE.md", "docs/GATE.md", "docs/LIMITS.md", "docs/THEOREMS.md"]
+# The heads of the tables of docs/theorems/: those that a script writes, and those by hand.
+HEADS = ("Function", "Type", "---")
 COUNT = re.compile(r"(?<![\w.,])(?<!at most )(?<!under )(?<!about )(?<!more than )"
                    r"(?:\d[\d,]*\d|nine|ten|eleven|twelve|thirteen|fourteen|fifteen|sixteen|seventeen|eighteen|nineteen|twenty) "
                    r"(?:[\w-]+ )?(?:bodies|clauses|comments|crates|definitions|edits|files|functions|lines|modules|rows|scripts|sessions)\b", re.I)
@@ -68,7 +73,8 @@ def clauses_of(code):
     for line in code.splitlines():
         function = re.match(r"\s*(?:pub(?:\([a-z]+\))? )?(?:const )?fn (\w+)", line)
         now = function.group(1) if function else now
-        for name in re.findall(r"\b(?:ensures|invariant|ghost) (%s) ?[:{=(]" % NAME, line):
+        for kind, name in re.findall(r"\b(ensures|requires|invariant|ghost)\*?( %s)? ?[:{=(]" % NAME, line):
+            name = (kind + name if kind == "requires" else name or kind).strip()
             found[now].add(name)
             found["all"].add(name)
     return found
@@ -116,18 +122,26 @@ class Repository:
                 self.say(page, "the definitions of %s lack %s, which a public contract reaches" % (crate, module))
 
     def check_theorem_lists(self):
-        page, seen = "docs/THEOREMS.md", set()
-        for crate, section in self.sections():
-            lines = [line for line in section if line.startswith("Definitions:")]
-            if not lines:
-                self.say(page, "%s has no line of definitions" % crate)
+        front = text_of(self.top, "docs", "THEOREMS.md")
+        if len(front.encode()) > THEOREMS_BYTES:
+            self.say("docs/THEOREMS.md", "more than %d bytes" % THEOREMS_BYTES)
+        for crate in theorems.crates_of(self.top):
+            page = "docs/theorems/%s.md" % crate
+            if not os.path.exists(os.path.join(self.top, page)):
+                self.say(page, "there is no such page")
                 continue
-            own = re.sub(r"`[^`]+` of `[^`]+`", "", lines[0])
+            lines = text_of(self.top, page).splitlines()
+            title = re.match(r"# %s: (.+)" % crate, lines[0])
+            if not title:
+                self.say(page, "it does not begin with `# %s: ` and what it is about" % crate)
+            elif "| [`%s`](theorems/%s.md) | %s |" % (crate, crate, title.group(1)) not in front:
+                self.say("docs/THEOREMS.md", "no row with a link to %s and its title" % page)
+            definitions = [line for line in lines if line.startswith("Definitions:")]
+            if not definitions:
+                self.say(page, "no line of definitions")
+                continue
+            own = re.sub(r"`[^`]+` of `[^`]+`", "", definitions[0])
             self.compare_lists(page, crate, set(in_backticks(own)))
-            seen.add(crate)
-        for crate in self.uses:
-            if crate.startswith("pq_") and crate not in seen:
-                self.say(page, "no section on %s" % crate)
 
     def check_map_rows(self):
         page = "docs/ARCHITECTURE.md"
@@ -160,43 +174,33 @@ class Repository:
 
     # Functions and clauses
 
-    def sections(self):
-        """The sections of THEOREMS that are about a crate, as pairs of crate and lines."""
-        crate, lines = None, []
-        for line in text_of(self.top, "docs/THEOREMS.md").splitlines() + ["## end"]:
-            if line.startswith("## "):
-                if crate:
-                    yield crate, lines
-                about = re.match(r"## (pq_\w+)", line)
-                crate, lines = about.group(1) if about else None, []
-            lines.append(line)
-
     def check_names(self):
-        page = "docs/THEOREMS.md"
-        for crate, section in self.sections():
-            if crate not in self.uses:
-                self.say(page, "crates.txt has no %s" % crate)
+        for crate in self.uses:
+            page = "docs/theorems/%s.md" % crate
+            if not os.path.exists(os.path.join(self.top, page)):
                 continue
             code = "".join(text_of(path) for path in self.sources(crate))
             terms = "".join(text_of(path) for path in glob.glob(
                 os.path.join(self.top, "crates", crate, "specs", "**", "*.antt"), recursive=True))
             clauses = clauses_of(code)
-            for line in section:
+            for line in text_of(self.top, page).splitlines():
                 cells = [cell.strip() for cell in line.strip("|").split("|")]
-                if not line.startswith("|") or len(cells) != 3 or cells[0] in ("Function", "---"):
+                if not line.startswith("|") or len(cells) != 3 or cells[0] in HEADS:
                     continue
                 names = [name for token in in_backticks(cells[0]) for name in expanded(token)]
                 for name in names:
                     if not re.search(r"\b(?:fn|struct|enum|trait|type) %s\b" % re.escape(name), code):
                         self.say(page, "%s has no function or type `%s`" % (crate, name))
-                # A clause belongs to a function of its row; one of a type or a trait, or of `each call`, to the crate.
+                # A clause belongs to each function of its row; a member of a type's impl to the crate.
                 wide = not names or any(name[0].isupper() for name in names)
                 for token in in_backticks(cells[1]):
                     there = [clauses["all"]] if wide else [clauses.get(name, set()) for name in names]
-                    is_word = re.search(r"^ *(?:abbrev |unfoldable |pub )*(?:data|record|abbrev|pub|unfoldable)(?: pub)? %s\b"
-                                        % re.escape(token), terms, re.M)
-                    if not any(token in one for one in there) and not (is_word and token[0].isupper()):
+                    if not all(token in one for one in there):
                         self.say(page, "%s has no clause `%s` of %s" % (crate, token, cells[0]))
+                # A text that begins with a relation, as "`Opens`: ..", names one of this crate.
+                for word in re.findall(r"^`([A-Z]\w*)`: ", cells[2]):
+                    if not re.search(r"^ *(?:abbrev |unfoldable |pub )*(?:data|record|abbrev|pub|unfoldable)(?: pub)? %s\b" % word, terms, re.M):
+                        self.say(page, "%s has no definition `%s`" % (crate, word))
 
     # The map
 
@@ -249,15 +253,20 @@ class Repository:
 
     def check_counts(self):
         stated = reach.stated(self.specs.headline())[0]
-        for page in PLAIN:
+        for page in PLAIN + self.theorem_pages():
             text = WRITTEN.sub("", text_of(self.top, page)).replace(stated, "")
             for line in text.splitlines():
                 for found in COUNT.finditer(line):
                     self.say(page, "a count that no script writes: `%s`" % found.group())
 
+    def theorem_pages(self):
+        folder = os.path.join("docs", "theorems")
+        return ["docs/theorems/" + name for name in sorted(os.listdir(os.path.join(self.top, folder))) if name.endswith(".md")]
+
     def check_links(self):
         pages = ["README.md", "CONTRIBUTING.md"] + [
             "docs/" + name for name in sorted(os.listdir(os.path.join(self.top, "docs"))) if name.endswith(".md")]
+        pages += self.theorem_pages()
         pages += [page for page in ("cases/README.md", "cases/sessions/README.md", "examples/README.md")
                   if os.path.exists(os.path.join(self.top, page))]
         for page in pages:
