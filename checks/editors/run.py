@@ -1,0 +1,272 @@
+#!/usr/bin/env python3
+"""Runs each client that is installed here with `stdio`, and compares the diagnostics that it shows with those that are right.
+
+A client opens two files, `a.proto` and `b.proto`, of which the first imports the second, and makes STEPS. After each it shows the
+diagnostics of `a.proto`: line, column and text of each are compared. The configuration of a client is the block of docs/EDITORS.md,
+with the path of a recorder (`between.py`) in the place of `/path/bin/pq_server`. Each driver beside this file says how it makes the
+steps. Nothing of the user's own settings is read: the home folder is a new one.
+
+It prints a line for each client: its name, its version, and how many of its steps were as they should be, or `not here`. A step that
+was not has lines of its own. The status is 1 if there is one.
+
+PROGRAM is the program of `pq_server`, by default the one that was built without a proof. `--keep FOLDER` keeps the folder of each client:
+what it showed (`shown`), what passed between it and the server (`passed`, `wrote`), and what it printed (`printed`).
+
+usage: checks/editors/run.py [PROGRAM] [--only NAME ..] [--keep FOLDER]
+"""
+import argparse
+import contextlib
+import json
+import os
+import re
+import shlex
+import shutil
+import signal
+import subprocess
+import sys
+import tempfile
+
+HERE = os.path.dirname(os.path.realpath(__file__))
+TOP = os.path.dirname(os.path.dirname(HERE))
+PROGRAM = os.path.join(TOP, "out-unproved", "pq_server")
+PAGE = os.path.join(TOP, "docs", "EDITORS.md")
+# More seconds than the steps of a client take, each of which waits for at most ten.
+LIMIT = 120
+
+A = """syntax = "proto3";
+
+package shop;
+
+import "b.proto";
+
+message Order {
+  Item first = 1;
+  Item second = 1;
+}
+"""
+B = """syntax = "proto3";
+
+package shop;
+
+message Item {
+  string name = 1;
+}
+"""
+TWICE = [8, 16, "field number 1 is used twice"]
+
+
+def without(name):
+    """The diagnostics of a.proto while no message has the name that it uses."""
+    text = 'type "%s" is not found' % name
+    return [[7, 2, text], [8, 2, text], TWICE]
+
+
+# What each step does, and the diagnostics of a.proto after it: line and column from 0, and text. Before `save b` the texts on the disk
+# are A and B.
+STEPS = {
+    "open": [TWICE],
+    # `Item` is replaced by `Itm` in b.proto, which is not saved.
+    "break": without("Item"),
+    # That is undone.
+    "mend": [TWICE],
+    # `Item` is replaced by `Part` in b.proto, which is not saved.
+    "rename in b": without("Item"),
+    # So it is in a.proto, at each place.
+    "rename in a": [TWICE],
+    # b.proto is closed, and its change thrown away.
+    "close b": without("Part"),
+    # b.proto is opened again, `Item` is replaced by `Part`, and it is saved and closed.
+    "save b": [TWICE],
+}
+
+
+def block(heading, language, number=0):
+    """A block of code of docs/EDITORS.md: the one with this number, from 0, of those in a language below a heading."""
+    with open(PAGE, encoding="utf-8") as page:
+        section = page.read().partition("\n## %s\n" % heading)[2].partition("\n## ")[0]
+    return re.findall(r"^```%s\n(.*?)^```" % language, section, re.M | re.S)[number]
+
+
+def printed_by(*command):
+    """What a command prints, or nothing where it is not there or fails."""
+    if not shutil.which(command[0]):
+        return ""
+    done = subprocess.run(command, capture_output=True, text=True, stdin=subprocess.DEVNULL, timeout=LIMIT)
+    return done.stdout if done.returncode == 0 else ""
+
+
+def first(pattern, text):
+    """The first group of a pattern in a text, or None."""
+    found = re.search(pattern, text)
+    return found and found.group(1)
+
+
+class Place:
+    """A new folder in which a client makes its steps: the two files below `work`, the home folder, and what is kept."""
+
+    def __init__(self, folder, program):
+        self.folder, self.work = folder, os.path.join(folder, "work")
+        self.home, self.server = os.path.join(folder, "home"), os.path.join(folder, "bin", "pq_server")
+        os.makedirs(self.work)
+        os.makedirs(self.home, mode=0o700)
+        # Some clients ask git for the files of a project.
+        if not printed_by("git", "init", self.work):
+            os.makedirs(os.path.join(self.work, ".git"))
+        self.write("work/a.proto", A)
+        self.write("work/b.proto", B)
+        self.write("steps", json.dumps(STEPS))
+        recorder = [sys.executable, os.path.join(HERE, "between.py"), folder, program]
+        self.write("bin/pq_server", '#!/bin/sh\nexec %s "$@"\n' % " ".join("'%s'" % it for it in recorder))
+        os.chmod(self.server, 0o755)
+
+    def write(self, name, text):
+        path = os.path.join(self.folder, name)
+        os.makedirs(os.path.dirname(path), exist_ok=True)
+        with open(path, "w", encoding="utf-8") as sink:
+            sink.write(text)
+        return path
+
+    def lines(self, heading, language, number=0):
+        """The file of a block of the page, with the path of the recorder."""
+        return self.write("lines." + language, block(heading, language, number).replace("/path/bin/pq_server", self.server))
+
+    def environment(self):
+        kept = {name: os.environ[name] for name in ("PATH", "LANG", "LC_ALL", "DISPLAY") if name in os.environ}
+        return dict(kept, HOME=self.home, PLACE=self.folder, TERM="xterm", XDG_RUNTIME_DIR=self.home)
+
+    def shown(self):
+        """What was shown after each step, by its name."""
+        try:
+            with open(os.path.join(self.folder, "shown"), encoding="utf-8") as source:
+                return dict(json.loads(line) for line in source if line.strip())
+        except FileNotFoundError:
+            return {}
+
+
+class Neovim:
+    name, steps = "neovim", list(STEPS)
+
+    def version(self):
+        found = first(r"NVIM v(\S+)", printed_by("nvim", "--version"))
+        # The lines of the page are those for these versions.
+        return found if found and found.startswith(("0.7.", "0.8.", "0.9.")) else None
+
+    def command(self, place):
+        lines = place.lines("Neovim", "lua", 1)
+        return ["nvim", "--headless", "-n", "-i", "NONE", "-u", lines, "-c", "luafile " + os.path.join(HERE, "nvim.lua")]
+
+
+def in_terminal(words):
+    """The command that runs a command in a terminal of its own."""
+    return ["script", "-qec", shlex.join(words), "/dev/null"]
+
+
+def version_in_emacs(library):
+    """The versions of emacs and of a package of it, as `28.2, 1.9`, or None if one of them is not here."""
+    emacs = first(r"GNU Emacs (\S+)", printed_by("emacs", "--version"))
+    find = '(princ (package-desc-version (cadr (assq \'%s package-alist))))' % library
+    found = first(r"\(([\d ]+)\)", printed_by("emacs", "--batch", "-f", "package-initialize", "--eval", find)) if emacs else None
+    return found and "%s in emacs %s" % (found.replace(" ", "."), emacs)
+
+
+class Eglot:
+    name, steps, block, driver = "eglot", list(STEPS), 0, "eglot.el"
+
+    def version(self):
+        return version_in_emacs(self.name)
+
+    def command(self, place):
+        # Emacs sends changes when it is idle, which it never is without a terminal.
+        words = ["emacs", "-nw", "-q", "--eval", "(setq native-comp-deferred-compilation nil)", "-f", "package-initialize",
+                 "-l", place.lines("Emacs", "elisp", self.block), "-l", os.path.join(HERE, "steps.el"), "-l", os.path.join(HERE, self.driver)]
+        return in_terminal(words)
+
+
+class LspMode(Eglot):
+    name, block, driver = "lsp-mode", 1, "lsp_mode.el"
+
+
+class Ale:
+    name, steps = "ale", list(STEPS)
+
+    def folder(self):
+        """Where vim finds ALE, or an empty text."""
+        ask = ["-c", "silent! packadd! ale", "-c", "put =globpath(&runtimepath, 'autoload/ale.vim')", "-c", "%p", "-c", "qa!"]
+        return os.path.dirname(os.path.dirname(printed_by("vim", "-N", "-u", "NONE", "-i", "NONE", "-es", *ask).strip()))
+
+    def version(self):
+        if not self.folder():
+            return None
+        with open(os.path.join(self.folder(), "autoload", "ale.vim"), encoding="utf-8") as source:
+            found = first(r"current_ale_version = \[([\d, ]+)\]", source.read())
+        return "%s in vim %s" % (found.replace(", ", "."), first(r"Vi IMproved (\S+)", printed_by("vim", "--version")))
+
+    def command(self, place):
+        lines = place.lines("vim with ALE", "vim")
+        return in_terminal(["vim", "-N", "-n", "-i", "NONE", "--cmd", "set runtimepath^=" + self.folder(), "--cmd", "filetype on",
+                            "-u", lines, "-S", os.path.join(HERE, "ale.vim")])
+
+
+CLIENTS = [Neovim(), Eglot(), LspMode(), Ale()]
+
+
+def run(client, place):
+    """Runs a client to its end, or ends it after LIMIT seconds. Returns what is wrong with how it ended."""
+    with open(os.path.join(place.folder, "printed"), "wb") as printed:
+        # An end of the input would end some clients.
+        process = subprocess.Popen(client.command(place), cwd=place.work, env=place.environment(), stdin=subprocess.PIPE,
+                                   stdout=printed, stderr=subprocess.STDOUT, start_new_session=True)
+        try:
+            status = process.wait(LIMIT)
+            return [] if status == 0 else ["it ended with status %d" % status]
+        except subprocess.TimeoutExpired:
+            return ["it had not ended after %d seconds" % LIMIT]
+        finally:
+            with contextlib.suppress(ProcessLookupError):
+                os.killpg(process.pid, signal.SIGKILL)
+            process.wait()
+            process.stdin.close()
+
+
+def findings(client, place):
+    """How many steps are as they should be, and the lines of those that are not."""
+    wrong, shown = [], place.shown()
+    for name in client.steps:
+        if shown.get(name) != STEPS[name]:
+            found = json.dumps(shown[name]) if name in shown else "nothing"
+            wrong.append("%s: shown %s, wanted %s" % (name, found, json.dumps(STEPS[name])))
+    return len(client.steps) - len(wrong), wrong
+
+
+def main():
+    words = argparse.ArgumentParser(usage=__doc__.split("usage: ")[1])
+    words.add_argument("program", nargs="?", default=PROGRAM)
+    words.add_argument("--only", nargs="+", metavar="NAME", default=[it.name for it in CLIENTS])
+    words.add_argument("--keep", metavar="FOLDER")
+    words = words.parse_args()
+    program = os.path.realpath(words.program)
+    if not os.access(program, os.X_OK):
+        sys.exit("checks/editors/run.py: %s is not there" % program)
+    right = True
+    for client in CLIENTS:
+        if client.name not in words.only:
+            continue
+        version = client.version()
+        if not version:
+            print("%-20s not here" % client.name)
+            continue
+        with tempfile.TemporaryDirectory() as folder:
+            place = Place(os.path.join(folder, "place"), program)
+            end = run(client, place)
+            count, wrong = findings(client, place)
+            if words.keep:
+                shutil.copytree(place.folder, os.path.join(words.keep, client.name), dirs_exist_ok=True, symlinks=True)
+        print("%-20s ran: %d of %d steps" % ("%s %s" % (client.name, version), count, len(client.steps)), flush=True)
+        for line in wrong + end:
+            print("    " + line)
+        right = right and not wrong and not end
+    return 0 if right else 1
+
+
+if __name__ == "__main__":
+    sys.exit(main())
