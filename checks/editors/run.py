@@ -87,11 +87,12 @@ def block(heading, language, number=0):
     return re.findall(r"^```%s\n(.*?)^```" % language, section, re.M | re.S)[number]
 
 
-def printed_by(*command):
+def printed_by(*command, **environment):
     """What a command prints, or nothing where it is not there or fails."""
     if not shutil.which(command[0]):
         return ""
-    done = subprocess.run(command, capture_output=True, text=True, stdin=subprocess.DEVNULL, timeout=LIMIT)
+    done = subprocess.run(command, capture_output=True, text=True, stdin=subprocess.DEVNULL, timeout=LIMIT,
+                          env=dict(os.environ, **environment))
     return done.stdout if done.returncode == 0 else ""
 
 
@@ -143,8 +144,24 @@ class Place:
             return {}
 
 
-class Neovim:
-    name, steps = "neovim", list(STEPS)
+class Client:
+    """A client: `version` is that of the one that is here or None, `lacks` what is not here of what its driver needs."""
+
+    steps = list(STEPS)
+
+    def lacks(self):
+        return []
+
+
+class InTerminal(Client):
+    """A client that needs a terminal, and has one of its own: `script` runs it."""
+
+    def lacks(self):
+        return [] if shutil.which("script") else ["script"]
+
+
+class Neovim(Client):
+    name = "neovim"
 
     def version(self):
         found = first(r"NVIM v(\S+)", printed_by("nvim", "--version"))
@@ -169,8 +186,8 @@ def version_in_emacs(library):
     return found and "%s in emacs %s" % (found.replace(" ", "."), emacs)
 
 
-class Eglot:
-    name, steps, block, driver = "eglot", list(STEPS), 0, "eglot.el"
+class Eglot(InTerminal):
+    name, block, driver = "eglot", 0, "eglot.el"
 
     def version(self):
         return version_in_emacs(self.name)
@@ -186,8 +203,8 @@ class LspMode(Eglot):
     name, block, driver = "lsp-mode", 1, "lsp_mode.el"
 
 
-class Ale:
-    name, steps = "ale", list(STEPS)
+class Ale(InTerminal):
+    name = "ale"
 
     def folder(self):
         """Where vim finds ALE, or an empty text."""
@@ -207,7 +224,38 @@ class Ale:
                             "-u", lines, "-S", os.path.join(HERE, "ale.vim")])
 
 
-CLIENTS = [Neovim(), Eglot(), LspMode(), Ale()]
+def python_of_screens():
+    """The Python that has the module by which a program on a display is read, or an empty text."""
+    for python in (sys.executable, "/usr/bin/python3"):
+        if printed_by(python, "-c", "import pyatspi; print('here')"):
+            return python
+    return ""
+
+
+class OnDisplay(Client):
+    """A client that needs a display, and has one of its own: its driver reads and uses it there."""
+
+    def version(self):
+        # No display is needed for that.
+        return first(self.says, printed_by(self.program, self.asks, QT_QPA_PLATFORM="offscreen", HOME=os.devnull))
+
+    def lacks(self):
+        return [it for it in ("xvfb-run", "dbus-run-session", "xdotool") if not shutil.which(it)] + ([] if python_of_screens() else ["pyatspi"])
+
+    def command(self, place):
+        self.prepare(place)
+        return ["env", "QT_LINUX_ACCESSIBILITY_ALWAYS_ON=1", "LANG=C.UTF-8", "xvfb-run", "-a", "-s", "-screen 0 1280x1024x24",
+                "dbus-run-session", "--", python_of_screens(), os.path.join(HERE, self.driver)]
+
+
+class Kate(OnDisplay):
+    name, program, asks, says, driver = "kate", "kate", "--version", r"kate (\S+)", "kate.py"
+
+    def prepare(self, place):
+        os.renames(place.lines("Kate", "json"), os.path.join(place.home, ".config", "kate", "lspclient", "settings.json"))
+
+
+CLIENTS = [Neovim(), Eglot(), LspMode(), Ale(), Kate()]
 
 
 def run(client, place):
@@ -254,6 +302,9 @@ def main():
         version = client.version()
         if not version:
             print("%-20s not here" % client.name)
+            continue
+        if client.lacks():
+            print("%-20s not run, since these are not here: %s" % ("%s %s" % (client.name, version), ", ".join(client.lacks())))
             continue
         with tempfile.TemporaryDirectory() as folder:
             place = Place(os.path.join(folder, "place"), program)
