@@ -22,6 +22,7 @@ import re
 import shlex
 import shutil
 import signal
+import struct
 import subprocess
 import sys
 import tempfile
@@ -255,7 +256,36 @@ class Kate(OnDisplay):
         os.renames(place.lines("Kate", "json"), os.path.join(place.home, ".config", "kate", "lspclient", "settings.json"))
 
 
-CLIENTS = [Neovim(), Eglot(), LspMode(), Ale(), Kate()]
+def variant(value):
+    """A value of settings of Qt, as they are written: its type, and its bytes."""
+    if isinstance(value, bool):
+        return struct.pack(">IB", 1, value)
+    if isinstance(value, int):
+        return struct.pack(">Ii", 2, value)
+    if isinstance(value, str):
+        return struct.pack(">I", 10) + qt_string(value)
+    if isinstance(value, dict):
+        return struct.pack(">II", 8, len(value)) + b"".join(qt_string(key) + variant(it) for key, it in value.items())
+    return struct.pack(">II", 9, len(value)) + b"".join(map(variant, value))
+
+
+def qt_string(text):
+    data = text.encode("utf-16-be")
+    return struct.pack(">I", len(data)) + data
+
+
+class QtCreator(OnDisplay):
+    name, program, asks, says, driver = "qtcreator", "qtcreator", "-version", r"Qt Creator (\S+)", "qtcreator.py"
+
+    def prepare(self, place):
+        # What "Add" of the preferences writes. 1 is "Requires an Open File".
+        server = {"name": "pq_server", "enabled": True, "startupBehavior": 1, "filePattern": ["*.proto"], "executable": place.server,
+                  "arguments": "stdio --root " + place.work}
+        data = "".join("\\x%x" % byte for byte in variant([server]))
+        place.write("home/.config/QtProject/QtCreator.ini", "[LanguageClient]\nclients=\"@Variant(%s)\"\n" % data)
+
+
+CLIENTS = [Neovim(), Eglot(), LspMode(), Ale(), Kate(), QtCreator()]
 
 
 def run(client, place):

@@ -5,6 +5,7 @@ and a.proto and b.proto below `work`; the file `shown` gets a line for each step
 """
 import json
 import os
+import shutil
 import subprocess
 import sys
 import time
@@ -58,16 +59,18 @@ class Program:
                 continue
 
     def find(self, role, name, shows=True, at=None):
-        """The first part with a role and a name, or with a name that the function `name` takes."""
+        """The first part with a role and a name."""
         for node in self.nodes(at):
             try:
                 of = node.name.replace("&", "")
-                if node.getRoleName() == role and (name(of) if callable(name) else of == name) and (
-                        not shows or node.getState().contains(pyatspi.STATE_SHOWING)):
+                if node.getRoleName() == role and of == name and (not shows or self.is_shown(node)):
                     return node
             except (GLib.GError, LookupError, NotImplementedError):
                 continue
         return None
+
+    def is_shown(self, node):
+        return node.getState().contains(pyatspi.STATE_SHOWING)
 
     def wait(self, role, name, shows=True):
         """Waits until there is such a part."""
@@ -92,8 +95,8 @@ class Program:
         while (at := self.content(name).find(old)) >= 0:
             node = self.text(name)
             node.queryComponent().grabFocus()
-            node.queryText().addSelection(at, at + len(old))
             node.queryText().setCaretOffset(at)
+            node.queryText().addSelection(at, at + len(old))
             subprocess.run(["xdotool", "type", new], check=True)
             waited(lambda: self.content(name)[at:at + len(new)] == new, "%r in %s" % (new, name))
 
@@ -136,5 +139,5 @@ def make(steps, shown):
             except Failed as why:
                 print("%s: %s" % (name, why), flush=True)
             sink.write(json.dumps([name, shown()]) + "\n")
-            if "KEEP_SCREENS" in os.environ:
+            if shutil.which("import"):
                 subprocess.run(["import", "-window", "root", os.path.join(PLACE, name.replace(" ", "-") + ".png")], check=False)
