@@ -1,8 +1,8 @@
 #!/usr/bin/env python3
 """The steps in Kate, whose home folder has the settings of docs/EDITORS.md: `xvfb-run dbus-run-session -- kate.py`.
 
-The texts of the diagnostics are those of the list in the tool view "LSP". It shows no lines and columns: those are taken from the list
-that the server pushed last, and are of no use where the texts differ.
+The texts of the diagnostics are those of the list in the tool view "LSP". It shows no lines and columns: those are taken from the
+list that the server pushed last, if it has the same texts.
 """
 import re
 

@@ -1,8 +1,8 @@
 #!/usr/bin/env python3
 """The steps in Qt Creator, whose home folder has the settings of docs/EDITORS.md: `xvfb-run dbus-run-session -- qtcreator.py`.
 
-Qt Creator draws diagnostics in the text, and has no list of them that can be read. So what is compared is the list that the server pushed
-last; `--keep` of run.py keeps a picture of a.proto after each step, if the program `import` (ImageMagick) is here.
+Qt Creator draws diagnostics in the text, and has no list of them that can be read. So what is compared is the list that the server
+pushed last. The pictures that are kept show a.proto after each step.
 """
 import subprocess
 
@@ -11,7 +11,7 @@ import screen
 
 class QtCreator(screen.Program):
     def text(self, name):
-        """The part that shows the text of a file. It has no name; the list above it has that of the file, with a star if it is changed."""
+        """The part that shows the text of a file. The list above it has the name, with a star if it is changed."""
         screen.waited(lambda: self.find("combo box", name) or self.find("combo box", name + "*"), name)
         return screen.waited(lambda: next(filter(None, map(self.as_text, self.nodes())), None), "the text of %s" % name)
 

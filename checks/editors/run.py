@@ -6,11 +6,11 @@ diagnostics of `a.proto`: line, column and text of each are compared. The config
 with the path of a recorder (`between.py`) in the place of `/path/bin/pq_server`. Each driver beside this file says how it makes the
 steps. Nothing of the user's own settings is read: the home folder is a new one.
 
-It prints a line for each client: its name, its version, and how many of its steps were as they should be, or `not here`. A step that
-was not has lines of its own. The status is 1 if there is one.
+It prints a line for each client: its name, its version, and how many of its steps were as they should be, or `not here`, or what
+is not here of what its driver needs. A step that was not as it should be has a line of its own. The status is 1 if there is one.
 
-PROGRAM is the program of `pq_server`, by default the one that was built without a proof. `--keep FOLDER` keeps the folder of each client:
-what it showed (`shown`), what passed between it and the server (`passed`, `wrote`), and what it printed (`printed`).
+PROGRAM is the program of `pq_server`, by default the one that was built without a proof. `--keep FOLDER` keeps the folder of each
+client: what it showed (`shown`), what passed between it and the server (`passed`, `wrote`), and what it printed (`printed`).
 
 usage: checks/editors/run.py [PROGRAM] [--only NAME ..] [--keep FOLDER]
 """
@@ -45,11 +45,12 @@ message Order {
   Item second = 1;
 }
 """
+# A client that counts characters, and not code units of UTF-16, sends a wrong range for an edit of `Item`.
 B = """syntax = "proto3";
 
 package shop;
 
-message Item {
+/* \U0001F600 */ message Item {
   string name = 1;
 }
 """
@@ -62,8 +63,8 @@ def without(name):
     return [[7, 2, text], [8, 2, text], TWICE]
 
 
-# What each step does, and the diagnostics of a.proto after it: line and column from 0, and text. Before `save b` the texts on the disk
-# are A and B.
+# What each step does, and the diagnostics of a.proto after it: line and column from 0, and text. Until `save b` the texts on the
+# disk are A and B.
 STEPS = {
     "open": [TWICE],
     # `Item` is replaced by `Itm` in b.proto, which is not saved.
@@ -78,7 +79,10 @@ STEPS = {
     "close b": without("Part"),
     # b.proto is opened again, `Item` is replaced by `Part`, and it is saved and closed.
     "save b": [TWICE],
+    # Another program writes B to b.proto. Only clients that watch the disk tell the server.
+    "write b": without("Part"),
 }
+WATCHED = ["write b"]
 
 
 def block(heading, language, number=0):
@@ -116,6 +120,7 @@ class Place:
             os.makedirs(os.path.join(self.work, ".git"))
         self.write("work/a.proto", A)
         self.write("work/b.proto", B)
+        self.write("b-before.proto", B)
         self.write("steps", json.dumps(STEPS))
         recorder = [sys.executable, os.path.join(HERE, "between.py"), folder, program]
         self.write("bin/pq_server", '#!/bin/sh\nexec %s "$@"\n' % " ".join("'%s'" % it for it in recorder))
@@ -148,7 +153,7 @@ class Place:
 class Client:
     """A client: `version` is that of the one that is here or None, `lacks` what is not here of what its driver needs."""
 
-    steps = list(STEPS)
+    steps = [it for it in STEPS if it not in WATCHED]
 
     def lacks(self):
         return []
@@ -160,48 +165,52 @@ class InTerminal(Client):
     def lacks(self):
         return [] if shutil.which("script") else ["script"]
 
+    def in_terminal(self, words):
+        return ["script", "-qec", shlex.join(words), "/dev/null"]
+
 
 class Neovim(Client):
     name = "neovim"
 
     def version(self):
-        found = first(r"NVIM v(\S+)", printed_by("nvim", "--version"))
+        return first(r"NVIM v(\S+)", printed_by("nvim", "--version"))
+
+    def lacks(self):
         # The lines of the page are those for these versions.
-        return found if found and found.startswith(("0.7.", "0.8.", "0.9.")) else None
+        return [] if self.version().startswith(("0.7.", "0.8.", "0.9.")) else ["neovim 0.7 to 0.9"]
 
     def command(self, place):
         lines = place.lines("Neovim", "lua", 1)
         return ["nvim", "--headless", "-n", "-i", "NONE", "-u", lines, "-c", "luafile " + os.path.join(HERE, "nvim.lua")]
 
 
-def in_terminal(words):
-    """The command that runs a command in a terminal of its own."""
-    return ["script", "-qec", shlex.join(words), "/dev/null"]
-
-
-def version_in_emacs(library):
-    """The versions of emacs and of a package of it, as `28.2, 1.9`, or None if one of them is not here."""
-    emacs = first(r"GNU Emacs (\S+)", printed_by("emacs", "--version"))
-    find = '(princ (package-desc-version (cadr (assq \'%s package-alist))))' % library
-    found = first(r"\(([\d ]+)\)", printed_by("emacs", "--batch", "-f", "package-initialize", "--eval", find)) if emacs else None
-    return found and "%s in emacs %s" % (found.replace(" ", "."), emacs)
-
-
 class Eglot(InTerminal):
-    name, block, driver = "eglot", 0, "eglot.el"
+    name, steps, block, driver, uses = "eglot", list(STEPS), 0, "eglot.el", ["protobuf-mode"]
+
+    def package(self, name):
+        """The version of a package of emacs, or None."""
+        find = """(let ((it (cadr (assq '%s package-alist))) (own (and (require 'finder-inf nil t) (assq '%s package--builtins))))
+                    (princ (cond (it (package-desc-version it)) (own (aref (cdr own) 0)))))""" % (name, name)
+        found = first(r"\(([-\d ]+)\)", printed_by("emacs", "--batch", "-f", "package-initialize", "--eval", find))
+        return found and found.replace(" ", ".")
 
     def version(self):
-        return version_in_emacs(self.name)
+        found = self.package(self.name)
+        return found and "%s in emacs %s" % (found, first(r"GNU Emacs (\S+)", printed_by("emacs", "--version")))
+
+    def lacks(self):
+        return super().lacks() + [it for it in self.uses if not self.package(it)]
 
     def command(self, place):
         # Emacs sends changes when it is idle, which it never is without a terminal.
         words = ["emacs", "-nw", "-q", "--eval", "(setq native-comp-deferred-compilation nil)", "-f", "package-initialize",
-                 "-l", place.lines("Emacs", "elisp", self.block), "-l", os.path.join(HERE, "steps.el"), "-l", os.path.join(HERE, self.driver)]
-        return in_terminal(words)
+                 "-l", place.lines("Emacs", "elisp", self.block), "-l", os.path.join(HERE, "steps.el"),
+                 "-l", os.path.join(HERE, self.driver)]
+        return self.in_terminal(words)
 
 
 class LspMode(Eglot):
-    name, block, driver = "lsp-mode", 1, "lsp_mode.el"
+    name, block, driver, uses = "lsp-mode", 1, "lsp_mode.el", ["protobuf-mode", "flycheck"]
 
 
 class Ale(InTerminal):
@@ -221,8 +230,8 @@ class Ale(InTerminal):
 
     def command(self, place):
         lines = place.lines("vim with ALE", "vim")
-        return in_terminal(["vim", "-N", "-n", "-i", "NONE", "--cmd", "set runtimepath^=" + self.folder(), "--cmd", "filetype on",
-                            "-u", lines, "-S", os.path.join(HERE, "ale.vim")])
+        return self.in_terminal(["vim", "-N", "-n", "-i", "NONE", "--cmd", "set runtimepath^=" + self.folder(),
+                                 "--cmd", "filetype on", "-u", lines, "-S", os.path.join(HERE, "ale.vim")])
 
 
 def python_of_screens():
@@ -241,7 +250,8 @@ class OnDisplay(Client):
         return first(self.says, printed_by(self.program, self.asks, QT_QPA_PLATFORM="offscreen", HOME=os.devnull))
 
     def lacks(self):
-        return [it for it in ("xvfb-run", "dbus-run-session", "xdotool") if not shutil.which(it)] + ([] if python_of_screens() else ["pyatspi"])
+        found = [it for it in ("xvfb-run", "dbus-run-session", "xdotool") if not shutil.which(it)]
+        return found + ([] if python_of_screens() else ["pyatspi"])
 
     def command(self, place):
         self.prepare(place)
@@ -279,8 +289,8 @@ class QtCreator(OnDisplay):
 
     def prepare(self, place):
         # What "Add" of the preferences writes. 1 is "Requires an Open File".
-        server = {"name": "pq_server", "enabled": True, "startupBehavior": 1, "filePattern": ["*.proto"], "executable": place.server,
-                  "arguments": "stdio --root " + place.work}
+        server = {"name": "pq_server", "enabled": True, "startupBehavior": 1, "filePattern": ["*.proto"],
+                  "executable": place.server, "arguments": "stdio --root " + place.work}
         data = "".join("\\x%x" % byte for byte in variant([server]))
         place.write("home/.config/QtProject/QtCreator.ini", "[LanguageClient]\nclients=\"@Variant(%s)\"\n" % data)
 
@@ -316,6 +326,26 @@ def findings(client, place):
     return len(client.steps) - len(wrong), wrong
 
 
+def tried(client, program, keep):
+    """Prints the lines of a client. Returns whether it showed what is right, or None if it was not run."""
+    version = client.version()
+    lacks = client.lacks() if version else []
+    if not version or lacks:
+        print("%-30s %s" % (client.name, "lacks: " + ", ".join(lacks) if lacks else "not here"), flush=True)
+        return None
+    with tempfile.TemporaryDirectory(ignore_cleanup_errors=True) as folder:
+        place = Place(os.path.join(folder, "place"), program)
+        end = run(client, place)
+        count, wrong = findings(client, place)
+        if keep:
+            kept = os.path.join(keep, client.name)
+            shutil.copytree(place.folder, kept, ignore=shutil.ignore_patterns("home", ".git"), dirs_exist_ok=True)
+    print("%-30s ran: %d of %d steps" % ("%s %s" % (client.name, version), count, len(client.steps)), flush=True)
+    for line in wrong + end:
+        print("    " + line)
+    return not wrong and not end
+
+
 def main():
     words = argparse.ArgumentParser(usage=__doc__.split("usage: ")[1])
     words.add_argument("program", nargs="?", default=PROGRAM)
@@ -325,28 +355,10 @@ def main():
     program = os.path.realpath(words.program)
     if not os.access(program, os.X_OK):
         sys.exit("checks/editors/run.py: %s is not there" % program)
-    right = True
-    for client in CLIENTS:
-        if client.name not in words.only:
-            continue
-        version = client.version()
-        if not version:
-            print("%-20s not here" % client.name)
-            continue
-        if client.lacks():
-            print("%-20s not run, since these are not here: %s" % ("%s %s" % (client.name, version), ", ".join(client.lacks())))
-            continue
-        with tempfile.TemporaryDirectory() as folder:
-            place = Place(os.path.join(folder, "place"), program)
-            end = run(client, place)
-            count, wrong = findings(client, place)
-            if words.keep:
-                shutil.copytree(place.folder, os.path.join(words.keep, client.name), dirs_exist_ok=True, symlinks=True)
-        print("%-20s ran: %d of %d steps" % ("%s %s" % (client.name, version), count, len(client.steps)), flush=True)
-        for line in wrong + end:
-            print("    " + line)
-        right = right and not wrong and not end
-    return 0 if right else 1
+    done = [tried(it, program, words.keep) for it in CLIENTS if it.name in words.only]
+    ran = [it for it in done if it is not None]
+    print("%d of %d clients ran, and %d showed what is right" % (len(ran), len(done), sum(ran)) if ran else "skipped: not here")
+    return 0 if all(ran) else 1
 
 
 if __name__ == "__main__":

@@ -1,7 +1,7 @@
 """A program on a display, seen and used by the interface for programs that read screens (AT-SPI), as drivers of this folder do.
 
-It needs the module `pyatspi` and `xdotool`, and has to run within `xvfb-run` and `dbus-run-session`. The folder PLACE of the environment has `steps`,
-and a.proto and b.proto below `work`; the file `shown` gets a line for each step.
+It needs the module `pyatspi` and `xdotool`, and has to run within `xvfb-run` and `dbus-run-session`. The folder PLACE of the
+environment has `steps`, and a.proto and b.proto below `work`; the file `shown` gets a line for each step.
 """
 import json
 import os
@@ -92,13 +92,15 @@ class Program:
 
     def replace(self, name, old, new):
         """Replaces a text in a file, at each of its places: selects it, and types the other."""
-        while (at := self.content(name).find(old)) >= 0:
-            node = self.text(name)
+        while old in self.content(name):
+            node, before = self.text(name), self.content(name).partition(old)[0]
             node.queryComponent().grabFocus()
+            # Programs of Qt count code units of UTF-16.
+            at = len(before.encode("utf-16-le")) // 2
             node.queryText().setCaretOffset(at)
             node.queryText().addSelection(at, at + len(old))
             subprocess.run(["xdotool", "type", new], check=True)
-            waited(lambda: self.content(name)[at:at + len(new)] == new, "%r in %s" % (new, name))
+            waited(lambda: self.content(name).startswith(before + new), "%r in %s" % (new, name))
 
 
 def waited(look, what):
@@ -128,7 +130,10 @@ def pushed():
 
 
 def make(steps, shown):
-    """Makes the steps, pairs of a name and a function, and writes what `shown` returns after each. The status says whether all were made."""
+    """Makes the steps, pairs of a name and a function, and writes what `shown` returns after each.
+
+    A picture of the display is kept too, if the program `import` (ImageMagick) is here.
+    """
     with open(os.path.join(PLACE, "steps"), encoding="utf-8") as source:
         wanted = json.load(source)
     with open(os.path.join(PLACE, "shown"), "a", encoding="utf-8", buffering=1) as sink:

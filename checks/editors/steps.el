@@ -25,8 +25,11 @@
         (mapcar #'of-flymake (sort (flymake-diagnostics)
                                    (lambda (x y) (< (flymake-diagnostic-beg x) (flymake-diagnostic-beg y)))))))))
 
+(defun path-of (file)
+  (expand-file-name file (expand-file-name "work" place)))
+
 (defun opened (file)
-  (find-file-other-window (expand-file-name file (expand-file-name "work" place))))
+  (find-file-other-window (path-of file)))
 
 (defun replaced (file from to)
   (pop-to-buffer file)
@@ -50,7 +53,8 @@
     ("rename in b" (replaced "b.proto" "Item" "Part"))
     ("rename in a" (replaced "a.proto" "Item" "Part"))
     ("close b" (closed "b.proto"))
-    ("save b" (opened "b.proto") (replaced "b.proto" "Item" "Part") (save-buffer) (closed "b.proto"))))
+    ("save b" (opened "b.proto") (replaced "b.proto" "Item" "Part") (save-buffer) (closed "b.proto"))
+    ("write b" (call-process "cp" nil nil nil (expand-file-name "b-before.proto" place) (path-of "b.proto")))))
 (defvar name nil "The step that is made.")
 (defvar acts nil "What is left of it.")
 (defvar end nil "When no more is waited for.")
