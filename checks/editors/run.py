@@ -230,8 +230,8 @@ class Ale(InTerminal):
 
     def command(self, place):
         lines = place.lines("vim with ALE", "vim")
-        return self.in_terminal(["vim", "-N", "-n", "-i", "NONE", "--cmd", "set runtimepath^=" + self.folder(),
-                                 "--cmd", "filetype on", "-u", lines, "-S", os.path.join(HERE, "ale.vim")])
+        return self.in_terminal(["vim", "-N", "-n", "-i", "NONE", "--cmd", "set runtimepath^=" + self.folder(), "-u", lines,
+                                 "-S", os.path.join(HERE, "ale.vim")])
 
 
 def python_of_screens():
