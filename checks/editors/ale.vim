@@ -25,6 +25,8 @@ endfunction
 call s:Step('open', 'edit a.proto', 'split b.proto')
 call s:Step('break', '%s/Item/Itm/')
 call s:Step('mend', 'undo')
+call s:Step('empty', '%d')
+call s:Step('fill', 'undo')
 call s:Step('rename in b', '%s/Item/Part/')
 call s:Step('rename in a', 'wincmd w', '%s/Item/Part/')
 call s:Step('close b', 'bdelete! b.proto')

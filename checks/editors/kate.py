@@ -47,9 +47,13 @@ def edit(name, old, new):
     kate.replace(name, old, new)
 
 
+def empty():
+    go_to("b.proto")
+    kate.empty("b.proto")
+
+
 def undo():
-    before = kate.content("b.proto").replace("Itm", "Item")
-    while kate.content("b.proto") != before:
+    while kate.content("b.proto") != screen.on_disk("b.proto"):
         kate.press("push button", "Undo")
 
 
@@ -68,6 +72,8 @@ def save():
 screen.make([("open", open_both),
              ("break", lambda: edit("b.proto", "Item", "Itm")),
              ("mend", undo),
+             ("empty", empty),
+             ("fill", undo),
              ("rename in b", lambda: edit("b.proto", "Item", "Part")),
              ("rename in a", lambda: edit("a.proto", "Item", "Part")),
              ("close b", lambda: (go_to("b.proto"), close())),

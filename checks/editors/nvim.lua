@@ -28,6 +28,8 @@ vim.o.hidden = true
 step('open', function() vim.cmd('edit a.proto | edit b.proto') end)
 step('break', function() edit('b.proto', '%s/Item/Itm/') end)
 step('mend', function() edit('b.proto', 'undo') end)
+step('empty', function() edit('b.proto', '%d') end)
+step('fill', function() edit('b.proto', 'undo') end)
 step('rename in b', function() edit('b.proto', '%s/Item/Part/') end)
 step('rename in a', function() edit('a.proto', '%s/Item/Part/') end)
 step('close b', function() vim.cmd('bdelete! b.proto') end)

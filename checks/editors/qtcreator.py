@@ -16,13 +16,8 @@ class QtCreator(screen.Program):
         return screen.waited(lambda: next(filter(None, map(self.as_text, self.nodes())), None), "the text of %s" % name)
 
     def as_text(self, node):
-        if node.getRoleName() == "text" and self.is_shown(node) and node.queryText().getText(0, -1).startswith("syntax"):
-            return node
-        return None
-
-
-def keys(*names):
-    subprocess.run(["xdotool", "key", *names], check=True)
+        is_text = node.getRoleName() == "text" and node.getState().contains(screen.pyatspi.STATE_MULTI_LINE)
+        return node if is_text and self.is_shown(node) else None
 
 
 def go_to(name):
@@ -36,21 +31,26 @@ def edit(name, old, new):
     creator.replace(name, old, new)
 
 
+def empty():
+    go_to("b.proto")
+    creator.empty("b.proto")
+
+
 def undo():
     go_to("b.proto")
-    while "Itm" in creator.content("b.proto"):
-        keys("ctrl+z")
+    while creator.content("b.proto") != screen.on_disk("b.proto"):
+        screen.keys("ctrl+z")
 
 
 def close():
     go_to("b.proto")
-    keys("ctrl+w")
+    screen.keys("ctrl+w")
     creator.press("push button", "Do Not Save")
 
 
 def save():
     edit("b.proto", "Item", "Part")
-    keys("ctrl+s", "ctrl+w")
+    screen.keys("ctrl+s", "ctrl+w")
 
 
 def and_look(act):
@@ -61,6 +61,8 @@ creator = QtCreator("QtCreator", "b.proto", ["qtcreator", "-noload", "all", "-lo
 screen.make([("open", and_look(lambda: None)),
              ("break", and_look(lambda: edit("b.proto", "Item", "Itm"))),
              ("mend", and_look(undo)),
+             ("empty", and_look(empty)),
+             ("fill", and_look(undo)),
              ("rename in b", and_look(lambda: edit("b.proto", "Item", "Part"))),
              ("rename in a", and_look(lambda: edit("a.proto", "Item", "Part"))),
              ("close b", and_look(close)),

@@ -71,6 +71,9 @@ STEPS = {
     "break": without("Item"),
     # That is undone.
     "mend": [TWICE],
+    # The text of b.proto is deleted, which leaves a file that is not read, and then that is undone.
+    "empty": [[4, 7, 'import "b.proto" has a syntax fault'], *without("Item")],
+    "fill": [TWICE],
     # `Item` is replaced by `Part` in b.proto, which is not saved.
     "rename in b": without("Item"),
     # So it is in a.proto, at each place.

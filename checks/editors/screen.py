@@ -90,17 +90,37 @@ class Program:
     def content(self, name):
         return self.text(name).queryText().getText(0, -1)
 
+    def select(self, name, before, text):
+        """Selects a text in a file, which comes after the text `before`."""
+        node = self.text(name)
+        node.queryComponent().grabFocus()
+        # Programs of Qt count code units of UTF-16.
+        start, end = [len(it.encode("utf-16-le")) // 2 for it in (before, before + text)]
+        node.queryText().setCaretOffset(start)
+        node.queryText().addSelection(start, end)
+
+    def empty(self, name):
+        self.select(name, "", self.content(name))
+        # Without a window manager no window is active, and Kate takes no key of an action.
+        self.press("menu item", "Cut", shows=False)
+        waited(lambda: self.content(name) == "", "no text in %s" % name)
+
     def replace(self, name, old, new):
         """Replaces a text in a file, at each of its places: selects it, and types the other."""
         while old in self.content(name):
-            node, before = self.text(name), self.content(name).partition(old)[0]
-            node.queryComponent().grabFocus()
-            # Programs of Qt count code units of UTF-16.
-            at = len(before.encode("utf-16-le")) // 2
-            node.queryText().setCaretOffset(at)
-            node.queryText().addSelection(at, at + len(old))
+            before = self.content(name).partition(old)[0]
+            self.select(name, before, old)
             subprocess.run(["xdotool", "type", new], check=True)
             waited(lambda: self.content(name).startswith(before + new), "%r in %s" % (new, name))
+
+
+def keys(*names):
+    subprocess.run(["xdotool", "key", *names], check=True)
+
+
+def on_disk(name):
+    with open(name, encoding="utf-8") as source:
+        return source.read()
 
 
 def waited(look, what):

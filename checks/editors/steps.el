@@ -36,6 +36,10 @@
   (goto-char (point-min))
   (while (search-forward from nil t) (replace-match to t t)))
 
+(defun emptied (file)
+  (pop-to-buffer file)
+  (erase-buffer))
+
 (defun undone (file)
   (pop-to-buffer file)
   (setq last-command nil)
@@ -50,6 +54,8 @@
   '(("open" (opened "a.proto") (opened "b.proto"))
     ("break" (replaced "b.proto" "Item" "Itm"))
     ("mend" (undone "b.proto"))
+    ("empty" (emptied "b.proto"))
+    ("fill" (undone "b.proto"))
     ("rename in b" (replaced "b.proto" "Item" "Part"))
     ("rename in a" (replaced "a.proto" "Item" "Part"))
     ("close b" (closed "b.proto"))
