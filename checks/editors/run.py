@@ -31,8 +31,8 @@ HERE = os.path.dirname(os.path.realpath(__file__))
 TOP = os.path.dirname(os.path.dirname(HERE))
 PROGRAM = os.path.join(TOP, "out-unproved", "pq_server")
 PAGE = os.path.join(TOP, "docs", "EDITORS.md")
-# More seconds than the steps of a client take, each of which waits for at most ten.
-LIMIT = 120
+# More seconds than the steps of a client take, each of which waits for at most fifteen.
+LIMIT = 170
 
 A = """syntax = "proto3";
 
