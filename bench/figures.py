@@ -273,34 +273,11 @@ def reached(results):
     return lines_of_table(["Request", "microseconds by `listen`", "by `script`", "factor"], lines)
 
 
-def limited(results):
-    """What the settings of bin/limited cost."""
-    found = results.said("hall.txt", r"4 workers \| (\S+) and (\S+) microseconds of .* takes (\S+) and (\S+) without, .* \| (\w+) \|$")[0]
-    rows = [["with", *found[:2]], ["without", *found[2:4]]]
-    return (["A small request of 64 connections, 4 workers, with the settings of `bin/limited` and without (%s †), in two runs:"
-             % found[4], ""] + lines_of_table(["Settings", "microseconds", "again"], rows))
-
-
-def ranges(results):
-    """The greatest of some runs."""
-    lines = results.said("ranges.txt", r"^(.*), \d+ bytes: (\d+) ms by listen, (\d+) ms by script; another client waits ([\d.]+) ms at most "
-                         r"for a small reply, [\d.]+ in the middle \(([\d.]+) at most", "The commit before")
-    titles = list(dict.fromkeys(line[0] for line in lines))
-    rows = [[title] + [max((line[at] for line in lines if line[0] == title), key=number) for at in range(1, 5)] for title in titles]
-    return lines_of_table(["Notification", "ms by `listen`", "ms by `script`", "wait of another client, ms", "beside nothing, ms"], rows)
-
-
 def attacks(results):
     """What honest clients saw."""
     lines = results.said("attacks.txt", r"^(\w+): honest clients made \d+ requests and waited [\d.]+ ms in the middle, (\d+) at most "
                          r"\((\d+) allowed\), (\d+) refused, (\d+) closed")
     return lines_of_table(["Attack", "longest wait, ms", "allowed, ms", "refused", "closed"], lines)
-
-
-def memory_of_cores(results):
-    """What a core keeps, from two tables."""
-    rows = [results.row("core.txt", starts, title) for starts, title in KEPT]
-    return lines_of_table(["What", "bytes each"], [[row[0], row[4]] for row in rows])
 
 
 # Rows of peers.txt that vary another row.
@@ -314,9 +291,6 @@ SHAPES = ("fields: diagnostics", "references: diagnostics", "references to nothi
           "each file publicly imports all before it, all asked", "a ring cut and closed, one asked", "a ring cut and closed, all asked",
           "the root after its edit, 10 rounds", "the root after a comment's edit in the hub, 10 rounds",
           "asks of n absent names", "a body of n MiB", "JSON: towers of 100 objects", "JSON: towers of 100 lists")
-KEPT = ((("What", "n, 2n", "bytes at n"), "open clients"),
-        (("What", "n, 2n", "bytes at n"), "requests that wait, their clients too"),
-        (("What", "n, 2n", "peak at n, kB"), "replies put and taken, of one client"))
 COMPILED = Cut("compile.txt", ("Files", "kB", "diagnostics, ms"), [
     ("Files", 0), ("diagnostics, MB/s", 3), ("instructions a byte", 10, ", ", 0), ("descriptors, MB/s", 5),
     ("instructions a byte", 10, ", ", 1)], ("10 installed files", "80 copies of each"))
@@ -330,23 +304,19 @@ ENGINE = Cut("engine.txt", ("Case",), [
     "a message of a leaf, root demanded (2 edits)", "a message of the hub, each demanded (2 edits)",
     "a ring cut and closed, each demanded (2 edits)"), "before by now")
 MEMOS = Cut("memos.txt", ("Case", "sizes"), [("Case", 0), ("n", 1, ", ", 1), ("1,000 instructions (%s)", 4, ", ", 1), ("ratio", 5)], (
-    "first demand, files set", "nothing changed, each key demanded", "unrelated edit, each key looked at (2 edits)",
-    "a leaf, its key demanded (2 edits)", "a hub, its answer changes (2 edits)", "a ring, cut and closed again (2 edits)"),
-    "before by now")
+    "first demand, files set", "a hub, its answer changes (2 edits)", "a ring, cut and closed again (2 edits)"), "before by now")
 
 # A subject: its title, what its columns mean, the files that it is of, and what makes its tables.
 SUBJECTS = [
-    ("Beside `protoc`", "A factor is the cost of `protoc` as a multiple of ours.", ["peers.txt"], [peers]),
+    ("Beside `protoc`", "A factor is the cost of `protoc` by ours.", ["peers.txt"], [peers]),
     ("Compilations without the engine", "", ["compile.txt"],
      [COMPILED, made_files]),
     ("Sessions by `script`", "The ratio is the time of a session of twice the size.", ["sessions.txt"], [SESSIONS]),
     ("The engine", "A round has as many edits, each with its demands, as its title says. The second table is of the rules of `Sums`: its"
-     " ratios are to half of n, and of the leaf to 100.", ["engine.txt", "memos.txt"], [ENGINE, MEMOS]),
-    ("The core", "The rounds are among 10,000 files. The second table is the memory that one more thing takes.", ["core.txt"],
-     [rounds, memory_of_cores]),
-    ("Many editors", "The microseconds of the first table are those of the server's processors.", ["hall.txt"],
-     [rates, reached, limited]),
-    ("Beside long notifications", "A figure is the greatest of all runs.", ["ranges.txt"], [ranges]),
+     " ratios are to half of n.", ["engine.txt", "memos.txt"], [ENGINE, MEMOS]),
+    ("The core", "The rounds are among 10,000 files.", ["core.txt"], [rounds]),
+    ("Many editors", "The microseconds of the first table are of the server's processors.", ["hall.txt"],
+     [rates, reached]),
     ("Beside attacks", "", ["attacks.txt"], [attacks]),
     ("Shapes of sessions", "The cells are million instructions at the largest n, and their ratio to those at the size before. The last two are"
      " by `script`: the instructions and the peak of memory for one of n, or for one of what a cell names.",
@@ -368,8 +338,8 @@ def subject(results, title, note, names, parts):
 def page(results):
     """The text of docs/FIGURES.md."""
     lines = ["# Figures", "", "<!-- by bench/figures.py --write -->",
-             "This page has the main figures that the benches measured; the files of `bench/results/` have all.",
-             "`docs/PERFORMANCE.md` says what they mean, how they are made, and why an aim is missed.", "", "## Aims", "",
+             "This page has the main figures that the benches measured; `bench/results/` has all.",
+             "`docs/PERFORMANCE.md` says what they mean, how they are made, why an aim is missed.", "", "## Aims", "",
              "A missed aim has its factor: the figure by the limit, or the limit by the figure where that is a least one.", ""]
     lines += aims(results)
     for one in SUBJECTS:
