@@ -17,9 +17,9 @@ use Rattle.pq_links.proofs.NameKinds.{IfImportsIn}
 use Rattle.pq_schema.specs.Compile.{IsScope, AreResolved}
 use Rattle.pq_schema.specs.ScopeContents.{Scope}
 use Rattle.pq_schema.specs.SchemaSum.{SchemaSum, SchemaMeans}
-use Rattle.pq_schema.specs.declared.definitions.Definition.{Definition}
-use Rattle.pq_schema.specs.declared.resolved.ResolvedReference.{ResolvedReference}
-use Rattle.pq_schema.specs.declared.scope.FileDefs.{FileDefs}
+use Rattle.pq_schema.specs.declared.define.definitions.Definition.{Definition}
+use Rattle.pq_schema.specs.declared.queries.resolved.ResolvedReference.{ResolvedReference}
+use Rattle.pq_schema.specs.declared.scope.scope.FileDefs.{FileDefs}
 use Rattle.pq_schema.proofs.BadFiles.{ring_bad}
 use Rattle.pq_rules.specs.Relations.{Each}
 use Rattle.pq_checks.specs.Answers.{CheckWords}
@@ -31,11 +31,11 @@ use Rattle.pq_checks.specs.aux.CheckKinds.{AsksIn, CheckPartIn, check_starts_in,
 use Rattle.pq_checks.specs.aux.DiagnosticsTurns.{diagnostics_level, diagnostics_starts, diagnostics_advances, diagnostics_left, diagnostics_falls}
 use Rattle.pq_checks.specs.aux.Falls.{check_falls}
 use Rattle.pq_checks.specs.aux.Queries.{check_level, check_left, check_starts, check_advances}
-use Rattle.pq_checks.specs.declared.fault.Fault.{Fault}
-use Rattle.pq_checks.specs.declared.diagnostic.Diagnosed.{Diagnosed}
-use Rattle.pq_checks.specs.declared.diagnostics.DiagnosticsPart.{DiagnosticsPart}
-use Rattle.pq_checks.specs.declared.diagnostics.DiagnosticsPart.TheVariants.{ReadChecks, ReadFile}
-use Rattle.pq_checks.specs.declared.surroundings.Imported.{Imported}
+use Rattle.pq_checks.specs.declared.errors.fault.Fault.{Fault}
+use Rattle.pq_checks.specs.declared.errors.diagnostic.Diagnosed.{Diagnosed}
+use Rattle.pq_checks.specs.declared.queries.diagnostics.DiagnosticsPart.{DiagnosticsPart}
+use Rattle.pq_checks.specs.declared.queries.diagnostics.DiagnosticsPart.TheVariants.{ReadChecks, ReadFile}
+use Rattle.pq_checks.specs.declared.around.surroundings.Imported.{Imported}
 use Rattle.pq_checks.proofs.EachAnswered.{Asks, HasAnswer, has_answer}
 use Rattle.pq_checks.proofs.ChecksMeaning.{checks_are, diagnostics_are}
 use Rattle.pq_checks.proofs.Existence.{linked_or_ring, resolved_exist, scope_exists}

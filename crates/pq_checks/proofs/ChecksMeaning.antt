@@ -30,14 +30,14 @@ use Rattle.pq_checks.specs.Diagnostics.{diagnosed, AreDiagnostics}
 use Rattle.pq_checks.specs.Surroundings.{state_of, other_files}
 use Rattle.pq_checks.specs.aux.DiagnosticsTurns.{diagnostics_level, diagnostics_starts, diagnostics_advances}
 use Rattle.pq_checks.specs.aux.Queries.{check_level, link_next, staged, placed, with_state, link_follows, link_placed, check_starts, check_advances}
-use Rattle.pq_checks.specs.declared.checked.CheckPart.{CheckPart}
-use Rattle.pq_checks.specs.declared.checked.CheckPart.TheVariants.{ReadItems, ReadImports, ReadLinks, ReadDefs, ReadScope, ReadReferences, ReadState, ReadNext}
-use Rattle.pq_checks.specs.declared.gathered.Known.{Known}
-use Rattle.pq_checks.specs.declared.diagnostic.Diagnosed.{Diagnosed}
-use Rattle.pq_checks.specs.declared.diagnostics.DiagnosticsPart.{DiagnosticsPart}
-use Rattle.pq_checks.specs.declared.diagnostics.DiagnosticsPart.TheVariants.{ReadChecks, ReadFile as ReadParsed}
-use Rattle.pq_checks.specs.declared.fault.Fault.{Fault}
-use Rattle.pq_checks.specs.declared.surroundings.Imported.{Imported}
+use Rattle.pq_checks.specs.declared.queries.checked.CheckPart.{CheckPart}
+use Rattle.pq_checks.specs.declared.queries.checked.CheckPart.TheVariants.{ReadItems, ReadImports, ReadLinks, ReadDefs, ReadScope, ReadReferences, ReadState, ReadNext}
+use Rattle.pq_checks.specs.declared.queries.gathered.Known.{Known}
+use Rattle.pq_checks.specs.declared.errors.diagnostic.Diagnosed.{Diagnosed}
+use Rattle.pq_checks.specs.declared.queries.diagnostics.DiagnosticsPart.{DiagnosticsPart}
+use Rattle.pq_checks.specs.declared.queries.diagnostics.DiagnosticsPart.TheVariants.{ReadChecks, ReadFile as ReadParsed}
+use Rattle.pq_checks.specs.declared.errors.fault.Fault.{Fault}
+use Rattle.pq_checks.specs.declared.around.surroundings.Imported.{Imported}
 use Rattle.pq_checks.proofs.ByAnswers.{checks_given}
 use Rattle.pq_checks.proofs.DiagnosticsGiven.{diagnostics_given}
 

@@ -6,10 +6,10 @@ use Rattle.pq_rules.specs.Embedding.{Runs}
 use Rattle.pq_links.specs.declared.files.ParsedFile.{ParsedFile}
 use Rattle.pq_checks.specs.Diagnostics.{diagnosed, AreDiagnosticsBy}
 use Rattle.pq_checks.specs.aux.DiagnosticsTurns.{diagnostics_starts, diagnostics_advances}
-use Rattle.pq_checks.specs.declared.diagnostic.Diagnosed.{Diagnosed}
-use Rattle.pq_checks.specs.declared.diagnostics.DiagnosticsPart.{DiagnosticsPart}
-use Rattle.pq_checks.specs.declared.diagnostics.DiagnosticsPart.TheVariants.{ReadChecks, ReadFile}
-use Rattle.pq_checks.specs.declared.fault.Fault.{Fault}
+use Rattle.pq_checks.specs.declared.errors.diagnostic.Diagnosed.{Diagnosed}
+use Rattle.pq_checks.specs.declared.queries.diagnostics.DiagnosticsPart.{DiagnosticsPart}
+use Rattle.pq_checks.specs.declared.queries.diagnostics.DiagnosticsPart.TheVariants.{ReadChecks, ReadFile}
+use Rattle.pq_checks.specs.declared.errors.fault.Fault.{Fault}
 
 module _ {K A : Type 0} (checks parse : List ℕ → K) (checked : A → List Fault) (parsed : A → ParsedFile) where
   abbrev next : DiagnosticsPart → A → Turn K DiagnosticsPart Diagnosed

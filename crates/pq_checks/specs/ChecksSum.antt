@@ -9,14 +9,14 @@ use Rattle.pq_rules.specs.Value.{Means}
 use Rattle.pq_rules.specs.InSum.{InSum, ReadInSum}
 use Rattle.pq_links.specs.declared.links.Links.{Links}
 use Rattle.pq_schema.specs.SchemaSum.{SchemaSum}
-use Rattle.pq_schema.specs.declared.resolved.ResolvedReference.{ResolvedReference}
+use Rattle.pq_schema.specs.declared.queries.resolved.ResolvedReference.{ResolvedReference}
 use Rattle.pq_checks.specs.Answers.{CheckWords}
 use Rattle.pq_checks.specs.Compile.{AreFaults}
 use Rattle.pq_checks.specs.Diagnostics.{AreDiagnostics}
 use Rattle.pq_checks.specs.aux.DiagnosticsTurns.{diagnostics_level, diagnostics_starts, diagnostics_advances}
 use Rattle.pq_checks.specs.aux.Queries.{check_level, check_starts, check_advances}
-use Rattle.pq_checks.specs.declared.diagnostic.Diagnosed.{Diagnosed}
-use Rattle.pq_checks.specs.declared.fault.Fault.{Fault}
+use Rattle.pq_checks.specs.declared.errors.diagnostic.Diagnosed.{Diagnosed}
+use Rattle.pq_checks.specs.declared.errors.fault.Fault.{Fault}
 
 -- `words_of s referred ring` is what the sum `s` offers the query, where `referred` and `ring` read
 -- the resolved references and the files of a cycle of an answer

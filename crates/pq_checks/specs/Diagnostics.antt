@@ -16,9 +16,9 @@ use Rattle.pq_checks.specs.Codes.{syntax_code, syntax_text}
 use Rattle.pq_checks.specs.Compile.{AreFaults}
 use Rattle.pq_checks.specs.DiagnosticOrder.{diagnostic_cmp}
 use Rattle.pq_checks.specs.InOrder.{in_order}
-use Rattle.pq_checks.specs.declared.diagnostic.Diagnosed.{Diagnosed}
-use Rattle.pq_checks.specs.declared.diagnostic.Diagnostic.{Diagnostic}
-use Rattle.pq_checks.specs.declared.fault.Fault.{Fault}
+use Rattle.pq_checks.specs.declared.errors.diagnostic.Diagnosed.{Diagnosed}
+use Rattle.pq_checks.specs.declared.errors.diagnostic.Diagnostic.{Diagnostic}
+use Rattle.pq_checks.specs.declared.errors.fault.Fault.{Fault}
 
 -- `at_span f s` is the error `f`, at the span `s`
 abbrev pub at_span : Fault → Span → Diagnostic

@@ -7,8 +7,8 @@ use Rattle.pq_core.proofs.Slots.{found_above, above_more}
 use Rattle.pq_core.proofs.AccountMoves.{before_or_not, set_count}
 use Rattle.pq_core.specs.Lanes.{ReadyView}
 use Rattle.pq_core.specs.Accounts.{AccountView, Collects}
-use Rattle.pq_core.specs.declared.account.Stage.TheVariants.{Made, Collected}
-use Rattle.pq_core.specs.declared.rising.Place.{Place}
+use Rattle.pq_core.specs.declared.store.account.Stage.TheVariants.{Made, Collected}
+use Rattle.pq_core.specs.declared.store.rising.Place.{Place}
 use Rattle.pq_core.specs.aux.Rising.{found, IsAbove}
 use Rattle.pq_core.specs.aux.Accounts.{made_count, HasMade, AccountKept}
 use Rattle.pq_core.specs.aux.Passing.{made_of, made_below}

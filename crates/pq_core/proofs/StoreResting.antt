@@ -17,8 +17,8 @@ use Rattle.pq_core.specs.aux.Accounts.{AccountStands}
 use Rattle.pq_core.specs.aux.Stands.{IsOwedNothing}
 use Rattle.pq_core.specs.aux.Runs.{RunView}
 use Rattle.pq_core.specs.aux.Queue.{WaitsIn, IsQueue}
-use Rattle.pq_core.specs.declared.request.Request.{Request}
-use Rattle.pq_core.specs.declared.account.Stage.TheVariants.{Waiting}
+use Rattle.pq_core.specs.declared.values.request.Request.{Request}
+use Rattle.pq_core.specs.declared.store.account.Stage.TheVariants.{Waiting}
 
 pub not_both : (t : Bool) → t ≡ false → t ≡ true → ⊥
 not_both t e f = cc

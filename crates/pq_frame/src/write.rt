@@ -9,6 +9,7 @@ use std::alloc::Global;
 /// after it, it is the frame of that body: see `frame`. The only error is `Memory`, after an
 /// allocation failure.
 pub fn frame_header(alloc: Global, len: usize) -> Result<String, Memory>
+    // The header part of a body of a given length in bytes.
     ensures { IfOk result (λ text. string_bytes text ≡ header_text len) }
 {
     format!(in alloc; "Content-Length: {len}\r\n\r\n")
@@ -22,6 +23,7 @@ pub fn frame_header(alloc: Global, len: usize) -> Result<String, Memory>
 /// allocation failure.
 #[tactic(auto, unfolding(crate::specs::Written::written))]
 pub fn frame(alloc: Global, body: &[u8]) -> Result<Vec<u8>, Memory>
+    // The frame of a body, which is its header part and the body.
     ensures { IfOk result (λ bytes. bytes.items ≡ written body.now) }
 {
     let header = frame_header(alloc, body.len())?;

@@ -24,7 +24,7 @@ use Rattle.pq_hall.specs.contracts.state.State as state
 use Rattle.pq_hall.specs.contracts.mark.MarkStamp.TheImpl as stamps
 use Rattle.pq_hall.specs.contracts.hall.Hall as hall
 use Rattle.pq_hall.specs.contracts.seats.Seat as seat
-use Rattle.pq_core.proofs.lane.Lane.TheSendSync as lanes
+use Rattle.pq_core.proofs.lanes.lane.Lane.TheSendSync as lanes
 use Rattle.pq_mail.proofs.outboxes.LaneEnd.TheSendSync as ends
 
 inputs_send : IsSend inputs.the_row

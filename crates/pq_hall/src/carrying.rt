@@ -72,8 +72,12 @@ impl<R: Rules + OneValue, J: BoardName, H: Wait + Copy + Drop> Hall<R, J, H> {
         client: Client,
         porter: &mut PorterEnd<R::Key>,
     ) -> Result<Moved<R::Key>, HallFault>
+        // `Carries`: One post more was carried, of the kind of the answer; at the end of the posts
+        // perhaps none. `Later` is not answered.
         ensures carried { IfOk result (λ moved. Carries moved porter.old.items porter.new.items) }
+        // `CarriesSome`: One post more was carried.
         ensures refused { IfErr result (λ fault. CarriesSome porter.old.items porter.new.items) }
+        // An end stays one of its mailbox.
         ensures same { (porter.new.table ≡ porter.old.table) × (porter.new.key ≡ porter.old.key) }
     {
         match porter.next(rt) {

@@ -21,6 +21,7 @@ pub struct Client {
 impl Client {
     /// The number of the client.
     pub fn id(&self) -> ClientId
+        // The number of the client.
         ensures { result ≡ self.now.id }
     {
         ClientId::new(self.id)
@@ -128,6 +129,8 @@ impl<R: Rules, J: BoardName> State<R, J> {
 
     /// Collects a reply to `client`, if one is made.
     pub(crate) fn collect(&mut self, client: Client) -> Collected<R, J>
+        // `collects`, `more`: A reply to the client is collected, and `more` says whether one more
+        // is made.
         ensures collects { Collects client.id result.ready self.old.store self.new.store }
         ensures more { IsTrue result.more ↔ ((n : ℕ) × (ready : ReadyView R.Key R.Value (MarkView)) × IsMadeIn self.new.store client.id n ready) }
     {

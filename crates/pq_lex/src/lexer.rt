@@ -15,7 +15,10 @@ use std::alloc::Global;
 /// Each token is the longest at its offset. Blanks, comments and a byte order mark at the start
 /// separate tokens. The one error of the call is an allocation failure.
 pub fn lex(alloc: Global, text: &str) -> Result<Lexed, Memory>
+    // The result is the tokens of the text. Each token is the longest piece that begins at its
+    // offset, up to the end of the text or its first lexical error, with code and span.
     ensures lexes { IfOk result (λ l. Lexes 0 text.now l.tokens.items l.fault) }
+    // The result is the value of the total function `tokens_of` at the text.
     ensures exact { IfOk result (λ l. reading_of l ≡ tokens_of text.now) }
 {
     let bytes = text.as_bytes();

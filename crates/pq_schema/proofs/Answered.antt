@@ -8,11 +8,11 @@ use Rattle.pq_syntax.specs.declared.tree.Statement.TheVariants as statements
 use Rattle.pq_syntax.specs.Places.{Item}
 use Rattle.pq_syntax.specs.Stacks.{closed, innermost}
 use Rattle.pq_syntax.proofs.Walk.{inner_at}
-use Rattle.pq_schema.specs.declared.asked.Answer.{Answer}
-use Rattle.pq_schema.specs.declared.asked.Asked.{Asked}
-use Rattle.pq_schema.specs.declared.named.Place.{Place}
-use Rattle.pq_schema.specs.declared.package_range.PackageRange.{PackageRange}
-use Rattle.pq_schema.specs.declared.scope.FileDefs.{FileDefs}
+use Rattle.pq_schema.specs.declared.search.asked.Answer.{Answer}
+use Rattle.pq_schema.specs.declared.search.asked.Asked.{Asked}
+use Rattle.pq_schema.specs.declared.scope.named.Place.{Place}
+use Rattle.pq_schema.specs.declared.scope.package_range.PackageRange.{PackageRange}
+use Rattle.pq_schema.specs.declared.scope.scope.FileDefs.{FileDefs}
 use Rattle.pq_schema.specs.Definitions.{qualified}
 use Rattle.pq_schema.specs.Resolution.{Meaning, meaning}
 use Rattle.pq_schema.specs.aux.Asked.{AreAsked, IsAsked, IsFront, IsRight}

@@ -13,7 +13,7 @@ use Rattle.pq_syntax.specs.declared.tree.Statement.TheVariants as statements
 use Rattle.pq_syntax.specs.Places.{Item, Place, kept}
 use Rattle.pq_syntax.specs.Stacks.{closed, innermost}
 use Rattle.pq_syntax.proofs.Walk.{given, inner_at}
-use Rattle.pq_schema.specs.declared.scope.FileDefs.{FileDefs}
+use Rattle.pq_schema.specs.declared.scope.scope.FileDefs.{FileDefs}
 use Rattle.pq_schema.specs.Definitions.{qualified, scope_in, scope_of}
 use Rattle.pq_schema.specs.References.{references_at, references_by}
 use Rattle.pq_schema.specs.Resolution.{Found, decides, dotted, found, is_package, prefixes, scopes, single, unless_type}

@@ -9,11 +9,11 @@ use Rattle.pq_links.specs.declared.files.ParsedFile.{ParsedFile}
 use Rattle.std.specs.List.{cons_option}
 use Rattle.pq_syntax.specs.declared.tree.Node.{Node}
 use Rattle.pq_checks.specs.Diagnostics.{diagnosed, diagnostic_at}
-use Rattle.pq_checks.specs.declared.diagnostic.Diagnosed.{Diagnosed}
-use Rattle.pq_checks.specs.declared.diagnostic.Diagnostic.{Diagnostic}
-use Rattle.pq_checks.specs.declared.diagnostics.DiagnosticsPart.{DiagnosticsPart}
-use Rattle.pq_checks.specs.declared.diagnostics.DiagnosticsPart.TheVariants.{ReadChecks, ReadFile}
-use Rattle.pq_checks.specs.declared.fault.Fault.{Fault}
+use Rattle.pq_checks.specs.declared.errors.diagnostic.Diagnosed.{Diagnosed}
+use Rattle.pq_checks.specs.declared.errors.diagnostic.Diagnostic.{Diagnostic}
+use Rattle.pq_checks.specs.declared.queries.diagnostics.DiagnosticsPart.{DiagnosticsPart}
+use Rattle.pq_checks.specs.declared.queries.diagnostics.DiagnosticsPart.TheVariants.{ReadChecks, ReadFile}
+use Rattle.pq_checks.specs.declared.errors.fault.Fault.{Fault}
 
 -- `listed_at nodes f` lists the error `f` at the span of its place in the tree `nodes`, if it has one
 abbrev pub listed_at : List Node → Fault → List Diagnostic

@@ -26,17 +26,17 @@ use Rattle.pq_links.proofs.NameKinds.{IfImportsIn, LinksIn, LinkingIn, no_links_
 use Rattle.pq_schema.specs.aux.Queries.{scope_starts, scope_advances, scope_left, resolved_starts, resolved_advances, resolved_left}
 use Rattle.pq_schema.specs.aux.Falls.{scope_falls, resolved_falls}
 use Rattle.pq_schema.specs.aux.NameKinds.{ScopeIn, ScopePartIn, scope_starts_in, scope_advances_in}
-use Rattle.pq_schema.specs.declared.resolved.ResolvedReference.{ResolvedReference}
+use Rattle.pq_schema.specs.declared.queries.resolved.ResolvedReference.{ResolvedReference}
 use Rattle.pq_schema.proofs.ResolvedKinds.{ResolutionIn, ResolvedIn, ResolvedPartIn, resolved_starts_in, resolved_advances_in}
-use Rattle.pq_schema.specs.declared.resolution.Resolution.{Resolution}
-use Rattle.pq_schema.specs.declared.resolution.Resolution.TheVariants as resolutions
+use Rattle.pq_schema.specs.declared.search.resolution.Resolution.{Resolution}
+use Rattle.pq_schema.specs.declared.search.resolution.Resolution.TheVariants as resolutions
 use Rattle.pq_syntax.specs.declared.tree.Node.{Node}
 use Rattle.pq_checks.specs.aux.Falls.{check_falls}
 use Rattle.pq_checks.specs.aux.Queries.{check_starts, check_advances, check_left}
 use Rattle.pq_checks.specs.aux.DiagnosticsTurns.{diagnostics_advances, diagnostics_left, diagnostics_falls}
-use Rattle.pq_checks.specs.declared.diagnostics.DiagnosticsPart.{DiagnosticsPart}
-use Rattle.pq_checks.specs.declared.diagnostics.DiagnosticsPart.TheVariants as diagnostics
-use Rattle.pq_checks.specs.declared.fault.Fault.{Fault}
+use Rattle.pq_checks.specs.declared.queries.diagnostics.DiagnosticsPart.{DiagnosticsPart}
+use Rattle.pq_checks.specs.declared.queries.diagnostics.DiagnosticsPart.TheVariants as diagnostics
+use Rattle.pq_checks.specs.declared.errors.fault.Fault.{Fault}
 use Rattle.pq_links.specs.Place.{place}
 use Rattle.pq_links.specs.declared.places.Part.TheVariants as part
 use Rattle.pq_proto.specs.Compile.{has_tree, is_failed, offset_at}

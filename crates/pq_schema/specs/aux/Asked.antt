@@ -2,9 +2,9 @@
 -- only).
 use Rattle.std.specs.Prelude.{◌≡◌, ℕ, ◌+◌, get_or, length, List, [], ◌++◌}
 use Rattle.pq_rules.specs.Relations.{Each}
-use Rattle.pq_schema.specs.declared.asked.Answer.{Answer}
-use Rattle.pq_schema.specs.declared.asked.Asked.{Asked}
-use Rattle.pq_schema.specs.declared.scope.FileDefs.{FileDefs}
+use Rattle.pq_schema.specs.declared.search.asked.Answer.{Answer}
+use Rattle.pq_schema.specs.declared.search.asked.Asked.{Asked}
+use Rattle.pq_schema.specs.declared.scope.scope.FileDefs.{FileDefs}
 use Rattle.pq_schema.specs.Resolution.{meaning}
 use Rattle.pq_schema.specs.aux.Hits.{meaning_at}
 use Rattle.pq_schema.specs.aux.PackageRange.{IsRangeOf}

@@ -24,15 +24,15 @@ use Rattle.pq_schema.specs.Contents.{Defs as DefsContents}
 use Rattle.pq_schema.specs.ScopeContents.{Scope as ScopeContents}
 use Rattle.pq_schema.specs.Missing.{no_defs, no_scope}
 use Rattle.pq_schema.specs.aux.Queries.{defs_level, scope_level, resolved_level, defs_starts, defs_advances, scope_starts, scope_advances, scope_left, resolved_starts, resolved_advances, resolved_left}
-use Rattle.pq_schema.specs.declared.resolved.ResolvedReference.{ResolvedReference}
-use Rattle.pq_schema.specs.declared.resolved.ResolvedPart.{ResolvedPart}
-use Rattle.pq_schema.specs.declared.rules.SchemaKey.{SchemaKey}
-use Rattle.pq_schema.specs.declared.rules.SchemaKey.TheVariants.{Input, Parse, Items, Imports, Linked, Defs, Scope, Resolved}
-use Rattle.pq_schema.specs.declared.rules.SchemaPart.{SchemaPart}
-use Rattle.pq_schema.specs.declared.rules.SchemaPart.TheVariants.{Parsing, Itemizing, Importing, LinkingFiles, Defining, Scoping, Resolving}
-use Rattle.pq_schema.specs.declared.rules.SchemaValue.{SchemaValue}
-use Rattle.pq_schema.specs.declared.rules.SchemaValue.TheVariants as values
-use Rattle.pq_schema.specs.declared.scopes.ScopePart.{ScopePart}
+use Rattle.pq_schema.specs.declared.queries.resolved.ResolvedReference.{ResolvedReference}
+use Rattle.pq_schema.specs.declared.queries.resolved.ResolvedPart.{ResolvedPart}
+use Rattle.pq_schema.specs.declared.queries.rules.SchemaKey.{SchemaKey}
+use Rattle.pq_schema.specs.declared.queries.rules.SchemaKey.TheVariants.{Input, Parse, Items, Imports, Linked, Defs, Scope, Resolved}
+use Rattle.pq_schema.specs.declared.queries.rules.SchemaPart.{SchemaPart}
+use Rattle.pq_schema.specs.declared.queries.rules.SchemaPart.TheVariants.{Parsing, Itemizing, Importing, LinkingFiles, Defining, Scoping, Resolving}
+use Rattle.pq_schema.specs.declared.queries.rules.SchemaValue.{SchemaValue}
+use Rattle.pq_schema.specs.declared.queries.rules.SchemaValue.TheVariants as values
+use Rattle.pq_schema.specs.declared.queries.scopes.ScopePart.{ScopePart}
 
 -- `text_read`, `parsed_read`, `items_read`, `imports_read`, `links_read`, `defs_read` and
 -- `scope_read` are what is read of an answer

@@ -24,6 +24,8 @@ pub(crate) fn text_or_refusal(
     text: Result<String, AllocError>,
     label: &Label,
 ) -> Result<String, AllocError>
+    // `made`, `refused`: The text of a reply, or the error -32603 with the label of its request if
+    // there is none.
     ensures made { IfOk text (λ made. result ≡ Ok made) }
     ensures refused { OnErr text (IfOk result (λ said. string_bytes said ≡ out_of_memory_text (label_model label.now))) }
 {

@@ -114,6 +114,8 @@ pub fn reply_text<M>(
     root: &Root,
     reply: &Reply<ProtoKey, ProtoValue, M>,
 ) -> Result<String, AllocError>
+    // The text of a reply by its outcome: an answer, the fixed text, content modified with both
+    // revisions, request cancelled, or out of memory.
     ensures { IfOk result (λ s. string_bytes s ≡ text_of_reply root.now reply.now) }
 {
     let request = reply.request();
