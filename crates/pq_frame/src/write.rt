@@ -1,5 +1,5 @@
 //! Writes a frame.
-ghost use Rattle.std.specs.Prelude.{◌≡◌, length, string_bytes, IfOk};
+ghost use Rattle.std.specs.Prelude.{◌≡◌, ◌++◌, length, string_bytes, IfOk, OnOk, OnErr};
 ghost use Rattle.pq_frame.specs.Written.{written, header_text};
 
 use crate::Memory;
@@ -29,4 +29,23 @@ pub fn frame(alloc: Global, body: &[u8]) -> Result<Vec<u8>, Memory>
     bytes.extend_from_slice(header.as_bytes())?;
     bytes.extend_from_slice(body)?;
     Ok(bytes)
+}
+
+/// Appends the frame of `body` to `bytes`. The only error is `Memory`, after an allocation failure;
+/// then nothing was appended.
+#[tactic(auto, unfolding(crate::specs::Written::written))]
+pub fn append_frame(alloc: Global, bytes: &mut Vec<u8>, body: &[u8]) -> Result<(), Memory>
+    ensures appended { OnOk result (bytes.new.items ≡ bytes.old.items ++ written body.now) }
+    ensures refused { OnErr result (bytes.new.items ≡ bytes.old.items) }
+{
+    let header = frame_header(alloc, body.len())?;
+    let before = bytes.len();
+    bytes.extend_from_slice(header.as_bytes())?;
+    match bytes.extend_from_slice(body) {
+        Ok(()) => Ok(()),
+        Err(_) => {
+            bytes.truncate(before);
+            Err(Memory)
+        }
+    }
 }

@@ -32,4 +32,11 @@ impl<R: Rules + OneValue, J: BoardName, H: Wait + Copy + Drop> Hall<R, J, H> {
         self.deliver(rt, client, None);
         taken
     }
+
+    /// Puts those replies to `client` that have room, after some were taken. A writer that takes by
+    /// `TakeEnd::any` and `TakeEnd::try_any` calls it once in `CAPACITY` replies at least: a put is refused
+    /// only where so many are there.
+    pub fn refill(&self, rt: &H, client: Client) {
+        self.deliver(rt, client, None);
+    }
 }

@@ -146,4 +146,18 @@ impl<T: Item> GetEnd<T> {
             Err(_) => return None,
         }
     }
+
+    /// The next item, in the order of putting, if the mailbox has one. It never waits for one, only for
+    /// the step of another thread on the same place. `None` if the mailbox was empty; then nothing was
+    /// got.
+    pub fn try_get<H: Wait>(&mut self, rt: &H) -> Option<T>
+        ensures got { IfSome result (λ x. (self.new.items ≡ self.old.items ++ x ∷ []) × T.fits (length self.old.items) x) }
+        ensures none { IfNone result (self.new.items ≡ self.old.items) }
+        ensures same { (self.new.table ≡ self.old.table) × (self.new.key ≡ self.old.key) }
+    {
+        match self.receiver.try_recv_as::<Gets<T>, H>(rt, &mut self.pass) {
+            Ok(item) => return Some(item),
+            Err(_) => return None,
+        }
+    }
 }

@@ -1,5 +1,5 @@
 //! The outbox of a client: its replies, in the order of its requests.
-ghost use Rattle.std.specs.Prelude.{◌≡◌, ◌++◌, ◌∷◌, [], length, OnOk, OnErr, IfOk, IfErr};
+ghost use Rattle.std.specs.Prelude.{◌≡◌, ◌↔◌, ◌++◌, ◌∷◌, [], length, OnOk, OnErr, IfOk, IfErr, IfSome, IfNone, IsTrue};
 ghost use Rattle.pq_mail.specs.Mailbox.{IsPrefixOf};
 ghost use Rattle.pq_mail.specs.Posts.{IsReceiptOf, Misses};
 
@@ -125,6 +125,33 @@ impl<R: Rules, M: Stamp> TakeEnd<R, M> {
                 return Err(MailEnd::Stranger);
             }
         }
+    }
+
+    /// The next reply, whatever receipt is its own. It waits for one. `None` if no reply is left and the
+    /// end that puts is gone; then nothing was taken.
+    pub fn any<H: Wait>(&mut self, rt: &H) -> Option<RightReply<R, M>>
+        ensures taken { IfSome result (λ reply. (self.new.items ≡ self.old.items ++ reply ∷ []) × (reply.number ≡ length self.old.items)) }
+        ensures none { IfNone result (self.new.items ≡ self.old.items) }
+        ensures same { (self.new.table ≡ self.old.table) × (self.new.key ≡ self.old.key) }
+    {
+        self.end.get(rt)
+    }
+
+    /// The next reply, whatever receipt is its own, if the outbox has one. It never waits for one. `None`
+    /// if the outbox was empty; then nothing was taken.
+    pub fn try_any<H: Wait>(&mut self, rt: &H) -> Option<RightReply<R, M>>
+        ensures taken { IfSome result (λ reply. (self.new.items ≡ self.old.items ++ reply ∷ []) × (reply.number ≡ length self.old.items)) }
+        ensures none { IfNone result (self.new.items ≡ self.old.items) }
+        ensures same { (self.new.table ≡ self.old.table) × (self.new.key ≡ self.old.key) }
+    {
+        self.end.try_get(rt)
+    }
+
+    /// Whether `reply` is that of `receipt`: it has the number and the request of the receipt.
+    pub fn is_of(&self, receipt: &Receipt<R::Key>, reply: &RightReply<R, M>) -> bool
+        ensures { IsTrue result ↔ IsReceiptOf receipt.now reply.now }
+    {
+        is_receipt_of(&self.rules, receipt, reply.reply())
     }
 }
 

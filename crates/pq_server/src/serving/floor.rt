@@ -8,7 +8,7 @@ ghost use Rattle.pq_session.specs.Reply.{out_of_memory_text};
 
 use pq_core::{Label, OpenFault, Reply, Stamp};
 use pq_hall::{BoardName, Client, ClientEnds, Gate, Hall, HallFault, Mark, Moved, OneValue};
-use pq_mail::{MailEnd, PorterEnd, Post, PostEnd, PostFault, Receipt, TakeEnd};
+use pq_mail::{CAPACITY, MailEnd, PorterEnd, Post, PostEnd, PostFault, Receipt, RightReply, TakeEnd};
 use pq_proto::{ProtoKey, ProtoRules, ProtoValue};
 use pq_rules::Rules;
 use pq_session::{Root, out_of_memory_text, reply_text};
@@ -29,6 +29,10 @@ pub(crate) fn text_or_refusal(
         Err(_) => out_of_memory_text(alloc, label),
     }
 }
+
+/// How many replies are taken at most before `refill` is called: a put is refused only where so many
+/// are there.
+pub(crate) const TAKES: usize = CAPACITY;
 
 /// Why a receipt has no text.
 #[derive(Clone, Copy, Debug, PartialEq, Eq)]
@@ -140,14 +144,25 @@ pub(crate) trait Floor<H>: Posting<H, Post: Send, Receipt: Send> + Sync {
         porter: &mut Self::Porter,
     ) -> Result<Carried, HallFault>;
 
-    /// The text of the reply of `receipt`, for a session with the root `root`. If an allocation fails
-    /// for it, it is the text that says so.
+    /// A reply that was taken.
+    type Reply: Drop;
+
+    /// Takes the next reply. It waits for one. `None` if no reply is left and the client was closed.
+    fn take(&self, rt: &H, take: &mut Self::Take) -> Option<Self::Reply>;
+
+    /// Takes the next reply, if one is there.
+    fn take_ready(&self, rt: &H, take: &mut Self::Take) -> Option<Self::Reply>;
+
+    /// Puts those replies to `client` that have room. It is called once in `TAKES` replies at least.
+    fn refill(&self, rt: &H, client: Client);
+
+    /// The text of `reply`, if it is that of `receipt`, for a session with the root `root`. If an
+    /// allocation fails for it, it is the text that says so.
     fn text(
         &self,
-        rt: &H,
         alloc: Global,
-        client: Client,
-        take: &mut Self::Take,
+        take: &Self::Take,
+        reply: &Self::Reply,
         receipt: &Self::Receipt,
         root: &Root,
     ) -> Result<String, NoText>;
@@ -219,6 +234,8 @@ where
 
     type Take = TakeEnd<S, Mark<J>>;
 
+    type Reply = RightReply<S, Mark<J>>;
+
     fn join(
         &self,
         rt: &H,
@@ -248,17 +265,34 @@ where
         Ok(outcome_of(moved))
     }
 
-    fn text(
+    fn take(&self, rt: &H, take: &mut TakeEnd<S, Mark<J>>) -> Option<RightReply<S, Mark<J>>> {
+        take.any(rt)
+    }
+
+    fn take_ready(
         &self,
         rt: &H,
-        alloc: Global,
-        client: Client,
         take: &mut TakeEnd<S, Mark<J>>,
+    ) -> Option<RightReply<S, Mark<J>>> {
+        take.try_any(rt)
+    }
+
+    fn refill(&self, rt: &H, client: Client) {
+        self.refill(rt, client);
+    }
+
+    fn text(
+        &self,
+        alloc: Global,
+        take: &TakeEnd<S, Mark<J>>,
+        reply: &RightReply<S, Mark<J>>,
         receipt: &Receipt<S::Key>,
         root: &Root,
     ) -> Result<String, NoText> {
-        let taken = self.take_one(rt, client, take, receipt)?;
-        let reply = taken.reply();
+        if !take.is_of(receipt, reply) {
+            return Err(NoText::Closed);
+        }
+        let reply = reply.reply();
         let text = S::text_of(alloc, root, reply);
         Ok(text_or_refusal(alloc, text, &reply.request().label)?)
     }
