@@ -109,6 +109,13 @@ pub record IsMadeIn {R K P V M : Type 0} (store : StoreView R K P V M) (c n : �
   pub here : found store.accounts.items c ≡ Some account
   pub made : IsStage account n (Made ready)
 
+-- `OwesIn store c` is that the client `c` is open, and that a request of it was accepted whose reply was
+-- not acknowledged as put
+pub record OwesIn {R K P V M : Type 0} (store : StoreView R K P V M) (c : ℕ) : Type 0 where
+  pub account : AccountView K V M
+  pub here : found store.accounts.items c ≡ Some account
+  pub some : 0 < length account.stages
+
 -- `NoneMade store` is that no reply is made and not collected
 abbrev pub NoneMade : {R K P V M : Type 0} → StoreView R K P V M → Type 0
 NoneMade {K = K} {V = V} {M = M} store = (c n : ℕ) (ready : ReadyView K V M) → IsMadeIn store c n ready → ⊥

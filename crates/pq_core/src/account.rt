@@ -256,6 +256,13 @@ impl<R: Rules, M: Stamp> Account<R, M> {
         }
     }
 
+    /// Whether a request was accepted and its reply not acknowledged.
+    pub(crate) fn owes(&self) -> bool
+        ensures { IsTrue result ↔ (0 < length self.now.stages) }
+    {
+        !self.stages.is_empty()
+    }
+
     /// Whether a reply is made and was not collected.
     pub(crate) fn has_made(&self) -> bool
         ensures { IsTrue result ↔ HasMade self.now }

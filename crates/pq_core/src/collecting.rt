@@ -4,12 +4,12 @@ ghost use Rattle.pq_core.specs.Lanes.{ReadyView};
 ghost use Rattle.pq_core.specs.Ledger.{Ledger};
 ghost use Rattle.pq_core.specs.Moves.{Reaches, NoneWaits, NoneRuns};
 ghost use Rattle.pq_core.specs.Told.{Told, Shuts};
-ghost use Rattle.pq_core.specs.Stores.{StandsFor, Goes, IsMadeIn, NoneMade, Collects, Hears};
+ghost use Rattle.pq_core.specs.Stores.{StandsFor, Goes, IsMadeIn, NoneMade, Collects, Hears, OwesIn};
 ghost use Rattle.pq_core.specs.Starts.{IsCountedIn, Log};
 ghost use Rattle.pq_core.specs.aux.Passing.{made_in};
 
 use crate::ids::{ClientId, Number};
-use crate::in_accounts::{collect_in, first_made, has_made_in, see_in};
+use crate::in_accounts::{collect_in, first_made, has_made_in, owes_in, see_in};
 use crate::ready::Ready;
 use crate::stamp::Stamp;
 use crate::store::Store;
@@ -51,6 +51,15 @@ impl<R: Rules, M: Stamp> Store<R, M> {
     {
         let seat = client.number();
         has_made_in(&self.accounts, seat)
+    }
+
+    /// Whether a request of `client` was accepted whose reply was not acknowledged as put, if the client
+    /// is open.
+    pub fn owes(&self, client: ClientId) -> bool
+        ensures { IsTrue result ↔ OwesIn self.now client }
+    {
+        let seat = client.number();
+        owes_in(&self.accounts, seat)
     }
 
     /// A client with a reply that is made and was not collected, if there is one. It looks at each

@@ -132,6 +132,16 @@ pub(crate) fn has_made_in<R: Rules, M: Stamp>(accounts: &Rising<Account<R, M>>, 
     }
 }
 
+/// Whether a request of `client` was accepted and its reply not acknowledged, if the client is open.
+pub(crate) fn owes_in<R: Rules, M: Stamp>(accounts: &Rising<Account<R, M>>, client: u64) -> bool
+    ensures { IsTrue result ↔ ((account : AccountView R.Key R.Value M) × (found accounts.now.items client ≡ Some account) × (0 < length account.stages)) }
+{
+    match accounts.get(client) {
+        Some(account) => return account.owes(),
+        None => return false,
+    }
+}
+
 /// Takes out one reply to `client` that is made, if the client is open.
 pub(crate) fn collect_in<R: Rules, M: Stamp>(
     accounts: &mut Rising<Account<R, M>>,

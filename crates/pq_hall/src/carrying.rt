@@ -94,6 +94,25 @@ impl<R: Rules + OneValue, J: BoardName, H: Wait + Copy + Drop> Hall<R, J, H> {
         }
     }
 
+    /// Waits until each reply to `client` was put, and closes it. So the end that takes the replies has
+    /// an end. It waits for nothing where the hall is shut.
+    pub fn finish(&self, rt: &H, client: Client) {
+        self.wait_for_replies(rt, client);
+        self.close(rt, client);
+    }
+
+    /// Waits until each reply to `client` was put, while `client` is open.
+    fn wait_for_replies(&self, rt: &H, client: Client) {
+        let mut state = self.state.lock(rt);
+        for _ in rt.forever() {
+            if state.is_shut || !state.store.owes(client.id()) {
+                return;
+            }
+            state = self.room_came.wait(rt, state);
+        }
+        unreachable!()
+    }
+
     /// Carries `post`. The text of a long list of changes is made before the lock is taken.
     fn carry_post(
         &self,

@@ -144,6 +144,9 @@ pub(crate) trait Floor<H>: Posting<H, Post: Send, Receipt: Send> + Sync {
         porter: &mut Self::Porter,
     ) -> Result<Carried, HallFault>;
 
+    /// Waits until each reply to `client` was put, and closes it.
+    fn finish(&self, rt: &H, client: Client);
+
     /// A reply that was taken.
     type Reply: Drop;
 
@@ -263,6 +266,10 @@ where
     ) -> Result<Carried, HallFault> {
         let moved = self.carry_one(rt, client, porter)?;
         Ok(outcome_of(moved))
+    }
+
+    fn finish(&self, rt: &H, client: Client) {
+        self.finish(rt, client);
     }
 
     fn take(&self, rt: &H, take: &mut TakeEnd<S, Mark<J>>) -> Option<RightReply<S, Mark<J>>> {

@@ -6,7 +6,8 @@ use pq_session::ScriptFault;
 use std::net::{Shutdown, TcpStream};
 use std::sync::Wait;
 
-/// Carries the posts of `client` until there are no more.
+/// Carries the posts of `client` until there are no more. The client is closed once each reply was put,
+/// so that the writer ends.
 ///
 /// A post that is refused for good ends it. The client is closed then, and the stream is shut down,
 /// so that the reader ends too. The error says why, unless another thread had closed the client.
@@ -20,7 +21,10 @@ pub(crate) fn carry_all<F: Floor<H>, H: Wait>(
     let mut porter = porter;
     for _ in rt.forever() {
         match floor.carry(rt, client, &mut porter) {
-            Ok(Carried::Ended) => return Ok(()),
+            Ok(Carried::Ended) => {
+                floor.finish(rt, client);
+                return Ok(());
+            }
             Ok(_) => {}
             Err(fault) => {
                 let _ = stream.shutdown(Shutdown::Both);

@@ -17,16 +17,22 @@ const FULL: usize = 65_536;
 /// The bytes from which on a text is not copied to be written.
 const LONG: usize = 16_384;
 
-/// Why a reply was not written: the client was closed, or there was an error.
-type Unwritten = Option<ScriptFault>;
+/// Why a reply was not written.
+#[derive(Drop)]
+enum Unwritten {
+    /// There are no more receipts: the reader has ended.
+    NoReceipt,
+    /// The client was closed.
+    Closed,
+    /// There was an error.
+    Fault(ScriptFault),
+}
 
 /// What the writer of a session holds.
 #[derive(Drop)]
 struct Outlet<'a, T, Q> {
     take: T,
     owed: Receiver<Owed<Q>>,
-    /// A receipt that came before its reply.
-    next: Option<Owed<Q>>,
     stream: &'a TcpStream,
     /// The frames that were gathered.
     frames: Vec<u8>,
@@ -35,33 +41,6 @@ struct Outlet<'a, T, Q> {
 }
 
 impl<'a, T: Send + Drop, Q: Send + Drop> Outlet<'a, T, Q> {
-    /// The next receipt. It waits for one. `None` if there are no more.
-    fn receipt<H: Wait>(&mut self, rt: &H) -> Option<Owed<Q>> {
-        match self.next.take() {
-            Some(owed) => Some(owed),
-            None => self.owed.recv(rt).ok(),
-        }
-    }
-
-    /// The next receipt and its reply, if both are there.
-    fn ready<F, H>(&mut self, rt: &H, floor: &F) -> Option<(Owed<Q>, F::Reply)>
-    where
-        F: Floor<H, Take = T, Receipt = Q>,
-        H: Wait,
-    {
-        let owed = match self.next.take() {
-            Some(owed) => owed,
-            None => self.owed.try_recv(rt).ok()?,
-        };
-        match floor.take_ready(rt, &mut self.take) {
-            Some(reply) => Some((owed, reply)),
-            None => {
-                self.next = Some(owed);
-                None
-            }
-        }
-    }
-
     /// Writes the frames that were gathered.
     fn flush(&mut self) -> Result<(), Unwritten> {
         if self.frames.is_empty() {
@@ -73,7 +52,7 @@ impl<'a, T: Send + Drop, Q: Send + Drop> Outlet<'a, T, Q> {
                 self.frames.clear();
                 Ok(())
             }
-            Err(fault) => Err(Some(fault)),
+            Err(fault) => Err(Unwritten::Fault(fault)),
         }
     }
 
@@ -82,33 +61,37 @@ impl<'a, T: Send + Drop, Q: Send + Drop> Outlet<'a, T, Q> {
         if text.len() < LONG {
             return match append_frame(alloc, &mut self.frames, text) {
                 Ok(()) => Ok(()),
-                Err(_) => Err(Some(ScriptFault::Memory)),
+                Err(_) => Err(Unwritten::Fault(ScriptFault::Memory)),
             };
         }
         self.flush()?;
         let mut output = Counted::new(self.stream);
         match write_frame(alloc, &mut output, text) {
             Ok(()) => Ok(()),
-            Err(fault) => Err(Some(fault)),
+            Err(fault) => Err(Unwritten::Fault(fault)),
         }
     }
 
-    /// Gathers the frame of `reply`, which is owed next.
+    /// Gathers the frame of `reply`, which is owed next. Its receipt is there, or about to be.
     fn add<F, H>(
         &mut self,
+        rt: &H,
         alloc: Global,
         floor: &F,
-        owed: Owed<Q>,
         reply: F::Reply,
     ) -> Result<(), Unwritten>
     where
         F: Floor<H, Take = T, Receipt = Q>,
+        H: Wait,
     {
-        self.taken += 1;
+        self.taken = self.taken.saturating_add(1);
+        let Ok(owed) = self.owed.recv(rt) else {
+            return Err(Unwritten::NoReceipt);
+        };
         match floor.text(alloc, &self.take, &reply, &owed.receipt, &owed.root) {
             Ok(text) => self.add_text(alloc, text.as_bytes()),
-            Err(NoText::Closed) => Err(None),
-            Err(NoText::Memory) => Err(Some(ScriptFault::Memory)),
+            Err(NoText::Closed) => Err(Unwritten::Closed),
+            Err(NoText::Memory) => Err(Unwritten::Fault(ScriptFault::Memory)),
         }
     }
 
@@ -118,43 +101,39 @@ impl<'a, T: Send + Drop, Q: Send + Drop> Outlet<'a, T, Q> {
         rt: &H,
         alloc: Global,
         floor: &F,
-        owed: Owed<Q>,
         reply: F::Reply,
     ) -> Result<(), Unwritten>
     where
         F: Floor<H, Take = T, Receipt = Q>,
         H: Wait,
     {
-        self.add(alloc, floor, owed, reply)?;
+        self.add(rt, alloc, floor, reply)?;
         for _ in 1..TAKES {
             if self.frames.len() >= FULL {
                 return Ok(());
             }
-            match self.ready(rt, floor) {
-                Some((owed, reply)) => self.add(alloc, floor, owed, reply)?,
+            match floor.take_ready(rt, &mut self.take) {
+                Some(reply) => self.add(rt, alloc, floor, reply)?,
                 None => return Ok(()),
             }
         }
         Ok(())
     }
 
-    /// Writes the reply of `owed`, for which it waits, and those that are there after it.
+    /// Writes `reply`, and those that are there after it.
     fn write_some<F, H>(
         &mut self,
         rt: &H,
         alloc: Global,
         floor: &F,
         client: Client,
-        owed: Owed<Q>,
+        reply: F::Reply,
     ) -> Result<(), Unwritten>
     where
         F: Floor<H, Take = T, Receipt = Q>,
         H: Wait,
     {
-        let Some(reply) = floor.take(rt, &mut self.take) else {
-            return Err(None);
-        };
-        let gathered = self.gather(rt, alloc, floor, owed, reply);
+        let gathered = self.gather(rt, alloc, floor, reply);
         if self.taken >= TAKES {
             self.taken = 0;
             floor.refill(rt, client);
@@ -164,10 +143,10 @@ impl<'a, T: Send + Drop, Q: Send + Drop> Outlet<'a, T, Q> {
     }
 }
 
-/// Writes the replies of `client` to `stream`, one for each receipt, until there are no more
-/// receipts.
+/// Writes the replies of `client` to `stream`, one for each receipt, until the client was closed and no
+/// reply is left. The porter closes it after the last reply.
 ///
-/// A failed write or allocation, and the close of the client, end it. The client is closed then, and
+/// A failed write or allocation, and a receipt without its reply, end it. The client is closed then, and
 /// the stream is shut down, so that the reader ends too. After the close of the client it is no error.
 pub(crate) fn write_replies<F: Floor<H>, H: Wait>(
     rt: &H,
@@ -181,28 +160,38 @@ pub(crate) fn write_replies<F: Floor<H>, H: Wait>(
     let mut outlet = Outlet {
         take,
         owed,
-        next: None,
         stream,
         frames: Vec::new(alloc),
         taken: 0,
     };
     for _ in rt.forever() {
-        let Some(next) = outlet.receipt(rt) else {
-            return Ok(());
+        let written = match floor.take(rt, &mut outlet.take) {
+            Some(reply) => outlet.write_some(rt, alloc, floor, client, reply),
+            None => match outlet.owed.recv(rt) {
+                Ok(_) => Err(Unwritten::Closed),
+                Err(_) => return Ok(()),
+            },
         };
-        if let Err(end) = outlet.write_some(rt, alloc, floor, client, next) {
+        if let Err(end) = written {
             floor.close(rt, client);
-            let _ = stream.shutdown(Shutdown::Both);
-            return ended_by(end);
+            return ended_by(end, stream);
         }
     }
     unreachable!()
 }
 
-/// The outcome of a session whose reply was not written.
-fn ended_by(end: Unwritten) -> Result<(), ScriptFault> {
+/// The outcome of a session whose reply was not written. The stream is shut down, unless the reader has
+/// ended.
+fn ended_by(end: Unwritten, stream: &TcpStream) -> Result<(), ScriptFault> {
     match end {
-        None => Ok(()),
-        Some(fault) => Err(fault),
+        Unwritten::NoReceipt => Ok(()),
+        Unwritten::Closed => {
+            let _ = stream.shutdown(Shutdown::Both);
+            Ok(())
+        }
+        Unwritten::Fault(fault) => {
+            let _ = stream.shutdown(Shutdown::Both);
+            Err(fault)
+        }
     }
 }
