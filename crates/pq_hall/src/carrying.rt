@@ -13,6 +13,7 @@ use crate::one_value::OneValue;
 use crate::posting::{Moved, post_step};
 use crate::preparing::long_change;
 use crate::state::{Client, Collected, State};
+use crate::working::Ahead;
 use pq_core::{Memory, Want, is_turn};
 use pq_inputs::Inputs;
 use pq_mail::{PorterEnd, Post};
@@ -53,8 +54,16 @@ fn wants_answer<K>(post: &Post<K>) -> bool {
     }
 }
 
-/// What a post came to under the lock, and what is to go to the lane of its client.
-pub(crate) type Carried<R, J> = (Moved<<R as Rules>::Key>, Collected<R, J>);
+/// What is to be done without the lock after a post: a reply to the client of the post is to go to its
+/// lane, and what the first steps of a run came to.
+#[derive(Drop)]
+pub(crate) struct After<R: Rules, J: BoardName> {
+    collected: Collected<R, J>,
+    ahead: Ahead<R, J>,
+}
+
+/// What a post came to under the lock, and what is to be done after it.
+pub(crate) type Carried<R, J> = (Moved<<R as Rules>::Key>, After<R, J>);
 
 impl<R: Rules + OneValue, J: BoardName, H: Wait + Copy + Drop> Hall<R, J, H> {
     /// Carries the next post of `client` into the store. It waits for a post, and for room in the
@@ -79,8 +88,8 @@ impl<R: Rules + OneValue, J: BoardName, H: Wait + Copy + Drop> Hall<R, J, H> {
         match porter.next(rt) {
             None => return Ok(Moved::Ended),
             Some(post) => match self.carry_post(rt, client, post) {
-                Ok((moved, collected)) => {
-                    self.deliver_all(rt, client, collected);
+                Ok((moved, after)) => {
+                    self.follow_up(rt, client, after);
                     if has_turned(&moved) {
                         self.deliver_each(rt);
                     }
@@ -138,8 +147,8 @@ impl<R: Rules + OneValue, J: BoardName, H: Wait + Copy + Drop> Hall<R, J, H> {
         for _ in rt.forever() {
             match settled(self.step(rt, &mut state, client, post)?) {
                 Ok(moved) => {
-                    let collected = self.carried(&mut state, client, wants);
-                    return Ok((moved, collected));
+                    let after = self.carried(&mut state, client, wants);
+                    return Ok((moved, after));
                 }
                 Err(back) => post = back,
             }
@@ -168,18 +177,36 @@ impl<R: Rules + OneValue, J: BoardName, H: Wait + Copy + Drop> Hall<R, J, H> {
     }
 
     /// Wakes the workers that can go on after a post was carried, and collects a reply to `client`.
-    /// After a request whose answer is wanted, `wants`, one worker can start its run.
+    /// After a request whose answer is wanted, `wants`, the first steps of a run are taken.
     pub(crate) fn carried(
         &self,
         state: &mut State<R, J>,
         client: Client,
         wants: bool,
-    ) -> Collected<R, J> {
+    ) -> After<R, J> {
         self.wake_parked(state);
+        let ahead = self.ahead(state, wants);
+        let collected = state.collect(client);
+        After { collected, ahead }
+    }
+
+    /// Takes the first steps of a run, if `wants`.
+    fn ahead(&self, state: &mut State<R, J>, wants: bool) -> Ahead<R, J> {
         if wants {
-            self.work_came.notify_one();
+            return self.run_ahead(state);
         }
-        state.collect(client)
+        Ahead::Nothing
+    }
+
+    /// Does what is to be done after a post of `client`, under no lock.
+    fn follow_up(&self, rt: &H, client: Client, after: After<R, J>) {
+        let After { collected, ahead } = after;
+        match ahead {
+            Ahead::Reply(other, first) => self.deliver_all(rt, other, first),
+            Ahead::Nothing => {}
+            Ahead::Wake => self.work_came.notify_one(),
+        }
+        self.deliver_all(rt, client, collected);
     }
 
     /// The mark of the revision that `post` makes of `inputs`, if it is an edit.

@@ -6,6 +6,7 @@ ghost use Rattle.pq_hall.specs.Marks.{MarkView};
 ghost use Rattle.pq_hall.specs.declared.state.Parked.{Parked};
 
 use crate::mark::{BoardName, Mark};
+use crate::working::Turn;
 use pq_core::{ClientId, MAX_CLIENTS, Memory, Ready, Store};
 use pq_rules::Rules;
 use std::alloc::Global;
@@ -59,6 +60,8 @@ pub(crate) struct State<R: Rules, J: BoardName> {
     /// The client of each seat.
     seats: Vec<Option<u64>>,
     parked: VecDeque<Parked>,
+    /// What a porter has left to a worker.
+    pub(crate) left: Option<Turn<R, J>>,
     /// The count of moves so far: it tells a parked run that something has changed.
     pub(crate) moves: u64,
     pub(crate) is_shut: bool,
@@ -75,6 +78,7 @@ impl<R: Rules, J: BoardName> State<R, J> {
             store,
             seats,
             parked: VecDeque::new(alloc),
+            left: None,
             moves: 0,
             is_shut: false,
         })
@@ -152,7 +156,7 @@ impl<R: Rules, J: BoardName> State<R, J> {
     }
 
     /// Starts a run for a request that waits.
-    fn start(&mut self) -> Option<Task> {
+    pub(crate) fn start(&mut self) -> Option<Task> {
         let run = self.store.start()?;
         let (id, _) = self.store.request_of(run)?;
         let client = self.client_of(id.number());

@@ -23,17 +23,20 @@ const STEPS: u8 = 16;
 /// What a worker brings to its run.
 type Brought<R, J> = Hand<Work<R, Mark<J>>, Done<R, Mark<J>>>;
 
+/// The most steps of a run that a porter takes after a request, beside the first.
+const AHEAD: u8 = 3;
+
 /// Work, and its run.
 #[derive(Drop)]
-struct Errand<R: Rules, J: BoardName> {
+pub(crate) struct Errand<R: Rules, J: BoardName> {
     task: Task,
     work: Work<R, Mark<J>>,
     ghost own: { work.done.run ≡ task.run },
 }
 
-/// What a worker leaves the store's lock with.
+/// What a worker leaves the store's lock with, or a porter that has taken the first steps of a run.
 #[derive(Drop)]
-enum Turn<R: Rules, J: BoardName> {
+pub(crate) enum Turn<R: Rules, J: BoardName> {
     /// Work of a run.
     Carry(Errand<R, J>),
     /// The run, which goes on.
@@ -44,6 +47,17 @@ enum Turn<R: Rules, J: BoardName> {
     Free,
     /// The hall is shut.
     Shut,
+}
+
+/// What the first steps of a run came to that a porter took.
+#[derive(Drop)]
+pub(crate) enum Ahead<R: Rules, J: BoardName> {
+    /// What was collected for the client of a run that is over.
+    Reply(Client, Collected<R, J>),
+    /// Nothing that others wait for.
+    Nothing,
+    /// A worker is to go on.
+    Wake,
 }
 
 /// Takes one turn after the other, from `first` on, until there is none. A loop over a `Turn` would be
@@ -104,6 +118,9 @@ impl<R: Rules + OneValue, J: BoardName, H: Wait + Copy + Drop> Hall<R, J, H> {
             if state.is_shut {
                 return Turn::Shut;
             }
+            if let Some(turn) = state.left.take() {
+                return turn;
+            }
             if let Some(task) = state.pick() {
                 return self.advance(&mut state, task, Hand::Look, STEPS);
             }
@@ -150,6 +167,31 @@ impl<R: Rules + OneValue, J: BoardName, H: Wait + Copy + Drop> Hall<R, J, H> {
             },
             Next::Starved => return self.ended(state, task),
             Next::Over => return Turn::Free,
+        }
+    }
+
+    /// Starts a run for a request that waits, and takes its first steps. A run that is not over then, and
+    /// is not parked, is left to a worker, with its work if it has some. No step carries work out. While a
+    /// run is left, no other is started.
+    pub(crate) fn run_ahead(&self, state: &mut State<R, J>) -> Ahead<R, J> {
+        if state.left.is_some() {
+            return Ahead::Wake;
+        }
+        let Some(task) = state.start() else {
+            return Ahead::Nothing;
+        };
+        match self.advance(state, task, Hand::Look, AHEAD) {
+            Turn::Reply(client, collected) => Ahead::Reply(client, collected),
+            Turn::Free => Ahead::Nothing,
+            Turn::Shut => Ahead::Wake,
+            Turn::Carry(errand) => {
+                state.left = Some(Turn::Carry(errand));
+                Ahead::Wake
+            }
+            Turn::GoesOn(task) => {
+                state.left = Some(Turn::GoesOn(task));
+                Ahead::Wake
+            }
         }
     }
 
