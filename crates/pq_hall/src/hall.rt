@@ -185,10 +185,15 @@ impl<R: Rules + OneValue, J: BoardName, H: Wait + Copy + Drop> Hall<R, J, H> {
         send_in(&mut seat, client.id, ready)
     }
 
-    /// Tells the store what was put.
+    /// Tells the store what was put. Porters that wait for room are woken when the lock is free.
     fn acknowledge(&self, rt: &H, seen: Acknowledgement) {
+        self.tell(rt, seen);
+        self.room_came.notify_all();
+    }
+
+    /// Tells the store what was put.
+    fn tell(&self, rt: &H, seen: Acknowledgement) {
         let mut state = self.state.lock(rt);
         seen.tell(&mut state.store);
-        self.room_came.notify_all();
     }
 }

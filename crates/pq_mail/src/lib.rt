@@ -6,10 +6,11 @@
 //! A receipt counts the requests posted before, and `TakeEnd::next` gives a reply only to its receipt.
 //!
 //! Definitions: `specs/Mailbox` (the ends of a mailbox), `specs/Posts` (posts and receipts).
-//! Modules: `line` (the rule of a mailbox, and its kinds of step), `ends` (the two ends of any mailbox),
+//! Modules: `line` (the rule of a mailbox, and its kinds of step), `bell` (how a get waits), `ends` (the two ends of any mailbox),
 //! `post`, `inboxes`, `right` (replies whose type keeps that they are right), `outboxes`, `fault`.
 #![tactic(auto)]
 
+mod bell;
 mod ends;
 mod fault;
 mod inboxes;
