@@ -85,27 +85,93 @@ impl<R: Rules + OneValue, J: BoardName, H: Wait + Copy + Drop> Hall<R, J, H> {
         ensures refused { IfErr result (λ fault. CarriesSome porter.old.items porter.new.items) }
         ensures same { (porter.new.table ≡ porter.old.table) × (porter.new.key ≡ porter.old.key) }
     {
+        let carried = self.carry_next(rt, client, porter);
+        self.deliver(rt, client, None);
+        carried
+    }
+
+    /// Carries the next post of `client` into the store, as `carry_one` does. The replies to `client` that
+    /// it makes are held: they are delivered before the next wait for room and before a close, and else by
+    /// `deliver_held`, which a caller calls before it waits.
+    ///
+    /// # Errors
+    ///
+    /// Those of `carry_one`.
+    pub fn carry_next(
+        &self,
+        rt: &H,
+        client: Client,
+        porter: &mut PorterEnd<R::Key>,
+    ) -> Result<Moved<R::Key>, HallFault>
+        ensures carried { IfOk result (λ moved. Carries moved porter.old.items porter.new.items) }
+        ensures refused { IfErr result (λ fault. CarriesSome porter.old.items porter.new.items) }
+        ensures same { (porter.new.table ≡ porter.old.table) × (porter.new.key ≡ porter.old.key) }
+    {
         match porter.next(rt) {
             None => return Ok(Moved::Ended),
-            Some(post) => match self.carry_post(rt, client, post) {
-                Ok((moved, after)) => {
-                    self.follow_up(rt, client, after);
-                    if has_turned(&moved) {
-                        self.deliver_each(rt);
-                    }
-                    return Ok(moved);
-                }
-                Err(fault) => {
-                    self.close(rt, client);
-                    return Err(fault);
-                }
+            Some(post) => return self.carry_held(rt, client, post),
+        }
+    }
+
+    /// Carries the next post of `client`, if one is there, as `carry_next` does.
+    ///
+    /// # Errors
+    ///
+    /// Those of `carry_one`.
+    pub fn carry_ready(
+        &self,
+        rt: &H,
+        client: Client,
+        porter: &mut PorterEnd<R::Key>,
+    ) -> Result<Option<Moved<R::Key>>, HallFault>
+        ensures carried { IfOk result (λ some. IfSome some (λ moved. Carries moved porter.old.items porter.new.items)) }
+        ensures none { IfOk result (λ some. IfNone some (porter.new.items ≡ porter.old.items)) }
+        ensures refused { IfErr result (λ fault. CarriesSome porter.old.items porter.new.items) }
+        ensures same { (porter.new.table ≡ porter.old.table) × (porter.new.key ≡ porter.old.key) }
+    {
+        match porter.try_next(rt) {
+            None => return Ok(None),
+            Some(post) => match self.carry_held(rt, client, post) {
+                Ok(moved) => return Ok(Some(moved)),
+                Err(fault) => return Err(fault),
             },
+        }
+    }
+
+    /// Delivers the replies to `client` that are held.
+    pub fn deliver_held(&self, rt: &H, client: Client) {
+        self.deliver(rt, client, None);
+    }
+
+    /// Carries `post`. The client is closed where it is refused for good.
+    fn carry_held(
+        &self,
+        rt: &H,
+        client: Client,
+        post: Post<R::Key>,
+    ) -> Result<Moved<R::Key>, HallFault>
+        ensures { IfOk result (λ moved. IsKindOf moved post) }
+    {
+        match self.carry_post(rt, client, post) {
+            Ok((moved, after)) => {
+                self.follow_up(rt, client, after);
+                if has_turned(&moved) {
+                    self.deliver_each(rt);
+                }
+                return Ok(moved);
+            }
+            Err(fault) => {
+                self.deliver(rt, client, None);
+                self.close(rt, client);
+                return Err(fault);
+            }
         }
     }
 
     /// Waits until each reply to `client` was put, and closes it. So the end that takes the replies has
     /// an end. It waits for nothing where the hall is shut.
     pub fn finish(&self, rt: &H, client: Client) {
+        self.deliver(rt, client, None);
         self.wait_for_replies(rt, client);
         self.close(rt, client);
     }
@@ -132,17 +198,21 @@ impl<R: Rules + OneValue, J: BoardName, H: Wait + Copy + Drop> Hall<R, J, H> {
         ensures { IfOk result (λ carried. IsKindOf carried.0 post) }
     {
         match long_change(post) {
-            Ok(change) => return self.carry_long(rt, client, change),
+            Ok(change) => {
+                self.deliver(rt, client, None);
+                return self.carry_long(rt, client, change);
+            }
             Err(post) => return self.carry(rt, client, post),
         }
     }
 
-    /// Carries `post`, once there is room for it.
+    /// Carries `post`, once there is room for it. Replies that are held are delivered before a wait.
     fn carry(&self, rt: &H, client: Client, post: Post<R::Key>) -> Result<Carried<R, J>, HallFault>
         ensures { IfOk result (λ carried. IsKindOf carried.0 post) }
     {
         let wants = wants_answer(&post);
         let mut post = post;
+        let mut holds = true;
         let mut state = self.state.lock(rt);
         for _ in rt.forever() {
             match settled(self.step(rt, &mut state, client, post)?) {
@@ -155,7 +225,14 @@ impl<R: Rules + OneValue, J: BoardName, H: Wait + Copy + Drop> Hall<R, J, H> {
             if state.is_shut {
                 return Err(HallFault::Closed);
             }
-            state = self.room_came.wait(rt, state);
+            if holds {
+                drop(state);
+                self.deliver(rt, client, None);
+                holds = false;
+                state = self.state.lock(rt);
+            } else {
+                state = self.room_came.wait(rt, state);
+            }
         }
         unreachable!()
     }
@@ -198,15 +275,24 @@ impl<R: Rules + OneValue, J: BoardName, H: Wait + Copy + Drop> Hall<R, J, H> {
         Ahead::Nothing
     }
 
-    /// Does what is to be done after a post of `client`, under no lock.
+    /// Does what is to be done after a post of `client`, under no lock. Replies to `client` are held.
     fn follow_up(&self, rt: &H, client: Client, after: After<R, J>) {
         let After { collected, ahead } = after;
         match ahead {
-            Ahead::Reply(other, first) => self.deliver_all(rt, other, first),
+            Ahead::Reply(other, first) => self.give_out(rt, client, other, first),
             Ahead::Nothing => {}
             Ahead::Wake => self.work_came.notify_one(),
         }
-        self.deliver_all(rt, client, collected);
+        self.hold_all(rt, client, collected);
+    }
+
+    /// Holds what is made to `other`, if it is `client`, and else delivers it.
+    fn give_out(&self, rt: &H, client: Client, other: Client, first: Collected<R, J>) {
+        if other == client {
+            self.hold_all(rt, client, first);
+        } else {
+            self.deliver_all(rt, other, first);
+        }
     }
 
     /// The mark of the revision that `post` makes of `inputs`, if it is an edit.

@@ -125,6 +125,16 @@ impl<K: Drop> PorterEnd<K> {
     {
         self.end.get(rt)
     }
+
+    /// The next post, in the order of posting, if there is one. It never waits for one. `None` if no post
+    /// was there; then nothing was carried.
+    pub fn try_next<H: Wait>(&mut self, rt: &H) -> Option<Post<K>>
+        ensures some { IfSome result (λ post. self.new.items ≡ self.old.items ++ post ∷ []) }
+        ensures none { IfNone result (self.new.items ≡ self.old.items) }
+        ensures same { (self.new.table ≡ self.old.table) × (self.new.key ≡ self.old.key) }
+    {
+        self.end.try_get(rt)
+    }
 }
 
 /// A law: what was carried of an inbox is a prefix of what was posted.

@@ -34,6 +34,9 @@ pub(crate) fn text_or_refusal(
 /// are there.
 pub(crate) const TAKES: usize = CAPACITY;
 
+/// How many posts are carried at most before their replies are delivered.
+const CARRIES: usize = 16;
+
 /// Why a receipt has no text.
 #[derive(Clone, Copy, Debug, PartialEq, Eq)]
 pub(crate) enum NoText {
@@ -136,7 +139,9 @@ pub(crate) trait Floor<H>: Posting<H, Post: Send, Receipt: Send> + Sync {
         rt: &H,
     ) -> Result<(Client, Ends<Self::Post, Self::Porter, Self::Take>), OpenFault>;
 
-    /// Carries the next post of `client` into the store. An error says why the client was closed.
+    /// Carries the next post of `client` into the store, and those that are there after it, 16 at most,
+    /// up to the first that is no request. Their replies are delivered. Returns what the last of them came
+    /// to. An error says why the client was closed.
     fn carry(
         &self,
         rt: &H,
@@ -264,8 +269,18 @@ where
         client: Client,
         porter: &mut PorterEnd<S::Key>,
     ) -> Result<Carried, HallFault> {
-        let moved = self.carry_one(rt, client, porter)?;
-        Ok(outcome_of(moved))
+        let mut carried = outcome_of(self.carry_next(rt, client, porter)?);
+        for _ in 1..CARRIES {
+            if carried != Carried::Other {
+                break;
+            }
+            match self.carry_ready(rt, client, porter)? {
+                Some(moved) => carried = outcome_of(moved),
+                None => break,
+            }
+        }
+        self.deliver_held(rt, client);
+        Ok(carried)
     }
 
     fn finish(&self, rt: &H, client: Client) {

@@ -30,6 +30,13 @@ pub(crate) struct Owed<Q> {
     pub(crate) root: Root,
 }
 
+/// A post that is to be made, and the root of the session when its message came.
+#[derive(Drop)]
+struct Planned {
+    post: Post<ProtoKey>,
+    root: Root,
+}
+
 /// What the reader of a session holds: the end that posts, of the type `P`, the way of receipts, of
 /// the type `Q`, to the writer, and the check of the root.
 #[derive(Drop)]
@@ -55,61 +62,98 @@ impl<'a, P: Drop, Q: Drop> Intake<'a, P, Q> {
         }
     }
 
-    /// Posts `post`. A receipt of a request goes to the writer.
+    /// Posts `post`. A receipt of a request goes to the writer, with `root`.
     fn hand_in<F, H>(
         &mut self,
         rt: &H,
-        alloc: Global,
         floor: &F,
         post: Post<ProtoKey>,
+        root: Root,
     ) -> Result<Step, ScriptFault>
     where
         F: Posting<H, Post = P, Receipt = Q>,
         H: Wait,
     {
         match floor.post(rt, &mut self.post, post) {
-            Ok(Some(receipt)) => self.hand_on(rt, alloc, receipt),
+            Ok(Some(receipt)) => self.hand_on(rt, receipt, root),
             Ok(None) => Ok(Step::GoesOn),
             Err(fault) => ended_by(fault),
         }
     }
 
     /// Hands `receipt` to the writer.
-    fn hand_on<H: Wait>(&self, rt: &H, alloc: Global, receipt: Q) -> Result<Step, ScriptFault> {
-        let root = root_of(alloc, &self.session)?;
+    fn hand_on<H: Wait>(&self, rt: &H, receipt: Q, root: Root) -> Result<Step, ScriptFault> {
         match self.receipts.send(rt, Owed { receipt, root }) {
             Ok(()) => Ok(Step::GoesOn),
             Err(_) => Ok(Step::Overtaken),
         }
     }
 
-    /// Does what the message of this body asks for.
-    fn handle<F, H>(
+    /// Adds what the message of this body asks for to `plan`.
+    fn plan<H: Log>(
         &mut self,
         rt: &H,
         alloc: Global,
-        floor: &F,
+        plan: &mut Vec<Planned>,
         body: &[u8],
-    ) -> Result<Step, ScriptFault>
-    where
-        F: Posting<H, Post = P, Receipt = Q>,
-        H: Wait + Log,
-    {
+    ) -> Result<Step, ScriptFault> {
         let message = Message::read(alloc, body)?;
         let item = self.session.on(alloc, message)?;
         self.roots.look(rt, self.session.root());
-        match item {
-            Item::Ask(request) => self.hand_in(rt, alloc, floor, Post::Ask(request)),
-            Item::Say(request) => self.hand_in(rt, alloc, floor, Post::Ask(request)),
-            Item::Edit(change) => self.hand_in(rt, alloc, floor, Post::Edit(change)),
-            Item::Withdraw(label) => self.hand_in(rt, alloc, floor, Post::Withdraw(label)),
-            Item::Ignore => Ok(Step::GoesOn),
-            Item::End(status) => Ok(Step::Finish(status)),
+        let post = match item {
+            Item::Ask(request) => Post::Ask(request),
+            Item::Say(request) => Post::Ask(request),
+            Item::Edit(change) => Post::Edit(change),
+            Item::Withdraw(label) => Post::Withdraw(label),
+            Item::Ignore => return Ok(Step::GoesOn),
+            Item::End(status) => return Ok(Step::Finish(status)),
+        };
+        let root = root_of(alloc, &self.session)?;
+        plan.push(Planned { post, root })?;
+        Ok(Step::GoesOn)
+    }
+
+    /// Adds what the messages of `bodies` ask for to `plan`, up to the first after which the session does
+    /// not go on.
+    fn plan_all<H: Log>(
+        &mut self,
+        rt: &H,
+        alloc: Global,
+        plan: &mut Vec<Planned>,
+        bodies: &[Vec<u8>],
+    ) -> Result<Step, ScriptFault> {
+        for body in bodies {
+            match self.plan(rt, alloc, plan, body)? {
+                Step::GoesOn => {}
+                step => return Ok(step),
+            }
         }
+        Ok(Step::GoesOn)
+    }
+
+    /// Posts what was planned, up to the first after which the session does not go on.
+    fn post_all<F, H>(
+        &mut self,
+        rt: &H,
+        floor: &F,
+        plan: Vec<Planned>,
+    ) -> Result<Step, ScriptFault>
+    where
+        F: Posting<H, Post = P, Receipt = Q>,
+        H: Wait,
+    {
+        for planned in plan {
+            let Planned { post, root } = planned;
+            match self.hand_in(rt, floor, post, root)? {
+                Step::GoesOn => {}
+                step => return Ok(step),
+            }
+        }
+        Ok(Step::GoesOn)
     }
 
     /// Does what the messages of `bodies` ask for, up to the first after which the session does not
-    /// go on.
+    /// go on. All are read before the first post, so that the porter is woken once for them.
     fn handle_all<F, H>(
         &mut self,
         rt: &H,
@@ -121,13 +165,12 @@ impl<'a, P: Drop, Q: Drop> Intake<'a, P, Q> {
         F: Posting<H, Post = P, Receipt = Q>,
         H: Wait + Log,
     {
-        for body in bodies {
-            match self.handle(rt, alloc, floor, body)? {
-                Step::GoesOn => {}
-                step => return Ok(step),
-            }
+        let mut plan = Vec::new(alloc);
+        let planned = self.plan_all(rt, alloc, &mut plan, bodies);
+        match self.post_all(rt, floor, plan)? {
+            Step::GoesOn => planned,
+            step => Ok(step),
         }
-        Ok(Step::GoesOn)
     }
 
     /// Does what the messages ask for that `piece` completes.
