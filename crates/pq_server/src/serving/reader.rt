@@ -109,8 +109,10 @@ impl<'a, P: Drop, Q: Drop> Intake<'a, P, Q> {
             Item::End(status) => return Ok(Step::Finish(status)),
         };
         let root = root_of(alloc, &self.session)?;
-        plan.push(Planned { post, root })?;
-        Ok(Step::GoesOn)
+        match plan.push(Planned { post, root }) {
+            Ok(()) => Ok(Step::GoesOn),
+            Err(_) => Err(ScriptFault::Memory),
+        }
     }
 
     /// Adds what the messages of `bodies` ask for to `plan`, up to the first after which the session does
