@@ -112,6 +112,30 @@ impl<T: Item> PutEnd<T> {
         }
     }
 
+    /// Puts `item` as `put` does, but wakes nobody, unless it waits for room. `wake` is called after it.
+    pub fn put_quietly<H: Wait>(&mut self, rt: &H, item: T) -> Result<(), T>
+        requires fits { T.fits (length self.old.items) item }
+        ensures put { OnOk result (self.new.items ≡ self.old.items ++ item ∷ []) }
+        ensures refused { OnErr result (self.new.items ≡ self.old.items) }
+        ensures back { IfErr result (λ back. back ≡ item) }
+        ensures same { (self.new.table ≡ self.old.table) × (self.new.key ≡ self.old.key) }
+    {
+        match self.sender.try_send_as::<Puts, H>(rt, &mut self.pass, item) {
+            Ok(()) => return Ok(()),
+            Err(TrySendError::Full(item)) => {
+                self.ringer.ring();
+                return self.put(rt, item);
+            }
+            Err(TrySendError::Disconnected(item)) => return Err(item),
+            Err(TrySendError::OutOfMemory(_)) => unreachable!(),
+        }
+    }
+
+    /// Wakes the end that gets, if it waits.
+    pub fn wake(&self) {
+        self.ringer.ring();
+    }
+
     /// Puts `item` after those put before if there is room. It never waits for room, only for the
     /// step of another thread on the same place. A refusal puts nothing and hands `item` back.
     pub fn try_put<H: Wait>(&mut self, rt: &H, item: T) -> Result<(), Unput<T>>

@@ -78,8 +78,33 @@ impl<R: Rules> PostEnd<R> {
     /// - `Gone` where 2^64 - 1 requests were posted.
     /// - `Memory` where the request cannot be copied.
     /// - `Gone` where the porter end is gone.
-    #[tactic(auto, using(crate::proofs::Asked::asks_after))]
     pub fn post<H: Wait>(
+        &mut self,
+        rt: &H,
+        post: Post<R::Key>,
+    ) -> Result<Receipt<R::Key>, PostRefused<R::Key>>
+        ensures posted { IfOk result (λ receipt. (self.new.items ≡ self.old.items ++ post ∷ []) × (receipt.number ≡ asks self.old.items) × (receipt.request ≡ request_of post)) }
+        ensures refused { OnErr result (self.new.items ≡ self.old.items) }
+        ensures back { IfErr result (λ refused. refused.post ≡ post) }
+        ensures same { (self.new.table ≡ self.old.table) × (self.new.key ≡ self.old.key) }
+    {
+        let posted = self.post_quietly(rt, post);
+        self.wake();
+        posted
+    }
+
+    /// Wakes the end that hands posts on, if it waits.
+    pub fn wake(&self) {
+        self.end.wake();
+    }
+
+    /// Posts `post` as `post` does, but wakes nobody, unless it waits for room. `wake` is called after it.
+    ///
+    /// # Errors
+    ///
+    /// Those of `post`, in the same order.
+    #[tactic(auto, using(crate::proofs::Asked::asks_after))]
+    pub fn post_quietly<H: Wait>(
         &mut self,
         rt: &H,
         post: Post<R::Key>,
@@ -100,7 +125,7 @@ impl<R: Rules> PostEnd<R> {
                 let fault = PostFault::Memory;
                 return Err(PostRefused { fault, post });
             }
-            Ok(request) => match self.end.put(rt, post) {
+            Ok(request) => match self.end.put_quietly(rt, post) {
                 Ok(()) => {
                     self.asked = after;
                     let number = Number::new(number);

@@ -123,6 +123,17 @@ pub(crate) trait Posting<H> {
         end: &mut Self::Post,
         post: Post<ProtoKey>,
     ) -> Result<Option<Self::Receipt>, PostFault>;
+
+    /// Posts `post` as `post` does, but wakes nobody, unless it waits for room. `wake` is called after it.
+    fn post_quietly(
+        &self,
+        rt: &H,
+        end: &mut Self::Post,
+        post: Post<ProtoKey>,
+    ) -> Result<Option<Self::Receipt>, PostFault>;
+
+    /// Wakes who carries the posts of `end`, if that thread waits.
+    fn wake(&self, end: &Self::Post);
 }
 
 /// A hall as a server sees it, whatever its rules are and whatever names its marks.
@@ -226,6 +237,22 @@ where
             Ok(receipt) => Ok(asked(receipt)),
             Err(refused) => Err(refused.fault),
         }
+    }
+
+    fn post_quietly(
+        &self,
+        rt: &H,
+        end: &mut PostEnd<S>,
+        post: Post<ProtoKey>,
+    ) -> Result<Option<Receipt<S::Key>>, PostFault> {
+        match end.post_quietly(rt, S::post_of(post)) {
+            Ok(receipt) => Ok(asked(receipt)),
+            Err(refused) => Err(refused.fault),
+        }
+    }
+
+    fn wake(&self, end: &PostEnd<S>) {
+        end.wake();
     }
 }
 

@@ -1,7 +1,7 @@
 //! The reader of a session: it posts what the messages of the client say.
 use crate::serving::floor::Posting;
 use crate::serving::roots::RootCheck;
-use crossbeam_channel::Sender;
+use crossbeam_channel::{Sender, TrySendError};
 use log::Log;
 use pq_frame::{FrameReader, Message};
 use pq_mail::{Post, PostFault};
@@ -62,7 +62,7 @@ impl<'a, P: Drop, Q: Drop> Intake<'a, P, Q> {
         }
     }
 
-    /// Posts `post`. A receipt of a request goes to the writer, with `root`.
+    /// Posts `post`. A receipt of a request goes to the writer, with `root`. The porter is woken later.
     fn hand_in<F, H>(
         &mut self,
         rt: &H,
@@ -74,17 +74,34 @@ impl<'a, P: Drop, Q: Drop> Intake<'a, P, Q> {
         F: Posting<H, Post = P, Receipt = Q>,
         H: Wait,
     {
-        match floor.post(rt, &mut self.post, post) {
-            Ok(Some(receipt)) => self.hand_on(rt, receipt, root),
+        match floor.post_quietly(rt, &mut self.post, post) {
+            Ok(Some(receipt)) => self.hand_on(rt, floor, receipt, root),
             Ok(None) => Ok(Step::GoesOn),
             Err(fault) => ended_by(fault),
         }
     }
 
-    /// Hands `receipt` to the writer.
-    fn hand_on<H: Wait>(&self, rt: &H, receipt: Q, root: Root) -> Result<Step, ScriptFault> {
-        match self.receipts.send(rt, Owed { receipt, root }) {
+    /// Hands `receipt` to the writer. Before it waits for room the porter is woken.
+    fn hand_on<F, H>(
+        &self,
+        rt: &H,
+        floor: &F,
+        receipt: Q,
+        root: Root,
+    ) -> Result<Step, ScriptFault>
+    where
+        F: Posting<H, Post = P, Receipt = Q>,
+        H: Wait,
+    {
+        match self.receipts.try_send(rt, Owed { receipt, root }) {
             Ok(()) => Ok(Step::GoesOn),
+            Err(TrySendError::Full(owed)) => {
+                floor.wake(&self.post);
+                match self.receipts.send(rt, owed) {
+                    Ok(()) => Ok(Step::GoesOn),
+                    Err(_) => Ok(Step::Overtaken),
+                }
+            }
             Err(_) => Ok(Step::Overtaken),
         }
     }
@@ -169,7 +186,9 @@ impl<'a, P: Drop, Q: Drop> Intake<'a, P, Q> {
     {
         let mut plan = Vec::new(alloc);
         let planned = self.plan_all(rt, alloc, &mut plan, bodies);
-        match self.post_all(rt, floor, plan)? {
+        let posted = self.post_all(rt, floor, plan);
+        floor.wake(&self.post);
+        match posted? {
             Step::GoesOn => planned,
             step => Ok(step),
         }
