@@ -113,7 +113,8 @@ impl<R: Rules + OneValue, J: BoardName, H: Wait + Copy + Drop> Hall<R, J, H> {
         }
     }
 
-    /// Carries the next post of `client`, if one is there, as `carry_next` does.
+    /// Carries the next post of `client`, if one is there, as `carry_next` does. `None` where none is there
+    /// yet.
     ///
     /// # Errors
     ///
@@ -130,8 +131,9 @@ impl<R: Rules + OneValue, J: BoardName, H: Wait + Copy + Drop> Hall<R, J, H> {
         ensures same { (porter.new.table ≡ porter.old.table) × (porter.new.key ≡ porter.old.key) }
     {
         match porter.try_next(rt) {
-            None => return Ok(None),
-            Some(post) => match self.carry_held(rt, client, post) {
+            Err(false) => return Ok(None),
+            Err(true) => return Ok(Some(Moved::Ended)),
+            Ok(post) => match self.carry_held(rt, client, post) {
                 Ok(moved) => return Ok(Some(moved)),
                 Err(fault) => return Err(fault),
             },

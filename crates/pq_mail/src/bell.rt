@@ -13,9 +13,9 @@ const AWAKE: u64 = 0;
 /// The word where it may sleep.
 const ASLEEP: u64 = 1;
 
-/// The side of a bell that waits.
+/// The side of a bell that waits. Two of one bell are not to wait at a time.
 #[derive(Drop)]
-pub(crate) struct Sleeper {
+pub struct Sleeper {
     word: Arc<AtomicU64, Global>,
 }
 
@@ -33,14 +33,20 @@ pub(crate) fn bell(alloc: Global) -> Result<(Ringer, Sleeper), AllocError> {
 
 impl Sleeper {
     /// The first call after `stay` says that this side may sleep. The next ones sleep until a ring.
-    pub(crate) fn pause<H: Wait>(&self, rt: &H) {
+    pub fn pause<H: Wait>(&self, rt: &H) {
         if self.word.swap(ASLEEP, Ordering::SeqCst) == ASLEEP {
             self.word.park(rt, ASLEEP as u32);
         }
     }
 
+    /// The same side of the bell once more.
+    pub(crate) fn again(&self) -> Result<Sleeper, AllocError> {
+        let word = Arc::try_clone(&self.word)?;
+        Ok(Sleeper { word })
+    }
+
     /// Says that this side is awake.
-    pub(crate) fn stay(&self) {
+    pub fn stay(&self) {
         if self.word.load(Ordering::SeqCst) != AWAKE {
             self.word.store(AWAKE, Ordering::SeqCst);
         }

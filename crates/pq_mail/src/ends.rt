@@ -6,6 +6,7 @@ ghost use Rattle.std.specs.Prelude.{◌≡◌, ◌++◌, ◌∷◌, [], length, 
 ghost use Rattle.pq_mail.specs.Mailbox.{HasNoRoom, IsPrefixOf, IsFullPut, refused_item};
 
 use crate::bell::{Ringer, Sleeper, bell};
+pub use crate::bell::Sleeper as Waiter;
 use crate::line::{Compares, Ends, Gets, InOrder, Item, Line, Puts};
 use crossbeam_channel::{
     Pass, RuledReceiver, RuledSender, SendError, TryRecvError, TrySendError, bounded_with,
@@ -205,16 +206,22 @@ impl<T: Item> GetEnd<T> {
     }
 
     /// The next item, in the order of putting, if the mailbox has one. It never waits for one, only for
-    /// the step of another thread on the same place. `None` if the mailbox was empty; then nothing was
-    /// got.
-    pub fn try_get<H: Wait>(&mut self, rt: &H) -> Option<T>
-        ensures got { IfSome result (λ x. (self.new.items ≡ self.old.items ++ x ∷ []) × T.fits (length self.old.items) x) }
-        ensures none { IfNone result (self.new.items ≡ self.old.items) }
+    /// the step of another thread on the same place. `Err` if the mailbox was empty: it is whether the end
+    /// that puts is gone. Then nothing was got.
+    pub fn try_get<H: Wait>(&mut self, rt: &H) -> Result<T, bool>
+        ensures got { IfOk result (λ x. (self.new.items ≡ self.old.items ++ x ∷ []) × T.fits (length self.old.items) x) }
+        ensures none { OnErr result (self.new.items ≡ self.old.items) }
         ensures same { (self.new.table ≡ self.old.table) × (self.new.key ≡ self.old.key) }
     {
         match self.receiver.try_recv_as::<Gets<T>, H>(rt, &mut self.pass) {
-            Ok(item) => return Some(item),
-            Err(_) => return None,
+            Ok(item) => return Ok(item),
+            Err(TryRecvError::Disconnected) => return Err(true),
+            Err(TryRecvError::Empty) => return Err(false),
         }
+    }
+
+    /// What waits for the next put, apart from this end.
+    pub fn waiter(&self) -> Result<Waiter, AllocError> {
+        self.sleeper.again()
     }
 }

@@ -3,7 +3,7 @@ ghost use Rattle.std.specs.Prelude.{◌≡◌, ◌++◌, ◌∷◌, [], IfOk, On
 ghost use Rattle.pq_mail.specs.Posts.{asks, request_of};
 ghost use Rattle.pq_mail.specs.Mailbox.{IsPrefixOf};
 
-use crate::ends::{GetEnd, PutEnd, mailbox};
+use crate::ends::{GetEnd, PutEnd, Waiter, mailbox};
 use crate::fault::{Memory, PostFault, PostRefused};
 use crate::post::{Post, Receipt, copy_asked, counted};
 use pq_core::Number;
@@ -151,14 +151,19 @@ impl<K: Drop> PorterEnd<K> {
         self.end.get(rt)
     }
 
-    /// The next post, in the order of posting, if there is one. It never waits for one. `None` if no post
-    /// was there; then nothing was carried.
-    pub fn try_next<H: Wait>(&mut self, rt: &H) -> Option<Post<K>>
-        ensures some { IfSome result (λ post. self.new.items ≡ self.old.items ++ post ∷ []) }
-        ensures none { IfNone result (self.new.items ≡ self.old.items) }
+    /// The next post, in the order of posting, if there is one. It never waits for one. `Err` if no post
+    /// was there: it is whether the end that posts is gone. Then nothing was carried.
+    pub fn try_next<H: Wait>(&mut self, rt: &H) -> Result<Post<K>, bool>
+        ensures some { IfOk result (λ post. self.new.items ≡ self.old.items ++ post ∷ []) }
+        ensures none { OnErr result (self.new.items ≡ self.old.items) }
         ensures same { (self.new.table ≡ self.old.table) × (self.new.key ≡ self.old.key) }
     {
         self.end.try_get(rt)
+    }
+
+    /// What waits for the next post, apart from this end.
+    pub fn waiter(&self) -> Result<Waiter, Memory> {
+        self.end.waiter()
     }
 }
 

@@ -19,7 +19,7 @@ mod outboxes;
 mod post;
 mod right;
 
-pub use ends::CAPACITY;
+pub use ends::{CAPACITY, Waiter};
 pub use fault::{MailEnd, Memory, PostFault, PostRefused};
 pub use inboxes::{PorterEnd, PostEnd, carried_is_prefix, inbox};
 pub use outboxes::{LaneEnd, TakeEnd, outbox, taken_is_prefix};

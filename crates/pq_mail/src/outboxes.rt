@@ -144,7 +144,7 @@ impl<R: Rules, M: Stamp> TakeEnd<R, M> {
         ensures none { IfNone result (self.new.items ≡ self.old.items) }
         ensures same { (self.new.table ≡ self.old.table) × (self.new.key ≡ self.old.key) }
     {
-        self.end.try_get(rt)
+        self.end.try_get(rt).ok()
     }
 
     /// Whether `reply` is that of `receipt`: it has the number and the request of the receipt.

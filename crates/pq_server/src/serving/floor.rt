@@ -8,7 +8,7 @@ ghost use Rattle.pq_session.specs.Reply.{out_of_memory_text};
 
 use pq_core::{Label, OpenFault, Reply, Stamp};
 use pq_hall::{BoardName, Client, ClientEnds, Gate, Hall, HallFault, Mark, Moved, OneValue};
-use pq_mail::{CAPACITY, MailEnd, PorterEnd, Post, PostEnd, PostFault, Receipt, RightReply, TakeEnd};
+use pq_mail::{CAPACITY, MailEnd, PorterEnd, Post, PostEnd, PostFault, Receipt, RightReply, TakeEnd, Waiter};
 use pq_proto::{ProtoKey, ProtoRules, ProtoValue};
 use pq_rules::Rules;
 use pq_session::{Root, out_of_memory_text, reply_text};
@@ -175,6 +175,17 @@ pub(crate) trait Floor<H>: Posting<H, Post: Send, Receipt: Send> + Sync {
     /// Puts those replies to `client` that have room. It is called once in `TAKES` replies at least.
     fn refill(&self, rt: &H, client: Client);
 
+    /// What waits for a post to carry, apart from `porter`.
+    fn waiter(&self, porter: &Self::Porter) -> Result<Waiter, AllocError>;
+
+    /// Carries the posts of `client` that are there, as `carry` does. `None` if none is there yet.
+    fn carry_some(
+        &self,
+        rt: &H,
+        client: Client,
+        porter: &mut Self::Porter,
+    ) -> Result<Option<Carried>, HallFault>;
+
     /// The text of `reply`, if it is that of `receipt`, for a session with the root `root`. If an
     /// allocation fails for it, it is the text that says so.
     fn text(
@@ -312,6 +323,33 @@ where
 
     fn finish(&self, rt: &H, client: Client) {
         self.finish(rt, client);
+    }
+
+    fn waiter(&self, porter: &PorterEnd<S::Key>) -> Result<Waiter, AllocError> {
+        porter.waiter()
+    }
+
+    fn carry_some(
+        &self,
+        rt: &H,
+        client: Client,
+        porter: &mut PorterEnd<S::Key>,
+    ) -> Result<Option<Carried>, HallFault> {
+        let mut carried = match self.carry_ready(rt, client, porter)? {
+            Some(moved) => outcome_of(moved),
+            None => return Ok(None),
+        };
+        for _ in 1..CARRIES {
+            if carried != Carried::Other {
+                break;
+            }
+            match self.carry_ready(rt, client, porter)? {
+                Some(moved) => carried = outcome_of(moved),
+                None => break,
+            }
+        }
+        self.deliver_held(rt, client);
+        Ok(Some(carried))
     }
 
     fn take(&self, rt: &H, take: &mut TakeEnd<S, Mark<J>>) -> Option<RightReply<S, Mark<J>>> {

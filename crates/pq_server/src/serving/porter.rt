@@ -2,12 +2,16 @@
 use crate::serving::floor::{Carried, Floor};
 use pq_core::EditFault;
 use pq_hall::{Client, HallFault};
+use pq_mail::Waiter;
 use pq_session::ScriptFault;
 use std::net::{Shutdown, TcpStream};
-use std::sync::Wait;
+use std::sync::{Mutex, Wait};
 
 /// Carries the posts of `client` until there are no more. The client is closed once each reply was put,
 /// so that the writer ends.
+///
+/// The reader carries too, where it has posted little: the end whose posts are carried is under a lock. So
+/// this thread waits by `waiter`, without the lock.
 ///
 /// A post that is refused for good ends it. The client is closed then, and the stream is shut down,
 /// so that the reader ends too. The error says why, unless another thread had closed the client.
@@ -15,17 +19,18 @@ pub(crate) fn carry_all<F: Floor<H>, H: Wait>(
     rt: &H,
     floor: &F,
     client: Client,
-    porter: F::Porter,
+    porter: &Mutex<F::Porter>,
+    waiter: Waiter,
     stream: &TcpStream,
 ) -> Result<(), ScriptFault> {
-    let mut porter = porter;
     for _ in rt.forever() {
-        match floor.carry(rt, client, &mut porter) {
-            Ok(Carried::Ended) => {
+        match carry_some(rt, floor, client, porter) {
+            Ok(None) => waiter.pause(rt),
+            Ok(Some(Carried::Ended)) => {
                 floor.finish(rt, client);
                 return Ok(());
             }
-            Ok(_) => {}
+            Ok(Some(_)) => waiter.stay(),
             Err(fault) => {
                 let _ = stream.shutdown(Shutdown::Both);
                 return ended_by(fault);
@@ -33,6 +38,17 @@ pub(crate) fn carry_all<F: Floor<H>, H: Wait>(
         }
     }
     unreachable!()
+}
+
+/// Carries the posts of `client` that are there, under the lock of `porter`.
+fn carry_some<F: Floor<H>, H: Wait>(
+    rt: &H,
+    floor: &F,
+    client: Client,
+    porter: &Mutex<F::Porter>,
+) -> Result<Option<Carried>, HallFault> {
+    let mut porter = porter.lock(rt);
+    floor.carry_some(rt, client, &mut porter)
 }
 
 /// The outcome of a session whose post was refused with this error.

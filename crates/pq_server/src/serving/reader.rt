@@ -1,16 +1,21 @@
 //! The reader of a session: it posts what the messages of the client say.
-use crate::serving::floor::Posting;
+use crate::serving::floor::{Floor, Posting};
+use crate::serving::porter::fault_of;
 use crate::serving::roots::RootCheck;
 use crossbeam_channel::{Sender, TrySendError};
 use log::Log;
 use pq_frame::{FrameReader, Message};
+use pq_hall::Client;
 use pq_mail::{Post, PostFault};
 use pq_proto::ProtoKey;
 use pq_session::{Item, Root, ScriptFault, Session, at_end};
 use std::alloc::{AllocError, Global};
 use std::io::Read;
-use std::net::TcpStream;
-use std::sync::Wait;
+use std::net::{Shutdown, TcpStream};
+use std::sync::{Mutex, Wait};
+
+/// How many posts the reader carries at most, where nobody else does.
+const FEW: usize = 2;
 
 /// Whether a session goes on after a message.
 #[derive(Clone, Copy, Debug, PartialEq, Eq)]
@@ -40,22 +45,31 @@ struct Planned {
 /// What the reader of a session holds: the end that posts, of the type `P`, the way of receipts, of
 /// the type `Q`, to the writer, and the check of the root.
 #[derive(Drop)]
-pub(crate) struct Intake<'a, P, Q> {
+pub(crate) struct Intake<'a, P, Q, C> {
     session: Session,
+    client: Client,
+    porter: &'a Mutex<C>,
+    stream: &'a TcpStream,
     post: P,
     receipts: Sender<Owed<Q>>,
     roots: RootCheck<'a>,
 }
 
-impl<'a, P: Drop, Q: Drop> Intake<'a, P, Q> {
+impl<'a, P: Send + Drop, Q: Send + Drop, C: Send + Drop> Intake<'a, P, Q, C> {
     /// The intake of a session whose client has sent nothing.
     pub(crate) fn new(
         post: P,
         receipts: Sender<Owed<Q>>,
         roots: RootCheck<'a>,
-    ) -> Intake<'a, P, Q> {
+        client: Client,
+        porter: &'a Mutex<C>,
+        stream: &'a TcpStream,
+    ) -> Intake<'a, P, Q, C> {
         Intake {
             session: Session::new(),
+            client,
+            porter,
+            stream,
             post,
             receipts,
             roots,
@@ -171,6 +185,48 @@ impl<'a, P: Drop, Q: Drop> Intake<'a, P, Q> {
         Ok(Step::GoesOn)
     }
 
+    /// Carries what was posted, `count` posts, if they are few and nobody else carries. Else the porter is
+    /// woken for them.
+    fn pass_on<F, H>(&self, rt: &H, floor: &F, count: usize) -> Result<Step, ScriptFault>
+    where
+        F: Floor<H, Post = P, Receipt = Q, Porter = C>,
+        H: Wait,
+    {
+        if count <= FEW {
+            if let Some(step) = self.carry_own(rt, floor)? {
+                return Ok(step);
+            }
+        }
+        floor.wake(&self.post);
+        Ok(Step::GoesOn)
+    }
+
+    /// Carries what is posted, if nobody else carries. `None` if posts may be left. After a post that is
+    /// refused for good the stream is shut down, as by the porter.
+    fn carry_own<F, H>(&self, rt: &H, floor: &F) -> Result<Option<Step>, ScriptFault>
+    where
+        F: Floor<H, Post = P, Receipt = Q, Porter = C>,
+        H: Wait,
+    {
+        let Some(mut porter) = self.porter.try_lock() else {
+            return Ok(None);
+        };
+        for _ in 0..FEW + 1 {
+            match floor.carry_some(rt, self.client, &mut porter) {
+                Ok(Some(_)) => {}
+                Ok(None) => return Ok(Some(Step::GoesOn)),
+                Err(fault) => {
+                    let _ = self.stream.shutdown(Shutdown::Both);
+                    return match fault_of(fault) {
+                        Some(fault) => Err(fault),
+                        None => Ok(Some(Step::Overtaken)),
+                    };
+                }
+            }
+        }
+        Ok(None)
+    }
+
     /// Does what the messages of `bodies` ask for, up to the first after which the session does not
     /// go on. All are read before the first post, so that the porter is woken once for them.
     fn handle_all<F, H>(
@@ -181,14 +237,19 @@ impl<'a, P: Drop, Q: Drop> Intake<'a, P, Q> {
         bodies: &[Vec<u8>],
     ) -> Result<Step, ScriptFault>
     where
-        F: Posting<H, Post = P, Receipt = Q>,
+        F: Floor<H, Post = P, Receipt = Q, Porter = C>,
         H: Wait + Log,
     {
         let mut plan = Vec::new(alloc);
         let planned = self.plan_all(rt, alloc, &mut plan, bodies);
+        let count = plan.len();
         let posted = self.post_all(rt, floor, plan);
-        floor.wake(&self.post);
+        let passed = self.pass_on(rt, floor, count);
         match posted? {
+            Step::GoesOn => {}
+            step => return Ok(step),
+        }
+        match passed? {
             Step::GoesOn => planned,
             step => Ok(step),
         }
@@ -204,7 +265,7 @@ impl<'a, P: Drop, Q: Drop> Intake<'a, P, Q> {
         piece: &[u8],
     ) -> Result<Step, ScriptFault>
     where
-        F: Posting<H, Post = P, Receipt = Q>,
+        F: Floor<H, Post = P, Receipt = Q, Porter = C>,
         H: Wait + Log,
     {
         let bodies = frames.feed(piece)?;
@@ -241,11 +302,11 @@ fn root_of(alloc: Global, session: &Session) -> Result<Root, AllocError> {
 /// the input ends or a message ends the session.
 ///
 /// Returns the status with which the session ended, or `None` if another thread has ended it.
-pub(crate) fn read_all<F: Posting<H>, H: Wait + Log>(
+pub(crate) fn read_all<F: Floor<H>, H: Wait + Log>(
     rt: &H,
     alloc: Global,
     floor: &F,
-    intake: Intake<'_, F::Post, F::Receipt>,
+    intake: Intake<'_, F::Post, F::Receipt, F::Porter>,
     stream: &TcpStream,
 ) -> Result<Option<u8>, ScriptFault> {
     let mut intake = intake;

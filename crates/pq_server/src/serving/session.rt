@@ -14,7 +14,7 @@ use pq_session::{ScriptFault, UNREADABLE_PARAMETERS};
 use std::alloc::Global;
 use std::io::Read;
 use std::net::{Shutdown, TcpStream};
-use std::sync::Wait;
+use std::sync::{Mutex, Wait};
 use std::thread;
 use std::thread::Threads;
 use std::time::{Clock, Duration, Instant};
@@ -69,9 +69,12 @@ where
 {
     let Ends { post, porter, take } = ends;
     let (receipts, owed) = crossbeam_channel::bounded(alloc, RECEIPTS)?;
-    let intake = Intake::new(post, receipts, roots);
+    let waiter = floor.waiter(&porter)?;
+    let porter = Mutex::new(porter);
+    let porter = &porter;
+    let intake = Intake::new(post, receipts, roots, client, porter, stream);
     thread::scope(thread::scope_env(), rt, |scope| {
-        let carries = scope.spawn(move || carry_all(rt, floor, client, porter, stream));
+        let carries = scope.spawn(move || carry_all(rt, floor, client, porter, waiter, stream));
         let writes = scope.spawn(move || write_replies(
             rt, alloc, floor, client, take, owed, stream,
         ));
