@@ -6,7 +6,7 @@ ghost use Rattle.std.specs.Prelude.{◌≡◌, Ok, IfOk, OnErr, string_bytes};
 ghost use Rattle.pq_session.specs.Labels.{label_model};
 ghost use Rattle.pq_session.specs.Reply.{out_of_memory_text};
 
-use pq_core::{Label, OpenFault, Reply, Stamp};
+use pq_core::{Label, OpenFault, Reply, Stamp, WINDOW};
 use pq_hall::{BoardName, Client, ClientEnds, Gate, Hall, HallFault, Mark, Moved, OneValue};
 use pq_mail::{CAPACITY, MailEnd, PorterEnd, Post, PostEnd, PostFault, Receipt, RightReply, TakeEnd, Waiter};
 use pq_proto::{ProtoKey, ProtoRules, ProtoValue};
@@ -35,7 +35,7 @@ pub(crate) fn text_or_refusal(
 pub(crate) const TAKES: usize = CAPACITY;
 
 /// How many posts are carried at most before their replies are delivered.
-const CARRIES: usize = 16;
+const CARRIES: usize = WINDOW;
 
 /// Why a receipt has no text.
 #[derive(Clone, Copy, Debug, PartialEq, Eq)]
@@ -150,7 +150,7 @@ pub(crate) trait Floor<H>: Posting<H, Post: Send, Receipt: Send> + Sync {
         rt: &H,
     ) -> Result<(Client, Ends<Self::Post, Self::Porter, Self::Take>), OpenFault>;
 
-    /// Carries the next post of `client` into the store, and those that are there after it, 16 at most,
+    /// Carries the next post of `client` into the store, and those that are there after it, `WINDOW` at most,
     /// up to the first that is no request. Their replies are delivered. Returns what the last of them came
     /// to. An error says why the client was closed.
     fn carry(
