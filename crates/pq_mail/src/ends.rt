@@ -5,8 +5,8 @@
 ghost use Rattle.std.specs.Prelude.{◌≡◌, ◌++◌, ◌∷◌, [], length, OnOk, OnErr, IfOk, IfErr, IfSome, IfNone};
 ghost use Rattle.pq_mail.specs.Mailbox.{HasNoRoom, IsPrefixOf, IsFullPut, refused_item};
 
-use crate::bell::{Ringer, Sleeper, bell};
 pub use crate::bell::Sleeper as Waiter;
+use crate::bell::{Ringer, Sleeper, bell};
 use crate::line::{Compares, Ends, Gets, InOrder, Item, Line, Puts};
 use crossbeam_channel::{
     Pass, RuledReceiver, RuledSender, SendError, TryRecvError, TrySendError, bounded_with,

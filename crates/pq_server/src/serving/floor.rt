@@ -8,7 +8,9 @@ ghost use Rattle.pq_session.specs.Reply.{out_of_memory_text};
 
 use pq_core::{Label, OpenFault, Reply, Stamp, WINDOW};
 use pq_hall::{BoardName, Client, ClientEnds, Gate, Hall, HallFault, Mark, Moved, OneValue};
-use pq_mail::{CAPACITY, MailEnd, PorterEnd, Post, PostEnd, PostFault, Receipt, RightReply, TakeEnd, Waiter};
+use pq_mail::{
+    CAPACITY, MailEnd, PorterEnd, Post, PostEnd, PostFault, Receipt, RightReply, TakeEnd, Waiter,
+};
 use pq_proto::{ProtoKey, ProtoRules, ProtoValue};
 use pq_rules::Rules;
 use pq_session::{Root, out_of_memory_text, reply_text};
@@ -356,11 +358,7 @@ where
         take.any(rt)
     }
 
-    fn take_ready(
-        &self,
-        rt: &H,
-        take: &mut TakeEnd<S, Mark<J>>,
-    ) -> Option<RightReply<S, Mark<J>>> {
+    fn take_ready(&self, rt: &H, take: &mut TakeEnd<S, Mark<J>>) -> Option<RightReply<S, Mark<J>>> {
         take.try_any(rt)
     }
 

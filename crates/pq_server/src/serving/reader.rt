@@ -96,13 +96,7 @@ impl<'a, P: Send + Drop, Q: Send + Drop, C: Send + Drop> Intake<'a, P, Q, C> {
     }
 
     /// Hands `receipt` to the writer. Before it waits for room the porter is woken.
-    fn hand_on<F, H>(
-        &self,
-        rt: &H,
-        floor: &F,
-        receipt: Q,
-        root: Root,
-    ) -> Result<Step, ScriptFault>
+    fn hand_on<F, H>(&self, rt: &H, floor: &F, receipt: Q, root: Root) -> Result<Step, ScriptFault>
     where
         F: Posting<H, Post = P, Receipt = Q>,
         H: Wait,
@@ -165,12 +159,7 @@ impl<'a, P: Send + Drop, Q: Send + Drop, C: Send + Drop> Intake<'a, P, Q, C> {
     }
 
     /// Posts what was planned, up to the first after which the session does not go on.
-    fn post_all<F, H>(
-        &mut self,
-        rt: &H,
-        floor: &F,
-        plan: Vec<Planned>,
-    ) -> Result<Step, ScriptFault>
+    fn post_all<F, H>(&mut self, rt: &H, floor: &F, plan: Vec<Planned>) -> Result<Step, ScriptFault>
     where
         F: Posting<H, Post = P, Receipt = Q>,
         H: Wait,
