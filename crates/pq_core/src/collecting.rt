@@ -1,5 +1,5 @@
 //! Replies that leave the store, clients that close, and rest.
-ghost use Rattle.std.specs.Prelude.{◌≡◌, ◌<◌, ◌↔◌, IsTrue, IfSome, IfNone, ℕ};
+ghost use Rattle.std.specs.Prelude.{◌≡◌, ◌<◌, ◌↔◌, IsTrue, IfSome, IfNone, ℕ, false};
 ghost use Rattle.pq_core.specs.Lanes.{ReadyView};
 ghost use Rattle.pq_core.specs.Ledger.{Ledger};
 ghost use Rattle.pq_core.specs.Moves.{Reaches, NoneWaits, NoneRuns};
@@ -109,6 +109,13 @@ impl<R: Rules, M: Stamp> Store<R, M> {
             }
             None => return false,
         }
+    }
+
+    /// Whether a request waits for a run.
+    pub fn has_waiting(&self) -> bool
+        ensures { (l : Ledger R.Key R.Value M (Told R.Key R.Value M)) → StandsFor R.Key.cmp (R.machine self.now.rules) M.point self.now l → (result ≡ false) ↔ NoneWaits l }
+    {
+        !self.waiting.is_empty()
     }
 
     /// Whether no request waits and no run exists.

@@ -2,7 +2,9 @@
 //! where an allocation failed.
 //!
 //! `state_of` says what a run is at, `step` takes a step of it, and `end_by` ends it.
-ghost use Rattle.std.specs.Prelude.{◌≡◌, IfOk, IfErr};
+ghost use Rattle.std.specs.Prelude.{◌≡◌, IsTrue, IfOk, IfErr};
+ghost use Rattle.pq_rules.specs.Turns.{over};
+ghost use Rattle.pq_rules.specs.Value.{Means};
 ghost use Rattle.pq_memo.specs.Table.{memo_at};
 ghost use Rattle.pq_memo.specs.Demand.{NoneLost};
 ghost use Rattle.pq_core.specs.Ledger.{Ledger};
@@ -21,7 +23,7 @@ use crate::stamp::Stamp;
 use crate::store::Store;
 use crate::work::{Done, Work};
 use pq_claims::RunId;
-use pq_rules::Rules;
+use pq_rules::{Answer, Rules};
 use std::alloc::Global;
 
 impl<R: Rules, M: Stamp> Store<R, M> {
@@ -32,6 +34,16 @@ impl<R: Rules, M: Stamp> Store<R, M> {
         match self.runs.get(run.number()) {
             Some(run) => return Some((ClientId::new(run.client), Number::new(run.number))),
             None => return None,
+        }
+    }
+
+    /// Whether the answer of `key` at the sources now is there, so that a run for it ends at its first step.
+    pub fn has_answer(&self, alloc: Global, key: &R::Key) -> bool
+        ensures { IsTrue result → (a : Answer R.Key R.Value) × Means (over R.Key.cmp (R.machine self.now.rules) self.now.inputs.files) key.now a }
+    {
+        match self.memos.usable_answer(alloc, key, &self.inputs) {
+            Ok(Some(_)) => return true,
+            _ => return false,
         }
     }
 

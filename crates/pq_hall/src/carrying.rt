@@ -217,9 +217,10 @@ impl<R: Rules + OneValue, J: BoardName, H: Wait + Copy + Drop> Hall<R, J, H> {
         let mut holds = true;
         let mut state = self.state.lock(rt);
         for _ in rt.forever() {
+            let ahead = self.may_run_ahead(&state, &post);
             match settled(self.step(rt, &mut state, client, post)?) {
                 Ok(moved) => {
-                    let after = self.carried(&mut state, client, wants);
+                    let after = self.carried(&mut state, client, wants, ahead);
                     return Ok((moved, after));
                 }
                 Err(back) => post = back,
@@ -256,25 +257,48 @@ impl<R: Rules + OneValue, J: BoardName, H: Wait + Copy + Drop> Hall<R, J, H> {
     }
 
     /// Wakes the workers that can go on after a post was carried, and collects a reply to `client`.
-    /// After a request whose answer is wanted, `wants`, the first steps of a run are taken.
+    /// After a request whose answer is wanted, `wants`, one worker can start its run; or its first steps are
+    /// taken, `ahead`.
     pub(crate) fn carried(
         &self,
         state: &mut State<R, J>,
         client: Client,
         wants: bool,
+        ahead: bool,
     ) -> After<R, J> {
         self.wake_parked(state);
-        let ahead = self.ahead(state, wants);
+        let ahead = self.ahead(state, wants, ahead);
         let collected = state.collect(client);
         After { collected, ahead }
     }
 
-    /// Takes the first steps of a run, if `wants`.
-    fn ahead(&self, state: &mut State<R, J>, wants: bool) -> Ahead<R, J> {
-        if wants {
+    /// Whether the porter takes the first steps of the run for `post`: no other request waits, and a worker
+    /// waits or the answer is there. So a run that needs a worker is not started before one can go on.
+    fn may_run_ahead(&self, state: &State<R, J>, post: &Post<R::Key>) -> bool {
+        if state.store.has_waiting() {
+            return false;
+        }
+        if state.idle > 0 {
+            return true;
+        }
+        match post {
+            Post::Ask(request) => match &request.want {
+                Want::Demand(key) => state.store.has_answer(self.alloc, key),
+                Want::Fixed(_) => false,
+            },
+            _ => false,
+        }
+    }
+
+    /// Takes the first steps of a run, if `wants` and `ahead`.
+    fn ahead(&self, state: &mut State<R, J>, wants: bool, ahead: bool) -> Ahead<R, J> {
+        if !wants {
+            return Ahead::Nothing;
+        }
+        if ahead {
             return self.run_ahead(state);
         }
-        Ahead::Nothing
+        Ahead::Wake
     }
 
     /// Does what is to be done after a post of `client`, under no lock. Replies to `client` are held.

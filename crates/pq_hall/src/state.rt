@@ -62,6 +62,8 @@ pub(crate) struct State<R: Rules, J: BoardName> {
     parked: VecDeque<Parked>,
     /// What a porter has left to a worker.
     pub(crate) left: Option<Turn<R, J>>,
+    /// How many workers wait for work.
+    pub(crate) idle: u64,
     /// The count of moves so far: it tells a parked run that something has changed.
     pub(crate) moves: u64,
     pub(crate) is_shut: bool,
@@ -79,6 +81,7 @@ impl<R: Rules, J: BoardName> State<R, J> {
             seats,
             parked: VecDeque::new(alloc),
             left: None,
+            idle: 0,
             moves: 0,
             is_shut: false,
         })

@@ -124,7 +124,9 @@ impl<R: Rules + OneValue, J: BoardName, H: Wait + Copy + Drop> Hall<R, J, H> {
             if let Some(task) = state.pick() {
                 return self.advance(&mut state, task, Hand::Look, STEPS);
             }
+            state.idle = state.idle.saturating_add(1);
             state = self.work_came.wait(rt, state);
+            state.idle = state.idle.saturating_sub(1);
         }
         unreachable!()
     }
