@@ -85,35 +85,13 @@ impl<R: Rules + OneValue, J: BoardName, H: Wait + Copy + Drop> Hall<R, J, H> {
         ensures refused { IfErr result (λ fault. CarriesSome porter.old.items porter.new.items) }
         ensures same { (porter.new.table ≡ porter.old.table) × (porter.new.key ≡ porter.old.key) }
     {
-        let carried = self.carry_next(rt, client, porter);
-        self.deliver(rt, client, None);
-        carried
-    }
-
-    /// Carries the next post of `client` into the store, as `carry_one` does. The replies to `client` that
-    /// it makes are held: they are delivered before the next wait for room and before a close, and else by
-    /// `deliver_held`, which a caller calls before it waits.
-    ///
-    /// # Errors
-    ///
-    /// Those of `carry_one`.
-    pub fn carry_next(
-        &self,
-        rt: &H,
-        client: Client,
-        porter: &mut PorterEnd<R::Key>,
-    ) -> Result<Moved<R::Key>, HallFault>
-        ensures carried { IfOk result (λ moved. Carries moved porter.old.items porter.new.items) }
-        ensures refused { IfErr result (λ fault. CarriesSome porter.old.items porter.new.items) }
-        ensures same { (porter.new.table ≡ porter.old.table) × (porter.new.key ≡ porter.old.key) }
-    {
         match porter.next(rt) {
             None => return Ok(Moved::Ended),
-            Some(post) => return self.carry_held(rt, client, post),
+            Some(post) => return self.carry_now(rt, client, post),
         }
     }
 
-    /// Carries the next post of `client`, if one is there, as `carry_next` does. `None` where none is there
+    /// Carries the next post of `client`, if one is there, as `carry_one` does. `None` where none is there
     /// yet.
     ///
     /// # Errors
@@ -133,20 +111,16 @@ impl<R: Rules + OneValue, J: BoardName, H: Wait + Copy + Drop> Hall<R, J, H> {
         match porter.try_next(rt) {
             Err(false) => return Ok(None),
             Err(true) => return Ok(Some(Moved::Ended)),
-            Ok(post) => match self.carry_held(rt, client, post) {
+            Ok(post) => match self.carry_now(rt, client, post) {
                 Ok(moved) => return Ok(Some(moved)),
                 Err(fault) => return Err(fault),
             },
         }
     }
 
-    /// Delivers the replies to `client` that are held.
-    pub fn deliver_held(&self, rt: &H, client: Client) {
-        self.deliver(rt, client, None);
-    }
-
-    /// Carries `post`. The client is closed where it is refused for good.
-    fn carry_held(
+    /// Carries `post`, and delivers the replies that it makes. The client is closed where it is refused
+    /// for good.
+    fn carry_now(
         &self,
         rt: &H,
         client: Client,
@@ -163,7 +137,6 @@ impl<R: Rules + OneValue, J: BoardName, H: Wait + Copy + Drop> Hall<R, J, H> {
                 return Ok(moved);
             }
             Err(fault) => {
-                self.deliver(rt, client, None);
                 self.close(rt, client);
                 return Err(fault);
             }
@@ -173,7 +146,6 @@ impl<R: Rules + OneValue, J: BoardName, H: Wait + Copy + Drop> Hall<R, J, H> {
     /// Waits until each reply to `client` was put, and closes it. So the end that takes the replies has
     /// an end. It waits for nothing where the hall is shut.
     pub fn finish(&self, rt: &H, client: Client) {
-        self.deliver(rt, client, None);
         self.wait_for_replies(rt, client);
         self.close(rt, client);
     }
@@ -200,21 +172,17 @@ impl<R: Rules + OneValue, J: BoardName, H: Wait + Copy + Drop> Hall<R, J, H> {
         ensures { IfOk result (λ carried. IsKindOf carried.0 post) }
     {
         match long_change(post) {
-            Ok(change) => {
-                self.deliver(rt, client, None);
-                return self.carry_long(rt, client, change);
-            }
+            Ok(change) => return self.carry_long(rt, client, change),
             Err(post) => return self.carry(rt, client, post),
         }
     }
 
-    /// Carries `post`, once there is room for it. Replies that are held are delivered before a wait.
+    /// Carries `post`, once there is room for it.
     fn carry(&self, rt: &H, client: Client, post: Post<R::Key>) -> Result<Carried<R, J>, HallFault>
         ensures { IfOk result (λ carried. IsKindOf carried.0 post) }
     {
         let wants = wants_answer(&post);
         let mut post = post;
-        let mut holds = true;
         let mut state = self.state.lock(rt);
         for _ in rt.forever() {
             let ahead = self.may_run_ahead(&state, &post);
@@ -228,14 +196,7 @@ impl<R: Rules + OneValue, J: BoardName, H: Wait + Copy + Drop> Hall<R, J, H> {
             if state.is_shut {
                 return Err(HallFault::Closed);
             }
-            if holds {
-                drop(state);
-                self.deliver(rt, client, None);
-                holds = false;
-                state = self.state.lock(rt);
-            } else {
-                state = self.room_came.wait(rt, state);
-            }
+            state = self.room_came.wait(rt, state);
         }
         unreachable!()
     }
@@ -301,24 +262,15 @@ impl<R: Rules + OneValue, J: BoardName, H: Wait + Copy + Drop> Hall<R, J, H> {
         Ahead::Wake
     }
 
-    /// Does what is to be done after a post of `client`, under no lock. Replies to `client` are held.
+    /// Does what is to be done after a post of `client`, under no lock.
     fn follow_up(&self, rt: &H, client: Client, after: After<R, J>) {
         let After { collected, ahead } = after;
         match ahead {
-            Ahead::Reply(other, first) => self.give_out(rt, client, other, first),
+            Ahead::Reply(other, first) => self.deliver_all(rt, other, first),
             Ahead::Nothing => {}
             Ahead::Wake => self.work_came.notify_one(),
         }
-        self.hold_all(rt, client, collected);
-    }
-
-    /// Holds what is made to `other`, if it is `client`, and else delivers it.
-    fn give_out(&self, rt: &H, client: Client, other: Client, first: Collected<R, J>) {
-        if other == client {
-            self.hold_all(rt, client, first);
-        } else {
-            self.deliver_all(rt, other, first);
-        }
+        self.deliver_all(rt, client, collected);
     }
 
     /// The mark of the revision that `post` makes of `inputs`, if it is an edit.

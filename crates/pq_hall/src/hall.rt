@@ -4,7 +4,7 @@ ghost use Rattle.std.specs.Prelude.{◌≡◌, IfSome};
 use crate::board::{Board, NewBoard};
 use crate::mark::{BoardName, Mark};
 use crate::one_value::OneValue;
-use crate::seats::{Acknowledgement, Seat, Sent, free_seats, has_seat, hold_in, send_in};
+use crate::seats::{Acknowledgement, Seat, Sent, free_seats, has_seat, send_in};
 use crate::state::{Client, Collected, State};
 use pq_core::{Memory, Ready, Store, WINDOW};
 use pq_inputs::{Inputs, Revision};
@@ -164,26 +164,6 @@ impl<R: Rules + OneValue, J: BoardName, H: Wait + Copy + Drop> Hall<R, J, H> {
     fn collect(&self, rt: &H, client: Client) -> Collected<R, J> {
         let mut state = self.state.lock(rt);
         state.collect(client)
-    }
-
-    /// Fills what is made to `client` into its lane, of which `first` was collected, and puts nothing: who
-    /// holds replies delivers before it waits.
-    pub(crate) fn hold_all(&self, rt: &H, client: Client, first: Collected<R, J>) {
-        let Collected { ready, more } = first;
-        if ready.is_some() {
-            self.hold(rt, client, ready);
-        }
-        if more {
-            self.deliver_rest(rt, client);
-        }
-    }
-
-    /// Fills `ready` into the lane of `client`.
-    fn hold(&self, rt: &H, client: Client, ready: Option<Ready<R, Mark<J>>>) {
-        if let Some(lock) = self.seats.get(client.seat) {
-            let mut seat = lock.lock(rt);
-            hold_in(&mut seat, client.id, ready);
-        }
     }
 
     /// Fills `ready` into the lane of `client`, if it is there, puts what has room, and acknowledges

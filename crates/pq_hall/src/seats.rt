@@ -90,13 +90,6 @@ impl<R: Rules, J: BoardName, H: Wait + Drop> Seat<R, J, H> {
         }
     }
 
-    /// Fills `ready` into the lane, if it is there, and puts nothing.
-    pub(crate) fn hold(&mut self, ready: Option<Ready<R, Mark<J>>>)
-        ensures { Filled ready self.old.lane self.new.lane }
-    {
-        self.fill(ready);
-    }
-
     /// Puts the next replies, until the outbox refuses one or none is next. Returns what the last release
     /// came to. The lane has replies in its first `left` places alone.
     fn release(&mut self, left: usize) -> Released
@@ -201,19 +194,6 @@ pub(crate) fn send_in<R: Rules, J: BoardName, H: Wait + Drop>(
             return seat.send(ready);
         }
         None => return Sent::Nothing,
-    }
-}
-
-/// Fills `ready` into the lane of `seat`, if the seat is that of `client`, and puts nothing.
-pub(crate) fn hold_in<R: Rules, J: BoardName, H: Wait + Drop>(
-    seat: &mut Option<Seat<R, J, H>>,
-    client: u64,
-    ready: Option<Ready<R, Mark<J>>>,
-) {
-    if let Some(seat) = seat {
-        if seat.client == client {
-            seat.hold(ready);
-        }
     }
 }
 

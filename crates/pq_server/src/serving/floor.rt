@@ -6,7 +6,7 @@ ghost use Rattle.std.specs.Prelude.{◌≡◌, Ok, IfOk, OnErr, string_bytes};
 ghost use Rattle.pq_session.specs.Labels.{label_model};
 ghost use Rattle.pq_session.specs.Reply.{out_of_memory_text};
 
-use pq_core::{Label, OpenFault, Reply, Stamp, WINDOW};
+use pq_core::{Label, OpenFault, Reply, Stamp};
 use pq_hall::{BoardName, Client, ClientEnds, Gate, Hall, HallFault, Mark, Moved, OneValue};
 use pq_mail::{
     CAPACITY, MailEnd, PorterEnd, Post, PostEnd, PostFault, Receipt, RightReply, TakeEnd, Waiter,
@@ -35,9 +35,6 @@ pub(crate) fn text_or_refusal(
 /// How many replies are taken at most before `refill` is called: a put is refused only where so many
 /// are there.
 pub(crate) const TAKES: usize = CAPACITY;
-
-/// How many posts are carried at most before their replies are delivered.
-const CARRIES: usize = WINDOW;
 
 /// Why a receipt has no text.
 #[derive(Clone, Copy, Debug, PartialEq, Eq)]
@@ -152,9 +149,7 @@ pub(crate) trait Floor<H>: Posting<H, Post: Send, Receipt: Send> + Sync {
         rt: &H,
     ) -> Result<(Client, Ends<Self::Post, Self::Porter, Self::Take>), OpenFault>;
 
-    /// Carries the next post of `client` into the store, and those that are there after it, `WINDOW` at most,
-    /// up to the first that is no request. Their replies are delivered. Returns what the last of them came
-    /// to. An error says why the client was closed.
+    /// Carries the next post of `client` into the store. An error says why the client was closed.
     fn carry(
         &self,
         rt: &H,
@@ -180,8 +175,8 @@ pub(crate) trait Floor<H>: Posting<H, Post: Send, Receipt: Send> + Sync {
     /// What waits for a post to carry, apart from `porter`.
     fn waiter(&self, porter: &Self::Porter) -> Result<Waiter, AllocError>;
 
-    /// Carries the posts of `client` that are there, as `carry` does. `None` if none is there yet.
-    fn carry_some(
+    /// Carries the next post of `client`, if one is there, as `carry` does. `None` if none is there yet.
+    fn carry_ready(
         &self,
         rt: &H,
         client: Client,
@@ -309,18 +304,8 @@ where
         client: Client,
         porter: &mut PorterEnd<S::Key>,
     ) -> Result<Carried, HallFault> {
-        let mut carried = outcome_of(self.carry_next(rt, client, porter)?);
-        for _ in 1..CARRIES {
-            if carried != Carried::Other {
-                break;
-            }
-            match self.carry_ready(rt, client, porter)? {
-                Some(moved) => carried = outcome_of(moved),
-                None => break,
-            }
-        }
-        self.deliver_held(rt, client);
-        Ok(carried)
+        let moved = self.carry_one(rt, client, porter)?;
+        Ok(outcome_of(moved))
     }
 
     fn finish(&self, rt: &H, client: Client) {
@@ -331,27 +316,16 @@ where
         porter.waiter()
     }
 
-    fn carry_some(
+    fn carry_ready(
         &self,
         rt: &H,
         client: Client,
         porter: &mut PorterEnd<S::Key>,
     ) -> Result<Option<Carried>, HallFault> {
-        let mut carried = match self.carry_ready(rt, client, porter)? {
-            Some(moved) => outcome_of(moved),
-            None => return Ok(None),
-        };
-        for _ in 1..CARRIES {
-            if carried != Carried::Other {
-                break;
-            }
-            match self.carry_ready(rt, client, porter)? {
-                Some(moved) => carried = outcome_of(moved),
-                None => break,
-            }
+        match self.carry_ready(rt, client, porter)? {
+            Some(moved) => Ok(Some(outcome_of(moved))),
+            None => Ok(None),
         }
-        self.deliver_held(rt, client);
-        Ok(Some(carried))
     }
 
     fn take(&self, rt: &H, take: &mut TakeEnd<S, Mark<J>>) -> Option<RightReply<S, Mark<J>>> {

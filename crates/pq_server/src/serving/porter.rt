@@ -24,7 +24,7 @@ pub(crate) fn carry_all<F: Floor<H>, H: Wait>(
     stream: &TcpStream,
 ) -> Result<(), ScriptFault> {
     for _ in rt.forever() {
-        match carry_some(rt, floor, client, porter) {
+        match carry_ready(rt, floor, client, porter) {
             Ok(None) => waiter.pause(rt),
             Ok(Some(Carried::Ended)) => {
                 floor.finish(rt, client);
@@ -40,15 +40,15 @@ pub(crate) fn carry_all<F: Floor<H>, H: Wait>(
     unreachable!()
 }
 
-/// Carries the posts of `client` that are there, under the lock of `porter`.
-fn carry_some<F: Floor<H>, H: Wait>(
+/// Carries the next post of `client`, if one is there, under the lock of `porter`.
+fn carry_ready<F: Floor<H>, H: Wait>(
     rt: &H,
     floor: &F,
     client: Client,
     porter: &Mutex<F::Porter>,
 ) -> Result<Option<Carried>, HallFault> {
     let mut porter = porter.lock(rt);
-    floor.carry_some(rt, client, &mut porter)
+    floor.carry_ready(rt, client, &mut porter)
 }
 
 /// The outcome of a session whose post was refused with this error.

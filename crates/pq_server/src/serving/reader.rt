@@ -35,13 +35,6 @@ pub(crate) struct Owed<Q> {
     pub(crate) root: Root,
 }
 
-/// A post that is to be made, and the root of the session when its message came.
-#[derive(Drop)]
-struct Planned {
-    post: Post<ProtoKey>,
-    root: Root,
-}
-
 /// What the reader of a session holds: the end that posts, of the type `P`, the way of receipts, of
 /// the type `Q`, to the writer, and the check of the root.
 #[derive(Drop)]
@@ -50,6 +43,8 @@ pub(crate) struct Intake<'a, P, Q, C> {
     client: Client,
     porter: &'a Mutex<C>,
     stream: &'a TcpStream,
+    /// How many posts were made since they were passed on.
+    posted: usize,
     post: P,
     receipts: Sender<Owed<Q>>,
     roots: RootCheck<'a>,
@@ -70,37 +65,50 @@ impl<'a, P: Send + Drop, Q: Send + Drop, C: Send + Drop> Intake<'a, P, Q, C> {
             client,
             porter,
             stream,
+            posted: 0,
             post,
             receipts,
             roots,
         }
     }
 
-    /// Posts `post`. A receipt of a request goes to the writer, with `root`. The porter is woken later.
+    /// Posts `post`. A receipt of a request goes to the writer. The porter is not woken for the first posts.
     fn hand_in<F, H>(
         &mut self,
         rt: &H,
+        alloc: Global,
         floor: &F,
         post: Post<ProtoKey>,
-        root: Root,
     ) -> Result<Step, ScriptFault>
     where
         F: Posting<H, Post = P, Receipt = Q>,
         H: Wait,
     {
-        match floor.post_quietly(rt, &mut self.post, post) {
-            Ok(Some(receipt)) => self.hand_on(rt, floor, receipt, root),
-            Ok(None) => Ok(Step::GoesOn),
-            Err(fault) => ended_by(fault),
+        let step = match floor.post_quietly(rt, &mut self.post, post) {
+            Ok(Some(receipt)) => self.hand_on(rt, alloc, floor, receipt)?,
+            Ok(None) => Step::GoesOn,
+            Err(fault) => ended_by(fault)?,
+        };
+        self.posted = self.posted.saturating_add(1);
+        if self.posted > FEW {
+            floor.wake(&self.post);
         }
+        Ok(step)
     }
 
     /// Hands `receipt` to the writer. Before it waits for room the porter is woken.
-    fn hand_on<F, H>(&self, rt: &H, floor: &F, receipt: Q, root: Root) -> Result<Step, ScriptFault>
+    fn hand_on<F, H>(
+        &self,
+        rt: &H,
+        alloc: Global,
+        floor: &F,
+        receipt: Q,
+    ) -> Result<Step, ScriptFault>
     where
         F: Posting<H, Post = P, Receipt = Q>,
         H: Wait,
     {
+        let root = root_of(alloc, &self.session)?;
         match self.receipts.try_send(rt, Owed { receipt, root }) {
             Ok(()) => Ok(Step::GoesOn),
             Err(TrySendError::Full(owed)) => {
@@ -114,59 +122,46 @@ impl<'a, P: Send + Drop, Q: Send + Drop, C: Send + Drop> Intake<'a, P, Q, C> {
         }
     }
 
-    /// Adds what the message of this body asks for to `plan`.
-    fn plan<H: Log>(
+    /// Does what the message of this body asks for.
+    fn handle<F, H>(
         &mut self,
         rt: &H,
         alloc: Global,
-        plan: &mut Vec<Planned>,
+        floor: &F,
         body: &[u8],
-    ) -> Result<Step, ScriptFault> {
+    ) -> Result<Step, ScriptFault>
+    where
+        F: Posting<H, Post = P, Receipt = Q>,
+        H: Wait + Log,
+    {
         let message = Message::read(alloc, body)?;
         let item = self.session.on(alloc, message)?;
         self.roots.look(rt, self.session.root());
-        let post = match item {
-            Item::Ask(request) => Post::Ask(request),
-            Item::Say(request) => Post::Ask(request),
-            Item::Edit(change) => Post::Edit(change),
-            Item::Withdraw(label) => Post::Withdraw(label),
-            Item::Ignore => return Ok(Step::GoesOn),
-            Item::End(status) => return Ok(Step::Finish(status)),
-        };
-        let root = root_of(alloc, &self.session)?;
-        match plan.push(Planned { post, root }) {
-            Ok(()) => Ok(Step::GoesOn),
-            Err(_) => Err(ScriptFault::Memory),
+        match item {
+            Item::Ask(request) => self.hand_in(rt, alloc, floor, Post::Ask(request)),
+            Item::Say(request) => self.hand_in(rt, alloc, floor, Post::Ask(request)),
+            Item::Edit(change) => self.hand_in(rt, alloc, floor, Post::Edit(change)),
+            Item::Withdraw(label) => self.hand_in(rt, alloc, floor, Post::Withdraw(label)),
+            Item::Ignore => Ok(Step::GoesOn),
+            Item::End(status) => Ok(Step::Finish(status)),
         }
     }
 
-    /// Adds what the messages of `bodies` ask for to `plan`, up to the first after which the session does
-    /// not go on.
-    fn plan_all<H: Log>(
+    /// Does what the messages of `bodies` ask for, up to the first after which the session does not
+    /// go on.
+    fn handle_each<F, H>(
         &mut self,
         rt: &H,
         alloc: Global,
-        plan: &mut Vec<Planned>,
+        floor: &F,
         bodies: &[Vec<u8>],
-    ) -> Result<Step, ScriptFault> {
-        for body in bodies {
-            match self.plan(rt, alloc, plan, body)? {
-                Step::GoesOn => {}
-                step => return Ok(step),
-            }
-        }
-        Ok(Step::GoesOn)
-    }
-
-    /// Posts what was planned, up to the first after which the session does not go on.
-    fn post_all<F, H>(&mut self, rt: &H, floor: &F, plan: Vec<Planned>) -> Result<Step, ScriptFault>
+    ) -> Result<Step, ScriptFault>
     where
         F: Posting<H, Post = P, Receipt = Q>,
-        H: Wait,
+        H: Wait + Log,
     {
-        for planned in plan {
-            let Planned { post, root } = planned;
-            match self.hand_in(rt, floor, post, root)? {
+        for body in bodies {
+            match self.handle(rt, alloc, floor, body)? {
                 Step::GoesOn => {}
                 step => return Ok(step),
             }
@@ -174,14 +169,16 @@ impl<'a, P: Send + Drop, Q: Send + Drop, C: Send + Drop> Intake<'a, P, Q, C> {
         Ok(Step::GoesOn)
     }
 
-    /// Carries what was posted, `count` posts, if they are few and nobody else carries. Else the porter is
-    /// woken for them.
-    fn pass_on<F, H>(&self, rt: &H, floor: &F, count: usize) -> Result<Step, ScriptFault>
+    /// Carries what was posted since the last call, if it is little and nobody else carries. Else the porter
+    /// is woken for it.
+    fn pass_on<F, H>(&mut self, rt: &H, floor: &F) -> Result<Step, ScriptFault>
     where
         F: Floor<H, Post = P, Receipt = Q, Porter = C>,
         H: Wait,
     {
-        if count <= FEW {
+        let is_little = self.posted <= FEW;
+        self.posted = 0;
+        if is_little {
             if let Some(step) = self.carry_own(rt, floor)? {
                 return Ok(step);
             }
@@ -201,7 +198,7 @@ impl<'a, P: Send + Drop, Q: Send + Drop, C: Send + Drop> Intake<'a, P, Q, C> {
             return Ok(None);
         };
         for _ in 0..FEW + 1 {
-            match floor.carry_some(rt, self.client, &mut porter) {
+            match floor.carry_ready(rt, self.client, &mut porter) {
                 Ok(Some(_)) => {}
                 Ok(None) => return Ok(Some(Step::GoesOn)),
                 Err(fault) => {
@@ -216,8 +213,7 @@ impl<'a, P: Send + Drop, Q: Send + Drop, C: Send + Drop> Intake<'a, P, Q, C> {
         Ok(None)
     }
 
-    /// Does what the messages of `bodies` ask for, up to the first after which the session does not
-    /// go on. All are read before the first post, so that the porter is woken once for them.
+    /// Does what the messages of `bodies` ask for, as `handle_each` does, and passes the posts on.
     fn handle_all<F, H>(
         &mut self,
         rt: &H,
@@ -229,17 +225,10 @@ impl<'a, P: Send + Drop, Q: Send + Drop, C: Send + Drop> Intake<'a, P, Q, C> {
         F: Floor<H, Post = P, Receipt = Q, Porter = C>,
         H: Wait + Log,
     {
-        let mut plan = Vec::new(alloc);
-        let planned = self.plan_all(rt, alloc, &mut plan, bodies);
-        let count = plan.len();
-        let posted = self.post_all(rt, floor, plan);
-        let passed = self.pass_on(rt, floor, count);
-        match posted? {
-            Step::GoesOn => {}
-            step => return Ok(step),
-        }
-        match passed? {
-            Step::GoesOn => planned,
+        let handled = self.handle_each(rt, alloc, floor, bodies);
+        let passed = self.pass_on(rt, floor);
+        match handled? {
+            Step::GoesOn => passed,
             step => Ok(step),
         }
     }
