@@ -23,6 +23,7 @@ use pq_inputs::Durability;
 use pq_rules::{Memory, Rules, is_same_key, push};
 use std::alloc::Global;
 use std::collections::BTreeMap;
+use std::collections::btree_map::Entry as CodeEntry;
 use std::marker::Model;
 
 /// A number that no slot has.
@@ -152,6 +153,21 @@ fn set_at<K: Drop, V: Drop>(slots: &mut Vec<Slot<K, V>>, number: usize, entry: E
     slots[number].set(entry);
 }
 
+/// Gives the code `code` the slot `number`, if it has none. Returns the slot that it had.
+fn claim_code(
+    codes: &mut BTreeMap<u64, usize>,
+    code: u64,
+    number: usize,
+) -> Result<Option<usize>, Memory> {
+    match codes.entry(code)? {
+        CodeEntry::Occupied(there) => Ok(Some(*there.get())),
+        CodeEntry::Vacant(free) => {
+            free.insert(number);
+            Ok(None)
+        }
+    }
+}
+
 /// Makes a place in `next` for the slot `number`, if it is the first without one.
 fn make_place(next: &mut Vec<usize>, number: usize) -> Result<(), Memory> {
     if next.as_slice().len() <= number {
@@ -190,6 +206,9 @@ pub(crate) fn share_copy<R: Rules>(
 #[derive(Drop)]
 pub(crate) struct Slots<R: Rules> {
     alloc: Global,
+    // Of each code the slot of the first key that has it.
+    codes: BTreeMap<u64, usize>,
+    // The numbers of the other keys.
     index: BTreeMap<R::Key, usize>,
     slots: Vec<Slot<R::Key, R::Value>>,
     // Where to look for a key second: the slot that was written last. No contract speaks of it.
@@ -201,13 +220,13 @@ pub(crate) struct Slots<R: Rules> {
 impl<R: Rules> Model for Slots<R> {
     ghost use Rattle.std.specs.Prelude.{List, Option};
     ghost use Rattle.pq_memo.specs.Sound.{Memo};
-    ghost use Rattle.pq_memo.specs.aux.Slots.{IsNumbered};
+    ghost use Rattle.pq_memo.specs.aux.Slots.{IsCoded};
 
     ghost Value = { List (R.Key × Option (Memo R.Key R.Value)) };
 
     ghost view = { λ s. s.slots.items };
 
-    ghost invariant = { λ s. IsNumbered R.Key.cmp s.index.entries s.slots.items };
+    ghost invariant = { λ s. IsCoded R.Key.cmp R.codes s.codes.entries s.index.entries s.slots.items };
 }
 
 impl<R: Rules> Slots<R> {
@@ -217,6 +236,7 @@ impl<R: Rules> Slots<R> {
     {
         Slots {
             alloc,
+            codes: BTreeMap::new(alloc),
             index: BTreeMap::new(alloc),
             slots: Vec::new(alloc),
             last: NOWHERE,
@@ -253,7 +273,24 @@ impl<R: Rules> Slots<R> {
         if self.is_slot_of(rules, key, self.last) {
             return Some(self.last);
         }
-        noted(rules, &self.index, key)
+        self.found(rules, key, rules.code(key))
+    }
+
+    /// The number of `key`, whose code is `code`, if it has a slot: that of the code, if this is the
+    /// key's, and else that of the index.
+    fn found(&self, rules: &R, key: &R::Key, code: u64) -> Option<usize>
+        ensures found { IfSome result (λ n. key_at self.now n ≡ Some key.now) }
+        ensures none { IfNone result (lookup (is_at (R.Key.cmp key.now)) self.now ≡ None) }
+    {
+        match self.codes.get(&code) {
+            Some(number) => {
+                if self.is_slot_of(rules, key, *number) {
+                    return Some(*number);
+                }
+                noted(rules, &self.index, key)
+            }
+            None => None,
+        }
     }
 
     /// The slot that was read after the slot `number` last, or `NOWHERE`.
@@ -416,20 +453,56 @@ impl<R: Rules> Slots<R> {
         if self.slots.reserve(1).is_err() || make_place(&mut self.next, number).is_err() {
             return Err(Memory);
         }
+        let code = rules.code(key);
+        match claim_code(&mut self.codes, code, number)? {
+            Some(known) => {
+                if self.is_slot_of(rules, key, known) {
+                    note_after(&mut self.next, before, known);
+                    return Ok(known);
+                }
+                self.make_other(rules, key, number, before)
+            }
+            None => match share_copy(self.alloc, rules, key, number) {
+                Ok(shared) => {
+                    self.add(shared, number, before);
+                    Ok(number)
+                }
+                Err(_) => {
+                    self.codes.remove(&code);
+                    Err(Memory)
+                }
+            },
+        }
+    }
+
+    /// Adds the slot `number` of the key `shared`, for which there is room.
+    fn add(&mut self, shared: Recorded<R::Key>, number: usize, before: usize) {
+        note_after(&mut self.next, before, number);
+        self.slots.push_reserved(Slot {
+            key: shared,
+            entry: None,
+        });
+        self.last = number;
+    }
+
+    /// Makes the slot `number` of `key`, whose code another key has, if it has none, and returns its
+    /// number. There is room for the slot.
+    fn make_other(
+        &mut self,
+        rules: &R,
+        key: &R::Key,
+        number: usize,
+        before: usize,
+    ) -> Result<usize, Memory> {
         let copy = rules.copy_key(self.alloc, key)?;
-        match claim_place(rules, &mut self.index, copy, number) {
-            Ok(Some(known)) => {
+        match claim_place(rules, &mut self.index, copy, number)? {
+            Some(known) => {
                 note_after(&mut self.next, before, known);
                 Ok(known)
             }
-            Ok(None) => match share_copy(self.alloc, rules, key, number) {
+            None => match share_copy(self.alloc, rules, key, number) {
                 Ok(shared) => {
-                    note_after(&mut self.next, before, number);
-                    self.slots.push_reserved(Slot {
-                        key: shared,
-                        entry: None,
-                    });
-                    self.last = number;
+                    self.add(shared, number, before);
                     Ok(number)
                 }
                 Err(_) => {
@@ -437,7 +510,6 @@ impl<R: Rules> Slots<R> {
                     Err(Memory)
                 }
             },
-            Err(_) => Err(Memory),
         }
     }
 }

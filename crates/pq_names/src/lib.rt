@@ -11,6 +11,7 @@
 //! `table`, `short` (texts in the value itself), `laws`.
 #![tactic(auto)]
 
+mod code;
 mod fault;
 mod id;
 mod laws;

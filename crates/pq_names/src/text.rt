@@ -3,6 +3,7 @@
 //! A text of at most 22 bytes lies in the value itself: `new` and `copy` allocate nothing. A longer
 //! text lies behind a counted pointer, and its copies share it. `new` copies the bytes once, `copy`
 //! takes constant time, and a comparison reads the bytes in place.
+ghost use Rattle.pq_names.specs.aux.Codes.{text_code};
 ghost use Rattle.std.specs.Prelude.{◌≡◌, List, ℕ, IfOk, string_bytes};
 ghost use Rattle.std.proofs.Common.{rules};
 ghost use Rattle.std.specs.Cmp.{partial_order_from_own_ties};
@@ -11,6 +12,7 @@ ghost use Rattle.std.specs.Cmp.Lexicographic.{slice_cmp};
 ghost use Rattle.std.specs.Str.{bytes_eq};
 ghost use Rattle.std.specs.Ordering.{nat_cmp, as_partial_cmp};
 
+use crate::code::text_code;
 use crate::fault::Memory;
 use crate::short::{INLINE, Short};
 use std::alloc::Global;
@@ -78,6 +80,13 @@ impl Text {
         Ok(Text {
             bytes: Bytes::Shared(ArcStr::from_string(text)?),
         })
+    }
+
+    /// A number that is made of the bytes of the text. Unequal texts mostly have unequal numbers.
+    pub fn code(&self) -> u64
+        ensures code { result ≡ text_code self.now }
+    {
+        text_code(self.as_str().as_bytes())
     }
 
     /// The text, to read.

@@ -4,6 +4,7 @@
 //! `embedded` says how the parts and values of each query are parts and values of the rule set, and
 //! `reads` how the queries below make their keys and read their answers. `compilation` compiles one
 //! key from scratch, and `laws` has what the rule set means.
+ghost use Rattle.pq_names.specs.aux.Codes.{coded};
 ghost use Rattle.std.specs.Prelude.{◌≡◌, IfOk, IfErr, option_copied};
 
 pub(crate) mod compilation;
@@ -64,6 +65,16 @@ impl Sum for ProtoRules {
     type Value = ProtoValue;
 }
 
+/// The factor of a code before each number: 2^64 over the golden ratio, odd.
+const FACTOR: u64 = 11_400_714_819_323_198_485;
+
+/// The code `code` with the number `part` after it.
+fn coded(code: u64, part: u64) -> u64
+    ensures { result ≡ coded code part }
+{
+    code.wrapping_mul(FACTOR).wrapping_add(part)
+}
+
 /// Copies `location`.
 fn copy_location(location: &Location) -> Result<Location, Memory>
     ensures copy { IfOk result (λ l. l ≡ location.now) }
@@ -76,7 +87,7 @@ fn copy_location(location: &Location) -> Result<Location, Memory>
 }
 
 impl Rules for ProtoRules {
-    ghost use Rattle.pq_proto.specs.aux.RuleSet.{proto_rules, proto_reach};
+    ghost use Rattle.pq_proto.specs.aux.RuleSet.{proto_code, proto_rules, proto_reach};
     ghost use Rattle.pq_proto.specs.aux.KeyOrder.{key_exact};
     ghost use Rattle.pq_proto.specs.aux.ProtoLaws.{proto_lawful, proto_inputs};
     ghost use Rattle.pq_proto.specs.aux.Exact.{value_exact};
@@ -90,6 +101,8 @@ impl Rules for ProtoRules {
     ghost machine = { λ s. proto_rules };
 
     ghost reach = { λ s files k. proto_reach files k };
+
+    ghost codes = { proto_code };
 
     ghost lawful = { λ s files. proto_lawful _ files key_exact };
 
@@ -112,6 +125,27 @@ impl Rules for ProtoRules {
             ProtoKey::Descriptor(_) => DescriptorQuery::LEVEL,
             ProtoKey::Symbols(_) => SymbolsQuery::LEVEL,
             ProtoKey::Definition(_, _) => DefinitionQuery::LEVEL,
+        }
+    }
+
+    fn code(&self, key: &ProtoKey) -> u64 {
+        match key {
+            ProtoKey::Input(file) => coded(file.code(), 0),
+            ProtoKey::Parse(file) => coded(file.code(), 1),
+            ProtoKey::Items(file) => coded(file.code(), 2),
+            ProtoKey::Imports(file) => coded(file.code(), 3),
+            ProtoKey::Linked(file) => coded(file.code(), 4),
+            ProtoKey::Defs(file) => coded(file.code(), 5),
+            ProtoKey::Scope(file) => coded(file.code(), 6),
+            ProtoKey::Resolved(file) => coded(file.code(), 7),
+            ProtoKey::Checks(file) => coded(file.code(), 8),
+            ProtoKey::Diagnostics(file) => coded(file.code(), 9),
+            ProtoKey::Descriptor(file) => coded(file.code(), 10),
+            ProtoKey::Symbols(file) => coded(file.code(), 11),
+            ProtoKey::Definition(file, place) => {
+                let line = coded(file.code(), place.line as u64);
+                coded(line, place.character as u64)
+            }
         }
     }
 

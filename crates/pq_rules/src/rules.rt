@@ -1,5 +1,5 @@
 //! What a rule set is, and the laws that it keeps.
-ghost use Rattle.std.specs.Prelude.{◌≡◌, List, option_copied, IfOk, IfErr, ◌↔◌, IsTrue, IsSome};
+ghost use Rattle.std.specs.Prelude.{◌≡◌, ℕ, List, option_copied, IfOk, IfErr, ◌↔◌, IsTrue, IsSome};
 ghost use Rattle.pq_inputs.specs.Sources.{Sources};
 ghost use Rattle.pq_rules.specs.Turns.{Machine, over};
 ghost use Rattle.pq_rules.specs.Laws.{Laws};
@@ -27,6 +27,13 @@ pub trait Rules: Copy {
     /// The level of `key`: 0 for an input. A rule asks keys of its own level or of a lower one.
     fn level(&self, key: &Self::Key) -> u8
         ensures level { result ≡ (machine self.now).level key.now };
+
+    /// The code of a key, as a function.
+    ghost codes: { Self.Key → ℕ };
+
+    /// A number that is made of `key`. Keys of one number may differ.
+    fn code(&self, key: &Self::Key) -> u64
+        ensures code { result ≡ codes key.now };
 
     /// The name of the file of the input `key`. It is `None` for a key with a rule.
     fn file<'a>(&self, key: &'a Self::Key) -> Option<&'a str>

@@ -216,7 +216,7 @@ impl SchemaKeys for SchemaRules {
 }
 
 impl Rules for SchemaRules {
-    ghost use Rattle.pq_schema.specs.aux.RuleSet.{schema_rules, schema_reach};
+    ghost use Rattle.pq_schema.specs.aux.RuleSet.{schema_code, schema_rules, schema_reach};
     ghost use Rattle.pq_schema.specs.aux.SchemaLaws.{schema_lawful, schema_inputs};
     ghost use Rattle.pq_schema.specs.aux.Exact.{key_exact, value_exact};
 
@@ -229,6 +229,8 @@ impl Rules for SchemaRules {
     ghost machine = { λ s. schema_rules };
 
     ghost reach = { λ s files k. schema_reach files k };
+
+    ghost codes = { schema_code };
 
     ghost lawful = { λ s files. schema_lawful _ files key_exact };
 
@@ -246,6 +248,19 @@ impl Rules for SchemaRules {
             SchemaKey::Defs(_) => DefsQuery::<SchemaRules>::LEVEL,
             SchemaKey::Scope(_) => ScopeQuery::<SchemaRules>::LEVEL,
             SchemaKey::Resolved(_) => ResolvedQuery::<SchemaRules>::LEVEL,
+        }
+    }
+
+    fn code(&self, key: &SchemaKey) -> u64 {
+        match key {
+            SchemaKey::Input(file) => file.code(),
+            SchemaKey::Parse(file) => file.code(),
+            SchemaKey::Items(file) => file.code(),
+            SchemaKey::Imports(file) => file.code(),
+            SchemaKey::Linked(file) => file.code(),
+            SchemaKey::Defs(file) => file.code(),
+            SchemaKey::Scope(file) => file.code(),
+            SchemaKey::Resolved(file) => file.code(),
         }
     }
 

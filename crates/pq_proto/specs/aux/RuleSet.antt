@@ -2,6 +2,7 @@
 -- says what its keys mean.
 use Rattle.std.specs.Prelude.{ℕ, List, [], ◌∷◌, map, Option, Some, None}
 use Rattle.pq_inputs.specs.Sources.{Sources}
+use Rattle.pq_names.specs.aux.Codes.{coded, text_code}
 use Rattle.pq_rules.specs.declared.turn.Turn.{Turn}
 use Rattle.pq_rules.specs.declared.turn.Turn.TheVariants.{Done}
 use Rattle.pq_rules.specs.declared.turn.Answer.{Answer}
@@ -211,3 +212,19 @@ makers =
 -- and of the files that any file imports
 abbrev pub proto_reach : Sources → ProtoKey → List ProtoKey
 proto_reach files k = k ∷ keys_by makers (own_name k ∷ all_mentioned files)
+
+-- `proto_code key` is a number that is made of `key`
+abbrev pub proto_code : ProtoKey → ℕ
+proto_code (keys.Input file) = coded (text_code file) 0
+proto_code (keys.Parse file) = coded (text_code file) 1
+proto_code (keys.Items file) = coded (text_code file) 2
+proto_code (keys.Imports file) = coded (text_code file) 3
+proto_code (keys.Linked file) = coded (text_code file) 4
+proto_code (keys.Defs file) = coded (text_code file) 5
+proto_code (keys.Scope file) = coded (text_code file) 6
+proto_code (keys.Resolved file) = coded (text_code file) 7
+proto_code (keys.Checks file) = coded (text_code file) 8
+proto_code (keys.Diagnostics file) = coded (text_code file) 9
+proto_code (keys.Descriptor file) = coded (text_code file) 10
+proto_code (keys.Symbols file) = coded (text_code file) 11
+proto_code (keys.Definition file place) = coded (coded (text_code file) place.line) place.character

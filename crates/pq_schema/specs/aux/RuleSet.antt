@@ -2,6 +2,7 @@
 -- what its keys mean.
 use Rattle.std.specs.Prelude.{ℕ, List, [], ◌∷◌, Option, Some, None}
 use Rattle.pq_inputs.specs.Sources.{Sources}
+use Rattle.pq_names.specs.aux.Codes.{text_code}
 use Rattle.pq_rules.specs.declared.turn.Turn.{Turn}
 use Rattle.pq_rules.specs.declared.turn.Turn.TheVariants.{Done}
 use Rattle.pq_rules.specs.declared.turn.Answer.{Answer}
@@ -180,3 +181,14 @@ makers =
 -- the files that any file imports
 abbrev pub schema_reach : Sources → SchemaKey → List SchemaKey
 schema_reach files k = keys_by makers (own_name k ∷ all_mentioned files)
+
+-- `schema_code key` is the code of the file's name in `key`
+abbrev pub schema_code : SchemaKey → ℕ
+schema_code (Input file) = text_code file
+schema_code (Parse file) = text_code file
+schema_code (Items file) = text_code file
+schema_code (Imports file) = text_code file
+schema_code (Linked file) = text_code file
+schema_code (Defs file) = text_code file
+schema_code (Scope file) = text_code file
+schema_code (Resolved file) = text_code file
