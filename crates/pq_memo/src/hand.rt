@@ -1,8 +1,8 @@
 //! Going on with a rule while the answers that it asks for are at hand.
 //!
-//! The answer of a key is at hand if the key is where it is looked for first, its memo was verified
-//! now, and the answer is no cycle. The rule reads it at once, without a frame on the stack. That
-//! costs one comparison of keys. What is not at hand is left to a step of a frame.
+//! The answer of a key is at hand if its memo was verified now, and the answer is no cycle. The rule
+//! reads it at once, without a frame on the stack. That costs one comparison of keys where the key is
+//! where it is looked for first, and else a search. What is not at hand is left to a step of a frame.
 ghost use Rattle.std.specs.Prelude.{◌≡◌, IfOk, IfSome};
 ghost use Rattle.pq_memo.specs.Table.{memo_at, HasIn, KeptOver};
 ghost use Rattle.pq_memo.specs.Frames.{Came};
@@ -19,19 +19,19 @@ use std::alloc::Global;
 const READS: usize = usize::MAX;
 
 impl<R: Rules> Memos<R> {
-    /// The answer of `key`, if it is at hand in the slot `number`.
+    /// The answer of `key`, if it is at hand. It is looked for first at `near`, which becomes its number.
     fn at_hand(
         &self,
         key: &R::Key,
-        number: usize,
+        near: &mut usize,
         inputs: &Inputs,
     ) -> Option<&Answer<R::Key, R::Value>>
         ensures { IfSome result (λ a. IsAtHand inputs.now.revision (HasIn (memo_at R.Key.cmp self.now.places)) key.now a.now) }
     {
-        if !self.entries.is_slot_of(&self.rules, key, number) {
+        if self.rules.level(key) == 0 {
             return None;
         }
-        match self.entries.entry_at(&self.rules, key, number) {
+        match self.entry_noting(key, near) {
             Some(entry) => {
                 if entry.verified() != inputs.now().number() {
                     return None;
@@ -67,8 +67,8 @@ impl<R: Rules> Memos<R> {
         'turns: for _ in 0..READS {
             match turn {
                 Turn::Ask(asked, part) => {
-                    let number = self.read_number(near.own, reads.as_slice().len(), near.read);
-                    match self.at_hand(&asked, number, inputs) {
+                    let mut number = self.read_number(near.own, reads.as_slice().len(), near.read);
+                    match self.at_hand(&asked, &mut number, inputs) {
                         Some(answer) => {
                             push(reads, asked)?;
                             *near = near.after_read(number);
