@@ -78,6 +78,22 @@ fn read_spelling(alloc: Global, text: &str, span: Span) -> Result<Text, Memory>
     Text::from_string(alloc, String::from_utf8_lossy(alloc, spelling(text, span))?)
 }
 
+/// The end of the last of the tokens, if each begins where the one before it ends, in order. Then
+/// `text` has their spellings side by side.
+fn joined_end(tokens: &[Token]) -> Option<usize> {
+    let Some(first) = tokens.first() else {
+        return None;
+    };
+    let mut end = first.span.start;
+    for token in tokens {
+        if token.span.start != end || token.span.end < end {
+            return None;
+        }
+        end = token.span.end;
+    }
+    Some(end)
+}
+
 /// The text of the tokens taken as written, with nothing between them.
 pub(crate) fn read_joined(
     alloc: Global,
@@ -88,8 +104,11 @@ pub(crate) fn read_joined(
     ensures { IfOk result (λ t. (ws : List Word) → words text.now tokens.now ≡ ws ++ words text.now rest.now → t ≡ utf8_lossy (joined ws)) }
 {
     let taken = taken(tokens, rest);
-    if taken.len() == 1 {
-        return read_spelling(alloc, text, taken[0].span);
+    if let Some(end) = joined_end(taken) {
+        let start = taken[0].span.start;
+        if end <= text.len() {
+            return read_spelling(alloc, text, Span { start, end });
+        }
     }
     let bytes = joined(alloc, text, taken)?;
     Text::from_string(alloc, String::from_utf8_lossy(alloc, bytes.as_slice())?)
@@ -104,7 +123,11 @@ pub(crate) fn read_spaced(
 ) -> Result<Text, Memory>
     ensures { IfOk result (λ t. (ws : List Word) → words text.now tokens.now ≡ ws ++ words text.now rest.now → t ≡ utf8_lossy (spaced ws)) }
 {
-    let bytes = spaced(alloc, text, taken(tokens, rest))?;
+    let taken = taken(tokens, rest);
+    if taken.len() == 1 {
+        return read_joined(alloc, text, tokens, rest);
+    }
+    let bytes = spaced(alloc, text, taken)?;
     Text::from_string(alloc, String::from_utf8_lossy(alloc, bytes.as_slice())?)
 }
 
@@ -138,6 +161,9 @@ fn value_of(alloc: Global, text: &str, span: Span) -> Result<Vec<u8>, Memory>
 fn joined_values(alloc: Global, text: &str, tokens: &[Token]) -> Result<Vec<u8>, Memory>
     ensures { IfOk result (λ bytes. bytes.items ≡ values (words text.now tokens.now)) }
 {
+    if tokens.len() == 1 {
+        return value_of(alloc, text, tokens[0].span);
+    }
     let mut bytes = Vec::new(alloc);
     for token in tokens {
         bytes.extend_from_slice(value_of(alloc, text, token.span)?.as_slice())?;
