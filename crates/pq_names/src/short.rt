@@ -1,5 +1,5 @@
 //! Texts of at most 22 bytes, which lie in the value itself.
-ghost use Rattle.std.specs.Prelude.{◌≡◌, ◌≤◌, ◌↔◌, length, IsSome, IfSome};
+ghost use Rattle.std.specs.Prelude.{◌≡◌, ◌≤◌, ◌↔◌, ◌++◌, length, IsSome, IfSome};
 
 use std::marker::Model;
 
@@ -39,6 +39,25 @@ impl Short {
         }
         let mut bytes = [0u8; INLINE];
         bytes[..len].copy_from_slice(text.as_bytes());
+        Some(Short {
+            bytes,
+            len: len as u8,
+        })
+    }
+
+    /// The text of the bytes of `first` and then of `second`, unless these are more than 22.
+    #[inline]
+    pub(crate) fn joined(first: &str, second: &str) -> Option<Short>
+        ensures joined { IfSome result (λ s. s ≡ first.now ++ second.now) }
+    {
+        let middle = first.len();
+        if middle > INLINE || second.len() > INLINE - middle {
+            return None;
+        }
+        let len = middle + second.len();
+        let mut bytes = [0u8; INLINE];
+        bytes[..middle].copy_from_slice(first.as_bytes());
+        bytes[middle..len].copy_from_slice(second.as_bytes());
         Some(Short {
             bytes,
             len: len as u8,

@@ -4,7 +4,7 @@
 //! text lies behind a counted pointer, and its copies share it. `new` copies the bytes once, `copy`
 //! takes constant time, and a comparison reads the bytes in place.
 ghost use Rattle.pq_names.specs.aux.Codes.{text_code};
-ghost use Rattle.std.specs.Prelude.{◌≡◌, List, ℕ, IfOk, string_bytes};
+ghost use Rattle.std.specs.Prelude.{◌≡◌, ◌++◌, List, ℕ, IfOk, string_bytes};
 ghost use Rattle.std.proofs.Common.{rules};
 ghost use Rattle.std.specs.Cmp.{partial_order_from_own_ties};
 ghost use Rattle.std.specs.Cmp.Rules.{comparing};
@@ -80,6 +80,22 @@ impl Text {
         Ok(Text {
             bytes: Bytes::Shared(ArcStr::from_string(text)?),
         })
+    }
+
+    /// The text of the bytes of `first` and then of `second`. Up to 22 bytes take no allocation.
+    pub fn joined(alloc: Global, first: &str, second: &str) -> Result<Text, Memory>
+        ensures joined { IfOk result (λ t. t ≡ first.now ++ second.now) }
+    {
+        if let Some(bytes) = Short::joined(first, second) {
+            return Ok(Text {
+                bytes: Bytes::Inline(bytes),
+            });
+        }
+        let length = first.len().saturating_add(second.len());
+        let mut text = String::with_capacity(alloc, length)?;
+        text.push_str(first)?;
+        text.push_str(second)?;
+        Text::shared(text)
     }
 
     /// A number that is made of the bytes of the text. Unequal texts mostly have unequal numbers.

@@ -233,10 +233,7 @@ fn is_only(parts: &[Text], root: &Text) -> bool
 pub(crate) fn with_dot(alloc: Global, name: &str) -> Result<Text, Memory>
     ensures dotted { IfOk result (λ t. t ≡ name.now ++ codes ".") }
 {
-    let mut text = String::with_capacity(alloc, name.len().saturating_add(1))?;
-    text.push_str(name)?;
-    text.push_str(".")?;
-    Text::from_string(alloc, text)
+    Text::joined(alloc, name, ".")
 }
 
 /// Appends the bytes of `parts` to `text`.
