@@ -51,7 +51,9 @@ fn quoting(alloc: Global, before: &str, name: &str, after: &str) -> Result<Strin
     ensures text { IfOk result
         (λ t. string_bytes t ≡ before.now ++ quoted name.now ++ after.now) }
 {
-    let mut text = String::new(alloc);
+    let quoted = name.len().saturating_add(2);
+    let around = before.len().saturating_add(after.len());
+    let mut text = String::with_capacity(alloc, quoted.saturating_add(around))?;
     text.push_str(before)?;
     text.push('"')?;
     text.push_str(name)?;

@@ -81,7 +81,7 @@ pub(crate) fn spots(alloc: Global, nodes: &[Node]) -> Result<Vec<Spot<'_>>, Memo
     ensures spots { IfOk result (λ v. AreSpots v.items nodes.entry.now) }
 {
     let mut stack: Stack<Around> = Stack::new(alloc);
-    let mut spots = Vec::new(alloc);
+    let mut spots = Vec::with_capacity(alloc, nodes.len())?;
     'items: for item in 0..nodes.len() {
         let node = &nodes[item];
         stack.close_to(node.depth);

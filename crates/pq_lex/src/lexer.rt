@@ -9,6 +9,9 @@ use crate::steps::step_at;
 use crate::token::{Lexed, Span, Step, Token};
 use std::alloc::Global;
 
+/// The bytes of a text for which room for one token is made at first.
+const TOKEN: usize = 16;
+
 /// Returns the tokens of `text` up to its end or its first lexical error, and that error.
 /// (proto3 language specification, "Lexical elements".)
 ///
@@ -19,7 +22,7 @@ pub fn lex(alloc: Global, text: &str) -> Result<Lexed, Memory>
     ensures exact { IfOk result (λ l. reading_of l ≡ tokens_of text.now) }
 {
     let bytes = text.as_bytes();
-    let mut tokens = Vec::new(alloc);
+    let mut tokens = Vec::with_capacity(alloc, bytes.len() / TOKEN)?;
     let mut from = 0;
     while from < bytes.len() {
         match step_at(bytes, from) {

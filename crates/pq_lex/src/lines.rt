@@ -28,6 +28,9 @@ use std::marker::Model;
 /// The bytes of a line from one kept count of UTF-16 units to the next.
 const INTERVAL: usize = 64;
 
+/// The bytes of a text for which room for one line is made at first.
+const LINE: usize = 64;
+
 /// A line that is not ASCII.
 #[derive(Drop)]
 #[derive_where(PartialEq, Eq)]
@@ -383,8 +386,8 @@ impl LineIndex {
         let bytes = text.as_bytes();
         let plain = bytes.is_ascii();
         let mut marks = Marks {
-            starts: Offsets::new(alloc),
-            ends: Offsets::new(alloc),
+            starts: Offsets::with_capacity(alloc, bytes.len() / LINE)?,
+            ends: Offsets::with_capacity(alloc, bytes.len() / LINE)?,
             wide: Vec::new(alloc),
         };
         let mut start = 0;

@@ -73,7 +73,7 @@ fn text_value_of(alloc: Global, word: &[u8]) -> Result<Vec<u8>, Memory>
     ensures { IfOk result (λ v. v.items ≡ text_value_of word.now) }
 {
     let quote = byte_at(word, 0);
-    let mut value = Vec::new(alloc);
+    let mut value = Vec::with_capacity(alloc, word.len())?;
     let mut at = 1;
     while at < word.len() {
         let b = word[at];

@@ -21,7 +21,7 @@ pub(crate) fn definitions_in(
     ensures { IfOk result (λ v. v.items ≡ flat_map (defined_at root.now) (places nodes.now)) }
 {
     let mut stack: Stack<Enclosing> = Stack::new(alloc);
-    let mut definitions = Vec::new(alloc);
+    let mut definitions = Vec::with_capacity(alloc, nodes.len())?;
     'items: for item in 0..nodes.len() {
         let node = &nodes[item];
         stack.close_to(node.depth);

@@ -39,6 +39,15 @@ impl Printer {
         }
     }
 
+    /// A text without tokens, with room for `count` bytes. It takes its memory from `alloc`.
+    pub fn with_capacity(alloc: Global, count: usize) -> Result<Printer, Memory>
+        ensures { IfOk result (λ p. p ≡ []) }
+    {
+        Ok(Printer {
+            out: Writer::new(Vec::with_capacity(alloc, count)?),
+        })
+    }
+
     /// The text.
     pub fn into_string(self) -> String
         ensures { string_bytes result ≡ print self }
