@@ -1,6 +1,6 @@
 //! Full names with their codes, by which the index of definitions is sorted.
 //!
-//! A code is a number of 64 bits, made of at most the last 128 bytes of a name and of the number of
+//! A code is a number of 64 bits, made of at most the last 32 bytes of a name and of the number of
 //! all its bytes. Names whose codes differ are compared by these alone. Names with one code are
 //! compared by their bytes, so equal codes cost time and never change an answer.
 ghost use Rattle.std.specs.Prelude.{◌≡◌, bytes_eq, take};

@@ -12,7 +12,7 @@ use crate::name_codes::coded;
 fn digested(digest: u64, definition: &Definition) -> u64
     ensures digest { result ≡ digested digest definition.now }
 {
-    let named = coded(digest, definition.full_name.code());
+    let named = coded(digest, definition.full_name.spelled().digest());
     coded(named, definition.item as u64)
 }
 

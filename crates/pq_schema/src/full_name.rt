@@ -106,7 +106,7 @@ impl FullName {
         compare_alike(&own, name, count)
     }
 
-    /// The code of the name, which is made of at most its last 128 bytes and of their number.
+    /// The code of the name, which is made of at most its last 32 bytes and of their number.
     pub(crate) fn code(&self) -> u64
         ensures code { result ≡ code_of self.now }
     {

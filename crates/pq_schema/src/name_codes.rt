@@ -1,6 +1,6 @@
 //! The codes of names: numbers by which unequal names are mostly told apart.
 //!
-//! A code is made of the last bytes of a name, 128 at most, and of the number of its bytes. It is the
+//! A code is made of the last bytes of a name, 32 at most, and of the number of its bytes. It is the
 //! same however the name is cut into pieces. Names of one code may differ.
 ghost use Rattle.std.specs.Prelude.{◌≡◌, ◌%◌, ◌^◌, ◌++◌, length, reverse, take};
 ghost use Rattle.std.specs.List.{concat};
@@ -11,7 +11,10 @@ use crate::spelled::Front;
 use pq_names::Text;
 
 /// The most bytes that a code is made of.
-const CODED: usize = 128;
+pub(crate) const CODED: usize = 32;
+
+/// The most bytes of a name that a number of many definitions is made of.
+pub(crate) const DIGESTED: usize = 16;
 
 /// The factor of a code before each number: 2^64 over the golden ratio, odd.
 const FACTOR: u64 = 11_400_714_819_323_198_485;
@@ -48,21 +51,23 @@ fn code_after(code: u64, text: &[u8], most: usize) -> u64
     ensures code { result ≡ code_from code (take most (reverse text.now)) }
 {
     let count = text.len();
-    let taken = lesser(most, count);
+    let first = count - lesser(most, count);
+    let mut at = count;
     let mut code = code;
-    'bytes: for i in 0..taken {
-        code = coded(code, text[count - 1 - i] as u64);
+    'bytes: while at > first {
+        at -= 1;
+        code = coded(code, text[at] as u64);
     }
     code
 }
 
-/// The code of the last bytes of `head`, `parts` and `text`, piece by piece.
-pub(crate) fn code_of_pieces(head: &str, parts: &[Text], text: &[u8]) -> u64
-    ensures code { result ≡ tail_code ((head.now ++ concat parts.now) ++ text.now) }
+/// The code of the last bytes of `head`, `parts` and `text`, `most` of them at most, piece by piece.
+pub(crate) fn code_of_pieces(head: &str, parts: &[Text], text: &[u8], most: usize) -> u64
+    ensures code { result ≡ tail_code most ((head.now ++ concat parts.now) ++ text.now) }
 {
     let mut parts = parts;
     let mut text = text;
-    let mut left = CODED;
+    let mut left = most;
     let mut code = 0u64;
     'pieces: loop {
         code = code_after(code, text, left);

@@ -4,11 +4,11 @@
 //! compares such names, and `name_codes` makes their codes.
 ghost use Rattle.std.specs.Prelude.{◌≡◌, ◌≤◌, ◌<◌, ◌+◌, ◌-◌, ℕ, List, [], ◌∷◌, ◌++◌, ◌==◌, IfOk, IfSome, None, Some, bytes_eq, length, option_to_list, string_bytes, true};
 ghost use Rattle.std.specs.List.{concat};
-ghost use Rattle.pq_schema.specs.aux.NameCodes.{code_of};
+ghost use Rattle.pq_schema.specs.aux.NameCodes.{code_of, tail_code};
 ghost use Rattle.pq_schema.specs.aux.Spots.{IsPlain};
 
 use crate::full_name::push_parts;
-use crate::name_codes::{code_of_pieces, coded, count_of};
+use crate::name_codes::{CODED, DIGESTED, code_of_pieces, coded, count_of};
 use crate::name_order::compare_bytes;
 use pq_names::{Memory, Text};
 use std::marker::Model;
@@ -172,14 +172,22 @@ impl<'a> Spelled<'a> {
         Ok(())
     }
 
-    /// The code of the name, which is made of at most its last 128 bytes and of their number.
+    /// The code of the name, which is made of at most its last 32 bytes and of their number.
     #[tactic(auto, unfolding(crate::specs::aux::NameCodes::code_of))]
     pub(crate) fn code(&self) -> u64
         ensures code { result ≡ code_of self.now }
     {
         let front = &self.front;
-        let code = code_of_pieces(front.head, front.parts, self.text.as_bytes());
+        let code = code_of_pieces(front.head, front.parts, self.text.as_bytes(), CODED);
         coded(code, count_of(front, self.text))
+    }
+
+    /// A number that is made of at most the last 16 bytes of the name.
+    pub(crate) fn digest(&self) -> u64
+        ensures digest { result ≡ tail_code 16 self.now }
+    {
+        let front = &self.front;
+        code_of_pieces(front.head, front.parts, self.text.as_bytes(), DIGESTED)
     }
 
     /// The bytes of the name before its last dot; without a dot it has none.

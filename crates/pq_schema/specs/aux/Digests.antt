@@ -1,11 +1,11 @@
 -- Auxiliary: a number that is made of a list of definitions, by which lists are told apart.
 use Rattle.std.specs.Prelude.{ℕ, List, [], ◌∷◌}
-use Rattle.pq_schema.specs.aux.NameCodes.{coded, code_of}
+use Rattle.pq_schema.specs.aux.NameCodes.{coded, tail_code}
 use Rattle.pq_schema.specs.declared.definitions.Definition.{Definition}
 
--- `digested n definition` is the number `n` with the name and the item of `definition` after it
+-- `digested n definition` is the number `n` with the last bytes of the name and the item of `definition` after it
 abbrev pub digested : ℕ → Definition → ℕ
-digested n definition = coded (coded n (code_of definition.full_name)) definition.item
+digested n definition = coded (coded n (tail_code 16 definition.full_name)) definition.item
 
 -- `digest_from n definitions` is the number `n` with `definitions` after it
 unfoldable pub digest_from : ℕ → List Definition → ℕ

@@ -13,13 +13,13 @@ unfoldable pub code_from : ℕ → List ℕ → ℕ
 code_from c [] = c
 code_from c (b ∷ bs) = code_from (coded c b) bs
 
--- `tail_code name` is the code of the last 128 bytes of `name`, from the last to the first
-unfoldable pub tail_code : List ℕ → ℕ
-tail_code name = code_from 0 (take 128 (reverse name))
+-- `tail_code most name` is the code of the last `most` bytes of `name`, from the last to the first
+unfoldable pub tail_code : ℕ → List ℕ → ℕ
+tail_code most name = code_from 0 (take most (reverse name))
 
--- `code_of name` is that code with the number of bytes of `name` after it
+-- `code_of name` is the code of the last 32 bytes of `name` with the number of bytes of `name` after it
 unfoldable pub code_of : List ℕ → ℕ
-code_of name = coded (tail_code name) (length name % 2 ^ 64)
+code_of name = coded (tail_code 32 name) (length name % 2 ^ 64)
 
 -- `code_order a b` compares the names `a` and `b`: first their codes, then their bytes from the
 -- last to the first
