@@ -8,7 +8,7 @@ use crate::definitions::{Definition, DefinitionKind as Kind};
 use crate::enclosing::Enclosing;
 use crate::full_name::FullName;
 use crate::map_entries::entry_name;
-use crate::outline::{innermost, scope_of};
+use crate::outline::{innermost, opens_scope, scope_of};
 use pq_syntax::{Name, Node, Stack, Statement};
 use std::alloc::Global;
 
@@ -26,9 +26,11 @@ pub(crate) fn definitions_in(
         let node = &nodes[item];
         stack.close_to(node.depth);
         let scope = innermost(&stack, root);
-        let inside = scope_of(alloc, &node.statement, scope)?;
         define(alloc, scope, item, &node.statement, &mut definitions)?;
-        stack.open(node.depth, inside)?;
+        if opens_scope(&node.statement) {
+            let inside = scope_of(alloc, &node.statement, scope)?;
+            stack.open(node.depth, inside)?;
+        }
     }
     Ok(definitions)
 }

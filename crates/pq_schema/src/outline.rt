@@ -21,6 +21,14 @@ pub(crate) fn package_of(alloc: Global, nodes: &[Node]) -> Result<Text, Memory>
     Text::new(alloc, "")
 }
 
+/// Whether what `statement` contains is in a scope of its own, so that a walk has to keep the scope.
+pub(crate) fn opens_scope(statement: &Statement) -> bool {
+    matches!(
+        statement,
+        Statement::Message { .. } | Statement::Service { .. }
+    )
+}
+
 /// The scope of what `statement` contains, where `outer` is the scope of the statement itself.
 pub(crate) fn scope_of(
     alloc: Global,

@@ -23,7 +23,7 @@ use crate::full_name::FullName;
 use crate::inner::{Inner, depth_of, inner_of};
 use crate::lookup::{Lookup, is_few, most_of_one};
 use crate::nesting::innermost as innermost_of;
-use crate::outline::innermost;
+use crate::outline::{innermost, opens_scope};
 use crate::outward::Outward;
 use crate::package_range::PackageRange;
 use crate::references::is_scalar;
@@ -353,7 +353,6 @@ fn find_under<'a>(
         let scope = innermost(&stack, root);
         let depth = depth_of(scope);
         close_scopes(alloc, &mut asked, &mut closed, depth)?;
-        let inside = inner_of(alloc, &node.statement, scope)?;
         refer(
             alloc,
             files,
@@ -365,15 +364,18 @@ fn find_under<'a>(
             &mut asked,
             &mut uses,
         )?;
-        let packages = packages_in(outermost, &asked, &node.statement);
-        open_scopes(
-            alloc,
-            &mut asked,
-            &mut closed,
-            inside.get().leads(),
-            packages,
-        )?;
-        stack.open(node.depth, inside)?;
+        if opens_scope(&node.statement) {
+            let inside = inner_of(alloc, &node.statement, scope)?;
+            let packages = packages_in(outermost, &asked, &node.statement);
+            open_scopes(
+                alloc,
+                &mut asked,
+                &mut closed,
+                inside.get().leads(),
+                packages,
+            )?;
+            stack.open(node.depth, inside)?;
+        }
     }
     Ok(uses)
 }
