@@ -125,26 +125,24 @@ fn put(
     Ok(())
 }
 
-/// Whether `name` is the name of a scalar type.
+/// Whether `name` is the name of a scalar type. The first byte rules out most names.
 pub(crate) fn is_scalar(name: &str) -> bool
     ensures { result ≡ is_one_of scalars name.now }
 {
-    matches!(
-        name,
-        "double"
-            | "float"
-            | "int64"
-            | "uint64"
-            | "int32"
-            | "fixed64"
-            | "fixed32"
-            | "bool"
-            | "string"
-            | "bytes"
-            | "uint32"
-            | "sfixed32"
-            | "sfixed64"
-            | "sint32"
-            | "sint64"
-    )
+    let bytes = name.as_bytes();
+    if bytes.is_empty() {
+        return false;
+    }
+    match bytes[0] {
+        b'b' => matches!(name, "bool" | "bytes"),
+        b'd' => name == "double",
+        b'f' => matches!(name, "float" | "fixed64" | "fixed32"),
+        b'i' => matches!(name, "int64" | "int32"),
+        b's' => matches!(
+            name,
+            "string" | "sfixed32" | "sfixed64" | "sint32" | "sint64"
+        ),
+        b'u' => matches!(name, "uint64" | "uint32"),
+        _ => false,
+    }
 }
