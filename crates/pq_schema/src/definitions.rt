@@ -9,6 +9,7 @@ ghost use Rattle.pq_schema.specs.Repeated.{AreRepeated};
 ghost use Rattle.pq_schema.specs.aux.Fronts.{BeginAlike};
 ghost use Rattle.pq_schema.specs.aux.InPackage.{AllBelow, dotted};
 ghost use Rattle.pq_schema.specs.aux.Index.{IsIndexOf};
+ghost use Rattle.pq_schema.specs.aux.NameCodes.{code_of};
 
 use crate::coded::Coded;
 use crate::define::definitions_in;
@@ -144,17 +145,23 @@ impl Defs {
         ensures first { option_copied result
             ≡ find (λ d. bytes_eq d.full_name name.now) self.now.definitions }
     {
-        self.find_alike(name, 0)
+        self.find_alike(name, name.code(), 0)
     }
 
-    /// The first definition with the full name `name`, by one binary search. The name and those of
-    /// all definitions begin with the same `count` bytes.
-    pub(crate) fn find_alike(&self, name: &Spelled<'_>, count: usize) -> Option<&Definition>
+    /// The first definition with the full name `name`, whose code is `code`, by one binary search. The
+    /// name and those of all definitions begin with the same `count` bytes.
+    pub(crate) fn find_alike(
+        &self,
+        name: &Spelled<'_>,
+        code: u64,
+        count: usize,
+    ) -> Option<&Definition>
+        requires code { code ≡ code_of name.now }
         requires alike { BeginAlike count name.now self.now.definitions }
         ensures first { option_copied result
             ≡ find (λ d. bytes_eq d.full_name name.now) self.now.definitions }
     {
-        first_named(&self.index, &self.definitions, name, count)
+        first_named(&self.index, &self.definitions, name, code, count)
     }
 
     /// The full names in the order of the index, each with the place of its definition.

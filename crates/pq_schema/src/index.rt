@@ -19,7 +19,7 @@ ghost use Rattle.std.specs.List.Sorted.{IsSorted};
 ghost use Rattle.pq_schema.specs.aux.Copies.{AreCopies, AreDefined, full_names};
 ghost use Rattle.pq_schema.specs.aux.Fronts.{AreAlike, IsMet, IsSeen};
 ghost use Rattle.pq_schema.specs.aux.Index.{AreEntries, IsIndexOf, entry_order, group_start};
-ghost use Rattle.pq_schema.specs.aux.NameCodes.{code_order};
+ghost use Rattle.pq_schema.specs.aux.NameCodes.{code_of, code_order};
 ghost use Rattle.pq_schema.specs.Repeated.{AreRepeated};
 
 use crate::Memory;
@@ -106,19 +106,21 @@ pub(crate) fn index_of(
     Ok(index)
 }
 
-/// The first of `definitions` with the full name `name`. The name and all of theirs begin with the
+/// The first of `definitions` with the full name `name`, whose code is `code`. The name and all of theirs begin with the
 /// same `count` bytes.
 pub(crate) fn first_named<'a>(
     index: &[(Coded, usize)],
     definitions: &'a [Definition],
     name: &Spelled<'_>,
+    code: u64,
     count: usize,
 ) -> Option<&'a Definition>
+    requires code { code ≡ code_of name.now }
     requires index { IsIndexOf index.now definitions.now }
     requires alike { AreAlike count name.now index.now }
     ensures { option_copied result ≡ find (λ d. bytes_eq d.full_name name.now) definitions.now }
 {
-    let (first, seen) = lower_bound(index, name, count);
+    let (first, seen) = lower_bound(index, name, code, count);
     if first == index.len() {
         return None;
     }
@@ -139,10 +141,17 @@ fn seen_at(order: Ordering, place: usize, seen: usize) -> usize
 }
 
 /// The number of entries whose name comes before `name`, and the place of an entry that has the name. It
-/// is the first such entry, if there is one. The name and all theirs begin with the same `count` bytes.
+/// is the first such entry, if there is one. The code of `name` is `code`. The name and all theirs begin with
+/// the same `count` bytes.
 ///
 /// The entry after those before `name` was compared with it, so no names are compared after the search.
-fn lower_bound(index: &[(Coded, usize)], name: &Spelled<'_>, count: usize) -> (usize, usize)
+fn lower_bound(
+    index: &[(Coded, usize)],
+    name: &Spelled<'_>,
+    code: u64,
+    count: usize,
+) -> (usize, usize)
+    requires code { code ≡ code_of name.now }
     requires sorted { IsSorted entry_order index.now }
     requires alike { AreAlike count name.now index.now }
     ensures within { result.0 ≤ length index.now }
@@ -153,7 +162,6 @@ fn lower_bound(index: &[(Coded, usize)], name: &Spelled<'_>, count: usize) -> (u
     ensures seen { IsSeen index.now name.now result.1 }
     ensures met { IsMet index.now name.now result.0 result.1 }
 {
-    let code = name.code();
     let mut low = 0;
     let mut high = index.len();
     let mut seen = index.len();

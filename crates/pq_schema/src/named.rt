@@ -9,6 +9,7 @@ ghost use Rattle.std.specs.Option.{option_copied};
 ghost use Rattle.pq_schema.specs.aux.FirstOf.{answer_at, definition_in, first_near};
 ghost use Rattle.pq_schema.specs.aux.Fronts.{BeginAlike, Guides};
 ghost use Rattle.pq_schema.specs.aux.Hits.{placed};
+ghost use Rattle.pq_schema.specs.aux.NameCodes.{code_of};
 ghost use Rattle.pq_schema.specs.aux.NearNames.{AreNames, IsNamesOf, Rises};
 ghost use Rattle.pq_schema.specs.declared.scope.FileDefs.{FileDefs};
 
@@ -26,42 +27,46 @@ pub(crate) struct Place<'a> {
     pub(crate) definition: &'a Definition,
 }
 
-/// The first definition with the full name `name` in the file at `place`, whose names begin with the
+/// The first definition with the full name `name`, whose code is `code`, in the file at `place`, whose names begin with the
 /// first `count` bytes of `name`.
 fn definition_alike<'a>(
     files: &'a [FileDefs],
     place: usize,
     name: &Spelled<'_>,
+    code: u64,
     count: usize,
 ) -> Option<Place<'a>>
+    requires code { code ≡ code_of name.now }
     requires alike { (f : FileDefs) → slice_get files.now place ≡ Some f
         → BeginAlike count name.now f.defs.definitions }
     ensures is { placed result ≡ answer_at (definition_in name.now) files.now place }
 {
     let f = files.get(place)?;
-    let definition = f.defs.get().find_alike(name, count)?;
+    let definition = f.defs.get().find_alike(name, code, count)?;
     Some(Place {
         file: f.file.get(),
         definition,
     })
 }
 
-/// The first definition with the full name `name` in the file at `place`. The name goes `start` bytes
-/// along the way of `fronts`.
+/// The first definition with the full name `name` in the file at `place`. The name has the code `code`, and
+/// goes `start` bytes along the way of `fronts`.
 fn definition_at<'a>(
     files: &'a [FileDefs],
     fronts: &[Common],
     start: usize,
     place: usize,
     name: &Spelled<'_>,
+    code: u64,
 ) -> Option<Place<'a>>
+    requires code { code ≡ code_of name.now }
     requires guides { Guides fronts.now start files.now name.now }
     ensures is { placed result ≡ answer_at (definition_in name.now) files.now place }
 {
     if is_apart_at(fronts, place, start) {
         return None;
     }
-    definition_alike(files, place, name, alike_at(fronts, place, start))
+    definition_alike(files, place, name, code, alike_at(fronts, place, start))
 }
 
 /// The first definition with the full name `name`: the files at `places` in order, then each in
@@ -76,8 +81,9 @@ pub(crate) fn first_definition<'a>(
     requires guides { Guides fronts.now start files.now name.now }
     ensures first { placed result ≡ first_near (definition_in name.now) files.now places.now }
 {
+    let code = name.code();
     'places: for place in places {
-        let found = definition_at(files, fronts, start, *place, name);
+        let found = definition_at(files, fronts, start, *place, name, code);
         if found.is_some() {
             return found;
         }
@@ -106,7 +112,7 @@ pub(crate) fn first_indexed<'a>(
         if names[at].0 != code {
             return None;
         }
-        let found = definition_at(files, fronts, start, names[at].1, name);
+        let found = definition_at(files, fronts, start, names[at].1, name, code);
         if found.is_some() {
             return found;
         }
