@@ -106,7 +106,11 @@ pub fn script_over<R: Read, W: Write>(
 {
     let mut buffer = [0u8; 16384];
     let mut frames = FrameReader::new(alloc);
-    let mut server = ServerState::new(alloc, inputs);
+    // Its memory is that of the process: nothing is given back where the session ends.
+    let server = match Box::new(alloc, ServerState::new(alloc, inputs)) {
+        Ok(server) => Box::leak(server),
+        Err(_) => return Err(ScriptFault::Memory),
+    };
     'reads: for _turn in 0..MAX_READS {
         let count = match reader.read(&mut buffer) {
             Ok(count) => count,
@@ -115,7 +119,7 @@ pub fn script_over<R: Read, W: Write>(
         if count == 0 {
             return at_end(&frames);
         }
-        let ending = take_piece(alloc, &mut frames, &mut server, writer, &buffer[..count])?;
+        let ending = take_piece(alloc, &mut frames, server, writer, &buffer[..count])?;
         if let Some(status) = ending {
             return Ok(status);
         }
